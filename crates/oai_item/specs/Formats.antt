@@ -1,0 +1,20 @@
+-- Metadata formats. OAI-PMH 2.0, section 3.4.
+use Rattle.std.specs.Prelude.{ℕ, List, [], ◌∷◌, map, codes, Option}
+use Rattle.std.specs.List.{find}
+use Rattle.std.specs.Str.{bytes_eq}
+use Rattle.oai_item.specs.declared.formats.Format.{Format}
+
+-- oai_dc, which every repository has: unqualified Dublin Core (OAI-PMH 2.0, section 2.5 and its guidelines for oai_dc),
+-- with the fifteen elements of DCES 1.1
+unfoldable pub dublin_core : Format
+dublin_core = record {
+  prefix = codes "oai_dc";
+  schema = codes "http://www.openarchives.org/OAI/2.0/oai_dc.xsd";
+  namespace = codes "http://www.openarchives.org/OAI/2.0/oai_dc/";
+  root = codes "oai_dc:dc";
+  fields = codes "title" ∷ codes "creator" ∷ codes "subject" ∷ codes "description" ∷ codes "publisher" ∷ codes "contributor" ∷ codes "date" ∷ codes "type" ∷ codes "format" ∷ codes "identifier" ∷ codes "source" ∷ codes "language" ∷ codes "relation" ∷ codes "coverage" ∷ codes "rights" ∷ [];
+}
+
+-- the format of that prefix
+unfoldable pub format_named : List ℕ → List Format → Option Format
+format_named prefix formats = find (λ format. bytes_eq format.prefix prefix) formats

@@ -1,0 +1,2 @@
+pub mod Item
+pub mod Formats

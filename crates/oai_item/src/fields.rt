@@ -1,0 +1,25 @@
+ghost use Rattle.std.specs.Prelude.{◌≡◌, IfOk};
+
+use oai_names::Text;
+use std::alloc::{AllocError, Global};
+
+/// A field of a record: an element of its metadata and the text in it.
+#[derive(Debug, Drop)]
+pub struct Field {
+    /// The element's name, one of those of the format.
+    pub name: Text,
+    /// The text, not escaped.
+    pub text: Text,
+}
+
+impl Field {
+    /// An equal field. The error is want of memory.
+    pub fn copy(&self, alloc: Global) -> Result<Field, AllocError>
+        ensures { IfOk result (λ copy. copy ≡ self.now) }
+    {
+        Ok(Field {
+            name: self.name.copy(alloc)?,
+            text: self.text.copy(alloc)?,
+        })
+    }
+}

@@ -1,0 +1,75 @@
+ghost use Rattle.std.specs.Prelude.{◌≡◌, ◌++◌, [], ◌∷◌, length, take, unwrap_or, OnOk, OnErr};
+ghost use Rattle.std.specs.Option.{option_copied};
+ghost use Rattle.oai_names.specs.Escapes as spec;
+
+use std::alloc::AllocError;
+
+/// Where a text stands in a document.
+#[derive(Clone, Copy, Debug, PartialEq, Eq)]
+enum Place {
+    Element,
+    Attribute,
+}
+
+/// Appends the text as it is spelled in an element: `&amp;` for `&`, `&lt;` for `<`, `&gt;` for `>`
+/// and `&#13;` for CR, everything else as it is (XML 1.0, sections 2.4 and 2.11). Where memory is
+/// refused, the buffer is left as it was.
+pub fn escape_text(text: &str, out: &mut Vec<u8>) -> Result<(), AllocError>
+    ensures ok { OnOk result (out.new.items ≡ out.old.items ++ spec.escaped_text text.now) }
+    ensures err { OnErr result (out.new.items ≡ out.old.items) }
+{
+    escape(Place::Element, text, out)
+}
+
+/// Appends the text as it is spelled in the value of an attribute: as in an element, and `&quot;`
+/// for a quote, `&#9;` for tab and `&#10;` for LF (XML 1.0, section 3.3.3). Where memory is
+/// refused, the buffer is left as it was.
+pub fn escape_attr(text: &str, out: &mut Vec<u8>) -> Result<(), AllocError>
+    ensures ok { OnOk result (out.new.items ≡ out.old.items ++ spec.escaped_attribute text.now) }
+    ensures err { OnErr result (out.new.items ≡ out.old.items) }
+{
+    escape(Place::Attribute, text, out)
+}
+
+fn escape(place: Place, text: &str, out: &mut Vec<u8>) -> Result<(), AllocError>
+    ensures ok { OnOk result (out.new.items ≡ out.old.items ++ spec.escaped place text.now) }
+    ensures err { OnErr result (out.new.items ≡ out.old.items) }
+{
+    let old_len = out.len();
+    let written = append(place, text, out);
+    if written.is_err() {
+        out.truncate(old_len);
+    }
+    written
+}
+
+#[tactic(auto, unfolding(crate::specs::Escapes::escaped))]
+/// As `escape`, but what was appended before memory was refused stays.
+fn append(place: Place, text: &str, out: &mut Vec<u8>) -> Result<(), AllocError>
+    ensures ok { OnOk result (out.new.items ≡ out.old.items ++ spec.escaped place text.now) }
+    ensures err { OnErr result (take (length out.old.items) out.new.items ≡ out.old.items) }
+{
+    for b in text.as_bytes() {
+        match escape_of(place, *b) {
+            Some(spelling) => out.extend_from_slice(spelling.as_bytes())?,
+            None => out.push(*b)?,
+        }
+    }
+    Ok(())
+}
+
+/// The one table of spellings: what stands for a byte, where it does not stand for itself.
+fn escape_of(place: Place, b: u8) -> Option<&'static str>
+    ensures { unwrap_or (option_copied result) (b ∷ []) ≡ spec.spelling place b }
+{
+    match (b, place) {
+        (b'&', _) => Some("&amp;"),
+        (b'<', _) => Some("&lt;"),
+        (b'>', _) => Some("&gt;"),
+        (b'\r', _) => Some("&#13;"),
+        (b'"', Place::Attribute) => Some("&quot;"),
+        (b'\t', Place::Attribute) => Some("&#9;"),
+        (b'\n', Place::Attribute) => Some("&#10;"),
+        _ => None,
+    }
+}

@@ -1,0 +1,120 @@
+ghost use Rattle.std.specs.Prelude.{◌≡◌, ◌≤◌, true, length, IfOk};
+ghost use Rattle.std.specs.List.{list_all};
+ghost use Rattle.oai_names.specs.Names.{IsReading, is_identifier, is_scheme, is_scheme_byte, is_some_of, is_uri_byte};
+
+use crate::readings::NameFault;
+use std::alloc::{AllocError, Global};
+use std::marker::Model;
+
+/// The most bytes that an identifier has.
+const MOST_BYTES: usize = 512;
+
+/// The unique identifier of an item, a URI: a scheme (a letter, then letters, digits and `+ - .`),
+/// a colon, and one or more of the characters of a URI, at most 512 bytes in all (OAI-PMH 2.0,
+/// section 2.4; RFC 3986, sections 2 and 3.1).
+#[derive(Debug, Drop)]
+pub struct Identifier {
+    text: String,
+}
+
+impl Model for Identifier {
+    ghost use Rattle.std.specs.Prelude.{◌≡◌, ◌≤◌, ℕ, true, List, length};
+    ghost use Rattle.std.specs.String.{string_bytes};
+
+    ghost Value = { List ℕ };
+
+    ghost use Rattle.oai_names.specs.Names.{is_identifier};
+
+    ghost view = { λ i. string_bytes i.text };
+
+    ghost invariant = { λ i. (is_identifier (string_bytes i.text) ≡ true) × (length (string_bytes i.text) ≤ 512) };
+}
+
+impl Identifier {
+    /// Reads an identifier. The errors, in this order: `Syntax`, `TooLong` above 512 bytes,
+    /// `NoMemory`.
+    pub fn read(alloc: Global, text: &str) -> Result<Identifier, NameFault>
+        ensures { IsReading is_identifier 512 text.now result }
+    {
+        if !is_identifier(text) {
+            return Err(NameFault::Syntax);
+        }
+        if text.len() > MOST_BYTES {
+            return Err(NameFault::TooLong);
+        }
+        match String::from_str(alloc, text) {
+            Ok(text) => Ok(Identifier { text }),
+            Err(_) => Err(NameFault::NoMemory),
+        }
+    }
+
+    /// The identifier as text.
+    pub fn as_str(&self) -> &str
+        ensures text { result.now ≡ self.now }
+        ensures syntax { is_identifier self.now ≡ true }
+        ensures short { length self.now ≤ 512 }
+    {
+        self.text.as_str()
+    }
+
+    /// An equal identifier. The error is want of memory.
+    pub fn copy(&self, alloc: Global) -> Result<Identifier, AllocError>
+        ensures { IfOk result (λ copy. copy ≡ self.now) }
+    {
+        Ok(Identifier {
+            text: String::from_str(alloc, self.as_str())?,
+        })
+    }
+}
+
+#[tactic(auto, unfolding(crate::specs::Names::is_identifier))]
+/// Whether the text has the syntax of an identifier, of any length.
+fn is_identifier(text: &str) -> bool
+    ensures { result ≡ is_identifier text.now }
+{
+    match text.split_once(':') {
+        Some((scheme, rest)) => is_scheme(scheme) && are_uri_bytes(rest),
+        None => false,
+    }
+}
+
+#[tactic(auto, unfolding(crate::specs::Names::is_scheme))]
+/// Whether the text is the scheme of a URI (RFC 3986, section 3.1).
+fn is_scheme(text: &str) -> bool
+    ensures { result ≡ is_scheme text.now }
+{
+    match text.as_bytes() {
+        [first, rest @ ..] => first.is_ascii_alphabetic() && all_scheme_bytes(rest),
+        [] => false,
+    }
+}
+
+fn all_scheme_bytes(bytes: &[u8]) -> bool
+    ensures { result ≡ list_all is_scheme_byte bytes.now }
+{
+    bytes.iter().all(|b| is_scheme_byte(*b))
+}
+
+fn is_scheme_byte(b: u8) -> bool
+    ensures { result ≡ is_scheme_byte b }
+{
+    b.is_ascii_alphanumeric() || b"+-.".contains(&b)
+}
+
+fn are_uri_bytes(text: &str) -> bool
+    ensures { result ≡ is_some_of is_uri_byte text.now }
+{
+    !text.is_empty() && all_uri_bytes(text)
+}
+
+fn all_uri_bytes(text: &str) -> bool
+    ensures { result ≡ list_all is_uri_byte text.now }
+{
+    text.as_bytes().iter().all(|b| is_uri_byte(*b))
+}
+
+fn is_uri_byte(b: u8) -> bool
+    ensures { result ≡ is_uri_byte b }
+{
+    b.is_ascii_alphanumeric() || b"-._~:/?#[]@!$&'()*+,;=%".contains(&b)
+}

@@ -1,0 +1,19 @@
+//! The texts of OAI-PMH: which characters a document may hold, the grammars of names, and how a
+//! text is spelled in a document.
+#![tactic(auto)]
+
+mod escapes;
+mod identifiers;
+mod prefixes;
+mod readings;
+mod sequences;
+#[cfg(test)]
+mod tests;
+mod texts;
+
+pub use escapes::{escape_attr, escape_text};
+pub use identifiers::Identifier;
+pub use prefixes::{Prefix, is_prefix};
+pub use readings::NameFault;
+pub use sequences::Sequence;
+pub use texts::{Text, is_xml_text};

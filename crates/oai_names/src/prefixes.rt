@@ -1,0 +1,86 @@
+ghost use Rattle.std.specs.Prelude.{◌≡◌, ◌≤◌, true, length, IfOk};
+ghost use Rattle.std.specs.List.{list_all};
+ghost use Rattle.oai_names.specs.Names.{IsReading, is_prefix, is_prefix_byte};
+
+use crate::readings::NameFault;
+use std::alloc::{AllocError, Global};
+use std::marker::Model;
+
+/// The most bytes that a metadata prefix has.
+const MOST_BYTES: usize = 64;
+
+/// A metadata prefix, the name of a metadata format: one or more ASCII letters, digits and
+/// `- _ . ! ~ * ' ( )`, at most 64 bytes (OAI-PMH 2.0, section 3.4).
+#[derive(Debug, Drop)]
+pub struct Prefix {
+    text: String,
+}
+
+impl Model for Prefix {
+    ghost use Rattle.std.specs.Prelude.{◌≡◌, ◌≤◌, ℕ, true, List, length};
+    ghost use Rattle.std.specs.String.{string_bytes};
+
+    ghost Value = { List ℕ };
+
+    ghost use Rattle.oai_names.specs.Names.{is_prefix};
+
+    ghost view = { λ p. string_bytes p.text };
+
+    ghost invariant = { λ p. (is_prefix (string_bytes p.text) ≡ true) × (length (string_bytes p.text) ≤ 64) };
+}
+
+impl Prefix {
+    /// Reads a prefix. The errors, in this order: `Syntax`, `TooLong` above 64 bytes, `NoMemory`.
+    pub fn read(alloc: Global, text: &str) -> Result<Prefix, NameFault>
+        ensures { IsReading is_prefix 64 text.now result }
+    {
+        if !is_prefix(text) {
+            return Err(NameFault::Syntax);
+        }
+        if text.len() > MOST_BYTES {
+            return Err(NameFault::TooLong);
+        }
+        match String::from_str(alloc, text) {
+            Ok(text) => Ok(Prefix { text }),
+            Err(_) => Err(NameFault::NoMemory),
+        }
+    }
+
+    /// The prefix as text.
+    pub fn as_str(&self) -> &str
+        ensures text { result.now ≡ self.now }
+        ensures syntax { is_prefix self.now ≡ true }
+        ensures short { length self.now ≤ 64 }
+    {
+        self.text.as_str()
+    }
+
+    /// An equal prefix. The error is want of memory.
+    pub fn copy(&self, alloc: Global) -> Result<Prefix, AllocError>
+        ensures { IfOk result (λ copy. copy ≡ self.now) }
+    {
+        Ok(Prefix {
+            text: String::from_str(alloc, self.as_str())?,
+        })
+    }
+}
+
+#[tactic(auto, unfolding(crate::specs::Names::is_prefix))]
+/// Whether the text has the syntax of a metadata prefix, of any length.
+pub fn is_prefix(text: &str) -> bool
+    ensures { result ≡ is_prefix text.now }
+{
+    !text.is_empty() && all_prefix_bytes(text)
+}
+
+fn all_prefix_bytes(text: &str) -> bool
+    ensures { result ≡ list_all is_prefix_byte text.now }
+{
+    text.as_bytes().iter().all(|b| is_prefix_byte(*b))
+}
+
+fn is_prefix_byte(b: u8) -> bool
+    ensures { result ≡ is_prefix_byte b }
+{
+    b.is_ascii_alphanumeric() || b"-_.!~*'()".contains(&b)
+}

@@ -1,0 +1,148 @@
+use super::*;
+use std::alloc::{AllocError, Global};
+use std::process::Abort;
+use std::test::Fail;
+
+// `front`, and then so many letters.
+fn with_letters(alloc: Global, front: &str, letters: usize) -> Result<String, AllocError> {
+    let mut text = String::from_str(alloc, front)?;
+    for _ in 0..letters {
+        text.push('a')?;
+    }
+    Ok(text)
+}
+
+fn assert_read(rt: &impl Abort, read: Result<Prefix, NameFault>, text: &str) {
+    match read {
+        Ok(prefix) => assert_eq!(rt; prefix.as_str(), text),
+        Err(fault) => panic!(rt; "{text}: {fault}"),
+    }
+}
+
+fn assert_refused<T: Drop>(rt: &impl Abort, read: Result<T, NameFault>, fault: NameFault) {
+    match read {
+        Ok(_) => panic!(rt; "a name was read"),
+        Err(found) => assert_eq!(rt; found, fault),
+    }
+}
+
+#[test]
+fn prefixes_are_read(rt: HostRuntime) -> Result<(), Fail> {
+    let alloc = rt.alloc();
+    let most = with_letters(alloc, "", 64)?;
+    for text in ["oai_dc", "a-_.!~*'()Z9", most.as_str()] {
+        assert_read(&rt, Prefix::read(alloc, text), text);
+    }
+    Ok(())
+}
+
+#[test]
+fn bad_prefixes_are_refused(rt: HostRuntime) -> Result<(), Fail> {
+    let alloc = rt.alloc();
+    let spaces = "                                                                 ";
+    assert_eq!(rt; spaces.len(), 65);
+    for text in ["", "a b", "a:b", "é", "a/b", spaces] {
+        assert_refused(&rt, Prefix::read(alloc, text), NameFault::Syntax);
+    }
+    let long = with_letters(alloc, "", 65)?;
+    assert_refused(&rt, Prefix::read(alloc, long.as_str()), NameFault::TooLong);
+    Ok(())
+}
+
+#[test]
+fn identifiers_are_read(rt: HostRuntime) -> Result<(), Fail> {
+    let alloc = rt.alloc();
+    let most = with_letters(alloc, "oai:", 508)?;
+    for text in [
+        "oai:a:1",
+        "a+b-c.d:/?#[]@!$&'()*+,;=%",
+        "x::",
+        most.as_str(),
+    ] {
+        match Identifier::read(alloc, text) {
+            Ok(identifier) => assert_eq!(rt; identifier.as_str(), text),
+            Err(fault) => panic!(rt; "{text}: {fault}"),
+        }
+    }
+    Ok(())
+}
+
+#[test]
+fn bad_identifiers_are_refused(rt: HostRuntime) -> Result<(), Fail> {
+    let alloc = rt.alloc();
+    for text in [
+        "", "x", "oai:", "1a:b", ":b", "oai:a b", "oai:é", "o_i:a", "oai:a\"", "oai:<",
+    ] {
+        assert_refused(&rt, Identifier::read(alloc, text), NameFault::Syntax);
+    }
+    let long = with_letters(alloc, "oai:", 509)?;
+    assert_refused(
+        &rt,
+        Identifier::read(alloc, long.as_str()),
+        NameFault::TooLong,
+    );
+    Ok(())
+}
+
+#[test]
+fn copies_are_equal(rt: HostRuntime) -> Result<(), Fail> {
+    let alloc = rt.alloc();
+    let Ok(prefix) = Prefix::read(alloc, "oai_dc") else {
+        panic!(rt; "no prefix")
+    };
+    assert_eq!(rt; prefix.copy(alloc)?.as_str(), "oai_dc");
+    let Ok(identifier) = Identifier::read(alloc, "oai:a:1") else {
+        panic!(rt; "no identifier")
+    };
+    assert_eq!(rt; identifier.copy(alloc)?.as_str(), "oai:a:1");
+    assert_eq!(rt; Text::new(alloc, "é\n")?.copy(alloc)?.as_str(), "é\n");
+    Ok(())
+}
+
+#[test]
+fn sequences_keep_their_values(rt: HostRuntime) -> Result<(), Fail> {
+    let sequence = Sequence::new(vec![in rt.alloc(); 3, 1, 2]?);
+    assert_eq!(rt; sequence.as_slice(), [3, 1, 2].as_slice());
+    assert_eq!(rt; sequence.into_vec().as_slice(), [3, 1, 2].as_slice());
+    Ok(())
+}
+
+#[test]
+fn characters_of_a_document(rt: HostRuntime) {
+    for text in [
+        "",
+        "\t\n\r ~",
+        "\u{7F}\u{85}",
+        "\u{D7FF}\u{E000}\u{FFFD}",
+        "\u{10000}\u{1FFFE}\u{10FFFF}",
+    ] {
+        assert!(rt; is_xml_text(text), "{text:?}");
+    }
+    for text in [
+        "\u{0}",
+        "a\u{1F}",
+        "\u{8}",
+        "\u{B}\t",
+        "\u{FFFE}",
+        "x\u{FFFF}",
+    ] {
+        assert!(rt; !is_xml_text(text), "{text:?}");
+    }
+}
+
+#[test]
+fn escapes(rt: HostRuntime) -> Result<(), Fail> {
+    let mut out = vec![in rt.alloc(); b'-']?;
+    escape_text("a<b\r\"", &mut out)?;
+    assert_eq!(rt; out.as_slice(), b"-a&lt;b&#13;\"".as_slice());
+    out.clear();
+    escape_attr("\"\t>", &mut out)?;
+    assert_eq!(rt; out.as_slice(), b"&quot;&#9;&gt;".as_slice());
+    out.clear();
+    escape_text("A & B > é'\t\n", &mut out)?;
+    assert_eq!(rt; out.as_slice(), "A &amp; B &gt; é'\t\n".as_bytes());
+    out.clear();
+    escape_attr("&<\n\r'", &mut out)?;
+    assert_eq!(rt; out.as_slice(), b"&amp;&lt;&#10;&#13;'".as_slice());
+    Ok(())
+}

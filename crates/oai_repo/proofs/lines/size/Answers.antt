@@ -1,0 +1,8 @@
+use Rattle.std.proofs.Common.{sym, ap, ◌∙◌}
+use Rattle.oai_repo.specs.Json.{size}
+use Rattle.serde_json.specs.View.{view}
+use Rattle.oai_repo.proofs.JsonLemmas.{size-Object}
+use Rattle.oai_repo.proofs.lines.size.Goals as goal
+
+pub returns-in-Object : goal.returns-in-Object
+returns-in-Object c = rw c.in-Object.is (c.len.ensures.len ∙ sym (size-Object c.in-Object.members))

@@ -1,0 +1,25 @@
+-- What a `Repo` holds, and the state that it stands for.
+use Rattle.std.specs.Prelude.{◌≡◌, ℤ, List}
+use Rattle.oai_time.specs.Stamp.{IsWritable}
+use Rattle.oai_item.specs.Item.{ItemState}
+use Rattle.oai_repo.specs.Configured.{Config}
+use Rattle.oai_repo.specs.State.{State, empty_state}
+
+-- the configuration, the clock and the items
+pub record Held : Type 0 where
+  pub config : Config
+  pub clock : ℤ
+  pub items : List ItemState
+
+-- the state that they stand for
+abbrev pub state_of : Held → State
+state_of held = record { clock = held.clock; items = held.items }
+
+-- what is true of each: the clock shows a second that a date can name
+pub record IsHeld (held : Held) : Type 0 where
+  pub dated : IsWritable held.clock
+
+-- a repository as it begins
+pub record IsNew (held : Held) (config : Config) : Type 0 where
+  pub configured : held.config ≡ config
+  pub empty : state_of held ≡ empty_state config

@@ -1,0 +1,17 @@
+pub mod AnswerLines
+pub mod Answers
+pub mod Changes
+pub mod Config
+pub mod Configured
+pub mod Docs
+pub mod Documents
+pub mod Held
+pub mod Json
+pub mod Lines
+pub mod Pairs
+pub mod Pieces
+pub mod Requests
+pub mod Shapes
+pub mod Slots
+pub mod State
+pub mod Step

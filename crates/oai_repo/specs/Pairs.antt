@@ -1,0 +1,25 @@
+-- The arguments of a request: pairs of a key and a value, in the type application/x-www-form-urlencoded.
+-- OAI-PMH 2.0, section 3.1.1; URL Standard, section 5.1.
+use Rattle.std.specs.Prelude.{ℕ, List, map, filter, bytes_eq}
+use Rattle.std.specs.Str.Lossy.{utf8_lossy}
+use Rattle.form_urlencoded.specs.Form.{raw_pairs, decode}
+
+-- a key and its value
+abbrev pub Pair : Type 0
+Pair = List ℕ × List ℕ
+
+-- a key or a value as text: its bytes decoded, with U+FFFD for what is not UTF-8
+abbrev pub decoded_text : List ℕ → List ℕ
+decoded_text bytes = utf8_lossy (decode bytes)
+
+-- a pair as texts
+abbrev pub decoded_pair : Pair → Pair
+decoded_pair pair = (decoded_text pair.0, decoded_text pair.1)
+
+-- the pairs of a query
+unfoldable pub decoded_pairs : List ℕ → List Pair
+decoded_pairs query = map decoded_pair (raw_pairs query)
+
+-- the values given to a key, in order
+unfoldable pub values_of : List ℕ → List Pair → List (List ℕ)
+values_of key pairs = map (λ (pair : Pair). pair.1) (filter (λ (pair : Pair). bytes_eq pair.0 key) pairs)

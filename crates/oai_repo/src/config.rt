@@ -1,0 +1,274 @@
+ghost use Rattle.std.specs.Prelude.{◌≡◌, ◌++◌, codes, IfOk};
+ghost use Rattle.std.specs.List.{list_all};
+ghost use Rattle.oai_time.specs.Stamp.{IsWritable};
+ghost use Rattle.oai_repo.specs.Config.{IsConfigured};
+ghost use Rattle.oai_repo.specs.Configured.{are_limits, is_date, is_described, is_from_to, is_short_text};
+
+use crate::documents::DeletedRecord;
+use oai_item::Formats;
+use oai_names::{Sequence, Text, is_xml_text};
+use oai_time::{Granularity, stamp};
+use std::alloc::{AllocError, Global};
+use std::marker::Model;
+use thiserror::Error;
+
+/// The first second of the year 0001.
+const FIRST_DATE: i64 = -62_135_596_800;
+
+/// The last second of the year 9998.
+const LAST_DATE: i64 = 253_370_764_799;
+
+/// What is told of a repository, before it is looked at.
+#[derive(Debug, Drop)]
+pub struct Settings {
+    /// What the base URLs of all repositories begin with: 1 to 512 bytes.
+    pub base: Text,
+    /// The repository's name in its base URL.
+    pub name: Text,
+    /// The name for people: 1 to 512 bytes.
+    pub repository_name: Text,
+    /// The addresses of the administrators: 1 to 16, of 1 to 512 bytes each.
+    pub addresses: Sequence<Text>,
+    /// The lower limit of all datestamps, in seconds from 1970 on, of the years 0001 to 9998, and a
+    /// midnight where the granularity is days.
+    pub earliest: i64,
+    /// What is kept of deleted records.
+    pub deleted: DeletedRecord,
+    /// How fine the datestamps are.
+    pub granularity: Granularity,
+    /// Records a page: 1 to 1,000.
+    pub chunk: u64,
+    /// Seconds that a list stays open after each of its pages: 1 to 31,536,000.
+    pub lifetime: u64,
+    /// Lists that are open at once: 1 to 10,000.
+    pub lists: u64,
+    /// Items, deleted ones counted: 1 to 1,000,000.
+    pub items: u64,
+    /// The metadata formats.
+    pub formats: Formats,
+}
+
+/// Why settings make no configuration, in the order in which the causes are looked for.
+#[derive(Clone, Copy, Debug, PartialEq, Eq, Error)]
+pub enum ConfigFault {
+    /// The base, the name or an address is not of 1 to 512 bytes, or has a character that no XML
+    /// document may hold; or there is no address, or more than 16. Number 2.
+    #[error("2 BadShape")]
+    BadShape,
+    /// The earliest datestamp is not of the years 0001 to 9998, or is finer than the granularity.
+    /// Number 6.
+    #[error("6 BadDate")]
+    BadDate,
+    /// A limit is out of its range. Number 7.
+    #[error("7 BadNumber")]
+    BadNumber,
+    /// The base URL could not be stored. Number 9.
+    #[error("9 NoMemory")]
+    NoMemory,
+}
+
+/// The configuration of a repository, which keeps the rules of its settings.
+#[derive(Debug, Drop)]
+pub struct RepoConfig {
+    base: Text,
+    name: Text,
+    addresses: Sequence<Text>,
+    earliest: i64,
+    deleted: DeletedRecord,
+    granularity: Granularity,
+    chunk: u64,
+    lifetime: u64,
+    lists: u64,
+    items: u64,
+    formats: Formats,
+}
+
+impl Model for RepoConfig {
+    ghost use Rattle.oai_repo.specs.Configured.{Config, IsConfig};
+
+    ghost Value = { Config };
+
+    ghost view = { λ c. record { base = c.base; name = c.name; addresses = c.addresses; earliest = c.earliest; deleted = c.deleted; granularity = c.granularity; chunk = c.chunk; lifetime = c.lifetime; lists = c.lists; items = c.items; formats = c.formats } };
+
+    ghost invariant = { λ c. IsConfig (record { base = c.base; name = c.name; addresses = c.addresses; earliest = c.earliest; deleted = c.deleted; granularity = c.granularity; chunk = c.chunk; lifetime = c.lifetime; lists = c.lists; items = c.items; formats = c.formats }) };
+}
+
+impl RepoConfig {
+    #[tactic(auto, unfolding(crate::specs::Config::config_fault))]
+    /// The configuration of these settings: the base URL is the base, `/oai/` and the name. The
+    /// errors, in this order: `BadShape`, `BadDate`, `BadNumber`, `NoMemory`.
+    pub fn new(alloc: Global, settings: Settings) -> Result<RepoConfig, ConfigFault>
+        ensures { IsConfigured settings result }
+    {
+        if !is_short_text(settings.base.as_str()) {
+            return Err(ConfigFault::BadShape);
+        }
+        if !is_described(
+            settings.repository_name.as_str(),
+            settings.addresses.as_slice(),
+        ) {
+            return Err(ConfigFault::BadShape);
+        }
+        if !is_date(settings.granularity, settings.earliest) {
+            return Err(ConfigFault::BadDate);
+        }
+        if !are_limits(
+            settings.chunk,
+            settings.lifetime,
+            settings.lists,
+            settings.items,
+        ) {
+            return Err(ConfigFault::BadNumber);
+        }
+        let Ok(base) = base_url(alloc, settings.base.as_str(), settings.name.as_str()) else {
+            return Err(ConfigFault::NoMemory);
+        };
+        Ok(RepoConfig {
+            base,
+            name: settings.repository_name,
+            addresses: settings.addresses,
+            earliest: settings.earliest,
+            deleted: settings.deleted,
+            granularity: settings.granularity,
+            chunk: settings.chunk,
+            lifetime: settings.lifetime,
+            lists: settings.lists,
+            items: settings.items,
+            formats: settings.formats,
+        })
+    }
+
+    /// The base URL.
+    pub fn base(&self) -> &str
+        ensures { result.now ≡ self.now.base }
+    {
+        self.base.as_str()
+    }
+
+    /// The name for people.
+    pub fn name(&self) -> &str
+        ensures { result.now ≡ self.now.name }
+    {
+        self.name.as_str()
+    }
+
+    /// The addresses of the administrators.
+    pub fn addresses(&self) -> &[Text]
+        ensures { result.now ≡ self.now.addresses }
+    {
+        self.addresses.as_slice()
+    }
+
+    #[tactic(auto, unfolding(crate::specs::Configured::is_date))]
+    /// The lower limit of all datestamps, in seconds from 1970 on, of the years 0001 to 9998.
+    pub fn earliest(&self) -> i64
+        ensures earliest { result ≡ self.now.earliest }
+        ensures in_range { IsWritable self.now.earliest }
+    {
+        self.earliest
+    }
+
+    /// What is kept of deleted records.
+    pub fn deleted(&self) -> DeletedRecord
+        ensures { result ≡ self.now.deleted }
+    {
+        self.deleted
+    }
+
+    /// How fine the datestamps are.
+    pub fn granularity(&self) -> Granularity
+        ensures { result ≡ self.now.granularity }
+    {
+        self.granularity
+    }
+
+    /// Records a page: 1 to 1,000.
+    pub fn chunk(&self) -> u64
+        ensures { result ≡ self.now.chunk }
+    {
+        self.chunk
+    }
+
+    /// Seconds that a list stays open after each of its pages: 1 to 31,536,000.
+    pub fn lifetime(&self) -> u64
+        ensures { result ≡ self.now.lifetime }
+    {
+        self.lifetime
+    }
+
+    /// Lists that are open at once: 1 to 10,000.
+    pub fn lists(&self) -> u64
+        ensures { result ≡ self.now.lists }
+    {
+        self.lists
+    }
+
+    /// Items, deleted ones counted: 1 to 1,000,000.
+    pub fn items(&self) -> u64
+        ensures { result ≡ self.now.items }
+    {
+        self.items
+    }
+
+    /// The metadata formats.
+    pub fn formats(&self) -> &Formats
+        ensures { result.now ≡ self.now.formats }
+    {
+        &self.formats
+    }
+}
+
+fn base_url(alloc: Global, base: &str, name: &str) -> Result<Text, AllocError>
+    ensures { IfOk result (λ url. url ≡ base.now ++ codes "/oai/" ++ name.now) }
+{
+    let mut url = String::from_str(alloc, base)?;
+    url.push_str("/oai/")?;
+    url.push_str(name)?;
+    Text::new(alloc, url.as_str())
+}
+
+#[tactic(auto, unfolding(crate::specs::Configured::is_short_text))]
+fn is_short_text(text: &str) -> bool
+    ensures { result ≡ is_short_text text.now }
+{
+    1 <= text.len() && text.len() <= 512 && is_xml_text(text)
+}
+
+#[tactic(auto, unfolding(crate::specs::Configured::is_described))]
+fn is_described(name: &str, addresses: &[Text]) -> bool
+    ensures { result ≡ is_described name.now addresses.now }
+{
+    is_short_text(name)
+        && 1 <= addresses.len()
+        && addresses.len() <= 16
+        && are_short_texts(addresses)
+}
+
+fn are_short_texts(texts: &[Text]) -> bool
+    ensures { result ≡ list_all is_short_text texts.now }
+{
+    texts.iter().all(|text| is_short_text(text.as_str()))
+}
+
+#[tactic(auto, unfolding(crate::specs::Configured::is_date))]
+fn is_date(granularity: Granularity, seconds: i64) -> bool
+    ensures { result ≡ is_date granularity seconds }
+{
+    FIRST_DATE <= seconds && seconds <= LAST_DATE && stamp(granularity, seconds) == seconds
+}
+
+#[tactic(auto, unfolding(crate::specs::Configured::are_limits))]
+fn are_limits(chunk: u64, lifetime: u64, lists: u64, items: u64) -> bool
+    ensures { result ≡ are_limits chunk lifetime lists items }
+{
+    is_from_to(1, 1_000, chunk)
+        && is_from_to(1, 31_536_000, lifetime)
+        && is_from_to(1, 10_000, lists)
+        && is_from_to(1, 1_000_000, items)
+}
+
+fn is_from_to(least: u64, most: u64, n: u64) -> bool
+    ensures { result ≡ is_from_to least most n }
+{
+    least <= n && n <= most
+}

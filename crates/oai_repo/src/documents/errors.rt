@@ -1,0 +1,59 @@
+ghost use Rattle.std.specs.Prelude.{◌≡◌, OnOk};
+ghost use Rattle.oai_repo.specs.Documents.{code_of, error_element, message_of};
+ghost use Rattle.oai_repo.specs.Pieces.{Appends};
+
+use super::markup::put;
+use std::alloc::AllocError;
+
+/// Why a request could not be met (OAI-PMH 2.0, section 3.6).
+#[derive(Clone, Copy, Debug, PartialEq, Eq)]
+pub enum ErrorCode {
+    /// The verb is missing, repeated or no verb of the protocol.
+    BadVerb,
+    /// An argument is illegal, missing, repeated or of illegal syntax.
+    BadArgument,
+    /// The item, or the repository, does not have that metadata format.
+    CannotDisseminateFormat,
+    /// No item has that identifier.
+    IdDoesNotExist,
+}
+
+impl ErrorCode {
+    /// The name of the error in the protocol.
+    fn code(self) -> &'static str
+        ensures { result.now ≡ code_of self }
+    {
+        match self {
+            ErrorCode::BadVerb => "badVerb",
+            ErrorCode::BadArgument => "badArgument",
+            ErrorCode::CannotDisseminateFormat => "cannotDisseminateFormat",
+            ErrorCode::IdDoesNotExist => "idDoesNotExist",
+        }
+    }
+
+    /// The error in words.
+    fn message(self) -> &'static str
+        ensures { result.now ≡ message_of self }
+    {
+        match self {
+            ErrorCode::BadVerb => "The verb is missing, repeated or illegal.",
+            ErrorCode::BadArgument =>
+                "An argument is illegal, missing, repeated or of illegal syntax.",
+            ErrorCode::CannotDisseminateFormat => "The metadata format is not available.",
+            ErrorCode::IdDoesNotExist => "No item has this identifier.",
+        }
+    }
+}
+
+/// Appends the element `error`.
+#[tactic(auto, unfolding(crate::specs::Documents::error_element))]
+pub(super) fn write_error(code: ErrorCode, out: &mut Vec<u8>) -> Result<(), AllocError>
+    ensures { OnOk result (Appends out.old.items out.new.items (error_element code)) }
+{
+    put("<error code=\"", out)?;
+    put(code.code(), out)?;
+    put("\">", out)?;
+    put(code.message(), out)?;
+    put("</error>", out)?;
+    Ok(())
+}

@@ -1,0 +1,360 @@
+ghost use Rattle.std.specs.Prelude.{◌≡◌, ◌≤◌, length, true, is_some, map, string_bytes, IfOk};
+ghost use Rattle.std.specs.List.{list_all};
+ghost use Rattle.serde_json.specs.Find.{get};
+ghost use Rattle.serde_json.specs.View.{view};
+ghost use Rattle.oai_item.specs.Item.{are_rising};
+ghost use Rattle.oai_repo.specs.Json as json;
+ghost use Rattle.oai_repo.specs.Lines as spec;
+ghost use Rattle.oai_repo.specs.Shapes.{ShapeLaw};
+ghost use Rattle.oai_repo.specs.declared.lines.LineFault.TheVariants.{NoMemory};
+
+use oai_item::Field;
+use oai_names::{Identifier, NameFault, Sequence, Text, is_xml_text};
+use serde_json::Value;
+use std::alloc::{AllocError, AllocFailed, Global};
+use std::collections::BTreeMap;
+use thiserror::Error;
+
+/// What a line asks for.
+#[derive(Debug, Drop)]
+pub enum Change {
+    /// A new item, or a new state of an old one: its unique identifier, the setSpecs of its sets,
+    /// and its record under each metadataPrefix, in the order of the prefixes' bytes.
+    Deposit {
+        identifier: Identifier,
+        sets: Sequence<Text>,
+        records: Sequence<(Text, Sequence<Field>)>,
+    },
+}
+
+/// Why a line was refused, in the order in which the causes are looked for.
+#[derive(Clone, Copy, Debug, PartialEq, Eq, Error)]
+pub enum LineRefusal {
+    /// The line is not JSON.
+    #[error("the line is not JSON")]
+    BadJson,
+    /// The line is JSON, and of none of the shapes of a command.
+    #[error("the line is no command")]
+    BadCommand,
+    /// The identifier is not of its syntax, or too long.
+    #[error("the identifier is of illegal syntax or too long")]
+    BadIdentifier,
+    /// A field's text has a character that no XML document may hold.
+    #[error("a text has a character that no XML document may hold")]
+    BadText,
+}
+
+impl LineRefusal {
+    /// The line of the answer, as `refused 1 bad-json`, with no line end.
+    pub fn answer(self) -> &'static str
+        ensures line { result.now ≡ spec.refusal_line self }
+        ensures short { length result.now ≤ 31 }
+    {
+        match self {
+            LineRefusal::BadJson => "refused 1 bad-json",
+            LineRefusal::BadCommand => "refused 2 bad-command",
+            LineRefusal::BadIdentifier => "refused 3 bad-identifier",
+            LineRefusal::BadText => "refused 5 bad-text",
+        }
+    }
+}
+
+/// Why a line was not read.
+#[derive(Clone, Copy, Debug, PartialEq, Eq, Error)]
+pub enum LineFault {
+    /// What the line asks for could not be stored.
+    #[error("out of memory")]
+    NoMemory,
+    /// The line is refused.
+    #[error("the line is refused: {0}")]
+    Refused(LineRefusal),
+}
+
+impl From<AllocError> for LineFault {
+    ghost from_gives = { λ _ e. e ≡ NoMemory };
+
+    fn from(_refused: AllocError) -> LineFault {
+        LineFault::NoMemory
+    }
+}
+
+impl<T: Drop> From<AllocFailed<T>> for LineFault {
+    ghost from_gives = { λ _ e. e ≡ NoMemory };
+
+    fn from(_refused: AllocFailed<T>) -> LineFault {
+        LineFault::NoMemory
+    }
+}
+
+/// A line whose shape is that of a command, and whose texts are not looked at yet.
+#[derive(Debug, Drop)]
+enum Command {
+    Deposit {
+        identifier: Text,
+        sets: Sequence<Text>,
+        records: Sequence<(Text, Sequence<Field>)>,
+    },
+}
+
+#[tactic(auto, unfolding(crate::specs::Lines::line_of))]
+/// Reads one line of a deposit, without its line end: a JSON object (RFC 8259) of exactly the
+/// members of a command. The errors, in this order: `BadJson`, `BadCommand`, `BadIdentifier`,
+/// `BadText`, each for the whole line before the next; and at any point `NoMemory`. Of two members
+/// of one name the last counts. The prefixes of the records rise strictly by their bytes.
+pub fn read_line(alloc: Global, line: &[u8]) -> Result<Change, LineFault>
+    ensures gives { spec.Gives result (spec.line_of line.now) }
+    ensures rising { IfOk result (λ change. spec.rises change ≡ true) }
+{
+    let value = json_of(alloc, line)?;
+    let command = shape_of(alloc, &value)?;
+    checked(alloc, command)
+}
+
+#[tactic(auto, unfolding(crate::specs::Lines::json_of))]
+/// The JSON text that the line is.
+fn json_of(alloc: Global, line: &[u8]) -> Result<Value, LineFault>
+    ensures { spec.GivesBy view result (spec.json_of line.now) }
+{
+    match Value::from_slice(alloc, line) {
+        Ok(value) => Ok(value),
+        Err(error) if error.is_memory() => Err(LineFault::NoMemory),
+        Err(_) => Err(LineFault::Refused(LineRefusal::BadJson)),
+    }
+}
+
+#[tactic(auto, unfolding(crate::specs::Lines::shape_of))]
+/// The command that the value has the shape of.
+fn shape_of(alloc: Global, value: &Value) -> Result<Command, LineFault>
+    ensures gives { spec.Gives result (spec.shape_of (view value.now)) }
+    ensures rising { IfOk result (λ command. spec.command_rises command ≡ true) }
+{
+    if has_members(value, &["deposit", "sets", "records"]) {
+        deposit_of(alloc, value)
+    } else {
+        Err(LineFault::Refused(LineRefusal::BadCommand))
+    }
+}
+
+/// The law of the shapes: a value has the shape of a command exactly where it is the JSON object
+/// that the command is written as. The contract is the law; the call does nothing.
+pub fn shape_law()
+    ensures { ShapeLaw }
+{}
+
+#[tactic(auto, unfolding(crate::specs::Lines::deposit_of))]
+fn deposit_of(alloc: Global, value: &Value) -> Result<Command, LineFault>
+    ensures gives { spec.Gives result (spec.deposit_of (view value.now)) }
+    ensures rising { IfOk result (λ command. spec.command_rises command ≡ true) }
+{
+    let identifier = text_of(alloc, member_of(value, "deposit")?)?;
+    let sets = texts_of(alloc, member_of(value, "sets")?)?;
+    let records = records_of(alloc, member_of(value, "records")?)?;
+    Ok(Command::Deposit {
+        identifier,
+        sets,
+        records,
+    })
+}
+
+#[tactic(auto, using(crate::proofs::JsonLemmas::has_members_map))]
+/// Whether the value is an object of exactly these members.
+fn has_members(value: &Value, names: &[&str]) -> bool
+    ensures { result ≡ json.has_members (map (λ name. name.now) names.now) (view value.now) }
+{
+    size(value) == names.len() && has_each(value, names)
+}
+
+/// Whether the value has a member of each of these names.
+fn has_each(value: &Value, names: &[&str]) -> bool
+    ensures { result ≡ list_all (λ name. is_some (get name.now (view value.now))) names.now }
+{
+    names.iter().all(|name| has(value, name))
+}
+
+fn has(value: &Value, name: &str) -> bool
+    ensures { result ≡ is_some (get name.now (view value.now)) }
+{
+    value.get(name).is_some()
+}
+
+/// How many members an object has, and 0 at any other value.
+fn size(value: &Value) -> usize
+    ensures { result ≡ json.size (view value.now) }
+{
+    match value {
+        Value::Object(members) => members.len(),
+        _ => 0,
+    }
+}
+
+#[tactic(auto, unfolding(crate::specs::Lines::member_of))]
+fn member_of<'v>(value: &'v Value, name: &str) -> Result<&'v Value, LineFault>
+    ensures { spec.GivesBy (λ v. view v.now) result (spec.member_of name.now (view value.now)) }
+{
+    match value.get(name) {
+        Some(member) => Ok(member),
+        None => Err(LineFault::Refused(LineRefusal::BadCommand)),
+    }
+}
+
+#[tactic(auto, unfolding(crate::specs::Lines::list_of))]
+fn list_of(value: &Value) -> Result<&[Value], LineFault>
+    ensures { spec.GivesBy (λ values. map view values.now) result (spec.list_of (view value.now)) }
+{
+    match value.as_array() {
+        Some(values) => Ok(values.as_slice()),
+        None => Err(LineFault::Refused(LineRefusal::BadCommand)),
+    }
+}
+
+#[tactic(auto, unfolding(crate::specs::Lines::text_of))]
+fn text_of(alloc: Global, value: &Value) -> Result<Text, LineFault>
+    ensures { spec.Gives result (spec.text_of (view value.now)) }
+{
+    match value.as_str() {
+        Some(text) => Ok(Text::new(alloc, text)?),
+        None => Err(LineFault::Refused(LineRefusal::BadCommand)),
+    }
+}
+
+#[tactic(auto, unfolding(crate::specs::Lines::texts_of))]
+fn texts_of(alloc: Global, value: &Value) -> Result<Sequence<Text>, LineFault>
+    ensures { spec.Gives result (spec.texts_of (view value.now)) }
+{
+    texts_in(alloc, list_of(value)?)
+}
+
+#[tactic(auto, using(crate::proofs::LineLemmas::starts))]
+fn texts_in(alloc: Global, values: &[Value]) -> Result<Sequence<Text>, LineFault>
+    ensures { spec.Gives result (spec.each_of spec.text_of (map view values.now)) }
+{
+    let mut texts = Vec::new(alloc);
+    for value in values {
+        texts.push(text_of(alloc, value)?)?;
+    }
+    Ok(Sequence::new(texts))
+}
+
+#[tactic(auto, unfolding(crate::specs::Lines::field_of))]
+fn field_of(alloc: Global, value: &Value) -> Result<Field, LineFault>
+    ensures { spec.Gives result (spec.field_of (view value.now)) }
+{
+    pair_of(alloc, list_of(value)?)
+}
+
+#[tactic(auto, unfolding(crate::specs::Lines::pair_of))]
+fn pair_of(alloc: Global, values: &[Value]) -> Result<Field, LineFault>
+    ensures { spec.Gives result (spec.pair_of (map view values.now)) }
+{
+    match values {
+        [name, text] => Ok(Field {
+            name: text_of(alloc, name)?,
+            text: text_of(alloc, text)?,
+        }),
+        _ => Err(LineFault::Refused(LineRefusal::BadCommand)),
+    }
+}
+
+#[tactic(auto, unfolding(crate::specs::Lines::fields_of))]
+fn fields_of(alloc: Global, value: &Value) -> Result<Sequence<Field>, LineFault>
+    ensures { spec.Gives result (spec.fields_of (view value.now)) }
+{
+    fields_in(alloc, list_of(value)?)
+}
+
+#[tactic(auto, using(crate::proofs::LineLemmas::starts))]
+fn fields_in(alloc: Global, values: &[Value]) -> Result<Sequence<Field>, LineFault>
+    ensures { spec.Gives result (spec.each_of spec.field_of (map view values.now)) }
+{
+    let mut fields = Vec::new(alloc);
+    for value in values {
+        fields.push(field_of(alloc, value)?)?;
+    }
+    Ok(Sequence::new(fields))
+}
+
+#[tactic(auto, unfolding(crate::specs::Lines::records_of))]
+fn records_of(alloc: Global, value: &Value) -> Result<Sequence<(Text, Sequence<Field>)>, LineFault>
+    ensures gives { spec.Gives result (spec.records_of (view value.now)) }
+    ensures rising { IfOk result (λ records. are_rising records ≡ true) }
+{
+    match value {
+        Value::Object(members) => records_in(alloc, members),
+        _ => Err(LineFault::Refused(LineRefusal::BadCommand)),
+    }
+}
+
+#[tactic(auto, using(crate::proofs::LineLemmas::starts), unfolding(crate::specs::Lines::record_of))]
+/// The record that each member is, in the order of the prefixes.
+fn records_in(
+    alloc: Global,
+    members: &BTreeMap<String, Value>,
+) -> Result<Sequence<(Text, Sequence<Field>)>, LineFault>
+    ensures gives { spec.Gives result
+        (spec.each_of spec.record_of (map (λ m. (string_bytes m.0, view m.1)) members.now.entries)) }
+    ensures rising { IfOk result (λ records. are_rising records ≡ true) }
+{
+    let mut records = Vec::new(alloc);
+    for (prefix, fields) in members.iter() {
+        let prefix = Text::new(alloc, prefix.as_str())?;
+        records.push((prefix, fields_of(alloc, fields)?))?;
+    }
+    Ok(Sequence::new(records))
+}
+
+#[tactic(auto, unfolding(crate::specs::Lines::checked, crate::specs::Lines::xml_records))]
+/// The change that the command asks for, once its texts are looked at.
+fn checked(alloc: Global, command: Command) -> Result<Change, LineFault>
+    ensures gives { spec.Gives result (spec.checked command) }
+    ensures rising { spec.command_rises command ≡ true
+        → IfOk result (λ change. spec.rises change ≡ true) }
+{
+    match command {
+        Command::Deposit {
+            identifier,
+            sets,
+            records,
+        } => {
+            let identifier = identifier_of(alloc, &identifier)?;
+            if !have_xml_texts(records.as_slice()) {
+                return Err(LineFault::Refused(LineRefusal::BadText));
+            }
+            Ok(Change::Deposit {
+                identifier,
+                sets,
+                records,
+            })
+        }
+    }
+}
+
+#[tactic(auto, unfolding(crate::specs::Lines::identifier_of))]
+fn identifier_of(alloc: Global, text: &Text) -> Result<Identifier, LineFault>
+    ensures { spec.Gives result (spec.identifier_of text.now) }
+{
+    match Identifier::read(alloc, text.as_str()) {
+        Ok(identifier) => Ok(identifier),
+        Err(NameFault::NoMemory) => Err(LineFault::NoMemory),
+        Err(NameFault::Syntax) => Err(LineFault::Refused(LineRefusal::BadIdentifier)),
+        Err(NameFault::TooLong) => Err(LineFault::Refused(LineRefusal::BadIdentifier)),
+    }
+}
+
+#[tactic(auto, unfolding(crate::specs::Lines::have_xml_texts))]
+/// Whether each text of each field may stand in an XML document.
+fn have_xml_texts(records: &[(Text, Sequence<Field>)]) -> bool
+    ensures { result ≡ spec.have_xml_texts records.now }
+{
+    records
+        .iter()
+        .all(|record| are_xml_texts(record.1.as_slice()))
+}
+
+fn are_xml_texts(fields: &[Field]) -> bool
+    ensures { result ≡ spec.are_xml_texts fields.now }
+{
+    fields.iter().all(|field| is_xml_text(field.text.as_str()))
+}
+
+#[cfg(test)]
+mod tests;

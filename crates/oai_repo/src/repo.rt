@@ -1,0 +1,118 @@
+ghost use Rattle.std.specs.Prelude.{◌≡◌, true, IfOk};
+ghost use Rattle.oai_time.specs.Stamp.{IsWritable};
+ghost use Rattle.oai_repo.specs.Changes.{IsChanged};
+ghost use Rattle.oai_repo.specs.Held.{IsNew, state_of};
+ghost use Rattle.oai_repo.specs.Lines.{rises};
+ghost use Rattle.oai_repo.specs.State.{moved};
+ghost use Rattle.oai_repo.specs.Step.{IsAsked};
+
+use crate::answers::page_at;
+use crate::changes::{item_of, put, refusal_of};
+use crate::config::RepoConfig;
+use crate::lines::Change;
+use crate::refusals::{Fault, Refusal};
+use oai_item::Item;
+use oai_names::Sequence;
+use oai_time::{Clock, stamp};
+use std::alloc::Global;
+use std::marker::Model;
+
+/// What a request is answered.
+#[derive(Debug, Drop)]
+pub enum Reply {
+    /// The bytes of an XML document.
+    Page(Sequence<u8>),
+}
+
+/// One repository: its configuration, its clock and its items.
+#[derive(Debug, Drop)]
+pub struct Repo {
+    alloc: Global,
+    config: RepoConfig,
+    clock: Clock,
+    items: Vec<Item>,
+}
+
+impl Model for Repo {
+    ghost use Rattle.oai_repo.specs.Held.{Held, IsHeld};
+
+    ghost Value = { Held };
+
+    ghost view = { λ r. record { config = r.config; clock = r.clock; items = r.items.items } };
+
+    ghost invariant = { λ r. IsHeld (record { config = r.config; clock = r.clock; items = r.items.items }) };
+}
+
+impl Repo {
+    /// A repository without items, its clock at the lower limit of its datestamps. It takes no
+    /// memory now; what grows in it takes it from `alloc`.
+    pub fn new(alloc: Global, config: RepoConfig) -> Result<Repo, Fault>
+        ensures { IfOk result (λ repo. IsNew repo config) }
+    {
+        let clock = Clock::start(config.earliest());
+        Ok(Repo {
+            alloc,
+            config,
+            clock,
+            items: Vec::new(alloc),
+        })
+    }
+
+    /// Performs a request of OAI-PMH, by the bytes of its query, at the moment, in seconds from 1970
+    /// on: it moves the clock and answers a document. A fault leaves everything as it was.
+    pub fn ask(&mut self, moment: i64, query: &[u8]) -> Result<Reply, Fault>
+        ensures { IsAsked self.old moment query.now result self.new }
+    {
+        let mut clock = self.clock;
+        clock.tick(moment);
+        let page = page_at(self.alloc, &self.config, clock.now(), &self.items, query)?;
+        self.clock = clock;
+        Ok(Reply::Page(Sequence::new(page)))
+    }
+
+    /// Makes a change at the moment, in seconds from 1970 on, and answers its datestamp. A change
+    /// that is refused has moved the clock and nothing else; a fault leaves everything as it was.
+    /// The prefixes of the records rise by their bytes.
+    pub fn change(&mut self, moment: i64, change: &Change) -> Result<i64, Refusal>
+        requires { rises change.now ≡ true }
+        ensures changed { IsChanged self.old moment change.now result self.new }
+        ensures dated { IfOk result IsWritable }
+    {
+        let mut clock = self.clock;
+        clock.tick(moment);
+        match refusal_of(&self.config, &self.items, change) {
+            Some(cause) => {
+                self.clock = clock;
+                return Err(Refusal::Refused(cause));
+            }
+            None => {}
+        }
+        let stamp = stamp(self.config.granularity(), clock.now());
+        let item = item_of(self.alloc, self.config.formats(), stamp, change)?;
+        put(&mut self.items, item)?;
+        self.clock = clock;
+        Ok(stamp)
+    }
+
+    /// Moves the clock to the moment, in seconds from 1970 on, and changes nothing else.
+    pub fn advance(&mut self, moment: i64)
+        ensures moved { state_of self.new ≡ moved moment (state_of self.old) }
+        ensures config { self.new.config ≡ self.old.config }
+    {
+        self.clock.tick(moment);
+    }
+
+    /// The clock, in seconds from 1970 on.
+    pub fn clock(&self) -> i64
+        ensures { result ≡ (state_of self.now).clock }
+    {
+        self.clock.now()
+    }
+
+    /// The configuration.
+    pub fn config(&self) -> &RepoConfig
+        ensures { result.now ≡ self.now.config }
+    {
+        &self.config
+    }
+}

@@ -1,0 +1,3 @@
+pub mod CalendarLemmas
+pub mod ClockLemmas
+pub mod StampLemmas

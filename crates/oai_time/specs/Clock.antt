@@ -1,0 +1,7 @@
+-- The clock of a repository.
+use Rattle.std.specs.Prelude.{ℤ, pos}
+use Rattle.std.specs.Int.{int_max, int_min}
+
+-- the clock after it is told a moment: it never goes back, nor past 9998-12-31T23:59:59Z
+abbrev pub tick : ℤ → ℤ → ℤ
+tick clock moment = int_max clock (int_min moment (pos 253_370_764_799))

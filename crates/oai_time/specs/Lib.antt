@@ -1,0 +1,4 @@
+pub mod Calendar
+pub mod Clock
+pub mod Stamp
+pub mod Text

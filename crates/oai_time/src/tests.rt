@@ -1,0 +1,44 @@
+use super::*;
+
+#[test]
+fn writes_seconds(rt: HostRuntime) {
+    assert_eq!(rt; &write_second(0), b"1970-01-01T00:00:00Z");
+    assert_eq!(rt; &write_second(253_402_300_799), b"9999-12-31T23:59:59Z");
+    assert_eq!(rt; &write_second(-62_167_219_200), b"0000-01-01T00:00:00Z");
+    assert_eq!(rt; &write_second(1_704_067_200), b"2024-01-01T00:00:00Z");
+    assert_eq!(rt; &write_second(1_709_251_199), b"2024-02-29T23:59:59Z");
+    assert_eq!(rt; &write_second(-1), b"1969-12-31T23:59:59Z");
+}
+
+#[test]
+fn writes_days(rt: HostRuntime) {
+    assert_eq!(rt; &write_day(1_709_251_199), b"2024-02-29");
+    assert_eq!(rt; &write_day(1_709_251_200), b"2024-03-01");
+    assert_eq!(rt; &write_day(-1), b"1969-12-31");
+    assert_eq!(rt; &write_day(253_402_300_799), b"9999-12-31");
+}
+
+#[test]
+fn stamps(rt: HostRuntime) {
+    assert_eq!(rt; stamp(Granularity::Second, 1_709_251_199), 1_709_251_199);
+    assert_eq!(rt; stamp(Granularity::Day, 1_709_251_199), 1_709_164_800);
+    assert_eq!(rt; stamp(Granularity::Day, 1_709_164_800), 1_709_164_800);
+    assert_eq!(rt; stamp(Granularity::Day, -1), -86_400);
+}
+
+#[test]
+fn ticks(rt: HostRuntime) {
+    let mut clock = Clock::start(1_704_067_200);
+    assert_eq!(rt; clock.now(), 1_704_067_200);
+    for (moment, shown) in [
+        (1_704_067_210, 1_704_067_210),
+        (1_704_067_205, 1_704_067_210),
+        (i64::MIN, 1_704_067_210),
+        (1_704_067_230, 1_704_067_230),
+        (999_999_999_999, 253_370_764_799),
+        (0, 253_370_764_799),
+    ] {
+        clock.tick(moment);
+        assert_eq!(rt; clock.now(), shown, "at {moment}");
+    }
+}

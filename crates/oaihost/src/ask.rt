@@ -1,0 +1,165 @@
+use crate::exchange::{Answer, Exchange, perform};
+use crate::stop::Stop;
+use oai_repo::Repo;
+use std::alloc::Global;
+use std::io::{self, Read, Write};
+
+/// The most reads of an input; one that has not ended by then is a fault.
+const MOST_READS: u64 = 1_000_000;
+
+/// The most bytes of a read.
+const READ_BYTES: usize = 65_536;
+
+/// Seconds to wait where memory was refused.
+const WAIT: u64 = 60;
+
+/// Performs the exchanges that the lines of the input spell, in order, and writes what each is
+/// answered. A line is `<moment> <METHOD> <target>`, and then for a body one space and the body to
+/// the end of the line; an empty line is skipped. The moment is in seconds from 1970 on. An answer
+/// is its status, the seconds to wait and the lines done, as far as it has them, a line end, and its
+/// body.
+///
+/// It stops at the first line that is no exchange, at a fault of the input or the output, at an
+/// input that does not end within 1,000,000 reads, and where memory for a line is refused. What was
+/// answered before stays written.
+pub fn ask_lines<R: Read, W: Write>(
+    alloc: Global,
+    served: &mut Repo,
+    reader: &mut R,
+    writer: &mut W,
+) -> Result<(), Stop> {
+    let asked = ask_all(alloc, served, reader, writer);
+    if writer.flush().is_err() {
+        return Err(Stop::OutputFault);
+    }
+    asked
+}
+
+fn ask_all<R: Read, W: Write>(
+    alloc: Global,
+    served: &mut Repo,
+    reader: &mut R,
+    writer: &mut W,
+) -> Result<(), Stop> {
+    let Ok(mut buffer) = vec![in alloc; 0u8; READ_BYTES] else {
+        return Err(Stop::NoMemory);
+    };
+    let mut lines = Lines::new(alloc);
+    for _ in 0..MOST_READS {
+        let Ok(count) = reader.read(&mut buffer) else {
+            return Err(Stop::InputFault);
+        };
+        if count == 0 {
+            return lines.finish(served, writer);
+        }
+        lines.take(served, &buffer[..count], writer)?;
+    }
+    Err(Stop::InputFault)
+}
+
+/// The lines of the input so far.
+#[derive(Drop)]
+struct Lines {
+    alloc: Global,
+    /// The lines that have ended.
+    ended: u64,
+    /// The bytes of the line that has not.
+    begun: Vec<u8>,
+}
+
+impl Lines {
+    fn new(alloc: Global) -> Lines {
+        Lines {
+            alloc,
+            ended: 0,
+            begun: Vec::new(alloc),
+        }
+    }
+
+    /// Takes further bytes of the input and performs the lines that they end.
+    fn take<W: Write>(
+        &mut self,
+        served: &mut Repo,
+        bytes: &[u8],
+        writer: &mut W,
+    ) -> Result<(), Stop> {
+        let mut pieces = bytes.split(|b| *b == b'\n');
+        let Some(first) = pieces.next() else {
+            return Ok(());
+        };
+        self.begin(first)?;
+        for piece in pieces {
+            self.end(served, writer)?;
+            self.begin(piece)?;
+        }
+        Ok(())
+    }
+
+    /// Performs the last line, where it has no line end.
+    fn finish<W: Write>(&mut self, served: &mut Repo, writer: &mut W) -> Result<(), Stop> {
+        self.end(served, writer)
+    }
+
+    fn begin(&mut self, piece: &[u8]) -> Result<(), Stop> {
+        if self.begun.extend_from_slice(piece).is_err() {
+            return Err(Stop::NoMemory);
+        }
+        Ok(())
+    }
+
+    /// Performs the line that has just ended.
+    fn end<W: Write>(&mut self, served: &mut Repo, writer: &mut W) -> Result<(), Stop> {
+        self.ended = self.ended.saturating_add(1);
+        if !self.begun.is_empty() {
+            let Some((moment, exchange)) = read_exchange(&self.begun) else {
+                return Err(Stop::BadExchange(self.ended));
+            };
+            let answer = perform(self.alloc, served, moment, &exchange);
+            if write_answer(&answer, writer).is_err() {
+                return Err(Stop::OutputFault);
+            }
+        }
+        self.begun.clear();
+        Ok(())
+    }
+}
+
+/// Reads a line: three or four parts between single spaces, of which the last goes to the end.
+fn read_exchange(line: &[u8]) -> Option<(i64, Exchange<'_>)> {
+    let mut parts = line.splitn(4, |b| *b == b' ');
+    let moment = read_moment(parts.next()?)?;
+    let method = parts.next()?;
+    let target = parts.next()?;
+    let body = parts.next().unwrap_or(&[]);
+    Some((
+        moment,
+        Exchange {
+            method,
+            target,
+            body,
+        },
+    ))
+}
+
+/// Reads a moment: decimal digits, after a minus where it is negative.
+fn read_moment(text: &[u8]) -> Option<i64> {
+    if text.first() == Some(&b'+') {
+        return None;
+    }
+    let Ok(text) = std::str::from_utf8(text) else {
+        return None;
+    };
+    text.parse().ok()
+}
+
+/// Writes an answer: its status with the numbers that it has, a line end, and its body.
+fn write_answer<W: Write>(answer: &Answer, writer: &mut W) -> io::Result<()> {
+    match answer {
+        Answer::Performed(body) => {
+            writer.write_all(b"200\n")?;
+            writer.write_all(body.as_slice())
+        }
+        Answer::NoMemory { done: Some(done) } => writeln!(writer, "503 {WAIT} {done}"),
+        Answer::NoMemory { done: None } => writeln!(writer, "503 {WAIT}"),
+    }
+}

@@ -1,0 +1,156 @@
+ghost use Rattle.std.specs.Prelude.{◌≡◌, ◌+◌, ◌≤◌, ◌++◌, [], ◌∷◌, length, vec_len, vec_capacity, codes, OnOk, OnErr, IfOk};
+ghost use Rattle.std.specs.List.{position_or_len};
+ghost use Rattle.oai_time.specs.Stamp.{IsWritable};
+ghost use Rattle.oai_repo.specs.Documents.{datestamp_text};
+ghost use Rattle.oai_repo.specs.Step.{line};
+ghost use Rattle.oaihost.specs.Exchange as spec;
+
+use oai_names::Sequence;
+use oai_repo::{Fault, LineFault, Refusal, Reply, Repo, read_line};
+use oai_time::{Granularity, write_day, write_second};
+use std::alloc::Global;
+
+/// The most bytes of the line that answers a deposit, its end included.
+const MOST_LINE: usize = 32;
+
+/// A message and what it asks for.
+#[derive(Clone, Copy, Debug)]
+pub struct Exchange<'a> {
+    /// The method, as `GET`.
+    pub method: &'a [u8],
+    /// The target, as `/oai/a?verb=Identify`.
+    pub target: &'a [u8],
+    /// The body, empty where there is none.
+    pub body: &'a [u8],
+}
+
+/// What an exchange is answered.
+#[derive(Debug, Drop)]
+pub enum Answer {
+    /// It was performed, and this is the body of the answer.
+    Performed(Sequence<u8>),
+    /// Memory was refused, and everything is as it was. Of a deposit, the number of its lines that
+    /// were done.
+    NoMemory {
+        /// The lines done.
+        done: Option<u64>,
+    },
+}
+
+/// Performs an exchange at the moment, in seconds from 1970 on. A target whose path begins with
+/// `/deposit/` makes the body a deposit line, whatever the method; every other target makes a
+/// request of OAI-PMH (section 3.1.1 of OAI-PMH 2.0), with its arguments in the body of a POST and
+/// in the query of every other method.
+pub fn perform(alloc: Global, repo: &mut Repo, moment: i64, exchange: &Exchange<'_>) -> Answer
+    ensures { spec.IsAnswered repo.old moment (spec.command_of exchange.now) result repo.new }
+{
+    if is_deposit(exchange.target) {
+        match deposit(alloc, repo, moment, exchange.body) {
+            Ok(body) => Answer::Performed(Sequence::new(body)),
+            Err(Fault::NoMemory) => Answer::NoMemory { done: Some(0) },
+        }
+    } else {
+        match repo.ask(moment, arguments_of(exchange)) {
+            Ok(Reply::Page(page)) => Answer::Performed(page),
+            Err(Fault::NoMemory) => Answer::NoMemory { done: None },
+        }
+    }
+}
+
+/// Whether the path of the target begins with `/deposit/`.
+fn is_deposit(target: &[u8]) -> bool
+    ensures { result ≡ spec.is_deposit target.now }
+{
+    target.strip_prefix(b"/deposit/").is_some()
+}
+
+/// The arguments of a request, still encoded.
+fn arguments_of<'a>(exchange: &Exchange<'a>) -> &'a [u8]
+    ensures { result.now ≡ spec.arguments_of exchange.now }
+{
+    if exchange.method == b"POST".as_slice() {
+        exchange.body
+    } else {
+        query_of(exchange.target)
+    }
+}
+
+/// What stands after the first `?`.
+fn query_of(target: &[u8]) -> &[u8]
+    ensures { result.now ≡ spec.query_of target.now }
+{
+    let path = path_len(target);
+    if path < target.len() {
+        &target[path + 1..]
+    } else {
+        &[]
+    }
+}
+
+/// How many bytes stand before the first `?`.
+fn path_len(target: &[u8]) -> usize
+    ensures length { result ≡ position_or_len spec.is_question_mark target.now }
+    ensures within { result ≤ length target.now }
+{
+    for (at, b) in target.iter().enumerate() {
+        if *b == b'?' {
+            return at;
+        }
+    }
+    target.len()
+}
+
+/// Performs a deposit line and answers the line for it. Room for the answer is taken first, so a
+/// line that was performed is answered.
+fn deposit(alloc: Global, repo: &mut Repo, moment: i64, text: &[u8]) -> Result<Vec<u8>, Fault>
+    ensures ok { IfOk result (λ body. spec.IsPerformed repo.old moment (line text.now) body.items repo.new) }
+    ensures err { OnErr result (repo.new ≡ repo.old) }
+{
+    let mut answer = Vec::with_capacity(alloc, MOST_LINE)?;
+    match read_line(alloc, text) {
+        Ok(change) => match repo.change(moment, &change) {
+            Ok(stamp) => put_stamp(repo.config().granularity(), stamp, &mut answer),
+            Err(Refusal::Refused(cause)) => put_line(cause.answer(), &mut answer),
+            Err(Refusal::Fault(fault)) => return Err(fault),
+        },
+        Err(LineFault::Refused(cause)) => {
+            repo.advance(moment);
+            put_line(cause.answer(), &mut answer);
+        }
+        Err(LineFault::NoMemory) => return Err(Fault::NoMemory),
+    }
+    Ok(answer)
+}
+
+/// Writes `ok`, the datestamp and a line end.
+fn put_stamp(granularity: Granularity, stamp: i64, out: &mut Vec<u8>)
+    requires writable { IsWritable stamp }
+    requires room { vec_len out.old + 32 ≤ vec_capacity out.old }
+    ensures { out.new.items ≡ out.old.items ++ (codes "ok " ++ datestamp_text granularity stamp) ++ 10 ∷ [] }
+{
+    put(b"ok ", out);
+    match granularity {
+        Granularity::Day => put(&write_day(stamp), out),
+        Granularity::Second => put(&write_second(stamp), out),
+    }
+    put(b"\n", out);
+}
+
+/// Writes the text and a line end.
+fn put_line(text: &str, out: &mut Vec<u8>)
+    requires { vec_len out.old + length text.now + 1 ≤ vec_capacity out.old }
+    ensures { out.new.items ≡ out.old.items ++ text.now ++ 10 ∷ [] }
+{
+    put(text.as_bytes(), out);
+    put(b"\n", out);
+}
+
+/// Writes into room that is there.
+fn put(bytes: &[u8], out: &mut Vec<u8>)
+    requires { vec_len out.old + length bytes.now ≤ vec_capacity out.old }
+    ensures items { out.new.items ≡ out.old.items ++ bytes.now }
+    ensures len { vec_len out.new ≡ vec_len out.old + length bytes.now }
+    ensures room { vec_capacity out.old ≤ vec_capacity out.new }
+{
+    out.extend_from_slice(bytes).unwrap()
+}
