@@ -1,1 +1,3 @@
 pub mod FormatLemmas
+pub mod Repeats
+pub mod Declarations

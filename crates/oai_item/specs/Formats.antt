@@ -1,6 +1,6 @@
 -- Metadata formats. OAI-PMH 2.0, section 3.4.
-use Rattle.std.specs.Prelude.{ℕ, List, [], ◌∷◌, map, codes, Option}
-use Rattle.std.specs.List.{find}
+use Rattle.std.specs.Prelude.{◌≡◌, ◌≤◌, ℕ, Bool, false, ◌||◌, List, [], ◌∷◌, length, map, slice_get, codes, Option, Some}
+use Rattle.std.specs.List.{find, list_any}
 use Rattle.std.specs.Str.{bytes_eq}
 use Rattle.oai_item.specs.declared.formats.Format.{Format}
 
@@ -18,3 +18,14 @@ dublin_core = record {
 -- the format of that prefix
 unfoldable pub format_named : List ℕ → List Format → Option Format
 format_named prefix formats = find (λ format. bytes_eq format.prefix prefix) formats
+
+-- some text of the list stands again behind itself
+abbrev pub has_repeat : List (List ℕ) → Bool
+has_repeat [] = false
+has_repeat (text ∷ texts) = list_any (bytes_eq text) texts || has_repeat texts
+
+-- what is true of the formats of each repository: oai_dc is the first, no prefix stands twice, and there are at most 64
+pub record IsFormats (formats : List Format) : Type 0 where
+  pub first : slice_get formats 0 ≡ Some dublin_core
+  pub apart : has_repeat (map (λ format. format.prefix) formats) ≡ false
+  pub few : length formats ≤ 64

@@ -1,10 +1,17 @@
+mod checks;
+#[cfg(test)]
+mod tests;
+
 ghost use Rattle.std.specs.Prelude.{◌≡◌, [], ◌∷◌, length, map, IfOk, IfSome, slice_get};
 ghost use Rattle.std.specs.Option.{option_copied};
-ghost use Rattle.oai_item.specs.Formats.{dublin_core, format_named};
+ghost use Rattle.oai_item.specs.Formats.{IsFormats, dublin_core, format_named};
+ghost use Rattle.oai_item.specs.Declaring.{IsDeclaring};
 
+use checks::check;
 use oai_names::{NameFault, Prefix, Sequence, Text};
 use std::alloc::{AllocError, Global};
 use std::marker::Model;
+use thiserror::Error;
 
 /// The prefix of the format that every repository has.
 const DUBLIN_CORE: &str = "oai_dc";
@@ -43,10 +50,36 @@ pub struct Format {
     pub fields: Sequence<Text>,
 }
 
-/// The metadata formats of a repository: oai_dc, and those declared, in that order.
+/// The metadata formats of a repository: oai_dc, and those declared, in that order. There are at
+/// most 64, and no two have the same prefix.
 #[derive(Debug, Drop)]
 pub struct Formats {
     formats: Vec<Format>,
+}
+
+/// Why a format was not declared, in the order in which the causes are looked for.
+#[derive(Clone, Copy, Debug, PartialEq, Eq, Error)]
+pub enum FormatFault {
+    /// A format of that prefix stands already, as oai_dc always does.
+    #[error("a format of that prefix stands already")]
+    Duplicate,
+    /// The root, or a field, is not an ASCII letter or `_` followed by letters, digits, `-`, `_` and
+    /// `.` (XML 1.0, section 2.3, `Name` in ASCII and without colons), or has more than 64 bytes.
+    #[error("the name of an element is of illegal syntax or too long")]
+    BadName,
+    /// The schema or the namespace is not of 1 to 512 bytes, or has a character that no document may
+    /// hold (XML 1.0, section 2.2), or a space, tab, LF or CR.
+    #[error("a URI is empty, too long or of illegal characters")]
+    BadUri,
+    /// The name of a field stands twice.
+    #[error("a field stands twice")]
+    FieldTwice,
+    /// 64 formats stand already, oai_dc counted; or the format has no field, or more than 256.
+    #[error("too many formats, too many fields, or no field")]
+    TooMany,
+    /// The format could not be stored, or not be looked through.
+    #[error("out of memory")]
+    NoMemory,
 }
 
 impl Model for Formats {
@@ -55,7 +88,11 @@ impl Model for Formats {
 
     ghost Value = { List Format };
 
+    ghost use Rattle.oai_item.specs.Formats.{IsFormats};
+
     ghost view = { λ f. f.formats.items };
+
+    ghost invariant = { λ f. IsFormats f.formats.items };
 }
 
 impl Formats {
@@ -66,6 +103,15 @@ impl Formats {
         let mut formats = Vec::new(alloc);
         formats.push(dublin_core(alloc)?)?;
         Ok(Formats { formats })
+    }
+
+    /// Adds the format at the end. On an error the formats are as before; the errors are those of
+    /// `FormatFault`, the first that applies, but for want of memory, which may come in place of
+    /// `FieldTwice`, of `TooMany` or of the format's place. The time is n log n for n fields.
+    pub fn declare(&mut self, format: Format) -> Result<(), FormatFault>
+        ensures { IsDeclaring self.old format result self.new }
+    {
+        add(&mut self.formats, format)
     }
 
     /// The format of that prefix, or None.
@@ -79,6 +125,7 @@ impl Formats {
     pub fn find_named(&self, prefix: &str) -> Option<&Format>
         ensures found { option_copied result ≡ format_named prefix.now self.now }
         ensures prefix { IfSome (option_copied result) (λ format. format.prefix ≡ prefix.now) }
+        ensures valid { IsFormats self.now }
     {
         format_named(prefix, self.formats.as_slice())
     }
@@ -92,9 +139,21 @@ impl Formats {
 
     /// How many formats there are.
     pub fn len(&self) -> usize
-        ensures { result ≡ length self.now }
+        ensures count { result ≡ length self.now }
+        ensures valid { IsFormats self.now }
     {
         self.formats.len()
+    }
+}
+
+/// Adds the format at the end, if it may be declared beside those that stand.
+fn add(formats: &mut Vec<Format>, format: Format) -> Result<(), FormatFault>
+    ensures { IsDeclaring formats.old.items format result formats.new.items }
+{
+    check(*formats.allocator(), formats.as_slice(), &format)?;
+    match formats.push(format) {
+        Ok(()) => Ok(()),
+        Err(_) => Err(FormatFault::NoMemory),
     }
 }
 

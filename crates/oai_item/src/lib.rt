@@ -4,7 +4,9 @@
 mod fields;
 mod formats;
 mod items;
+#[cfg(test)]
+mod tests;
 
 pub use fields::Field;
-pub use formats::{Format, Formats};
+pub use formats::{Format, FormatFault, Formats};
 pub use items::Item;

@@ -43,8 +43,8 @@ fn escape(place: Place, text: &str, out: &mut Vec<u8>) -> Result<(), AllocError>
     written
 }
 
-#[tactic(auto, unfolding(crate::specs::Escapes::escaped))]
 /// As `escape`, but what was appended before memory was refused stays.
+#[tactic(auto, unfolding(crate::specs::Escapes::escaped))]
 fn append(place: Place, text: &str, out: &mut Vec<u8>) -> Result<(), AllocError>
     ensures ok { OnOk result (out.new.items ≡ out.old.items ++ spec.escaped place text.now) }
     ensures err { OnErr result (take (length out.old.items) out.new.items ≡ out.old.items) }

@@ -67,8 +67,8 @@ impl Identifier {
     }
 }
 
-#[tactic(auto, unfolding(crate::specs::Names::is_identifier))]
 /// Whether the text has the syntax of an identifier, of any length.
+#[tactic(auto, unfolding(crate::specs::Names::is_identifier))]
 fn is_identifier(text: &str) -> bool
     ensures { result ≡ is_identifier text.now }
 {
@@ -78,8 +78,8 @@ fn is_identifier(text: &str) -> bool
     }
 }
 
-#[tactic(auto, unfolding(crate::specs::Names::is_scheme))]
 /// Whether the text is the scheme of a URI (RFC 3986, section 3.1).
+#[tactic(auto, unfolding(crate::specs::Names::is_scheme))]
 fn is_scheme(text: &str) -> bool
     ensures { result ≡ is_scheme text.now }
 {

@@ -65,8 +65,8 @@ impl Prefix {
     }
 }
 
-#[tactic(auto, unfolding(crate::specs::Names::is_prefix))]
 /// Whether the text has the syntax of a metadata prefix, of any length.
+#[tactic(auto, unfolding(crate::specs::Names::is_prefix))]
 pub fn is_prefix(text: &str) -> bool
     ensures { result ≡ is_prefix text.now }
 {

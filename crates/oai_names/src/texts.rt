@@ -4,9 +4,9 @@ ghost use Rattle.oai_names.specs.Text as spec;
 use std::alloc::{AllocError, Global};
 use std::marker::Model;
 
-#[tactic(auto, unfolding(crate::specs::Text::is_xml_text))]
 /// Whether each character of the text may stand in an XML document: everything but U+0000 to
 /// U+001F without tab, LF and CR, and but U+FFFE and U+FFFF (XML 1.0, section 2.2).
+#[tactic(auto, unfolding(crate::specs::Text::is_xml_text))]
 pub fn is_xml_text(text: &str) -> bool
     ensures { result ≡ spec.is_xml_text text.now }
 {

@@ -1,5 +1,5 @@
 -- What the definition of a change says in each of its two cases.
-use Rattle.std.proofs.Common.{◌≡◌, ◌≢◌, ℕ, Bool, true, false, not, List, [], ◌∷◌, Option, Some, None, Ok, Err, ℤ, refl, ap, cond, length}
+use Rattle.std.proofs.Common.{◌≡◌, ◌≢◌, Bool, true, false, not, List, [], ◌∷◌, Option, Some, None, Ok, Err, ℤ, refl, ap, cond, length}
 use Rattle.std.specs.Prelude.{◌==◌}
 use Rattle.std.specs.List.{list_all, list_any}
 use Rattle.oai_item.specs.Item.{ItemState, Metadata}

@@ -1,5 +1,5 @@
 -- Arrays and objects as lists.
-use Rattle.std.proofs.Common.{◌≡◌, ℕ, Bool, ◌&&◌, eqb, is_some, Some, Option, List, [], ◌∷◌, map, length, String, Global, BTreeMap, Bor, string_bytes, refl, ap, ◌∙◌, rules}
+use Rattle.std.proofs.Common.{◌≡◌, ℕ, ◌&&◌, eqb, is_some, List, [], ◌∷◌, map, length, String, Global, BTreeMap, Bor, string_bytes, refl, ap, ◌∙◌}
 use Rattle.std.specs.List.{list_all}
 use Rattle.std.proofs.lemmas.List.{length-map}
 use Rattle.std.proofs.lemmas.List.Folds.{list_all-map}

@@ -1,7 +1,9 @@
 pub mod Appending
 pub mod ChangeLemmas
+pub mod ConfigLemmas
 pub mod JsonLemmas
 pub mod LineLemmas
+pub mod OrderLemmas
 pub mod RequestLemmas
 pub mod ShapeLemmas
 pub mod SlotLemmas

@@ -1,6 +1,6 @@
 -- Reading a line: JSON, a step at each value of a list as a loop takes it, and why the prefixes rise.
-use Rattle.std.proofs.Common.{◌≡◌, ◌≢◌, ℕ, ◌+◌, ◌<◌, ◌≤◌, Bool, true, false, cond, Option, Some, None, List, [], ◌∷◌, ◌++◌, length, get_or, drop, map, String, Global, BTreeMap, string_bytes, Less, Result, Ok, Err, refl, sym, ap, subst, ◌∙◌, append_assoc, arith, add-one, drop-cons}
-use Rattle.std.proofs.lemmas.List.{append-nil, drop_all}
+use Rattle.std.proofs.Common.{◌≡◌, ℕ, Bool, true, false, cond, Option, Some, None, List, [], ◌∷◌, ◌++◌, map, String, Global, BTreeMap, string_bytes, Less, Result, Ok, Err, refl, sym, ap, ◌∙◌, append_assoc}
+use Rattle.std.proofs.lemmas.List.{append-nil}
 use Rattle.std.specs.List.Sorted.{IsStrictlySortedBy}
 use Rattle.std.specs.Map.{keys_of}
 use Rattle.std.specs.String.{string_cmp}
@@ -18,11 +18,9 @@ use Rattle.serde_json.proofs.Views.{view-Object}
 use Rattle.oai_item.specs.declared.fields.Field.{Field}
 use Rattle.oai_item.specs.Item.{Metadata, is_before, are_rising}
 use Rattle.oai_repo.specs.Json.{values_in}
-use Rattle.oai_repo.specs.declared.lines.LineFault.{LineFault}
-use Rattle.oai_repo.specs.declared.lines.LineFault.TheVariants.{NoMemory, Refused}
 use Rattle.oai_repo.specs.declared.lines.LineRefusal.{LineRefusal}
 use Rattle.oai_repo.specs.declared.lines.LineRefusal.TheVariants.{BadJson, BadCommand}
-use Rattle.oai_repo.specs.Lines.{◌>>=◌, each_of, Fails, json_of, list_of, text_of, pair_of, fields_of, record_of, records_of}
+use Rattle.oai_repo.specs.Lines.{◌>>=◌, each_of, json_of, list_of, fields_of, record_of, records_of}
 use Rattle.oai_repo.proofs.JsonLemmas.{values_in-items_view, members_in-members_view, seen}
 
 -- ---- JSON

@@ -1,5 +1,5 @@
 -- What a request is answered. OAI-PMH 2.0, sections 3.2, 3.6, 4.1 and 4.2.
-use Rattle.std.specs.Prelude.{◌≡◌, ℕ, List, codes, find, Option, Some, None}
+use Rattle.std.specs.Prelude.{ℕ, List, codes, find, Option, Some, None}
 use Rattle.std.specs.Str.{bytes_eq}
 use Rattle.oai_item.specs.Item.{ItemState, Metadata}
 use Rattle.oai_item.specs.Formats.{format_named}

@@ -1,5 +1,5 @@
 -- What a deposit changes. OAI-PMH 2.0, sections 2.2 to 2.7; that a change may be refused is this repository's own.
-use Rattle.std.specs.Prelude.{◌≡◌, ℕ, ℤ, Bool, true, false, ◌&&◌, not, nat_le, ◌==◌, List, length, codes, Option, Some, None, is_some, is_none, Result, Ok, Err, if◌then◌else◌}
+use Rattle.std.specs.Prelude.{◌≡◌, ℕ, ℤ, Bool, true, ◌&&◌, not, nat_le, ◌==◌, List, length, codes, Option, Some, None, is_some, is_none, Result, Ok, Err, if◌then◌else◌}
 use Rattle.std.specs.List.{list_all, list_any}
 use Rattle.std.specs.Str.{bytes_eq}
 use Rattle.oai_time.specs.Stamp.{stamp_of}
@@ -12,7 +12,6 @@ use Rattle.oai_repo.specs.Held.{Held, state_of}
 use Rattle.oai_repo.specs.State.{State, moved, item_named, without, placed}
 use Rattle.oai_repo.specs.declared.lines.Change.{Change}
 use Rattle.oai_repo.specs.declared.lines.Change.TheVariants.{Deposit}
-use Rattle.oai_repo.specs.declared.refusals.Fault.{Fault}
 use Rattle.oai_repo.specs.declared.refusals.ChangeRefusal.{ChangeRefusal}
 use Rattle.oai_repo.specs.declared.refusals.ChangeRefusal.TheVariants.{UnknownSet, UnknownFormat, NoDc, UnknownField, TooManyItems}
 use Rattle.oai_repo.specs.declared.refusals.Refusal.{Refusal}

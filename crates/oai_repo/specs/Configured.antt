@@ -1,5 +1,5 @@
 -- A repository as it is configured, and the rules of its configuration.
-use Rattle.std.specs.Prelude.{◌≡◌, ℕ, ℤ, pos, neg_ℤ, Bool, true, ◌==◌, ◌&&◌, not, nat_le, int_lt, List, length}
+use Rattle.std.specs.Prelude.{◌≡◌, ℕ, ℤ, pos, neg_ℤ, Bool, true, ◌&&◌, not, nat_le, int_lt, List, length}
 use Rattle.std.specs.List.{list_all}
 use Rattle.std.specs.Ordering.{int_eq}
 use Rattle.oai_names.specs.Text.{is_xml_text}

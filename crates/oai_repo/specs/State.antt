@@ -1,6 +1,6 @@
 -- The state of a repository, which is all that its answers depend on beside its configuration.
-use Rattle.std.specs.Prelude.{ℕ, ℤ, Bool, not, List, [], Option, filter, find}
-use Rattle.std.specs.List.{insert, position_or_len}
+use Rattle.std.specs.Prelude.{ℕ, ℤ, Bool, true, not, ◌&&◌, List, [], ◌∷◌, Option, filter, find}
+use Rattle.std.specs.List.{insert, list_all, position_or_len}
 use Rattle.std.specs.Str.{bytes_eq}
 use Rattle.std.specs.Ordering.{nat_cmp, int_cmp, ordering_then, is_lt}
 use Rattle.std.specs.declared.cmp.Ordering.{Ordering}
@@ -42,6 +42,20 @@ item_cmp a b = ordering_then (int_cmp a.stamp b.stamp) (slice_cmp nat_cmp a.iden
 -- the first item stands before the second
 abbrev pub precedes : ItemState → ItemState → Bool
 precedes a b = is_lt (item_cmp a b)
+
+-- each item stands before every later one
+abbrev pub are_in_order : List ItemState → Bool
+are_in_order [] = true
+are_in_order (item ∷ items) = list_all (precedes item) items && are_in_order items
+
+-- the second item has not the identifier of the first
+abbrev pub is_apart : ItemState → ItemState → Bool
+is_apart item other = not (is_named item.identifier other)
+
+-- no two items have one identifier
+abbrev pub are_apart : List ItemState → Bool
+are_apart [] = true
+are_apart (item ∷ items) = list_all (is_apart item) items && are_apart items
 
 -- the items with one more, before the first that it precedes
 unfoldable pub placed : ItemState → List ItemState → List ItemState

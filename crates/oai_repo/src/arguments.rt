@@ -76,8 +76,8 @@ enum Given {
 }
 
 impl Given {
-    #[tactic(auto, unfolding(crate::specs::Slots::given_with))]
     /// Takes one more value of the key.
+    #[tactic(auto, unfolding(crate::specs::Slots::given_with))]
     fn add(&mut self, alloc: Global, value: &str) -> Result<(), AllocError>
         ensures { IfOk result (λ _. self.new ≡ spec.given_with self.old (value.now ∷ [])) }
     {
@@ -130,8 +130,8 @@ impl Slots {
         }
     }
 
-    #[tactic(auto, unfolding(crate::specs::Slots::slots_with, crate::specs::Slots::given_with, crate::specs::Pairs::values_of, crate::specs::Requests::has_only_keys, crate::specs::Requests::has_xml_values))]
     /// Takes one more pair.
+    #[tactic(auto, unfolding(crate::specs::Slots::slots_with, crate::specs::Slots::given_with, crate::specs::Pairs::values_of, crate::specs::Requests::has_only_keys, crate::specs::Requests::has_xml_values))]
     fn add(&mut self, alloc: Global, key: &str, value: &str) -> Result<(), AllocError>
         ensures { IfOk result (λ _. self.new ≡ spec.slots_with self.old ((key.now, value.now) ∷ [])) }
     {
@@ -145,8 +145,8 @@ impl Slots {
         Ok(())
     }
 
-    #[tactic(auto, unfolding(crate::specs::Slots::verb_in))]
     /// The verb that is asked for, if `verb` is given once and names one.
+    #[tactic(auto, unfolding(crate::specs::Slots::verb_in))]
     fn asked_verb(&self) -> Option<Verb>
         ensures { result ≡ spec.verb_in self.now }
     {
@@ -157,8 +157,8 @@ impl Slots {
         }
     }
 
-    #[tactic(auto, unfolding(crate::specs::Slots::are_slots_of))]
     /// Whether no key is given that has a slot and that the verb does not have.
+    #[tactic(auto, unfolding(crate::specs::Slots::are_slots_of))]
     fn are_of(&self, verb: Verb) -> bool
         ensures { result ≡ spec.are_slots_of verb self.now }
     {
@@ -168,16 +168,16 @@ impl Slots {
         }
     }
 
-    #[tactic(auto, unfolding(crate::specs::Slots::are_well_given))]
     /// Whether every key is one of the verb's and every value a text of XML characters.
+    #[tactic(auto, unfolding(crate::specs::Slots::are_well_given))]
     fn are_well_given(&self, verb: Verb) -> bool
         ensures { result ≡ spec.are_well_given verb self.now }
     {
         self.are_keys_known && self.are_of(verb) && self.are_values_xml
     }
 
-    #[tactic(auto, unfolding(crate::specs::Slots::form_in))]
     /// The request of that verb, if its arguments are there and of their syntax.
+    #[tactic(auto, unfolding(crate::specs::Slots::form_in))]
     fn into_ask(self, verb: Verb) -> Option<Ask>
         ensures { result ≡ spec.form_in verb self }
     {
@@ -201,10 +201,10 @@ impl Slots {
     }
 }
 
-#[tactic(auto, using(crate::proofs::SlotLemmas::verb_in_slots, crate::proofs::SlotLemmas::form_in_slots, crate::proofs::SlotLemmas::well_given_in_slots), unfolding(crate::specs::Requests::request_of))]
 /// Reads the arguments of a request from the bytes of a query, in the type
 /// `application/x-www-form-urlencoded` (OAI-PMH 2.0, section 3.1.1). The errors, in this order:
 /// `BadVerb`, `BadArgument`; and `NoMemory`, before either is looked for.
+#[tactic(auto, using(crate::proofs::SlotLemmas::verb_in_slots, crate::proofs::SlotLemmas::form_in_slots, crate::proofs::SlotLemmas::well_given_in_slots), unfolding(crate::specs::Requests::request_of))]
 pub fn read_request(alloc: Global, query: &[u8]) -> Result<Ask, ArgFault>
     ensures { IsReadAs result (request_of (decoded_pairs query.now)) }
 {
@@ -233,10 +233,10 @@ fn read_slots(alloc: Global, query: &[u8]) -> Result<Slots, AllocError>
     Ok(slots)
 }
 
-#[tactic(auto, using(crate::proofs::RequestLemmas::gives_asks, crate::proofs::RequestLemmas::gives_bad_verb, crate::proofs::RequestLemmas::gives_bad_argument))]
 /// The law of requests, which holds of every list of arguments: reading them gives a request
 /// exactly where they are of its form, `BadVerb` exactly where `verb` is not given once with the
 /// name of a verb, and `BadArgument` exactly in all other cases. It does nothing at run time.
+#[tactic(auto, using(crate::proofs::RequestLemmas::gives_asks, crate::proofs::RequestLemmas::gives_bad_verb, crate::proofs::RequestLemmas::gives_bad_argument))]
 pub fn request_law()
     ensures asks { GivesAsks }
     ensures bad_verb { GivesBadVerb }

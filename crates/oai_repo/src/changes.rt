@@ -82,11 +82,11 @@ fn have_known_fields(formats: &Formats, records: &[Record]) -> bool
 }
 
 /// Whether each field of the record is one of its format's.
-fn has_known_fields(formats: &Formats, record: &Record) -> bool
-    ensures { result ≡ spec.has_known_fields formats.now record.now }
+fn has_known_fields(formats: &Formats, metadata: &Record) -> bool
+    ensures { result ≡ spec.has_known_fields formats.now metadata.now }
 {
-    match formats.find_named(record.0.as_str()) {
-        Some(format) => are_fields_of(format, record.1.as_slice()),
+    match formats.find_named(metadata.0.as_str()) {
+        Some(format) => are_fields_of(format, metadata.1.as_slice()),
         None => true,
     }
 }
@@ -135,7 +135,7 @@ pub(crate) fn item_of(
 }
 
 /// Copies of the texts.
-fn copy_texts(alloc: Global, texts: &[Text]) -> Result<Sequence<Text>, AllocError>
+pub(crate) fn copy_texts(alloc: Global, texts: &[Text]) -> Result<Sequence<Text>, AllocError>
     ensures { IfOk result (λ copies. copies ≡ texts.now) }
 {
     let mut copies = Vec::new(alloc);
@@ -176,22 +176,22 @@ fn typed_records(
 fn typed_record(
     alloc: Global,
     formats: &Formats,
-    record: &Record,
+    metadata: &Record,
 ) -> Result<(Prefix, Sequence<Field>), AllocError>
-    requires { spec.has_format formats.now record.now ≡ true }
-    ensures { IfOk result (λ typed. typed ≡ record.now) }
+    requires { spec.has_format formats.now metadata.now ≡ true }
+    ensures { IfOk result (λ typed. typed ≡ metadata.now) }
 {
-    let Some(format) = formats.find_named(record.0.as_str()) else {
+    let Some(format) = formats.find_named(metadata.0.as_str()) else {
         unreachable!()
     };
     Ok((
         format.prefix.copy(alloc)?,
-        copy_fields(alloc, record.1.as_slice())?,
+        copy_fields(alloc, metadata.1.as_slice())?,
     ))
 }
 
-#[tactic(auto, unfolding(crate::specs::State::placed))]
 /// Puts the item among the others, in place of one of its identifier where there is one.
+#[tactic(auto, unfolding(crate::specs::State::placed))]
 pub(crate) fn put(items: &mut Vec<Item>, item: Item) -> Result<(), AllocError>
     ensures ok { OnOk result (items.new.items ≡ placed item (without item.identifier items.old.items)) }
     ensures err { OnErr result (items.new.items ≡ items.old.items) }
@@ -203,8 +203,8 @@ pub(crate) fn put(items: &mut Vec<Item>, item: Item) -> Result<(), AllocError>
     Ok(())
 }
 
-#[tactic(auto, unfolding(crate::specs::State::without))]
 /// Takes the item of that identifier out.
+#[tactic(auto, unfolding(crate::specs::State::without))]
 fn remove(items: &mut Vec<Item>, item: &Item)
     ensures left { items.new.items ≡ without item.now.identifier items.old.items }
     ensures fewer { vec_len items.new ≤ vec_len items.old }

@@ -1,12 +1,13 @@
 ghost use Rattle.std.specs.Prelude.{◌≡◌, ◌++◌, codes, IfOk};
 ghost use Rattle.std.specs.List.{list_all};
 ghost use Rattle.oai_time.specs.Stamp.{IsWritable};
-ghost use Rattle.oai_repo.specs.Config.{IsConfigured};
+ghost use Rattle.oai_repo.specs.Config.{AreDeclared, IsConfigured, IsDeclared, IsFormatOf, IsPrefixOf};
 ghost use Rattle.oai_repo.specs.Configured.{are_limits, is_date, is_described, is_from_to, is_short_text};
 
+use crate::changes::copy_texts;
 use crate::documents::DeletedRecord;
-use oai_item::Formats;
-use oai_names::{Sequence, Text, is_xml_text};
+use oai_item::{Format, FormatFault, Formats};
+use oai_names::{NameFault, Prefix, Sequence, Text, is_xml_text};
 use oai_time::{Granularity, stamp};
 use std::alloc::{AllocError, Global};
 use std::marker::Model;
@@ -17,6 +18,21 @@ const FIRST_DATE: i64 = -62_135_596_800;
 
 /// The last second of the year 9998.
 const LAST_DATE: i64 = 253_370_764_799;
+
+/// What is told of a metadata format, before it is looked at.
+#[derive(Debug, Drop)]
+pub struct FormatSettings {
+    /// The metadataPrefix.
+    pub prefix: Text,
+    /// The URL of the XML schema.
+    pub schema: Text,
+    /// The XML namespace.
+    pub namespace: Text,
+    /// The name of the element that holds the fields.
+    pub root: Text,
+    /// The names of the fields that a record may have.
+    pub fields: Sequence<Text>,
+}
 
 /// What is told of a repository, before it is looked at.
 #[derive(Debug, Drop)]
@@ -44,8 +60,8 @@ pub struct Settings {
     pub lists: u64,
     /// Items, deleted ones counted: 1 to 1,000,000.
     pub items: u64,
-    /// The metadata formats.
-    pub formats: Formats,
+    /// The metadata formats beside oai_dc.
+    pub formats: Sequence<FormatSettings>,
 }
 
 /// Why settings make no configuration, in the order in which the causes are looked for.
@@ -55,6 +71,10 @@ pub enum ConfigFault {
     /// document may hold; or there is no address, or more than 16. Number 2.
     #[error("2 BadShape")]
     BadShape,
+    /// A format has no prefix of a metadataPrefix's syntax and at most 64 bytes, or may not be declared
+    /// beside oai_dc and the formats before it. Number 5.
+    #[error("5 BadFormat")]
+    BadFormat,
     /// The earliest datestamp is not of the years 0001 to 9998, or is finer than the granularity.
     /// Number 6.
     #[error("6 BadDate")]
@@ -62,9 +82,20 @@ pub enum ConfigFault {
     /// A limit is out of its range. Number 7.
     #[error("7 BadNumber")]
     BadNumber,
-    /// The base URL could not be stored. Number 9.
+    /// A format or the base URL could not be stored. Number 9.
     #[error("9 NoMemory")]
     NoMemory,
+}
+
+impl From<AllocError> for ConfigFault {
+    ghost use Rattle.std.specs.Prelude.{◌≡◌};
+    ghost use Rattle.oai_repo.specs.declared.config.ConfigFault.TheVariants.{NoMemory};
+
+    ghost from_gives = { λ _ e. e ≡ NoMemory };
+
+    fn from(_refused: AllocError) -> ConfigFault {
+        ConfigFault::NoMemory
+    }
 }
 
 /// The configuration of a repository, which keeps the rules of its settings.
@@ -94,9 +125,10 @@ impl Model for RepoConfig {
 }
 
 impl RepoConfig {
-    #[tactic(auto, unfolding(crate::specs::Config::config_fault))]
     /// The configuration of these settings: the base URL is the base, `/oai/` and the name. The
-    /// errors, in this order: `BadShape`, `BadDate`, `BadNumber`, `NoMemory`.
+    /// errors, in this order: `BadShape`, `BadFormat`, `BadDate`, `BadNumber`; and `NoMemory`, which
+    /// may come in place of any but the first.
+    #[tactic(auto, unfolding(crate::specs::Config::config_fault))]
     pub fn new(alloc: Global, settings: Settings) -> Result<RepoConfig, ConfigFault>
         ensures { IsConfigured settings result }
     {
@@ -109,6 +141,7 @@ impl RepoConfig {
         ) {
             return Err(ConfigFault::BadShape);
         }
+        let formats = declared_formats(alloc, settings.formats.as_slice())?;
         if !is_date(settings.granularity, settings.earliest) {
             return Err(ConfigFault::BadDate);
         }
@@ -120,9 +153,7 @@ impl RepoConfig {
         ) {
             return Err(ConfigFault::BadNumber);
         }
-        let Ok(base) = base_url(alloc, settings.base.as_str(), settings.name.as_str()) else {
-            return Err(ConfigFault::NoMemory);
-        };
+        let base = base_url(alloc, settings.base.as_str(), settings.name.as_str())?;
         Ok(RepoConfig {
             base,
             name: settings.repository_name,
@@ -134,7 +165,7 @@ impl RepoConfig {
             lifetime: settings.lifetime,
             lists: settings.lists,
             items: settings.items,
-            formats: settings.formats,
+            formats,
         })
     }
 
@@ -159,8 +190,8 @@ impl RepoConfig {
         self.addresses.as_slice()
     }
 
-    #[tactic(auto, unfolding(crate::specs::Configured::is_date))]
     /// The lower limit of all datestamps, in seconds from 1970 on, of the years 0001 to 9998.
+    #[tactic(auto, unfolding(crate::specs::Configured::is_date))]
     pub fn earliest(&self) -> i64
         ensures earliest { result ≡ self.now.earliest }
         ensures in_range { IsWritable self.now.earliest }
@@ -215,6 +246,64 @@ impl RepoConfig {
         ensures { result.now ≡ self.now.formats }
     {
         &self.formats
+    }
+}
+
+/// The formats of a repository with these declared after oai_dc.
+fn declared_formats(alloc: Global, settings: &[FormatSettings]) -> Result<Formats, ConfigFault>
+    ensures { AreDeclared settings.now result }
+{
+    let mut formats = Formats::dc(alloc)?;
+    for one in settings {
+        match declare(alloc, one, &mut formats) {
+            Ok(()) => {}
+            Err(fault) => return Err(fault),
+        }
+    }
+    Ok(formats)
+}
+
+/// Declares one format more.
+fn declare(
+    alloc: Global,
+    settings: &FormatSettings,
+    formats: &mut Formats,
+) -> Result<(), ConfigFault>
+    ensures { IsDeclared formats.old settings.now result formats.new }
+{
+    let format = format_of(alloc, settings)?;
+    match formats.declare(format) {
+        Ok(()) => Ok(()),
+        Err(FormatFault::NoMemory) => Err(ConfigFault::NoMemory),
+        Err(FormatFault::Duplicate) => Err(ConfigFault::BadFormat),
+        Err(FormatFault::BadName) => Err(ConfigFault::BadFormat),
+        Err(FormatFault::BadUri) => Err(ConfigFault::BadFormat),
+        Err(FormatFault::FieldTwice) => Err(ConfigFault::BadFormat),
+        Err(FormatFault::TooMany) => Err(ConfigFault::BadFormat),
+    }
+}
+
+/// The format that the settings describe, where they have a prefix.
+fn format_of(alloc: Global, settings: &FormatSettings) -> Result<Format, ConfigFault>
+    ensures { IsFormatOf settings.now result }
+{
+    Ok(Format {
+        prefix: read_prefix(alloc, settings.prefix.as_str())?,
+        schema: settings.schema.copy(alloc)?,
+        namespace: settings.namespace.copy(alloc)?,
+        root: settings.root.copy(alloc)?,
+        fields: copy_texts(alloc, settings.fields.as_slice())?,
+    })
+}
+
+fn read_prefix(alloc: Global, text: &str) -> Result<Prefix, ConfigFault>
+    ensures { IsPrefixOf text.now result }
+{
+    match Prefix::read(alloc, text) {
+        Ok(prefix) => Ok(prefix),
+        Err(NameFault::NoMemory) => Err(ConfigFault::NoMemory),
+        Err(NameFault::Syntax) => Err(ConfigFault::BadFormat),
+        Err(NameFault::TooLong) => Err(ConfigFault::BadFormat),
     }
 }
 

@@ -11,7 +11,7 @@ mod refusals;
 mod repo;
 
 pub use arguments::{ArgFault, Ask, read_request, request_law};
-pub use config::{ConfigFault, RepoConfig, Settings};
+pub use config::{ConfigFault, FormatSettings, RepoConfig, Settings};
 pub use documents::DeletedRecord;
 pub use lines::{Change, LineFault, LineRefusal, read_line, shape_law};
 pub use refusals::{ChangeRefusal, Fault, Refusal};

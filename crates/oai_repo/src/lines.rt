@@ -96,11 +96,11 @@ enum Command {
     },
 }
 
-#[tactic(auto, unfolding(crate::specs::Lines::line_of))]
 /// Reads one line of a deposit, without its line end: a JSON object (RFC 8259) of exactly the
 /// members of a command. The errors, in this order: `BadJson`, `BadCommand`, `BadIdentifier`,
 /// `BadText`, each for the whole line before the next; and at any point `NoMemory`. Of two members
 /// of one name the last counts. The prefixes of the records rise strictly by their bytes.
+#[tactic(auto, unfolding(crate::specs::Lines::line_of))]
 pub fn read_line(alloc: Global, line: &[u8]) -> Result<Change, LineFault>
     ensures gives { spec.Gives result (spec.line_of line.now) }
     ensures rising { IfOk result (λ change. spec.rises change ≡ true) }
@@ -110,8 +110,8 @@ pub fn read_line(alloc: Global, line: &[u8]) -> Result<Change, LineFault>
     checked(alloc, command)
 }
 
-#[tactic(auto, unfolding(crate::specs::Lines::json_of))]
 /// The JSON text that the line is.
+#[tactic(auto, unfolding(crate::specs::Lines::json_of))]
 fn json_of(alloc: Global, line: &[u8]) -> Result<Value, LineFault>
     ensures { spec.GivesBy view result (spec.json_of line.now) }
 {
@@ -122,8 +122,8 @@ fn json_of(alloc: Global, line: &[u8]) -> Result<Value, LineFault>
     }
 }
 
-#[tactic(auto, unfolding(crate::specs::Lines::shape_of))]
 /// The command that the value has the shape of.
+#[tactic(auto, unfolding(crate::specs::Lines::shape_of))]
 fn shape_of(alloc: Global, value: &Value) -> Result<Command, LineFault>
     ensures gives { spec.Gives result (spec.shape_of (view value.now)) }
     ensures rising { IfOk result (λ command. spec.command_rises command ≡ true) }
@@ -156,8 +156,8 @@ fn deposit_of(alloc: Global, value: &Value) -> Result<Command, LineFault>
     })
 }
 
-#[tactic(auto, using(crate::proofs::JsonLemmas::has_members_map))]
 /// Whether the value is an object of exactly these members.
+#[tactic(auto, using(crate::proofs::JsonLemmas::has_members_map))]
 fn has_members(value: &Value, names: &[&str]) -> bool
     ensures { result ≡ json.has_members (map (λ name. name.now) names.now) (view value.now) }
 {
@@ -284,8 +284,8 @@ fn records_of(alloc: Global, value: &Value) -> Result<Sequence<(Text, Sequence<F
     }
 }
 
-#[tactic(auto, using(crate::proofs::LineLemmas::starts), unfolding(crate::specs::Lines::record_of))]
 /// The record that each member is, in the order of the prefixes.
+#[tactic(auto, using(crate::proofs::LineLemmas::starts), unfolding(crate::specs::Lines::record_of))]
 fn records_in(
     alloc: Global,
     members: &BTreeMap<String, Value>,
@@ -302,8 +302,8 @@ fn records_in(
     Ok(Sequence::new(records))
 }
 
-#[tactic(auto, unfolding(crate::specs::Lines::checked, crate::specs::Lines::xml_records))]
 /// The change that the command asks for, once its texts are looked at.
+#[tactic(auto, unfolding(crate::specs::Lines::checked, crate::specs::Lines::xml_records))]
 fn checked(alloc: Global, command: Command) -> Result<Change, LineFault>
     ensures gives { spec.Gives result (spec.checked command) }
     ensures rising { spec.command_rises command ≡ true
@@ -340,8 +340,8 @@ fn identifier_of(alloc: Global, text: &Text) -> Result<Identifier, LineFault>
     }
 }
 
-#[tactic(auto, unfolding(crate::specs::Lines::have_xml_texts))]
 /// Whether each text of each field may stand in an XML document.
+#[tactic(auto, unfolding(crate::specs::Lines::have_xml_texts))]
 fn have_xml_texts(records: &[(Text, Sequence<Field>)]) -> bool
     ensures { result ≡ spec.have_xml_texts records.now }
 {

@@ -1,7 +1,7 @@
 ghost use Rattle.std.specs.Prelude.{◌≡◌, true, IfOk};
 ghost use Rattle.oai_time.specs.Stamp.{IsWritable};
 ghost use Rattle.oai_repo.specs.Changes.{IsChanged};
-ghost use Rattle.oai_repo.specs.Held.{IsNew, state_of};
+ghost use Rattle.oai_repo.specs.Held.{IsHeld, IsNew, state_of};
 ghost use Rattle.oai_repo.specs.Lines.{rises};
 ghost use Rattle.oai_repo.specs.State.{moved};
 ghost use Rattle.oai_repo.specs.Step.{IsAsked};
@@ -102,9 +102,11 @@ impl Repo {
         self.clock.tick(moment);
     }
 
-    /// The clock, in seconds from 1970 on.
+    /// The clock, in seconds from 1970 on, of the years 0000 to 9999. The items that stand at it are in
+    /// the order of their datestamps and identifiers, and no two have one identifier.
     pub fn clock(&self) -> i64
-        ensures { result ≡ (state_of self.now).clock }
+        ensures clock { result ≡ (state_of self.now).clock }
+        ensures kept { IsHeld self.now }
     {
         self.clock.now()
     }

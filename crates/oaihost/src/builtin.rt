@@ -1,4 +1,3 @@
-use oai_item::Formats;
 use oai_names::{Sequence, Text};
 use oai_repo::{ConfigFault, DeletedRecord, RepoConfig, Settings};
 use oai_time::Granularity;
@@ -27,6 +26,6 @@ fn archive_settings(alloc: Global) -> Result<Settings, AllocError> {
         lifetime: 60,
         lists: 1,
         items: 1_000,
-        formats: Formats::dc(alloc)?,
+        formats: Sequence::new(Vec::new(alloc)),
     })
 }

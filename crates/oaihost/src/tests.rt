@@ -2,11 +2,10 @@
 use crate::ask::ask_lines;
 use crate::builtin;
 use crate::stop::Stop;
-use oai_item::Formats;
 use oai_names::{Sequence, Text};
 use oai_repo::{
-    ConfigFault, DeletedRecord, Fault, LineFault, Refusal, Reply, Repo, RepoConfig, Settings,
-    read_line,
+    ConfigFault, DeletedRecord, Fault, FormatSettings, LineFault, Refusal, Reply, Repo, RepoConfig,
+    Settings, read_line,
 };
 use oai_time::Granularity;
 use std::alloc::{AllocError, Global};
@@ -306,7 +305,7 @@ fn settings_of_b(alloc: Global) -> Result<Settings, AllocError> {
         lifetime: 60,
         lists: 1,
         items: 2,
-        formats: Formats::dc(alloc)?,
+        formats: Sequence::new(Vec::new(alloc)),
     })
 }
 
@@ -390,6 +389,46 @@ fn third_item_of_two(rt: HostRuntime) -> Result<(), Fail> {
     Ok(())
 }
 
+/// A format of the settings, with two fields.
+fn journal(alloc: Global, prefix: &str) -> Result<FormatSettings, AllocError> {
+    let mut fields = Vec::new(alloc);
+    fields.push(Text::new(alloc, "volume")?)?;
+    fields.push(Text::new(alloc, "pages")?)?;
+    Ok(FormatSettings {
+        prefix: Text::new(alloc, prefix)?,
+        schema: Text::new(alloc, "http://host.example/jnl.xsd")?,
+        namespace: Text::new(alloc, "http://host.example/jnl/")?,
+        root: Text::new(alloc, "article")?,
+        fields: Sequence::new(fields),
+    })
+}
+
+#[test]
+fn declared_formats(rt: HostRuntime) -> Result<(), Fail> {
+    let alloc = rt.alloc();
+    let mut settings = settings_of_b(alloc)?;
+    settings.formats = Sequence::new(vec![in alloc; journal(alloc, "jnl")?]?);
+    let config = RepoConfig::new(alloc, settings)?;
+    assert_eq!(rt; config.formats().len(), 2);
+    for prefix in ["", "a b", "oai_dc"] {
+        let mut settings = settings_of_b(alloc)?;
+        settings.formats = Sequence::new(vec![in alloc; journal(alloc, prefix)?]?);
+        settings.earliest = 0;
+        assert_eq!(rt;
+            fault_of(alloc, settings),
+            Some(ConfigFault::BadFormat),
+            "{prefix}"
+        );
+    }
+    let mut formats = Vec::new(alloc);
+    formats.push(journal(alloc, "jnl")?)?;
+    formats.push(journal(alloc, "jnl")?)?;
+    let mut settings = settings_of_b(alloc)?;
+    settings.formats = Sequence::new(formats);
+    assert_eq!(rt; fault_of(alloc, settings), Some(ConfigFault::BadFormat));
+    Ok(())
+}
+
 fn fault_of(alloc: Global, settings: Settings) -> Option<ConfigFault> {
     RepoConfig::new(alloc, settings).err()
 }
@@ -418,5 +457,22 @@ fn configurations(rt: HostRuntime) -> Result<(), Fail> {
     let mut settings = settings_of_b(alloc)?;
     settings.items = 1_000_001;
     assert_eq!(rt; fault_of(alloc, settings), Some(ConfigFault::BadNumber));
+    Ok(())
+}
+
+#[test]
+fn configuration_tells_its_settings(rt: HostRuntime) -> Result<(), Fail> {
+    let alloc = rt.alloc();
+    let repo = Repo::new(alloc, RepoConfig::new(alloc, settings_of_b(alloc)?)?)?;
+    let config = repo.config();
+    assert_eq!(rt; config.base(), "http://host.example/oai/b");
+    assert_eq!(rt; config.name(), "Archive B");
+    assert_eq!(rt; config.addresses().len(), 1);
+    assert_eq!(rt; config.earliest(), 1_704_067_200);
+    assert_eq!(rt; config.deleted(), DeletedRecord::No);
+    assert_eq!(rt; config.granularity(), Granularity::Day);
+    assert_eq!(rt; (config.chunk(), config.lifetime()), (2, 60));
+    assert_eq!(rt; (config.lists(), config.items()), (1, 2));
+    assert_eq!(rt; config.formats().len(), 1);
     Ok(())
 }

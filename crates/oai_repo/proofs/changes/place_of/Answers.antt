@@ -1,5 +1,5 @@
 -- The place is the first at which the test passes, since it passes nowhere before.
-use Rattle.std.proofs.Common.{◌≡◌, ◌<◌, ◌≤◌, length, arith, sym, ap, ◌∙◌}
+use Rattle.std.proofs.Common.{◌≡◌, length, arith, sym, ap, ◌∙◌}
 use Rattle.std.proofs.lemmas.List.Sums.{position_or_len_is}
 use Rattle.oai_repo.specs.State.{precedes}
 use Rattle.oai_repo.proofs.changes.place_of.Goals as goal

@@ -1,4 +1,3 @@
-use Rattle.std.proofs.Common.{ap, ◌∙◌}
 use Rattle.oai_repo.proofs.LineLemmas.{list_of-Ok}
 use Rattle.oai_repo.proofs.lines.list_of.Goals as goal
 

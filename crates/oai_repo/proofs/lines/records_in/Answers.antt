@@ -1,8 +1,6 @@
 -- One member more, and at the end: the keys of a map ascend.
-use Rattle.std.proofs.Common.{◌≡◌, ℕ, List, ◌∷◌, String, Global, Ok, map, string_bytes, ap, sym, ◌∙◌}
-use Rattle.serde_json.specs.View.{view}
+use Rattle.std.proofs.Common.{◌≡◌, String, Global, Ok, map, string_bytes, ap, sym, ◌∙◌}
 use Rattle.serde_json.specs.declared.value.Value.{Value}
-use Rattle.oai_item.specs.Item.{Metadata, are_rising}
 use Rattle.oai_repo.specs.Lines.{each_of, record_of}
 use Rattle.oai_repo.proofs.JsonLemmas.{seen}
 use Rattle.oai_repo.proofs.LineLemmas.{with_front, goes_on, is_done, record_of-Ok, rising}

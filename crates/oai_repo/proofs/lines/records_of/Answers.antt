@@ -1,5 +1,3 @@
-use Rattle.serde_json.specs.View.{view}
-use Rattle.oai_repo.specs.Lines.{Gives, records_of}
 use Rattle.oai_repo.proofs.LineLemmas.{records_of-Object}
 use Rattle.oai_repo.proofs.lines.records_of.Goals as goal
 

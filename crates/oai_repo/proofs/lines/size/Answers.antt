@@ -1,6 +1,4 @@
-use Rattle.std.proofs.Common.{sym, ap, ◌∙◌}
-use Rattle.oai_repo.specs.Json.{size}
-use Rattle.serde_json.specs.View.{view}
+use Rattle.std.proofs.Common.{sym, ◌∙◌}
 use Rattle.oai_repo.proofs.JsonLemmas.{size-Object}
 use Rattle.oai_repo.proofs.lines.size.Goals as goal
 

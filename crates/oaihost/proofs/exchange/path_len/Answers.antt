@@ -1,5 +1,5 @@
 -- The place is the first at which the test passes, since it passes nowhere before.
-use Rattle.std.proofs.Common.{◌≡◌, ◌<◌, ◌≤◌, length, arith, sym, eq-eqb}
+use Rattle.std.proofs.Common.{◌≡◌, length, arith, sym, eq-eqb}
 use Rattle.std.proofs.lemmas.List.Sums.{position_or_len_is}
 use Rattle.oaihost.specs.Exchange.{is_question_mark}
 use Rattle.oaihost.proofs.exchange.path_len.Goals as goal

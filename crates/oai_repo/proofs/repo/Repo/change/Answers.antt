@@ -1,11 +1,12 @@
 -- Each answer gives the case of the definition, over the fields that the repository is opened to.
-use Rattle.std.proofs.Common.{◌≡◌, sym, ◌∙◌, refl, ℤ, Option, Some, None, FitsSigned, w64}
+use Rattle.std.proofs.Common.{◌≡◌, sym, ◌∙◌, refl, Some, None, FitsSigned, w64}
 use Rattle.std.proofs.lemmas.Int.{to_z-of_z}
 use Rattle.oai_time.specs.Clock.{tick}
 use Rattle.oai_time.specs.Stamp.{stamp_of}
 use Rattle.oai_repo.specs.Changes.{refusal_of, item_of}
 use Rattle.oai_repo.specs.State.{placed, without}
 use Rattle.oai_repo.proofs.ChangeLemmas.{change_of-refused, change_of-made, known_formats, carries_record}
+use Rattle.oai_repo.proofs.OrderLemmas.{in_order-changed, apart-changed}
 use Rattle.oai_repo.proofs.repo.Repo.change.Goals as goal
 
 pub returns-in-Some-clause-changed : goal.returns-in-Some-clause-changed
@@ -40,3 +41,10 @@ returns-clause-changed c =
     let item : c.in_ok-item.item ≡ item_of c.stamp-stamp.result c.args.change.now = simp to_z-of_z at c.in_ok-item.ensures in
     let put : c.put.new.items.items ≡ placed (item_of c.stamp-stamp.result c.args.change.now) (without (item_of c.stamp-stamp.result c.args.change.now).identifier held.items.items) = rw (← item) c.in_ok-put.ensures.ok in
     rw (← c.self.view_is) (simp to_z-of_z (change_of-made _ _ _ _ _ _ _ _ made moved stamped put), refl)
+
+pub invariant_of-self-2 : goal.invariant_of-self-2
+invariant_of-self-2 c = record {
+  dated = c.tick.ensures.in_range c.self.invariant.dated;
+  ordered = rw c.in_ok-put.ensures.ok (in_order-changed _ _ c.self.invariant.ordered);
+  apart = rw c.in_ok-put.ensures.ok (apart-changed _ _ c.self.invariant.apart);
+}

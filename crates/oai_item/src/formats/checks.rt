@@ -1,0 +1,145 @@
+ghost use Rattle.std.specs.Prelude.{◌≡◌, IfOk};
+ghost use Rattle.std.specs.List.{list_all, list_any};
+ghost use Rattle.oai_item.specs.Formats.{has_repeat};
+ghost use Rattle.oai_item.specs.Declaring.{IsCheck, are_names, are_uris, has_room, is_element_name, is_first_byte, is_name, is_name_byte, is_space, is_uri};
+
+use super::{Format, FormatFault, format_named};
+use oai_names::{Text, is_xml_text};
+use std::alloc::{AllocError, Global};
+use std::collections::BTreeSet;
+
+/// The most formats that a repository has, oai_dc counted.
+const MOST_FORMATS: usize = 64;
+
+/// The most fields that a format has.
+const MOST_FIELDS: usize = 256;
+
+/// The most bytes that the name of an element has.
+const MOST_NAME_BYTES: usize = 64;
+
+/// The most bytes that the URL of a schema or a namespace has.
+const MOST_URI_BYTES: usize = 512;
+
+#[tactic(auto, unfolding(crate::specs::Declaring::declare_fault))]
+/// Whether the format may stand beside these: the first cause against it.
+pub(super) fn check(alloc: Global, formats: &[Format], format: &Format) -> Result<(), FormatFault>
+    ensures { IsCheck formats.now format.now result }
+{
+    if format_named(format.prefix.as_str(), formats).is_some() {
+        return Err(FormatFault::Duplicate);
+    }
+    if !are_names(format) {
+        return Err(FormatFault::BadName);
+    }
+    if !are_uris(format) {
+        return Err(FormatFault::BadUri);
+    }
+    match has_repeat(alloc, format.fields.as_slice()) {
+        Ok(true) => return Err(FormatFault::FieldTwice),
+        Ok(false) => {}
+        Err(_) => return Err(FormatFault::NoMemory),
+    }
+    if !has_room(formats, format) {
+        return Err(FormatFault::TooMany);
+    }
+    Ok(())
+}
+
+/// Whether the root and each field have the name of an element.
+fn are_names(format: &Format) -> bool
+    ensures { result ≡ are_names format.now }
+{
+    is_name(format.root.as_str()) && all_names(format.fields.as_slice())
+}
+
+fn all_names(names: &[Text]) -> bool
+    ensures { result ≡ list_all is_name names.now }
+{
+    names.iter().all(|name| is_name(name.as_str()))
+}
+
+/// Whether the text is the name of an element, of at most 64 bytes.
+fn is_name(text: &str) -> bool
+    ensures { result ≡ is_name text.now }
+{
+    is_element_name(text) && text.len() <= MOST_NAME_BYTES
+}
+
+#[tactic(auto, unfolding(crate::specs::Declaring::is_element_name))]
+/// Whether the text is the name of an element, of any length: an ASCII letter or `_`, followed by
+/// letters, digits, `-`, `_` and `.` (XML 1.0, section 2.3).
+fn is_element_name(text: &str) -> bool
+    ensures { result ≡ is_element_name text.now }
+{
+    match text.as_bytes() {
+        [first, rest @ ..] => is_first_byte(*first) && all_name_bytes(rest),
+        [] => false,
+    }
+}
+
+fn is_first_byte(b: u8) -> bool
+    ensures { result ≡ is_first_byte b }
+{
+    b.is_ascii_alphabetic() || b == b'_'
+}
+
+fn all_name_bytes(bytes: &[u8]) -> bool
+    ensures { result ≡ list_all is_name_byte bytes.now }
+{
+    bytes.iter().all(|b| is_name_byte(*b))
+}
+
+fn is_name_byte(b: u8) -> bool
+    ensures { result ≡ is_name_byte b }
+{
+    b.is_ascii_alphanumeric() || b"-_.".contains(&b)
+}
+
+/// Whether the schema and the namespace may stand for URIs.
+fn are_uris(format: &Format) -> bool
+    ensures { result ≡ are_uris format.now }
+{
+    is_uri(format.schema.as_str()) && is_uri(format.namespace.as_str())
+}
+
+#[tactic(auto, unfolding(crate::specs::Declaring::is_uri))]
+/// Whether the text may stand for a URI in a document: 1 to 512 bytes, of characters that a
+/// document may hold, without a space, tab, LF and CR.
+fn is_uri(text: &str) -> bool
+    ensures { result ≡ is_uri text.now }
+{
+    !text.is_empty() && text.len() <= MOST_URI_BYTES && is_xml_text(text) && !has_space(text)
+}
+
+fn has_space(text: &str) -> bool
+    ensures { result ≡ list_any is_space text.now }
+{
+    text.as_bytes().iter().any(|b| is_space(*b))
+}
+
+fn is_space(b: u8) -> bool
+    ensures { result ≡ is_space b }
+{
+    matches!(b, b' ' | b'\t' | b'\n' | b'\r')
+}
+
+/// Whether a text stands twice. The error is want of memory.
+fn has_repeat(alloc: Global, texts: &[Text]) -> Result<bool, AllocError>
+    ensures { IfOk result (λ repeat. repeat ≡ has_repeat texts.now) }
+{
+    let mut seen = BTreeSet::new(alloc);
+    for text in texts {
+        if !seen.insert(text.as_str())? {
+            return Ok(true);
+        }
+    }
+    Ok(false)
+}
+
+/// Whether one more format may stand beside these, of 1 to 256 fields.
+fn has_room(formats: &[Format], format: &Format) -> bool
+    ensures { result ≡ has_room formats.now format.now }
+{
+    let fields = format.fields.as_slice().len();
+    formats.len() < MOST_FORMATS && 0 < fields && fields <= MOST_FIELDS
+}
