@@ -1,3 +1,4 @@
 pub mod Text
 pub mod Names
 pub mod Escapes
+pub mod Sets

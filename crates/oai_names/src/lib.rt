@@ -7,6 +7,8 @@ mod identifiers;
 mod prefixes;
 mod readings;
 mod sequences;
+mod set_specs;
+mod set_trees;
 #[cfg(test)]
 mod tests;
 mod texts;
@@ -16,4 +18,6 @@ pub use identifiers::Identifier;
 pub use prefixes::{Prefix, is_prefix};
 pub use readings::NameFault;
 pub use sequences::Sequence;
+pub use set_specs::{SetSpec, is_set_spec};
+pub use set_trees::{SetFault, SetTree};
 pub use texts::{Text, is_xml_text};

@@ -146,3 +146,113 @@ fn escapes(rt: HostRuntime) -> Result<(), Fail> {
     assert_eq!(rt; out.as_slice(), b"&amp;&lt;&#10;&#13;'".as_slice());
     Ok(())
 }
+
+fn set_spec(rt: &impl Abort, alloc: Global, text: &str) -> SetSpec {
+    match SetSpec::read(alloc, text) {
+        Ok(spec) => spec,
+        Err(fault) => panic!(rt; "{text}: {fault}"),
+    }
+}
+
+#[test]
+fn set_specs_are_read(rt: HostRuntime) -> Result<(), Fail> {
+    let alloc = rt.alloc();
+    let most = with_letters(alloc, "", 256)?;
+    for text in ["x", "x:y", "a-_.!~*'()Z9:b:c", most.as_str()] {
+        let spec = set_spec(&rt, alloc, text);
+        assert_eq!(rt; spec.as_str(), text);
+        assert_eq!(rt; spec.copy(alloc)?.as_str(), text);
+    }
+    Ok(())
+}
+
+#[test]
+fn bad_set_specs_are_refused(rt: HostRuntime) -> Result<(), Fail> {
+    let alloc = rt.alloc();
+    for text in ["", ":", "x::y", ":x", "x:", "x y", "é"] {
+        assert!(rt; !is_set_spec(text), "{text:?}");
+        assert_refused(&rt, SetSpec::read(alloc, text), NameFault::Syntax);
+    }
+    let long = with_letters(alloc, "", 257)?;
+    assert!(rt; is_set_spec(long.as_str()));
+    assert_refused(&rt, SetSpec::read(alloc, long.as_str()), NameFault::TooLong);
+    Ok(())
+}
+
+#[test]
+fn sets_cover(rt: HostRuntime) {
+    let alloc = rt.alloc();
+    for (set, spec, covered) in [
+        ("ab", "abc", false),
+        ("ab", "ab:c", true),
+        ("ab", "ab", true),
+        ("ab:c", "ab", false),
+        ("ab:c", "ab:c:d", true),
+        ("b", "ab:b", false),
+    ] {
+        let covers = set_spec(&rt, alloc, set).covers(&set_spec(&rt, alloc, spec));
+        assert_eq!(rt; covers, covered, "{set} and {spec}");
+    }
+}
+
+fn assert_shows(rt: &impl Abort, sets: &SetTree, i: usize, spec: &str, name: &str) {
+    match sets.get(i) {
+        Some((found_spec, found_name)) => {
+            assert_eq!(rt; found_spec.as_str(), spec);
+            assert_eq!(rt; found_name, name);
+        }
+        None => panic!(rt; "no set {i}"),
+    }
+}
+
+#[test]
+fn sets_are_added(rt: HostRuntime) {
+    let alloc = rt.alloc();
+    let mut sets = SetTree::new(alloc);
+    for (spec, name, answer) in [
+        ("x", "X", Ok(())),
+        ("x", "Again", Err(SetFault::Exists)),
+        ("q:r", "R", Err(SetFault::NoParent)),
+        ("x:y", "Y", Ok(())),
+        ("x:y:z", "", Ok(())),
+        ("x:z:z", "Z", Err(SetFault::NoParent)),
+    ] {
+        assert_eq!(rt;
+            sets.add(&set_spec(&rt, alloc, spec), name),
+            answer,
+            "{spec}"
+        );
+    }
+    assert_eq!(rt; sets.len(), 3);
+    assert_shows(&rt, &sets, 0, "x", "X");
+    assert_shows(&rt, &sets, 1, "x:y", "Y");
+    assert_shows(&rt, &sets, 2, "x:y:z", "");
+    assert!(rt; sets.get(3).is_none());
+    assert!(rt; sets.has(&set_spec(&rt, alloc, "x:y")));
+    assert!(rt; !sets.has(&set_spec(&rt, alloc, "y")));
+}
+
+#[test]
+fn sets_are_at_most_10000(rt: HostRuntime) -> Result<(), Fail> {
+    let alloc = rt.alloc();
+    let mut sets = SetTree::new(alloc);
+    for i in 0u32..10_000 {
+        let spec = set_spec(&rt, alloc, format!(in alloc; "{i}")?.as_str());
+        assert_eq!(rt; sets.add(&spec, "A set"), Ok(()), "{i}");
+    }
+    for (spec, fault) in [
+        ("777", SetFault::Exists),
+        ("x:y", SetFault::NoParent),
+        ("777:x", SetFault::TooMany),
+        ("x", SetFault::TooMany),
+    ] {
+        assert_eq!(rt;
+            sets.add(&set_spec(&rt, alloc, spec), "X"),
+            Err(fault),
+            "{spec}"
+        );
+    }
+    assert_eq!(rt; sets.len(), 10_000);
+    assert_shows(&rt, &sets, 9_999, "9999", "A set");
+    Ok(())
+}

@@ -1,15 +1,15 @@
 -- The day that `next_day` reaches in n steps is the date to which `jiff` gives the day number n - 719,528.
-use Rattle.std.proofs.Common.{◌≡◌, ℕ, zero, suc, ◌+◌, ◌<◌, ◌≤◌, inl, inr, true, false, nat_lt, refl, arith, pos, neg_ℤ, ◌+ℤ◌}
+use Rattle.std.proofs.Common.{◌≡◌, ℕ, zero, suc, ◌+◌, ◌<◌, ◌≤◌, inl, inr, true, false, nat_lt, refl, subst, arith, pos, neg_ℤ, ◌+ℤ◌, ◌≤ℤ◌}
 use Rattle.std.proofs.lemmas.Bool.{cases_lt}
 use Rattle.std.proofs.lemmas.Bool.Decides.{nat_tests}
 use Rattle.std.proofs.lemmas.Int.{by_lt_z}
 use Rattle.std.specs.Int.{IsInRange}
 use Rattle.jiff_core.specs.declared.civil.date.Date.{Date}
-use Rattle.jiff_core.specs.Calendar.{day_count, days_from_civil, days_in_month, IsYear}
+use Rattle.jiff_core.specs.Calendar.{day_count, days_from_civil, days_in_month, IsDate, IsYear}
 use Rattle.jiff_core.specs.Date.{epoch_day}
 use Rattle.jiff_core.proofs.SignedLemmas.{signed_arith}
 use Rattle.jiff_core.proofs.MarchLemmas.{day_count-early}
-use Rattle.jiff_core.proofs.CalendarLemmas.{days_from_civil-day_count, day_count-day, day_count-next_month, day_count-next_year, day_count-last_of_year, day_count-lt_year, days_in_month_bounds}
+use Rattle.jiff_core.proofs.CalendarLemmas.{days_from_civil-day_count, day_count-day, day_count-next_month, day_count-next_year, day_count-last_of_year, day_count-lt_year, day_count-end, day_count-day_of_year, days_in_month_bounds}
 use Rattle.jiff_core.proofs.DateLemmas.{civil, epoch_day_injective}
 use Rattle.oai_time.specs.Calendar.{CalendarDay, next_day, calendar_day}
 
@@ -88,3 +88,39 @@ calendar_day-date d n e =
     by_lt_z (pos 9999) (pos (calendar_day n).year)
     (λ lt. absurd (omega (arith, signed_arith, days_from_civil-day_count, h.count, e, day_count-lt_year d.year d.month d.day (pos (calendar_day n).year) (calendar_day n).month (calendar_day n).day (civil d) h.day_in.0 (omega (arith, signed_arith, d.year_in)))))
     (λ le. same_parts d n (calendar_day n) h e (omega (arith, signed_arith)))
+
+last_count : day_count (pos 9999) 12 31 ≡ 7_304_849
+last_count = omega (arith, day_count-last_of_year (pos 9999), day_count-next_year (pos 9999) (pos 10000) (omega (arith, signed_arith)) refl, day_count-end)
+
+-- up to 9999-12-31 each number of a day fits its place in the text
+pub calendar_day_bounds : (n : ℕ) → n < 3_652_425 → ((calendar_day n).year < 10_000) × ((calendar_day n).month < 100) × ((calendar_day n).day < 100)
+calendar_day_bounds n below =
+    let h = numbered n in
+    let c = calendar_day n in
+    let year : c.year < 10_000 = by_lt_z (pos 9999) (pos c.year)
+    (λ lt. absurd (omega (arith, h.count, last_count, day_count-lt_year (pos 9999) 12 31 (pos c.year) c.month c.day (omega (arith, signed_arith), omega arith, omega arith) h.day_in.0 lt)))
+    (λ le. omega (arith, signed_arith)) in
+    (year, omega (arith, h.month_in), omega (arith, h.day_in, days_in_month_bounds (pos c.year) c.month))
+
+-- the calendar has each day that `next_day` reaches
+pub calendar_day-IsDate : (n y m d : ℕ) → y < 10_000 → calendar_day n ≡ record { year = y; month = m; day = d } → IsDate (pos y) (pos m) (pos d)
+calendar_day-IsDate n y m d small e =
+    let P : CalendarDay → Type 0 = IsNumbered n in
+    let h = subst P e (numbered n) in
+    (omega (arith, signed_arith), omega (arith, signed_arith, h.month_in), omega (arith, signed_arith, h.day_in))
+
+-- and a date of `jiff` with the parts of the n-th day has its number
+pub epoch_day-calendar_day : (date : Date) (n y m d : ℕ) → date.year ≡ pos y → date.month ≡ m → date.day ≡ d → calendar_day n ≡ record { year = y; month = m; day = d } → epoch_day date +ℤ pos 719_528 ≡ pos n
+epoch_day-calendar_day date n y m d year month day e =
+    let P : CalendarDay → Type 0 = IsNumbered n in
+    let h = subst P e (numbered n) in
+    rw (year, month, day) (omega (arith, signed_arith, days_from_civil-day_count, h.count))
+
+-- a date of a year that is not negative does not lie before 0000-01-01
+pub epoch_day_from_zero : (d : Date) → pos 0 ≤ℤ d.year → neg_ℤ (pos 719_528) ≤ℤ epoch_day d
+epoch_day_from_zero d h =
+    by_lt_z (pos 0) d.year
+    (λ lt. omega (arith, signed_arith, days_from_civil-day_count, first_count, day_count-lt_year (pos 0) 1 1 d.year d.month d.day (omega (arith, signed_arith), omega arith, omega arith) d.day_in.0 lt))
+    (λ le. let zero_year : d.year ≡ pos 0 = omega (arith, signed_arith) in
+    let count = rw zero_year at (day_count-day_of_year d.year d.month d.day d.day_in.0) in
+    rw zero_year (omega (arith, signed_arith, days_from_civil-day_count, first_count, count, d.day_in)))

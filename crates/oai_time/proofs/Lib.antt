@@ -1,3 +1,5 @@
+pub mod BoundLemmas
 pub mod CalendarLemmas
 pub mod ClockLemmas
+pub mod DigitLemmas
 pub mod StampLemmas

@@ -1,3 +1,4 @@
+pub mod Bound
 pub mod Calendar
 pub mod Clock
 pub mod Stamp

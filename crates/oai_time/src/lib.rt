@@ -1,16 +1,19 @@
-//! The time of a repository (OAI-PMH 2.0, "Datestamps"): its clock, its datestamps and their texts.
+//! The time of a repository (OAI-PMH 2.0, "Datestamps"): its clock, its datestamps, their texts,
+//! and the bounds of a harvest.
 //!
 //! Times are whole seconds from 1970-01-01T00:00:00Z, negative before it, of days that each have
 //! 86,400 seconds. Dates are those of the Gregorian calendar, which ISO 8601 extends to the years
 //! before its introduction, year 0000 included.
 #![tactic(auto)]
 
+mod bound;
 mod clock;
 mod granularity;
 #[cfg(test)]
 mod tests;
 mod text;
 
+pub use bound::{BadDate, Bound, lower, read_bound, upper};
 pub use clock::Clock;
 pub use granularity::{Granularity, stamp};
 pub use text::{write_day, write_second};

@@ -42,3 +42,61 @@ fn ticks(rt: HostRuntime) {
         assert_eq!(rt; clock.now(), shown, "at {moment}");
     }
 }
+
+#[test]
+fn reads_bounds(rt: HostRuntime) {
+    for (text, bound) in [
+        ("2024-02-29", Bound::Day(1_709_164_800)),
+        ("2000-02-29", Bound::Day(951_782_400)),
+        ("0000-02-29", Bound::Day(-62_162_121_600)),
+        ("0000-01-01", Bound::Day(-62_167_219_200)),
+        ("9999-12-31", Bound::Day(253_402_214_400)),
+        ("2024-02-29T23:59:59Z", Bound::Second(1_709_251_199)),
+        ("1970-01-01T00:00:00Z", Bound::Second(0)),
+        ("9999-12-31T23:59:59Z", Bound::Second(253_402_300_799)),
+    ] {
+        assert_eq!(rt; read_bound(text), Ok(bound), "{text}");
+    }
+}
+
+#[test]
+fn refuses_what_is_no_bound(rt: HostRuntime) {
+    for text in [
+        "",
+        "2023-02-29",
+        "1900-02-29",
+        "2024-02-30",
+        "2024-04-31",
+        "2024-00-10",
+        "2024-13-01",
+        "2024-01-00",
+        "24-01-01",
+        "+024-01-01",
+        "2024/01/01",
+        " 2024-01-01",
+        "2024-01-01 ",
+        "2024-01-01T24:00:00Z",
+        "2024-01-01T00:60:00Z",
+        "2024-01-01T23:59:60Z",
+        "2024-01-01t00:00:00Z",
+        "2024-01-01T00:00:00z",
+        "2024-01-01 00:00:00Z",
+        "2024-01-01T00:00:00.0Z",
+        "2024-01-01T00:00:00",
+        "2024-01-01T00:00Z",
+        "2024-01-01T00:00:00+00:00",
+        "२०२४-०१-०१",
+    ] {
+        assert_eq!(rt; read_bound(text), Err(BadDate), "{text}");
+    }
+}
+
+#[test]
+fn bounds_have_ends(rt: HostRuntime) {
+    let day = Bound::Day(1_709_164_800);
+    assert_eq!(rt; lower(day), 1_709_164_800);
+    assert_eq!(rt; upper(day), 1_709_251_199);
+    let second = Bound::Second(1_709_164_801);
+    assert_eq!(rt; lower(second), 1_709_164_801);
+    assert_eq!(rt; upper(second), 1_709_164_801);
+}

@@ -1,20 +1,24 @@
 ghost use Rattle.std.specs.Prelude.{◌≡◌, pos, ◌%◌, ◌<◌};
 ghost use Rattle.oai_time.specs.Calendar.{calendar_day};
-ghost use Rattle.oai_time.specs.Stamp.{IsWritable};
+ghost use Rattle.oai_time.specs.Bound.{IsBound};
+ghost use Rattle.oai_time.specs.Stamp.{IsWritable, stamp_of};
 ghost use Rattle.oai_time.specs.Text.{day_text, digit, second_text, seconds_of_era, time_text};
 
+use crate::bound::Bound;
+use crate::granularity::Granularity;
 use jiff::ToSpan;
 use jiff::civil::Date;
 
 // 0000-01-01T00:00:00Z.
-const FIRST_SECOND: i64 = -62_167_219_200;
+pub(crate) const FIRST_SECOND: i64 = -62_167_219_200;
 
 /// The text `YYYY-MM-DD` of the day in which `seconds` lie (OAI-PMH 2.0, 3.3 "UTCdatetime"). The
 /// seconds are of the years 0000 to 9999.
 #[tactic(auto, unfolding(crate::specs::Text::day_text, crate::specs::Text::date_text))]
 pub fn write_day(seconds: i64) -> [u8; 10]
     requires { IsWritable seconds }
-    ensures { result ≡ day_text seconds }
+    ensures text { result ≡ day_text seconds }
+    ensures read { IsBound result (Bound.Day (stamp_of Granularity.Day seconds)) }
 {
     let date = date_after(seconds_of_era(seconds) / 86_400);
     let (year, month, day) = (date.year() as u64, date.month() as u64, date.day() as u64);
@@ -36,7 +40,8 @@ pub fn write_day(seconds: i64) -> [u8; 10]
 /// the years 0000 to 9999.
 pub fn write_second(seconds: i64) -> [u8; 20]
     requires { IsWritable seconds }
-    ensures { result ≡ second_text seconds }
+    ensures text { result ≡ second_text seconds }
+    ensures read { IsBound result (Bound.Second seconds) }
 {
     let mut text = [0; 20];
     text[..10].copy_from_slice(&write_day(seconds));

@@ -20,8 +20,8 @@ const MOST_NAME_BYTES: usize = 64;
 /// The most bytes that the URL of a schema or a namespace has.
 const MOST_URI_BYTES: usize = 512;
 
-#[tactic(auto, unfolding(crate::specs::Declaring::declare_fault))]
 /// Whether the format may stand beside these: the first cause against it.
+#[tactic(auto, unfolding(crate::specs::Declaring::declare_fault))]
 pub(super) fn check(alloc: Global, formats: &[Format], format: &Format) -> Result<(), FormatFault>
     ensures { IsCheck formats.now format.now result }
 {
@@ -65,9 +65,9 @@ fn is_name(text: &str) -> bool
     is_element_name(text) && text.len() <= MOST_NAME_BYTES
 }
 
-#[tactic(auto, unfolding(crate::specs::Declaring::is_element_name))]
 /// Whether the text is the name of an element, of any length: an ASCII letter or `_`, followed by
 /// letters, digits, `-`, `_` and `.` (XML 1.0, section 2.3).
+#[tactic(auto, unfolding(crate::specs::Declaring::is_element_name))]
 fn is_element_name(text: &str) -> bool
     ensures { result ≡ is_element_name text.now }
 {
@@ -102,9 +102,9 @@ fn are_uris(format: &Format) -> bool
     is_uri(format.schema.as_str()) && is_uri(format.namespace.as_str())
 }
 
-#[tactic(auto, unfolding(crate::specs::Declaring::is_uri))]
 /// Whether the text may stand for a URI in a document: 1 to 512 bytes, of characters that a
 /// document may hold, without a space, tab, LF and CR.
+#[tactic(auto, unfolding(crate::specs::Declaring::is_uri))]
 fn is_uri(text: &str) -> bool
     ensures { result ≡ is_uri text.now }
 {

@@ -1,0 +1,53 @@
+-- The parent of a set: what `rsplit_once` at a colon gives, and that it stands before the set.
+use Rattle.std.proofs.Common.{◌≡◌, ◌≢◌, ◌∙◌, ℕ, ◌+◌, ◌-◌, ◌<◌, ◌≤◌, true, false, not, List, [], ◌∷◌, ◌++◌, length, take, drop, get_or, Option, None, Some, refl, sym, ap, subst, arith, append_assoc, length-append, length-drop, lit<}
+use Rattle.std.specs.List.{list_any, suffix_len, before_last}
+use Rattle.std.specs.Option.{MatchOption, option_map}
+use Rattle.std.specs.Str.{NoCharPasses}
+use Rattle.std.specs.Str.Pattern.{RFindsChar}
+use Rattle.std.proofs.lemmas.Bool.{eq-eqb, ne_eqb, not_from_true, not_from_false, cond-true, cond-false, true≢false}
+use Rattle.std.proofs.lemmas.List.Folds.{list_any_none, list_any_at}
+use Rattle.std.proofs.lemmas.List.Sums.{suffix_len_is}
+use Rattle.std.proofs.lemmas.Str.{len_utf8_ascii}
+use Rattle.std.proofs.lemmas.Str.Pattern.{NoCharPasses-char}
+use Rattle.std.proofs.lemmas.List.{get_or-append_right, get_or-drop, get_or_at, get_or_default}
+use Rattle.std.proofs.Math.Seq.{take-append_seam}
+use Rattle.oai_names.specs.Names.{is_colon}
+use Rattle.oai_names.specs.Sets.{HasParentsBefore, IsSetTree, has_any, parent_of}
+
+-- the last colon stands at k
+parent_at : (bs : List ℕ) (k : ℕ) → k < length bs → get_or bs k 0 ≡ 58 → ((i : ℕ) → k < i → i < length bs → get_or bs i 0 ≢ 58) → Some (take k bs) ≡ parent_of bs
+unfolding parent_of
+parent_at bs k inside here none =
+    let after : suffix_len (λ b. not (is_colon b)) bs ≡ length bs - (k + 1) =
+    suffix_len_is (λ b. not (is_colon b)) bs (k + 1) 0 (omega arith)
+    (λ i low high. not_from_false _ (ne_eqb _ 58 (none i (omega arith) high)))
+    (λ _. let back : k + 1 - 1 ≡ k = omega arith in not_from_true _ (eq-eqb _ 58 (ap (λ n. get_or bs n 0) back ∙ here))) in
+    let cut : length bs - suffix_len (λ b. not (is_colon b)) bs - 1 ≡ k = omega arith in
+    ap (λ n. Some (take n bs)) (sym cut) ∙ sym (cond-true _ _ _ (list_any_at is_colon bs k 0 inside (eq-eqb _ 58 here)))
+
+pub parent_splits : (bs parent : List ℕ) (i j : ℕ) → RFindsChar 58 bs (Some (i, j)) → parent ≡ take i bs → i ≤ j → j ≤ length bs → Some parent ≡ parent_of bs
+parent_splits bs parent i j found e order end =
+    let width : j ≡ i + 1 = omega (arith, found.1.ends, len_utf8_ascii 58 (lit< tt)) in
+    ap Some e ∙ parent_at bs i (omega arith) (found.1.byte (lit< tt)) (λ k low high.
+    let back : j + (k - j) ≡ k = omega arith in
+    λ here. NoCharPasses-char 58 (drop j bs) (k - j) found.0 (lit< tt) (omega (arith, length-drop j bs)) (get_or-drop j bs (k - j) 0 ∙ ap (λ n. get_or bs n 0) back ∙ here))
+
+pub root_splits : (bs : List ℕ) → NoCharPasses (λ b. is_colon b) bs → None ≡ parent_of bs
+unfolding parent_of
+root_splits bs none =
+    sym (cond-false _ _ _ (list_any_none is_colon bs (λ k d inside. ne_eqb _ 58 (λ e. NoCharPasses-char 58 bs k none (lit< tt) inside (get_or_default bs k 0 d inside ∙ e)))))
+
+-- where the last part holds no colon, what stands before its colon is the parent
+path_parent : (parent last : List ℕ) → list_any is_colon last ≡ false → Some parent ≡ parent_of (parent ++ 58 ∷ last)
+path_parent parent last none =
+    let spec : List ℕ = parent ++ 58 ∷ last in
+    ap Some (sym (take-append_seam parent (58 ∷ last)))
+    ∙ parent_at spec (length parent) (omega (arith, length-append parent (58 ∷ last))) (get_or_at parent 58 last 0 (length parent) refl) (λ i low high here.
+    let seam : length (parent ++ 58 ∷ []) ≡ length parent + 1 = length-append parent (58 ∷ []) in
+    let back : get_or last (i - (length parent + 1)) 0 ≡ 58 =
+    sym (get_or-append_right (parent ++ 58 ∷ []) last (length parent + 1) i 0 seam (omega arith)) ∙ ap (λ bs. get_or bs i 0) (append_assoc parent (58 ∷ []) last) ∙ here in
+    true≢false (sym (list_any_at is_colon last (i - (length parent + 1)) 0 (omega (arith, length-append parent (58 ∷ last))) (eq-eqb _ 58 back)) ∙ none))
+
+pub parents_stand_before : (sets : List (List ℕ × List ℕ)) → IsSetTree sets → HasParentsBefore sets
+parents_stand_before sets tree i parent last name at none =
+    subst (λ p. has_any (take i sets) p ≡ true) (sym (path_parent parent last none)) (tree.parents i (parent ++ 58 ∷ last, name) at)

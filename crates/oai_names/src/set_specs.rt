@@ -1,0 +1,99 @@
+ghost use Rattle.std.specs.Prelude.{◌≡◌, ◌≤◌, ◌↔◌, true, length, IfOk, IsTrue};
+ghost use Rattle.oai_names.specs.Names.{IsReading};
+ghost use Rattle.oai_names.specs.Sets.{Covers, covers, ends_part, is_set_spec};
+
+use crate::prefixes::is_prefix;
+use crate::readings::NameFault;
+use std::alloc::{AllocError, Global};
+use std::marker::Model;
+
+/// The most bytes that a setSpec has.
+const MOST_BYTES: usize = 256;
+
+/// A setSpec, the name of a set: the path from a root of the hierarchy of sets, one or more parts
+/// joined by colons, each of them one or more ASCII letters, digits and `- _ . ! ~ * ' ( )`, at
+/// most 256 bytes in all (OAI-PMH 2.0, section 2.6).
+#[derive(Debug, Drop)]
+pub struct SetSpec {
+    text: String,
+}
+
+impl Model for SetSpec {
+    ghost use Rattle.std.specs.Prelude.{◌≡◌, ◌≤◌, ℕ, true, List, length};
+    ghost use Rattle.std.specs.String.{string_bytes};
+
+    ghost Value = { List ℕ };
+
+    ghost use Rattle.oai_names.specs.Sets.{is_set_spec};
+
+    ghost view = { λ s. string_bytes s.text };
+
+    ghost invariant = { λ s. (is_set_spec (string_bytes s.text) ≡ true) × (length (string_bytes s.text) ≤ 256) };
+}
+
+impl SetSpec {
+    /// Reads a setSpec. The errors, in this order: `Syntax`, `TooLong` above 256 bytes, `NoMemory`.
+    pub fn read(alloc: Global, text: &str) -> Result<SetSpec, NameFault>
+        ensures { IsReading is_set_spec 256 text.now result }
+    {
+        if !is_set_spec(text) {
+            return Err(NameFault::Syntax);
+        }
+        if text.len() > MOST_BYTES {
+            return Err(NameFault::TooLong);
+        }
+        match String::from_str(alloc, text) {
+            Ok(text) => Ok(SetSpec { text }),
+            Err(_) => Err(NameFault::NoMemory),
+        }
+    }
+
+    /// The setSpec as text.
+    pub fn as_str(&self) -> &str
+        ensures text { result.now ≡ self.now }
+        ensures syntax { is_set_spec self.now ≡ true }
+        ensures short { length self.now ≤ 256 }
+    {
+        self.text.as_str()
+    }
+
+    /// An equal setSpec. The error is want of memory.
+    pub fn copy(&self, alloc: Global) -> Result<SetSpec, AllocError>
+        ensures { IfOk result (λ copy. copy ≡ self.now) }
+    {
+        Ok(SetSpec {
+            text: String::from_str(alloc, self.as_str())?,
+        })
+    }
+
+    /// Whether the other set is this one or lies below it in the hierarchy: its setSpec equals
+    /// this one, or begins with this one followed by a colon. An item in the other set is then in
+    /// this one too (OAI-PMH 2.0, section 2.6). It takes no memory.
+    pub fn covers(&self, other: &SetSpec) -> bool
+        ensures test { result ≡ covers self.now other.now }
+        ensures relation { IsTrue result ↔ Covers self.now other.now }
+    {
+        let own = self.as_str().as_bytes();
+        match other.as_str().as_bytes().strip_prefix(own) {
+            Some(rest) => ends_part(rest),
+            None => false,
+        }
+    }
+}
+
+/// Whether the text has the syntax of a setSpec, of any length.
+pub fn is_set_spec(text: &str) -> bool
+    ensures { result ≡ is_set_spec text.now }
+{
+    text.split(':').all(|part| is_prefix(part))
+}
+
+/// Whether a part of a path ends where these bytes begin.
+fn ends_part(rest: &[u8]) -> bool
+    ensures { result ≡ ends_part rest.now }
+{
+    match rest {
+        [] => true,
+        [first, ..] => *first == b':',
+    }
+}

@@ -1,0 +1,161 @@
+ghost use Rattle.std.specs.Prelude.{◌≡◌, ◌<◌, ◌≤◌, ◌++◌, [], ◌∷◌, true, false, length, MatchResult};
+ghost use Rattle.std.specs.List.{slice_get};
+ghost use Rattle.std.specs.Option.{option_copied, option_map};
+ghost use Rattle.oai_names.specs.Sets.{HasParentsBefore, IsAdding, IsSetTree, has_any, has_parent, has_set, parent_of};
+
+use crate::set_specs::SetSpec;
+use crate::texts::Text;
+use std::alloc::{AllocError, Global};
+use std::collections::BTreeSet;
+use std::marker::Model;
+use thiserror::Error;
+
+/// The most sets that a repository has.
+const MOST_SETS: usize = 10_000;
+
+/// Why a set was not added, in the order in which the causes are looked for.
+#[derive(Clone, Copy, Debug, PartialEq, Eq, Error)]
+pub enum SetFault {
+    /// A set of this setSpec is there.
+    #[error("the set exists")]
+    Exists,
+    /// The setSpec has two or more parts, and without its last part it is no set.
+    #[error("the set has no parent")]
+    NoParent,
+    /// There are 10,000 sets.
+    #[error("there are too many sets")]
+    TooMany,
+    /// The set could not be stored.
+    #[error("out of memory")]
+    NoMemory,
+}
+
+/// The sets of a repository, each with its setSpec and its name, in order of addition (OAI-PMH 2.0,
+/// section 2.6). The setSpecs are distinct, and where a setSpec has two or more parts, the set that
+/// it names without its last part, its parent, stands before it. There are at most 10,000 sets.
+///
+/// A sorted index of the setSpecs, a B-tree, stands beside the list: a look-up among 10,000 sets
+/// compares a few dozen setSpecs, and takes time in the logarithm of the number of sets.
+#[derive(Debug, Drop)]
+pub struct SetTree {
+    sets: Vec<(SetSpec, Text)>,
+    specs: BTreeSet<String>,
+}
+
+impl Model for SetTree {
+    ghost use Rattle.std.specs.Prelude.{◌≡◌, ℕ, List};
+    ghost use Rattle.std.specs.BTreeSet.{contains_text};
+
+    ghost Value = { List (List ℕ × List ℕ) };
+
+    ghost use Rattle.oai_names.specs.Sets.{IsSetTree, has_set};
+
+    ghost view = { λ t. t.sets.items };
+
+    ghost invariant = { λ t. IsSetTree t.sets.items × ((spec : List ℕ) → contains_text t.specs spec ≡ has_set t.sets.items spec) };
+}
+
+impl SetTree {
+    /// A repository without sets. It takes no memory; the sets that are added later are kept in
+    /// memory of this allocator.
+    pub fn new(alloc: Global) -> SetTree
+        ensures { result ≡ [] }
+    {
+        SetTree {
+            sets: Vec::new(alloc),
+            specs: BTreeSet::new(alloc),
+        }
+    }
+
+    /// Adds a set of this setSpec and name, as the last one. The errors, in this order: `Exists`
+    /// where a set of this setSpec is there, `NoParent` where the setSpec has two or more parts and
+    /// no set is named by it without its last part, `TooMany` where 10,000 sets are there,
+    /// `NoMemory`. After each of them the tree is as it was.
+    pub fn add(&mut self, spec: &SetSpec, name: &str) -> Result<(), SetFault>
+        ensures { IsAdding self.old spec.now name.now result self.new }
+    {
+        if self.has(spec) {
+            return Err(SetFault::Exists);
+        }
+        if !self.has_parent(spec) {
+            return Err(SetFault::NoParent);
+        }
+        if self.len() >= MOST_SETS {
+            return Err(SetFault::TooMany);
+        }
+        match self.push(spec, name) {
+            Ok(()) => Ok(()),
+            Err(_) => Err(SetFault::NoMemory),
+        }
+    }
+
+    /// Whether a set of this setSpec is there. The time is that of a search in the index.
+    pub fn has(&self, spec: &SetSpec) -> bool
+        ensures { result ≡ has_set self.now spec.now }
+    {
+        self.has_text(spec.as_str())
+    }
+
+    /// The setSpec and the name of the set that was added after `i` others; `None` where there are
+    /// no more than `i` sets. The parent of a set of two or more parts stands before it.
+    #[tactic(auto, using(crate::proofs::Parents::parents_stand_before))]
+    pub fn get(&self, i: usize) -> Option<(&SetSpec, &str)>
+        ensures set { option_map (λ set. (set.0.now, set.1.now)) result ≡ slice_get self.now i }
+        ensures tree { IsSetTree self.now }
+        ensures parents { HasParentsBefore self.now }
+    {
+        match self.sets.get(i) {
+            Some((spec, name)) => Some((spec, name.as_str())),
+            None => None,
+        }
+    }
+
+    /// How many sets there are.
+    pub fn len(&self) -> usize
+        ensures { result ≡ length self.now }
+    {
+        self.sets.len()
+    }
+
+    /// Whether the setSpec is that of a root, or its parent is there.
+    fn has_parent(&self, spec: &SetSpec) -> bool
+        ensures { result ≡ has_parent self.now spec.now }
+    {
+        match parent_of(spec.as_str()) {
+            Some(parent) => self.has_text(parent),
+            None => true,
+        }
+    }
+
+    fn has_text(&self, spec: &str) -> bool
+        ensures { result ≡ has_set self.now spec.now }
+    {
+        self.specs.contains(spec)
+    }
+
+    /// Adds a set that has a place. What may fail comes before the first change that shows.
+    fn push(&mut self, spec: &SetSpec, name: &str) -> Result<(), AllocError>
+        requires apart { has_set self.old spec.now ≡ false }
+        requires parent { has_parent self.old spec.now ≡ true }
+        requires room { length self.old < 10000 }
+        ensures { MatchResult result (λ _. self.new ≡ self.old ++ (spec.now, name.now) ∷ []) (λ _. self.new ≡ self.old) }
+    {
+        let alloc = *self.sets.allocator();
+        let set = (spec.copy(alloc)?, Text::new(alloc, name)?);
+        let key = String::from_str(alloc, spec.as_str())?;
+        self.sets.reserve(1)?;
+        self.specs.insert(key)?;
+        self.sets.push(set)?;
+        Ok(())
+    }
+}
+
+/// The setSpec without its last part; `None` where it has one part.
+fn parent_of(spec: &str) -> Option<&str>
+    ensures { option_copied result ≡ parent_of spec.now }
+{
+    match spec.rsplit_once(':') {
+        Some((parent, _)) => Some(parent),
+        None => None,
+    }
+}

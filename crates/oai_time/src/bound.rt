@@ -1,0 +1,155 @@
+ghost use Rattle.std.specs.Prelude.{◌≡◌, ℕ, ◌+◌, ◌*◌, ◌-◌, ◌<◌, min, length, ◌↔◌, pos, ◌-ℤ◌, IsTrue, IfOk, OnErr, IfSome};
+ghost use Rattle.oai_time.specs.Bound.{IsBound, IsWritableBound, lower_of, upper_of};
+ghost use Rattle.oai_time.specs.Calendar.{calendar_day};
+ghost use Rattle.oai_time.specs.Stamp.{IsWritable};
+ghost use Rattle.oai_time.specs.Text.{date_text, time_text};
+
+use crate::text::{FIRST_SECOND, write_day, write_second};
+use jiff::civil::Date;
+use thiserror::Error;
+
+/// A bound of a harvest, one of the arguments `from` and `until` (OAI-PMH 2.0, 2.7.1 "Selective
+/// harvesting and datestamps").
+#[derive(Clone, Copy, Debug, PartialEq, Eq)]
+pub enum Bound {
+    /// A whole day, by the seconds of its midnight.
+    Day(i64),
+    /// One second.
+    Second(i64),
+}
+
+/// The text is neither `YYYY-MM-DD` nor `YYYY-MM-DDThh:mm:ssZ` of a date and a time that there are.
+#[derive(Clone, Copy, Debug, PartialEq, Eq, Error)]
+#[error("not a date of the form YYYY-MM-DD or YYYY-MM-DDThh:mm:ssZ")]
+pub struct BadDate;
+
+/// The bound that the text stands for. It is `YYYY-MM-DD` or `YYYY-MM-DDThh:mm:ssZ` (OAI-PMH 2.0, 3.3
+/// "UTCdatetime"), with ASCII digits and upper case letters, of a date of the years 0000 to 9999 that
+/// the Gregorian calendar has, and of a time from 00:00:00 to 23:59:59. Any other text is refused.
+pub fn read_bound(text: &str) -> Result<Bound, BadDate>
+    ensures found { IfOk result (IsBound text.now) }
+    ensures only { (bound : Bound) → IsBound text.now bound → result ≡ Ok bound }
+    ensures refused { OnErr result ((bound : Bound) → ¬ IsBound text.now bound) }
+{
+    let text = text.as_bytes();
+    match candidate(text) {
+        Some(bound) if is_written(bound, text) => Ok(bound),
+        _ => Err(BadDate),
+    }
+}
+
+/// The first second of a bound: the midnight of a day, or the second itself.
+pub fn lower(bound: Bound) -> i64
+    requires { IsWritableBound bound }
+    ensures value { result ≡ lower_of bound }
+    ensures in_range { IsWritable result }
+{
+    match bound {
+        Bound::Day(midnight) => midnight,
+        Bound::Second(second) => second,
+    }
+}
+
+/// The last second of a bound: of a day 23:59:59, or the second itself.
+pub fn upper(bound: Bound) -> i64
+    requires { IsWritableBound bound }
+    ensures value { result ≡ upper_of bound }
+    ensures in_range { IsWritable result }
+{
+    match bound {
+        Bound::Day(midnight) => midnight + 86_399,
+        Bound::Second(second) => second,
+    }
+}
+
+// Whether the text is what is written for the bound.
+fn is_written(bound: Bound, text: &[u8]) -> bool
+    requires { IsWritableBound bound }
+    ensures { IsTrue result ↔ IsBound text.now bound }
+{
+    match bound {
+        Bound::Day(midnight) => text == write_day(midnight).as_slice(),
+        Bound::Second(second) => text == write_second(second).as_slice(),
+    }
+}
+
+// The only bound that the text can stand for, if there is one. The digits are taken from their places
+// and nothing else is looked at: whether the text is of the form is seen by writing the bound again.
+fn candidate(text: &[u8]) -> Option<Bound>
+    ensures in_range { IfSome result IsWritableBound }
+    ensures only { (bound : Bound) → IsBound text.now bound → result ≡ Some bound }
+{
+    if text.len() == 10 {
+        let days = day_number(text)?;
+        return Some(Bound::Day(midnight_of(days)));
+    }
+    if text.len() == 20 {
+        let (date, time) = text.split_at(10);
+        let days = day_number(date)?;
+        return Some(Bound::Second(midnight_of(days) + second_of_day(time) as i64));
+    }
+    None
+}
+
+// The midnight that begins the day with that number, counted from 0000-01-01.
+fn midnight_of(days: u64) -> i64
+    requires { days < 3_652_425 }
+    ensures { result ≡ pos (86_400 * days) -ℤ pos 62_167_219_200 }
+{
+    86_400 * days as i64 + FIRST_SECOND
+}
+
+// The number of the only day that the ten bytes can name, if there is one.
+fn day_number(text: &[u8]) -> Option<u64>
+    requires { length text.now ≡ 10 }
+    ensures in_range { IfSome result (λ days. days < 3_652_425) }
+    ensures only { (days : ℕ) → days < 3_652_425 → text.now ≡ date_text (calendar_day days)
+        → result ≡ Some days }
+{
+    let year = 100 * two_digits(text[0], text[1]) + two_digits(text[2], text[3]);
+    let month = two_digits(text[5], text[6]);
+    let day = two_digits(text[8], text[9]);
+    day_of_calendar(year, month, day)
+}
+
+// The number of the day that has this place in the calendar, if there is one.
+fn day_of_calendar(year: u64, month: u64, day: u64) -> Option<u64>
+    requires year_in { year < 10_000 }
+    requires month_in { month < 100 }
+    requires day_in { day < 100 }
+    ensures in_range { IfSome result (λ days. days < 3_652_425) }
+    ensures only { (days : ℕ) → calendar_day days ≡ record { year = year; month = month; day = day }
+        → result ≡ Some days }
+{
+    let Ok(date) = Date::new(year as i16, month as i8, day as i8) else {
+        return None;
+    };
+    Some((date.to_plain().to_unix_epoch_day() + 719_528) as u64)
+}
+
+// The only second of the day that the ten bytes can name.
+fn second_of_day(text: &[u8]) -> u64
+    requires { length text.now ≡ 10 }
+    ensures in_range { result < 86_400 }
+    ensures only { (second : ℕ) → second < 86_400 → text.now ≡ time_text second → result ≡ second }
+{
+    let hour = two_digits(text[1], text[2]);
+    let minute = two_digits(text[4], text[5]);
+    let second = two_digits(text[7], text[8]);
+    (3600 * hour + 60 * minute + second) % 86_400
+}
+
+// The number that two digits write. Of other bytes it is some number below 100.
+fn two_digits(tens: u8, ones: u8) -> u64
+    ensures value { result ≡ 10 * min (tens - 48) 9 + min (ones - 48) 9 }
+    ensures in_range { result < 100 }
+{
+    10 * digit_value(tens) + digit_value(ones)
+}
+
+// The value of a digit. Of another byte it is some number below 10.
+fn digit_value(byte: u8) -> u64
+    ensures { result ≡ min (byte - 48) 9 }
+{
+    byte.saturating_sub(b'0').min(9) as u64
+}
