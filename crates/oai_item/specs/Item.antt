@@ -1,4 +1,4 @@
--- Items, and the records that they carry. OAI-PMH 2.0, sections 2.2 to 2.6.
+-- Items, and the records that they carry. OAI-PMH 2.0, sections 2.3 to 2.6.
 use Rattle.std.specs.Prelude.{◌≡◌, ◌≢◌, ℕ, ℤ, pos, negsuc, ◌≤ℤ◌, Bool, true, ◌&&◌, List, [], ◌∷◌}
 use Rattle.std.specs.Ordering.{nat_cmp, is_lt}
 use Rattle.std.specs.Cmp.Lexicographic.{slice_cmp}

@@ -5,7 +5,7 @@ use crate::fields::Field;
 use oai_names::{Identifier, Prefix, Sequence, Text};
 use std::marker::Model;
 
-/// An item of a repository (OAI-PMH 2.0, section 2.2): its identifier, its datestamp, whether it is
+/// An item of a repository (OAI-PMH 2.0, section 2.3): its identifier, its datestamp, whether it is
 /// live or deleted, its sets, and its record in each of its formats.
 #[derive(Debug, Drop)]
 pub struct Item {

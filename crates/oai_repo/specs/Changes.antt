@@ -1,4 +1,4 @@
--- What a deposit changes. OAI-PMH 2.0, sections 2.2 to 2.7; that a change may be refused is this repository's own.
+-- What a deposit changes. OAI-PMH 2.0, sections 2.3 to 2.5 and 2.7; that a change may be refused is this repository's own.
 use Rattle.std.specs.Prelude.{◌≡◌, ℕ, ℤ, Bool, true, ◌&&◌, not, nat_le, ◌==◌, List, length, codes, Option, Some, None, is_some, is_none, Result, Ok, Err, if◌then◌else◌}
 use Rattle.std.specs.List.{list_all, list_any}
 use Rattle.std.specs.Str.{bytes_eq}
