@@ -1,3 +1,6 @@
+pub mod Texts
+pub mod Membership
 pub mod Item
 pub mod Formats
 pub mod Declaring
+pub mod Encoding

@@ -137,6 +137,13 @@ impl Formats {
         self.formats.get(at)
     }
 
+    /// The formats in order, oai_dc first.
+    pub fn as_slice(&self) -> &[Format]
+        ensures { result.now ≡ self.now }
+    {
+        self.formats.as_slice()
+    }
+
     /// How many formats there are.
     pub fn len(&self) -> usize
         ensures count { result ≡ length self.now }

@@ -1,9 +1,17 @@
-ghost use Rattle.std.specs.Prelude.{◌≡◌, ◌≢◌, [], true};
-ghost use Rattle.oai_item.specs.Item.{IsItem, IsStamp, are_rising};
+ghost use Rattle.std.specs.Prelude.{◌≡◌, ◌≢◌, ℕ, List, [], true, length, IfOk};
+ghost use Rattle.oai_item.specs.Encoding.{IsMeasure, encoded};
+ghost use Rattle.oai_item.specs.Item.{IsItem, IsStamp, are_prefixed, are_rising, live_item};
+ghost use Rattle.oai_item.specs.Membership.{AreApart, is_in, reduced};
 
 use crate::fields::Field;
-use oai_names::{Identifier, Prefix, Sequence, Text};
+use crate::reductions::reduced;
+use crate::sizes::{TooLarge, with_records, with_sets, with_text};
+use oai_names::{Identifier, Prefix, Sequence, SetSpec};
+use std::alloc::{AllocError, Global};
 use std::marker::Model;
+
+/// The bytes of the first two parts of an item's spelling: whether it is live, and its datestamp.
+const FIRST_BYTES: usize = 9;
 
 /// An item of a repository (OAI-PMH 2.0, section 2.3): its identifier, its datestamp, whether it is
 /// live or deleted, its sets, and its record in each of its formats.
@@ -12,7 +20,7 @@ pub struct Item {
     identifier: Identifier,
     stamp: i64,
     live: bool,
-    sets: Sequence<Text>,
+    sets: Sequence<SetSpec>,
     formats: Sequence<(Prefix, Sequence<Field>)>,
 }
 
@@ -28,25 +36,30 @@ impl Model for Item {
 
 impl Item {
     /// A live item of these parts. The datestamp is in seconds from 1970 on, of years 0000 to 9999;
-    /// the records are in the order of their prefixes, one a prefix, and at least one.
+    /// the records are in the order of their prefixes, one a prefix, and at least one. Of the sets
+    /// those stay that say where the item is: no setSpec stands twice, the first place counts, and
+    /// none stands that covers another, since the item is in it anyway (OAI-PMH 2.0, section 2.6).
+    /// The error is want of memory.
     pub fn live(
+        alloc: Global,
         identifier: Identifier,
         stamp: i64,
-        sets: Sequence<Text>,
+        sets: Sequence<SetSpec>,
         formats: Sequence<(Prefix, Sequence<Field>)>,
-    ) -> Item
+    ) -> Result<Item, AllocError>
         requires stamped { IsStamp stamp }
         requires rising { are_rising formats ≡ true }
         requires carries { formats ≢ [] }
-        ensures { result ≡ record { identifier = identifier; stamp = stamp; live = true; sets = sets; formats = formats } }
+        ensures { IfOk result (λ item. item ≡ live_item identifier stamp (reduced sets) formats) }
     {
-        Item {
+        see_prefixes(formats.as_slice());
+        Ok(Item {
             identifier,
             stamp,
             live: true,
-            sets,
+            sets: reduced(alloc, sets.as_slice())?,
             formats,
-        }
+        })
     }
 
     /// The unique identifier.
@@ -71,9 +84,11 @@ impl Item {
         self.live
     }
 
-    /// The setSpecs of the sets that the item is in.
-    pub fn sets(&self) -> &[Text]
-        ensures { result.now ≡ self.now.sets }
+    /// The setSpecs that say which sets the item is in: those, and the sets that cover them. None of
+    /// them covers another, and none stands twice.
+    pub fn sets(&self) -> &[SetSpec]
+        ensures sets { result.now ≡ self.now.sets }
+        ensures apart { AreApart self.now.sets }
     {
         self.sets.as_slice()
     }
@@ -85,4 +100,33 @@ impl Item {
     {
         self.formats.as_slice()
     }
+
+    /// The number of bytes of the item's spelling, where it is stored. The error: they are more than
+    /// 16,000. It takes no memory.
+    pub fn encoded_len(&self) -> Result<usize, TooLarge>
+        ensures { IsMeasure (length (encoded self.now)) result }
+    {
+        let front = with_text(FIRST_BYTES, self.identifier.as_str())?;
+        let middle = with_sets(front, self.sets.as_slice())?;
+        with_records(middle, self.formats.as_slice())
+    }
 }
+
+/// Looks at each prefix, so that what its type says of it, its grammar and its length, is known of
+/// all of them. It changes nothing.
+#[tactic(auto, unfolding(crate::specs::Item::are_prefixed))]
+fn see_prefixes(formats: &[(Prefix, Sequence<Field>)])
+    ensures { are_prefixed formats.now ≡ true }
+{
+    for (prefix, _) in formats {
+        prefix.as_str();
+    }
+}
+
+/// What leaving sets out of an item's list keeps: the item is in the same sets (OAI-PMH 2.0, section
+/// 2.6), and of two setSpecs that stay at different places neither covers the other.
+#[tactic(auto, using(crate::proofs::Kept::reduced_apart, crate::proofs::SetLaws::same_sets))]
+pub fn set_law()
+    ensures membership { (s : List ℕ) (sets : List (List ℕ)) → is_in s (reduced sets) ≡ is_in s sets }
+    ensures apart { (sets : List (List ℕ)) → AreApart (reduced sets) }
+{}

@@ -4,6 +4,7 @@
 
 mod escapes;
 mod identifiers;
+mod list_verbs;
 mod prefixes;
 mod readings;
 mod sequences;
@@ -15,9 +16,10 @@ mod texts;
 
 pub use escapes::{escape_attr, escape_text};
 pub use identifiers::Identifier;
+pub use list_verbs::ListVerb;
 pub use prefixes::{Prefix, is_prefix};
 pub use readings::NameFault;
 pub use sequences::Sequence;
 pub use set_specs::{SetSpec, is_set_spec};
-pub use set_trees::{SetFault, SetTree};
+pub use set_trees::{SetFault, SetTree, parent_of};
 pub use texts::{Text, is_xml_text};

@@ -110,6 +110,13 @@ impl SetTree {
         }
     }
 
+    /// The sets in order of addition, each its setSpec and its name.
+    pub fn as_slice(&self) -> &[(SetSpec, Text)]
+        ensures { result.now ≡ self.now }
+    {
+        self.sets.as_slice()
+    }
+
     /// How many sets there are.
     pub fn len(&self) -> usize
         ensures { result ≡ length self.now }
@@ -150,8 +157,10 @@ impl SetTree {
     }
 }
 
-/// The setSpec without its last part; `None` where it has one part.
-fn parent_of(spec: &str) -> Option<&str>
+/// The setSpec of the set right above this one in the hierarchy, everything before the last colon;
+/// `None` where there is no colon, and the set is a root (OAI-PMH 2.0, section 2.6). It takes no
+/// memory.
+pub fn parent_of(spec: &str) -> Option<&str>
     ensures { option_copied result ≡ parent_of spec.now }
 {
     match spec.rsplit_once(':') {

@@ -206,6 +206,12 @@ fn assert_shows(rt: &impl Abort, sets: &SetTree, i: usize, spec: &str, name: &st
 }
 
 #[test]
+fn parents_of_sets(rt: HostRuntime) {
+    assert_eq!(rt; parent_of("a:b:c"), Some("a:b"));
+    assert_eq!(rt; parent_of("a"), None);
+}
+
+#[test]
 fn sets_are_added(rt: HostRuntime) {
     let alloc = rt.alloc();
     let mut sets = SetTree::new(alloc);

@@ -4,6 +4,4 @@ pub mod ConfigLemmas
 pub mod JsonLemmas
 pub mod LineLemmas
 pub mod OrderLemmas
-pub mod RequestLemmas
 pub mod ShapeLemmas
-pub mod SlotLemmas

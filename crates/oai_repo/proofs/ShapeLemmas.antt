@@ -11,8 +11,8 @@ use Rattle.oai_repo.specs.declared.lines.Command.TheVariants as command
 use Rattle.oai_repo.specs.declared.lines.LineRefusal.{LineRefusal}
 use Rattle.oai_repo.specs.declared.lines.LineRefusal.TheVariants.{BadCommand}
 use Rattle.oai_repo.specs.Json.{values_in, members_in, items_of, members_of, array_of, object_of, size, has_members, has_each}
-use Rattle.oai_repo.specs.Lines.{◌>>=◌, each_of, text_of, list_of, member_of, texts_of, pair_of, field_of, fields_of, record_of, records_of, deposit_of, deposit_members, shape_of}
-use Rattle.oai_repo.specs.Shapes.{written_texts, written_field, written_record, written_records, IsDeposit, IsCommand, ShapeLaw}
+use Rattle.oai_repo.specs.Lines.{◌>>=◌, each_of, text_of, list_of, member_of, texts_of, pair_of, field_of, fields_of, record_of, records_of, deposit_of, deposit_members, add_set_of, set_members, shape_of}
+use Rattle.oai_repo.specs.Shapes.{written_texts, written_field, written_record, written_records, IsDeposit, IsNewSet, IsCommand, ShapeLaw}
 use Rattle.oai_repo.proofs.LineLemmas.{bind-Ok, Ok-injective}
 
 -- what the reader takes is what was written, and what was written is read
@@ -163,9 +163,15 @@ member_of-again : (name : List ℕ) (d e : Data) → get name d ≡ Some e → m
 unfolding member_of
 member_of-again name d e is = ap (λ o. ok_or o BadCommand) is
 
-if_true : {A : Type 0} (b : Bool) (r : Result A LineRefusal) (y : A) → cond b r (Err BadCommand) ≡ Ok y → (b ≡ true) × (r ≡ Ok y)
-if_true true r y is = (refl, is)
-if_true false r y is = absurd cc
+-- which of the two shapes is read: the test of each, and what the reader of it gave
+data Chosen {A : Type 0} (a b : Bool) (q r : Result A LineRefusal) (y : A) : Type 0 where
+  deposits : a ≡ true → q ≡ Ok y → Chosen a b q r y
+  adds : b ≡ true → r ≡ Ok y → Chosen a b q r y
+
+chosen : {A : Type 0} (a b : Bool) (q r : Result A LineRefusal) (y : A) → cond a q (cond b r (Err BadCommand)) ≡ Ok y → Chosen a b q r y
+chosen true b q r y is = deposits refl is
+chosen false true q r y is = adds refl is
+chosen false false q r y is = absurd cc
 
 both : (a b : Bool) → (a && b) ≡ true → a ≡ true
 both true b is = refl
@@ -174,6 +180,10 @@ both false b is = absurd cc
 size_three : (d : Data) → has_members deposit_members d ≡ true → size d ≡ 3
 unfolding has_members
 size_three d is = eqb-true _ _ (both (eqb (size d) 3) (has_each deposit_members d) is)
+
+size_two : (d : Data) → has_members set_members d ≡ true → size d ≡ 2
+unfolding has_members
+size_two d is = eqb-true _ _ (both (eqb (size d) 2) (has_each set_members d) is)
 
 -- a member that is read
 member_takes : {B : Type 0} (name : List ℕ) (d : Data) (f : Data → Result B LineRefusal) (g : B → Data) (y : B)
@@ -200,33 +210,75 @@ deposit_takes d asked three is =
     } in
     subst (λ (c : Command). IsCommand c d) {x = command.Deposit p.0 q.0 r.0} (Ok-injective (command.Deposit p.0 q.0 r.0) asked r.2) made
 
-deposit_again : (d : Data) (asked : Command) → IsCommand asked d → deposit_of d ≡ Ok asked
+add_set_takes : (d : Data) (asked : Command) → size d ≡ 2 → add_set_of d ≡ Ok asked → IsCommand asked d
+unfolding add_set_of
+add_set_takes d asked two is =
+    let p = bind-Ok (member_of (codes "set") d >>= text_of) (λ s. (member_of (codes "name") d >>= text_of) >>= λ n. Ok (command.AddSet s n)) asked is in
+    let q = bind-Ok (member_of (codes "name") d >>= text_of) (λ n. Ok (command.AddSet p.0 n)) asked p.2 in
+    let made : IsNewSet p.0 q.0 d = record {
+      set = member_takes (codes "set") d text_of string p.0 text p.1;
+      name = member_takes (codes "name") d text_of string q.0 text q.1;
+      no_other = two;
+    } in
+    subst (λ (c : Command). IsCommand c d) {x = command.AddSet p.0 q.0} (Ok-injective (command.AddSet p.0 q.0) asked q.2) made
+
+deposit_again : (d : Data) (i : List ℕ) (s : List (List ℕ)) (r : List Metadata) → IsDeposit i s r d → deposit_of d ≡ Ok (command.Deposit i s r)
 unfolding deposit_of
-deposit_again d (command.Deposit i s r) is =
+deposit_again d i s r is =
     ap (λ x. x >>= λ i. (member_of (codes "sets") d >>= texts_of) >>= λ s. (member_of (codes "records") d >>= records_of) >>= λ r. Ok (command.Deposit i s r))
     (member_again (codes "deposit") d text_of string i text is.deposit)
     ∙ ap (λ x. x >>= λ s. (member_of (codes "records") d >>= records_of) >>= λ r. Ok (command.Deposit i s r))
     (member_again (codes "sets") d texts_of written_texts s texts is.sets)
     ∙ ap (λ x. x >>= λ r. Ok (command.Deposit i s r)) (member_again (codes "records") d records_of written_records r records is.records)
 
-each_there : (n : ℕ) (a b c : Option Data) (x y z : Data) → n ≡ 3 → a ≡ Some x → b ≡ Some y → c ≡ Some z
-    → (eqb n 3 && (is_some a && (is_some b && (is_some c && true)))) ≡ true
-each_there n a b c x y z three first second third = rw (three, first, second, third) refl
+add_set_again : (d : Data) (s n : List ℕ) → IsNewSet s n d → add_set_of d ≡ Ok (command.AddSet s n)
+unfolding add_set_of
+add_set_again d s n is =
+    ap (λ x. x >>= λ s. (member_of (codes "name") d >>= text_of) >>= λ n. Ok (command.AddSet s n))
+    (member_again (codes "set") d text_of string s text is.set)
+    ∙ ap (λ x. x >>= λ n. Ok (command.AddSet s n)) (member_again (codes "name") d text_of string n text is.name)
 
-all_there : (d : Data) (asked : Command) → IsCommand asked d → has_members deposit_members d ≡ true
+three_there : (n : ℕ) (a b c : Option Data) (x y z : Data) → n ≡ 3 → a ≡ Some x → b ≡ Some y → c ≡ Some z
+    → (eqb n 3 && (is_some a && (is_some b && (is_some c && true)))) ≡ true
+three_there n a b c x y z three first second third = rw (three, first, second, third) refl
+
+two_there : (n : ℕ) (a b : Option Data) (x y : Data) → n ≡ 2 → a ≡ Some x → b ≡ Some y
+    → (eqb n 2 && (is_some a && (is_some b && true))) ≡ true
+two_there n a b x y two first second = rw (two, first, second) refl
+
+are_deposit : (d : Data) (i : List ℕ) (s : List (List ℕ)) (r : List Metadata) → IsDeposit i s r d → has_members deposit_members d ≡ true
 unfolding has_members
-all_there d (command.Deposit i s r) is =
-    each_there (size d) (get (codes "deposit") d) (get (codes "sets") d) (get (codes "records") d) _ _ _ is.no_other is.deposit is.sets is.records
+are_deposit d i s r is =
+    three_there (size d) (get (codes "deposit") d) (get (codes "sets") d) (get (codes "records") d) _ _ _ is.no_other is.deposit is.sets is.records
+
+are_new_set : (d : Data) (s n : List ℕ) → IsNewSet s n d → has_members set_members d ≡ true
+unfolding has_members
+are_new_set d s n is =
+    two_there (size d) (get (codes "set") d) (get (codes "name") d) _ _ is.no_other is.set is.name
+
+of_another_size : (n : ℕ) (b : Bool) → n ≡ 2 → (eqb n 3 && b) ≡ false
+of_another_size n b two = rw two refl
+
+no_deposit : (d : Data) → size d ≡ 2 → has_members deposit_members d ≡ false
+unfolding has_members
+no_deposit d two = of_another_size (size d) (has_each deposit_members d) two
 
 shape_takes : (d : Data) (asked : Command) → shape_of d ≡ Ok asked → IsCommand asked d
 unfolding shape_of
 shape_takes d asked is =
-    let p = if_true (has_members deposit_members d) (deposit_of d) asked is in
-    deposit_takes d asked (size_three d p.0) p.1
+    with_shape (chosen (has_members deposit_members d) (has_members set_members d) (deposit_of d) (add_set_of d) asked is)
+  where
+    with_shape : Chosen (has_members deposit_members d) (has_members set_members d) (deposit_of d) (add_set_of d) asked → IsCommand asked d
+    with_shape (deposits there read) = deposit_takes d asked (size_three d there) read
+    with_shape (adds there read) = add_set_takes d asked (size_two d there) read
 
 shape_again : (d : Data) (asked : Command) → IsCommand asked d → shape_of d ≡ Ok asked
 unfolding shape_of
-shape_again d asked is = ap (λ b. cond b (deposit_of d) (Err BadCommand)) (all_there d asked is) ∙ deposit_again d asked is
+shape_again d (command.Deposit i s r) is =
+    ap (λ b. cond b (deposit_of d) (cond (has_members set_members d) (add_set_of d) (Err BadCommand))) (are_deposit d i s r is) ∙ deposit_again d i s r is
+shape_again d (command.AddSet s n) is =
+    ap (λ b. cond b (deposit_of d) (cond (has_members set_members d) (add_set_of d) (Err BadCommand))) (no_deposit d is.no_other)
+    ∙ ap (λ b. cond b (add_set_of d) (Err BadCommand)) (are_new_set d s n is) ∙ add_set_again d s n is
 
 pub shape_law_holds : ShapeLaw
 shape_law_holds d asked = (shape_takes d asked, shape_again d asked)

@@ -1,17 +1,26 @@
--- What a request is answered. OAI-PMH 2.0, sections 3.2, 3.6, 4.1 and 4.2.
-use Rattle.std.specs.Prelude.{ℕ, List, codes, find, Option, Some, None}
+-- What a request is answered. OAI-PMH 2.0, sections 3.2, 3.6 and 4.
+use Rattle.std.specs.Prelude.{ℕ, List, [], ◌∷◌, codes, find, Option, Some, None, if◌then◌else◌}
 use Rattle.std.specs.Str.{bytes_eq}
 use Rattle.oai_item.specs.Item.{ItemState, Metadata}
 use Rattle.oai_item.specs.Formats.{format_named}
 use Rattle.oai_item.specs.declared.formats.Format.{Format}
 use Rattle.oai_repo.specs.Configured.{Config}
-use Rattle.oai_repo.specs.State.{State, item_named}
-use Rattle.oai_repo.specs.Pairs.{decoded_pairs}
-use Rattle.oai_repo.specs.Requests.{Request, asks, bad_verb, bad_argument, request_of}
-use Rattle.oai_repo.specs.Documents.{Attributes, Description, Answer, fails, identifies, gives_record, Document, document}
-use Rattle.oai_repo.specs.declared.arguments.Ask.{Ask}
-use Rattle.oai_repo.specs.declared.arguments.Ask.TheVariants as ask
-use Rattle.oai_repo.specs.declared.documents.errors.ErrorCode.TheVariants.{BadVerb, BadArgument, CannotDisseminateFormat, IdDoesNotExist}
+use Rattle.oai_repo.specs.State.{State, NamedSet, item_named}
+use Rattle.oai_args.specs.Asks.{Request, asks, bad_verb, bad_argument}
+use Rattle.oai_args.specs.Pairs.{decoded_pairs}
+use Rattle.oai_args.specs.Requests.{request_of}
+use Rattle.oai_args.specs.declared.requests.Ask.{Ask}
+use Rattle.oai_args.specs.declared.requests.Ask.TheVariants as ask
+use Rattle.oai_names.specs.declared.list_verbs.ListVerb.{ListVerb}
+use Rattle.oai_names.specs.declared.list_verbs.ListVerb.TheVariants as list
+use Rattle.oai_repo.specs.Documents.{Attributes, Description, Answer, fails, identifies, gives_record, lists_formats, lists_sets, offered, no_arguments, Document, document}
+use Rattle.oai_repo.specs.declared.answers.Snapshot.{Snapshot}
+use Rattle.oai_repo.specs.declared.documents.errors.ErrorCode.{ErrorCode}
+use Rattle.oai_repo.specs.declared.documents.errors.ErrorCode.TheVariants.{BadVerb, BadArgument, BadResumptionToken, CannotDisseminateFormat, IdDoesNotExist, NoMetadataFormats, NoSetHierarchy}
+
+-- the state that a request finds
+abbrev pub state_in : Snapshot → State
+state_in found = record { clock = found.clock; items = found.items.now; sets = found.sets.now }
 
 -- what Identify tells
 abbrev pub description : Config → Description
@@ -42,25 +51,60 @@ abbrev pub record_answer : Config → Option ItemState → List ℕ → Answer
 record_answer config None prefix = fails IdDoesNotExist
 record_answer config (Some item) prefix = disseminated config item (metadata_named prefix item.formats) (format_named prefix config.formats)
 
--- the answer to a request that is well-formed
-abbrev pub answer_to_ask : Config → List ItemState → Ask → Answer
-answer_to_ask config items ask.Identify = identifies (description config)
-answer_to_ask config items (ask.Get identifier prefix) = record_answer config (item_named identifier items) prefix
+-- ListSets: the sets in order of addition, where there are any (section 4.6)
+abbrev pub sets_answer : List NamedSet → Answer
+sets_answer [] = fails NoSetHierarchy
+sets_answer (set ∷ sets) = lists_sets (set ∷ sets)
+
+-- ListMetadataFormats of an item, where there is one: a deleted item has no formats (section 4.4)
+abbrev pub item_formats_answer : Config → Option ItemState → Answer
+item_formats_answer config None = fails IdDoesNotExist
+item_formats_answer config (Some item) = if item.live then lists_formats (offered config.formats (Some item)) else fails NoMetadataFormats
+
+-- ListMetadataFormats: the formats of the repository, or those of them that the item has
+abbrev pub formats_answer : Config → List ItemState → Option (List ℕ) → Answer
+formats_answer config items None = lists_formats (offered config.formats None)
+formats_answer config items (Some identifier) = item_formats_answer config (item_named identifier items)
+
+-- why no list goes on: a list of sets is never cut, so no resumptionToken continues it; the other lists are not answered
+abbrev pub resumption_fault : ListVerb → ErrorCode
+resumption_fault list.Sets = BadResumptionToken
+resumption_fault list.Identifiers = BadVerb
+resumption_fault list.Records = BadVerb
+
+-- the answer to a request that is well-formed; ListIdentifiers and ListRecords are not answered
+abbrev pub answer_to_ask : Config → State → Ask → Answer
+answer_to_ask config state ask.Identify = identifies (description config)
+answer_to_ask config state (ask.Formats identifier) = formats_answer config state.items identifier
+answer_to_ask config state ask.Sets = sets_answer state.sets
+answer_to_ask config state (ask.Get identifier prefix) = record_answer config (item_named identifier state.items) prefix
+answer_to_ask config state (ask.List verb prefix from until set) = fails BadVerb
+answer_to_ask config state (ask.Resume verb token) = fails (resumption_fault verb)
 
 -- the answer to a request
-abbrev pub answer_to : Config → List ItemState → Request → Answer
-answer_to config items bad_verb = fails BadVerb
-answer_to config items bad_argument = fails BadArgument
-answer_to config items (asks ask) = answer_to_ask config items ask
+abbrev pub answer_to : Config → State → Request → Answer
+answer_to config state bad_verb = fails BadVerb
+answer_to config state bad_argument = fails BadArgument
+answer_to config state (asks ask) = answer_to_ask config state ask
+
+-- the verb alone
+abbrev pub asked_for : List ℕ → Attributes
+asked_for verb = record no_arguments { verb = Some verb }
+
+-- the name of a verb that answers lists
+abbrev pub name_of : ListVerb → List ℕ
+name_of list.Identifiers = codes "ListIdentifiers"
+name_of list.Records = codes "ListRecords"
+name_of list.Sets = codes "ListSets"
 
 -- the arguments of a request that is well-formed
 abbrev pub arguments_of_ask : Ask → Attributes
-arguments_of_ask ask.Identify = record { verb = Some (codes "Identify"); identifier = None; prefix = None }
-arguments_of_ask (ask.Get identifier prefix) = record { verb = Some (codes "GetRecord"); identifier = Some identifier; prefix = Some prefix }
-
--- no arguments
-abbrev pub no_arguments : Attributes
-no_arguments = record { verb = None; identifier = None; prefix = None }
+arguments_of_ask ask.Identify = asked_for (codes "Identify")
+arguments_of_ask (ask.Formats identifier) = record (asked_for (codes "ListMetadataFormats")) { identifier = identifier }
+arguments_of_ask ask.Sets = asked_for (codes "ListSets")
+arguments_of_ask (ask.Get identifier prefix) = record (asked_for (codes "GetRecord")) { identifier = Some identifier; prefix = Some prefix }
+arguments_of_ask (ask.List verb prefix from until set) = record (asked_for (name_of verb)) { prefix = Some prefix; from = from; until = until; set = set }
+arguments_of_ask (ask.Resume verb token) = record (asked_for (name_of verb)) { token = Some token }
 
 -- the arguments of a request, as far as the document tells them
 abbrev pub arguments_of_request : Request → Attributes
@@ -74,9 +118,9 @@ document_at config state request = record {
   date = state.clock;
   base = config.base;
   asked = arguments_of_request request;
-  answer = answer_to config state.items request;
+  answer = answer_to config state request;
 }
 
 -- its bytes, for the bytes of a query
 unfoldable pub page_at : Config → State → List ℕ → List ℕ
-page_at config state query = document (document_at config state (request_of (decoded_pairs query)))
+page_at config state query = document (document_at config state (request_of config.granularity (decoded_pairs query)))

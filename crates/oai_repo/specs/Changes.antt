@@ -1,21 +1,28 @@
--- What a deposit changes. OAI-PMH 2.0, sections 2.3 to 2.5 and 2.7; that a change may be refused is this repository's own.
-use Rattle.std.specs.Prelude.{◌≡◌, ℕ, ℤ, Bool, true, ◌&&◌, not, nat_le, ◌==◌, List, length, codes, Option, Some, None, is_some, is_none, Result, Ok, Err, if◌then◌else◌}
+-- What a deposit line changes. OAI-PMH 2.0, sections 2.3 to 2.7; that a change may be refused is this repository's own.
+use Rattle.std.specs.Prelude.{◌≡◌, ℕ, ℤ, Bool, true, false, ◌&&◌, not, nat_lt, nat_le, List, [], ◌∷◌, ◌++◌, length, codes, Option, Some, None, is_some, is_none, Result, Ok, Err, if◌then◌else◌}
 use Rattle.std.specs.List.{list_all, list_any}
+use Rattle.std.specs.Option.{option_or}
 use Rattle.std.specs.Str.{bytes_eq}
+use Rattle.oai_names.specs.Sets.{has_set, has_parent}
 use Rattle.oai_time.specs.Stamp.{stamp_of}
-use Rattle.oai_item.specs.Item.{ItemState, Metadata}
+use Rattle.oai_item.specs.Encoding.{encoded}
+use Rattle.oai_item.specs.Item.{ItemState, Metadata, live_item}
 use Rattle.oai_item.specs.Formats.{format_named}
+use Rattle.oai_item.specs.Membership.{reduced}
 use Rattle.oai_item.specs.declared.fields.Field.{Field}
 use Rattle.oai_item.specs.declared.formats.Format.{Format}
 use Rattle.oai_repo.specs.Configured.{Config}
 use Rattle.oai_repo.specs.Held.{Held, state_of}
-use Rattle.oai_repo.specs.State.{State, moved, item_named, without, placed}
+use Rattle.oai_repo.specs.State.{State, NamedSet, moved, item_named, without, placed}
 use Rattle.oai_repo.specs.declared.lines.Change.{Change}
-use Rattle.oai_repo.specs.declared.lines.Change.TheVariants.{Deposit}
+use Rattle.oai_repo.specs.declared.lines.Change.TheVariants as change
+use Rattle.oai_repo.specs.declared.lines.Deposit.{Deposit}
 use Rattle.oai_repo.specs.declared.refusals.ChangeRefusal.{ChangeRefusal}
-use Rattle.oai_repo.specs.declared.refusals.ChangeRefusal.TheVariants.{UnknownSet, UnknownFormat, NoDc, UnknownField, TooManyItems}
+use Rattle.oai_repo.specs.declared.refusals.ChangeRefusal.TheVariants.{UnknownSet, UnknownFormat, NoDc, UnknownField, DropsFormat, TooLarge, TooManyItems, SetExists, NoParent, TooManySets}
 use Rattle.oai_repo.specs.declared.refusals.Refusal.{Refusal}
 use Rattle.oai_repo.specs.declared.refusals.Refusal.TheVariants as refusal
+
+-- ---- what a deposit may say
 
 -- the repository has the format of the record
 abbrev pub has_format : List Format → Metadata → Bool
@@ -38,37 +45,74 @@ are_fields_of (Some format) fields = list_all (λ field. is_among format.fields 
 abbrev pub has_known_fields : List Format → Metadata → Bool
 has_known_fields formats metadata = are_fields_of (format_named metadata.0 formats) metadata.1
 
--- a new identifier, where no further item may stand
+-- there is a record of that format among these
+abbrev pub has_record : List Metadata → Metadata → Bool
+has_record records metadata = list_any (λ (r : Metadata). bytes_eq r.0 metadata.0) records
+
+-- the item has, or had when it was deleted, a format of which there is no record
+abbrev pub drops_format : Option ItemState → List Metadata → Bool
+drops_format None records = false
+drops_format (Some item) records = not (list_all (has_record records) item.formats)
+
+-- why the deposit may not stand as it is: the first cause, in the order of their numbers
+unfoldable pub deposit_refusal : Config → List NamedSet → List ItemState → Deposit → Option ChangeRefusal
+deposit_refusal config sets items deposit =
+    if not (list_all (has_set sets) deposit.sets) then Some UnknownSet
+    else (if not (list_all (has_format config.formats) deposit.records) then Some UnknownFormat
+    else (if not (list_any is_dublin_core deposit.records) then Some NoDc
+    else (if not (list_all (has_known_fields config.formats) deposit.records) then Some UnknownField
+    else (if drops_format (item_named deposit.identifier items) deposit.records then Some DropsFormat
+    else None))))
+
+-- ---- the item that a deposit makes
+
+-- live, of that datestamp, in the sets that were given, and with their records
+abbrev pub item_of : ℤ → Deposit → ItemState
+item_of stamp deposit = live_item deposit.identifier stamp (reduced deposit.sets) deposit.records
+
+-- its spelling has more than 16,000 bytes
+abbrev pub is_too_large : ItemState → Bool
+is_too_large item = nat_lt 16000 (length (encoded item))
+
+-- its identifier is a new one, where no further item may stand
 unfoldable pub is_one_too_many : Config → List ItemState → List ℕ → Bool
 is_one_too_many config items identifier = is_none (item_named identifier items) && nat_le config.items (length items)
 
--- why a change is refused: the first cause, in the order of their numbers
-unfoldable pub refusal_of : Config → List ItemState → Change → Option ChangeRefusal
-refusal_of config items (Deposit identifier sets records) =
-    if not (length sets == 0) then Some UnknownSet
-    else (if not (list_all (has_format config.formats) records) then Some UnknownFormat
-    else (if not (list_any is_dublin_core records) then Some NoDc
-    else (if not (list_all (has_known_fields config.formats) records) then Some UnknownField
-    else (if is_one_too_many config items identifier then Some TooManyItems
-    else None))))
+-- why the item may not stand among these: the first cause
+unfoldable pub item_refusal : Config → List ItemState → ItemState → Option ChangeRefusal
+item_refusal config items item =
+    if is_too_large item then Some TooLarge
+    else (if is_one_too_many config items item.identifier then Some TooManyItems
+    else None)
+
+-- ---- a new set
+
+-- why the set may not stand among these: the first cause
+unfoldable pub set_refusal : List NamedSet → List ℕ → Option ChangeRefusal
+set_refusal sets spec =
+    if has_set sets spec then Some SetExists
+    else (if not (has_parent sets spec) then Some NoParent
+    else (if nat_le 10000 (length sets) then Some TooManySets
+    else None))
+
+-- ---- a change
 
 -- the datestamp of a change at the clock
 abbrev pub stamp_at : Config → State → ℤ
 stamp_at config state = stamp_of config.granularity state.clock
 
--- the records of a deposit
-abbrev pub records_of : Change → List Metadata
-records_of (Deposit identifier sets records) = records
+-- why a change is refused: the first cause
+unfoldable pub refusal_of : Config → State → Change → Option ChangeRefusal
+refusal_of config state (change.Deposit deposit) =
+    option_or (deposit_refusal config state.sets state.items deposit) (item_refusal config state.items (item_of (stamp_at config state) deposit))
+refusal_of config state (change.AddSet spec name) = set_refusal state.sets spec
 
--- the item that a deposit makes
-abbrev pub item_of : ℤ → Change → ItemState
-item_of stamp (Deposit identifier sets records) = record { identifier = identifier; stamp = stamp; live = true; sets = sets; formats = records }
-
--- the state after a change that is not refused: the items without that identifier, and the new one
-abbrev pub changed : Config → State → Change → State
-changed config state change =
-    let item = item_of (stamp_at config state) change in
-    record state { items = placed item (without item.identifier state.items) }
+-- the state after a change that is not refused: the items without that identifier, and the new one; or the sets, and the new
+-- one behind them
+unfoldable pub changed : Config → State → Change → State
+changed config state (change.Deposit deposit) =
+    record state { items = placed (item_of (stamp_at config state) deposit) (without deposit.identifier state.items) }
+changed config state (change.AddSet spec name) = record state { sets = state.sets ++ (spec, name) ∷ [] }
 
 -- what a change at the state's clock is answered, and what it leaves: the datestamp and the changed state, or the refusal
 -- and the state as it was
@@ -79,10 +123,25 @@ answered_change None config state change = (Ok (stamp_at config state), changed 
 -- the same at a moment: a refused change, too, has moved the clock
 unfoldable pub change_of : Config → State → ℤ → Change → Result ℤ ChangeRefusal × State
 change_of config state moment change =
-    let now = moved moment state in answered_change (refusal_of config now.items change) config now change
+    let now = moved moment state in answered_change (refusal_of config now change) config now change
 
 -- a call of `change`: it meets the definition and keeps the configuration, or it is a fault and leaves everything as it was
 abbrev pub IsChanged : Held → ℤ → Change → Result ℤ Refusal → Held → Type 0
 IsChanged old moment change (Ok stamp) new = (change_of old.config (state_of old) moment change ≡ (Ok stamp, state_of new)) × (new.config ≡ old.config)
 IsChanged old moment change (Err (refusal.Refused cause)) new = (change_of old.config (state_of old) moment change ≡ (Err cause, state_of new)) × (new.config ≡ old.config)
 IsChanged old moment change (Err (refusal.Fault fault)) new = new ≡ old
+
+-- ---- the calls behind it
+
+-- a change at the state's clock: it is made, or refused by the first cause, or it fails; the last two leave the state as it
+-- was
+abbrev pub IsMade : Config → State → Change → Result ℤ Refusal → State → Type 0
+IsMade config old change (Ok stamp) new = (refusal_of config old change ≡ None) × (stamp ≡ stamp_at config old) × (new ≡ changed config old change)
+IsMade config old change (Err (refusal.Refused cause)) new = (refusal_of config old change ≡ Some cause) × (new ≡ old)
+IsMade config old change (Err (refusal.Fault fault)) new = new ≡ old
+
+-- a part of the state after a change that no cause refuses, that this cause refuses, or that fails
+abbrev pub IsDone : {A : Type 0} → Option ChangeRefusal → A → A → Result (Unit {0}) Refusal → A → Type 0
+IsDone cause old made (Ok _) new = (cause ≡ None) × (new ≡ made)
+IsDone cause old made (Err (refusal.Refused refused)) new = (cause ≡ Some refused) × (new ≡ old)
+IsDone cause old made (Err (refusal.Fault fault)) new = new ≡ old

@@ -1,6 +1,6 @@
 -- The XML document of an answer, over plain data: OAI-PMH 2.0, sections 3.2, 3.6 and 4. Without white space between elements.
 use Rattle.std.specs.Prelude.{ℕ, ℤ, Bool, true, false, if◌then◌else◌, List, [], ◌++◌, codes, Option, Some, None}
-use Rattle.std.specs.List.{flat_map}
+use Rattle.std.specs.List.{flat_map, filter, list_any}
 use Rattle.std.specs.Str.{bytes_eq}
 use Rattle.oai_names.specs.Escapes.{escaped_text, escaped_attribute}
 use Rattle.oai_time.specs.Stamp.{IsWritable}
@@ -12,7 +12,7 @@ use Rattle.oai_item.specs.declared.fields.Field.{Field}
 use Rattle.oai_item.specs.declared.formats.Format.{Format}
 use Rattle.oai_repo.specs.Pieces.{plain, end_tag, element, text_element, attribute}
 use Rattle.oai_repo.specs.declared.documents.errors.ErrorCode.{ErrorCode}
-use Rattle.oai_repo.specs.declared.documents.errors.ErrorCode.TheVariants.{BadVerb, BadArgument, CannotDisseminateFormat, IdDoesNotExist}
+use Rattle.oai_repo.specs.declared.documents.errors.ErrorCode.TheVariants.{BadVerb, BadArgument, BadResumptionToken, CannotDisseminateFormat, IdDoesNotExist, NoRecordsMatch, NoMetadataFormats, NoSetHierarchy}
 use Rattle.oai_repo.specs.declared.documents.identify.DeletedRecord.{DeletedRecord}
 use Rattle.oai_repo.specs.declared.documents.identify.DeletedRecord.TheVariants.{No, Transient, Persistent}
 
@@ -23,6 +23,14 @@ pub record Attributes : Type 0 where
   pub verb : Option (List ℕ)
   pub identifier : Option (List ℕ)
   pub prefix : Option (List ℕ)
+  pub from : Option (List ℕ)
+  pub until : Option (List ℕ)
+  pub set : Option (List ℕ)
+  pub token : Option (List ℕ)
+
+-- nothing was asked, or nothing of it is told
+abbrev pub no_arguments : Attributes
+no_arguments = record { verb = None; identifier = None; prefix = None; from = None; until = None; set = None; token = None }
 
 -- what Identify tells of a repository beside its base URL: its name, the addresses of its administrators, the lower
 -- limit of its datestamps in seconds from 1970 on, what it keeps of deleted records, how fine its datestamps are
@@ -43,6 +51,8 @@ pub record Dissemination : Type 0 where
 pub data Answer : Type 0 where
   fails : ErrorCode → Answer
   identifies : Description → Answer
+  lists_formats : List Format → Answer
+  lists_sets : List (List ℕ × List ℕ) → Answer
   gives_record : Dissemination → Answer
 
 -- an answer, the clock at which it is given in seconds from 1970 on, the base URL, and what was asked
@@ -57,14 +67,22 @@ pub record Document : Type 0 where
 abbrev pub code_of : ErrorCode → List ℕ
 code_of BadVerb = codes "badVerb"
 code_of BadArgument = codes "badArgument"
+code_of BadResumptionToken = codes "badResumptionToken"
 code_of CannotDisseminateFormat = codes "cannotDisseminateFormat"
 code_of IdDoesNotExist = codes "idDoesNotExist"
+code_of NoRecordsMatch = codes "noRecordsMatch"
+code_of NoMetadataFormats = codes "noMetadataFormats"
+code_of NoSetHierarchy = codes "noSetHierarchy"
 
 abbrev pub message_of : ErrorCode → List ℕ
 message_of BadVerb = codes "The verb is missing, repeated or illegal."
 message_of BadArgument = codes "An argument is illegal, missing, repeated or of illegal syntax."
+message_of BadResumptionToken = codes "The resumption token is invalid or has expired."
 message_of CannotDisseminateFormat = codes "The metadata format is not available."
 message_of IdDoesNotExist = codes "No item has this identifier."
+message_of NoRecordsMatch = codes "No records match."
+message_of NoMetadataFormats = codes "The item has no metadata formats."
+message_of NoSetHierarchy = codes "The repository has no sets."
 
 unfoldable pub error_element : ErrorCode → List ℕ
 error_element code =
@@ -96,6 +114,40 @@ identify_element base d = element (codes "Identify")
     ++ element (codes "earliestDatestamp") (datestamp_text d.granularity d.earliest)
     ++ element (codes "deletedRecord") (plain (deleted_text d.deleted))
     ++ element (codes "granularity") (plain (granularity_text d.granularity)))
+
+-- Metadata formats. Section 4.4
+
+-- the item has a record in the format
+abbrev pub has_record_in : ItemState → Format → Bool
+has_record_in item format = list_any (λ metadata. bytes_eq metadata.0 format.prefix) item.formats
+
+-- the format is listed: each is where no item is asked about, else those in which that item has a record
+abbrev pub is_offered : Option ItemState → Format → Bool
+is_offered None format = true
+is_offered (Some item) format = has_record_in item format
+
+-- the formats that are listed, in the order of the repository
+unfoldable pub offered : List Format → Option ItemState → List Format
+offered formats of = filter (is_offered of) formats
+
+-- a format, its prefix, its schema and its namespace
+unfoldable pub format_element : Format → List ℕ
+format_element format = element (codes "metadataFormat")
+    (text_element (codes "metadataPrefix") format.prefix
+    ++ text_element (codes "schema") format.schema
+    ++ text_element (codes "metadataNamespace") format.namespace)
+
+unfoldable pub formats_element : List Format → List ℕ
+formats_element formats = element (codes "ListMetadataFormats") (flat_map format_element formats)
+
+-- Sets. Section 4.6
+
+-- a set, its setSpec and its setName
+unfoldable pub set_element : List ℕ × List ℕ → List ℕ
+set_element set = element (codes "set") (text_element (codes "setSpec") set.0 ++ text_element (codes "setName") set.1)
+
+unfoldable pub sets_element : List (List ℕ × List ℕ) → List ℕ
+sets_element sets = element (codes "ListSets") (flat_map set_element sets)
 
 -- Headers, records and metadata. Sections 2.5 and 4.1
 
@@ -174,6 +226,10 @@ attributes asked =
     given_attribute (codes "verb") asked.verb
     ++ given_attribute (codes "identifier") asked.identifier
     ++ given_attribute (codes "metadataPrefix") asked.prefix
+    ++ given_attribute (codes "from") asked.from
+    ++ given_attribute (codes "until") asked.until
+    ++ given_attribute (codes "set") asked.set
+    ++ given_attribute (codes "resumptionToken") asked.token
 
 -- those that `request` has beside an answer: none after badVerb and badArgument, since then they can't be told
 abbrev pub attributes_beside : Answer → Attributes → List ℕ
@@ -191,6 +247,8 @@ request_element d =
 abbrev pub answer_element : List ℕ → Answer → List ℕ
 answer_element base (fails code) = error_element code
 answer_element base (identifies d) = identify_element base d
+answer_element base (lists_formats formats) = formats_element formats
+answer_element base (lists_sets sets) = sets_element sets
 answer_element base (gives_record d) = element (codes "GetRecord") (record_element d)
 
 -- the bytes of the document, a line end after its last tag
@@ -206,6 +264,8 @@ document d =
 abbrev pub HasWritableTimes : Answer → Type 0
 HasWritableTimes (fails code) = Unit {0}
 HasWritableTimes (identifies d) = IsWritable d.earliest
+HasWritableTimes (lists_formats formats) = Unit {0}
+HasWritableTimes (lists_sets sets) = Unit {0}
 HasWritableTimes (gives_record d) = Unit {0}
 
 -- so can those of the document

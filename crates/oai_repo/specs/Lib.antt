@@ -8,10 +8,7 @@ pub mod Documents
 pub mod Held
 pub mod Json
 pub mod Lines
-pub mod Pairs
 pub mod Pieces
-pub mod Requests
 pub mod Shapes
-pub mod Slots
 pub mod State
 pub mod Step

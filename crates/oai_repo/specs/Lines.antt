@@ -1,5 +1,5 @@
 -- One line of a deposit: which change it asks for, or the first cause to refuse it.
-use Rattle.std.specs.Prelude.{◌≡◌, ℕ, Bool, ◌&&◌, nat_le, if◌then◌else◌, List, [], ◌∷◌, length, codes, option_map, Result, Ok, Err}
+use Rattle.std.specs.Prelude.{◌≡◌, ℕ, Bool, true, ◌&&◌, nat_le, if◌then◌else◌, List, [], ◌∷◌, length, codes, option_map, Result, Ok, Err}
 use Rattle.std.specs.List.{list_all}
 use Rattle.std.specs.Option.{ok_or}
 use Rattle.std.specs.Str.{is_utf8}
@@ -7,16 +7,18 @@ use Rattle.serde_json.specs.Data.{Data}
 use Rattle.serde_json.specs.Read.{read}
 use Rattle.serde_json.specs.Find.{get, as_str, as_array, as_object}
 use Rattle.oai_names.specs.Names.{is_identifier}
+use Rattle.oai_names.specs.Sets.{is_set_spec}
 use Rattle.oai_names.specs.Text.{is_xml_text}
 use Rattle.oai_item.specs.declared.fields.Field.{Field}
 use Rattle.oai_item.specs.Item.{Metadata, are_rising}
+use Rattle.oai_repo.specs.Configured.{is_short_text}
 use Rattle.oai_repo.specs.Json.{values_in, members_in, has_members}
 use Rattle.oai_repo.specs.declared.lines.Change.{Change}
 use Rattle.oai_repo.specs.declared.lines.Change.TheVariants as change
 use Rattle.oai_repo.specs.declared.lines.Command.{Command}
 use Rattle.oai_repo.specs.declared.lines.Command.TheVariants as command
 use Rattle.oai_repo.specs.declared.lines.LineRefusal.{LineRefusal}
-use Rattle.oai_repo.specs.declared.lines.LineRefusal.TheVariants.{BadJson, BadCommand, BadIdentifier, BadText}
+use Rattle.oai_repo.specs.declared.lines.LineRefusal.TheVariants.{BadJson, BadCommand, BadIdentifier, BadSetSpec, BadText}
 use Rattle.oai_repo.specs.declared.lines.LineFault.{LineFault}
 use Rattle.oai_repo.specs.declared.lines.LineFault.TheVariants.{NoMemory, Refused}
 
@@ -122,15 +124,37 @@ deposit_of d = do
 abbrev pub deposit_members : List (List ℕ)
 deposit_members = codes "deposit" ∷ codes "sets" ∷ codes "records" ∷ []
 
+-- {"set":SPEC,"name":TEXT}
+unfoldable pub add_set_of : Data → Result Command LineRefusal
+add_set_of d = do
+  spec ← (member_of (codes "set") d >>= text_of)
+  name ← (member_of (codes "name") d >>= text_of)
+  Ok (command.AddSet spec name)
+
+-- the names of the members of a new set
+abbrev pub set_members : List (List ℕ)
+set_members = codes "set" ∷ codes "name" ∷ []
+
 -- a command is an object of exactly the members of one shape
 unfoldable pub shape_of : Data → Result Command LineRefusal
-shape_of d = if has_members deposit_members d then deposit_of d else Err BadCommand
+shape_of d =
+    if has_members deposit_members d then deposit_of d
+    else (if has_members set_members d then add_set_of d
+    else Err BadCommand)
 
--- ---- 3 and 5: the texts
+-- ---- 3 to 5: the texts
 
 -- the identifier of an item is a URI of at most 512 bytes (OAI-PMH 2.0, section 2.4)
 unfoldable pub identifier_of : List ℕ → Result (List ℕ) LineRefusal
 identifier_of text = if is_identifier text && nat_le (length text) 512 then Ok text else Err BadIdentifier
+
+-- the setSpec of a set is a path of at most 256 bytes (section 2.6)
+unfoldable pub set_spec_of : List ℕ → Result (List ℕ) LineRefusal
+set_spec_of text = if is_set_spec text && nat_le (length text) 256 then Ok text else Err BadSetSpec
+
+-- the setName of a set has 1 to 512 bytes and may stand in an XML document
+unfoldable pub set_name_of : List ℕ → Result (List ℕ) LineRefusal
+set_name_of text = if is_short_text text then Ok text else Err BadText
 
 -- the text of each field may stand in an XML document (XML 1.0, section 2.2)
 abbrev pub are_xml_texts : List Field → Bool
@@ -146,10 +170,15 @@ xml_records records = if have_xml_texts records then Ok records else Err BadText
 
 -- the change that a command asks for
 unfoldable pub checked : Command → Result Change LineRefusal
-checked (command.Deposit text sets metadata) = do
+checked (command.Deposit text specs metadata) = do
   identifier ← identifier_of text
+  sets ← each_of set_spec_of specs
   records ← xml_records metadata
-  Ok (change.Deposit identifier sets records)
+  Ok (change.Deposit (record { identifier = identifier; sets = sets; records = records }))
+checked (command.AddSet text title) = do
+  spec ← set_spec_of text
+  name ← set_name_of title
+  Ok (change.AddSet spec name)
 
 -- ---- the line
 
@@ -163,14 +192,17 @@ line_of line = do
 -- the prefixes of the records of a command rise, byte by byte
 abbrev pub command_rises : Command → Bool
 command_rises (command.Deposit identifier sets records) = are_rising records
+command_rises (command.AddSet spec name) = true
 
 -- the prefixes of the records of a change rise, byte by byte
 abbrev pub rises : Change → Bool
-rises (change.Deposit identifier sets records) = are_rising records
+rises (change.Deposit deposit) = are_rising deposit.records
+rises (change.AddSet spec name) = true
 
 -- the line of the answer
 abbrev pub refusal_line : LineRefusal → List ℕ
 refusal_line BadJson = codes "refused 1 bad-json"
 refusal_line BadCommand = codes "refused 2 bad-command"
 refusal_line BadIdentifier = codes "refused 3 bad-identifier"
+refusal_line BadSetSpec = codes "refused 4 bad-set-spec"
 refusal_line BadText = codes "refused 5 bad-text"

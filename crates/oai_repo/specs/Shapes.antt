@@ -32,9 +32,16 @@ pub record IsDeposit (identifier : List ℕ) (specs : List (List ℕ)) (metadata
   pub records : get (codes "records") d ≡ Some (written_records metadata)
   pub no_other : size d ≡ 3
 
+-- {"set":SPEC,"name":TEXT}, its members in any order
+pub record IsNewSet (spec title : List ℕ) (d : Data) : Type 0 where
+  pub set : get (codes "set") d ≡ Some (string spec)
+  pub name : get (codes "name") d ≡ Some (string title)
+  pub no_other : size d ≡ 2
+
 -- the value is a command
 abbrev pub IsCommand : Command → Data → Type 0
 IsCommand (command.Deposit identifier sets records) d = IsDeposit identifier sets records d
+IsCommand (command.AddSet spec name) d = IsNewSet spec name d
 
 -- the shape of a value is a command exactly where the value is that command, written
 abbrev pub ShapeLaw : Type 0

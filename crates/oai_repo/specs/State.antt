@@ -9,15 +9,20 @@ use Rattle.oai_time.specs.Clock.{tick}
 use Rattle.oai_item.specs.Item.{ItemState}
 use Rattle.oai_repo.specs.Configured.{Config}
 
--- the clock, in seconds from 1970 on, and the items, of which no two have one identifier, in the order of their datestamps
--- and, where these are equal, of their identifiers
+-- a set: its setSpec and its setName
+abbrev pub NamedSet : Type 0
+NamedSet = List ℕ × List ℕ
+
+-- the clock, in seconds from 1970 on; the items, of which no two have one identifier, in the order of their datestamps
+-- and, where these are equal, of their identifiers; and the sets, in order of addition
 pub record State : Type 0 where
   pub clock : ℤ
   pub items : List ItemState
+  pub sets : List NamedSet
 
--- a repository as it begins: the clock at the lower limit of its datestamps, and no item
+-- a repository as it begins: the clock at the lower limit of its datestamps, no item and no set
 abbrev pub empty_state : Config → State
-empty_state config = record { clock = config.earliest; items = [] }
+empty_state config = record { clock = config.earliest; items = []; sets = [] }
 
 -- the state as a command at that moment finds it
 abbrev pub moved : ℤ → State → State

@@ -3,56 +3,57 @@ ghost use Rattle.std.specs.Option.{option_copied};
 ghost use Rattle.oai_time.specs.Stamp.{IsWritable};
 ghost use Rattle.oai_repo.specs.Answers as spec;
 ghost use Rattle.oai_repo.specs.Docs.{answer_of, attributes_of, description_of, document_of};
-ghost use Rattle.oai_repo.specs.Documents.{HasWritableTimes, IsWritableDocument, document, fails};
-ghost use Rattle.oai_repo.specs.Requests.{asks};
+ghost use Rattle.oai_repo.specs.Documents.{HasWritableTimes, IsWritableDocument, document, fails, lists_formats, no_arguments, offered};
+ghost use Rattle.oai_args.specs.Asks.{asks};
 
-use crate::arguments::{ArgFault, Ask, read_request};
 use crate::changes::item_named;
 use crate::config::RepoConfig;
-use crate::documents::{Asked, Body, Doc, ErrorCode, Identity, Record, write_document};
+use crate::documents::{Asked, Body, Doc, ErrorCode, Identity, Offered, Record, write_document};
 use crate::refusals::Fault;
+use oai_args::{ArgFault, Ask, read_request};
 use oai_item::{Field, Item};
-use oai_names::{Prefix, Sequence};
+use oai_names::{ListVerb, Prefix, Sequence, SetSpec, Text};
 use std::alloc::{AllocError, Global};
 
-/// The page that answers the query at the clock, in seconds from 1970 on.
+/// A repository as a request finds it.
+#[derive(Clone, Copy)]
+pub(crate) struct Snapshot<'a> {
+    /// The configuration.
+    pub(crate) config: &'a RepoConfig,
+    /// The clock, in seconds from 1970 on.
+    pub(crate) clock: i64,
+    /// The items, in their order.
+    pub(crate) items: &'a [Item],
+    /// The sets, in order of addition.
+    pub(crate) sets: &'a [(SetSpec, Text)],
+}
+
+/// The page that answers the query.
 #[tactic(auto, unfolding(crate::specs::Answers::page_at))]
-pub(crate) fn page_at(
-    alloc: Global,
-    config: &RepoConfig,
-    clock: i64,
-    items: &[Item],
-    query: &[u8],
-) -> Result<Vec<u8>, Fault>
-    requires { IsWritable clock }
-    ensures { IfOk result (λ page. page.items ≡ spec.page_at config.now (record { clock = clock; items = items.now }) query.now) }
+pub(crate) fn page_at(alloc: Global, found: &Snapshot<'_>, query: &[u8]) -> Result<Vec<u8>, Fault>
+    requires { IsWritable found.now.clock }
+    ensures { IfOk result (λ page. page.items ≡ spec.page_at found.now.config.now (spec.state_in found.now) query.now) }
 {
-    match read_request(alloc, query) {
-        Ok(ask) => Ok(asked_page(alloc, config, clock, items, &ask)?),
-        Err(ArgFault::BadVerb) => Ok(error_page(alloc, config, clock, ErrorCode::BadVerb)?),
-        Err(ArgFault::BadArgument) => Ok(error_page(alloc, config, clock, ErrorCode::BadArgument)?),
+    match read_request(alloc, query, found.config.granularity()) {
+        Ok(ask) => Ok(asked_page(alloc, found, &ask)?),
+        Err(ArgFault::BadVerb) => Ok(error_page(alloc, found, ErrorCode::BadVerb)?),
+        Err(ArgFault::BadArgument) => Ok(error_page(alloc, found, ErrorCode::BadArgument)?),
         Err(ArgFault::NoMemory) => Err(Fault::NoMemory),
     }
 }
 
 /// The page that answers a well-formed request.
-fn asked_page(
-    alloc: Global,
-    config: &RepoConfig,
-    clock: i64,
-    items: &[Item],
-    ask: &Ask,
-) -> Result<Vec<u8>, AllocError>
-    requires { IsWritable clock }
-    ensures { IfOk result (λ page. page.items ≡ document (spec.document_at config.now (record { clock = clock; items = items.now }) (asks ask.now))) }
+fn asked_page(alloc: Global, found: &Snapshot<'_>, ask: &Ask) -> Result<Vec<u8>, AllocError>
+    requires { IsWritable found.now.clock }
+    ensures { IfOk result (λ page. page.items ≡ document (spec.document_at found.now.config.now (spec.state_in found.now) (asks ask.now))) }
 {
     page_of(
         alloc,
         &Doc {
-            date: clock,
-            base: config.base(),
+            date: found.clock,
+            base: found.config.base(),
             asked: arguments_of(ask),
-            body: answer_to(config, items, ask),
+            body: answer_to(found, ask),
         },
     )
 }
@@ -60,23 +61,18 @@ fn asked_page(
 /// The page that answers a request that is none.
 fn error_page(
     alloc: Global,
-    config: &RepoConfig,
-    clock: i64,
+    found: &Snapshot<'_>,
     code: ErrorCode,
 ) -> Result<Vec<u8>, AllocError>
-    requires { IsWritable clock }
-    ensures { IfOk result (λ page. page.items ≡ document (record { date = clock; base = config.now.base; asked = spec.no_arguments; answer = fails code })) }
+    requires { IsWritable found.now.clock }
+    ensures { IfOk result (λ page. page.items ≡ document (record { date = found.now.clock; base = found.now.config.now.base; asked = no_arguments; answer = fails code })) }
 {
     page_of(
         alloc,
         &Doc {
-            date: clock,
-            base: config.base(),
-            asked: Asked {
-                verb: None,
-                identifier: None,
-                prefix: None,
-            },
+            date: found.clock,
+            base: found.config.base(),
+            asked: Asked::nothing(),
             body: Body::Error(code),
         },
     )
@@ -97,31 +93,133 @@ fn arguments_of(ask: &Ask) -> Asked<'_>
     ensures { attributes_of result ≡ spec.arguments_of_ask ask.now }
 {
     match ask {
-        Ask::Identify => Asked {
-            verb: Some("Identify"),
-            identifier: None,
-            prefix: None,
+        Ask::Identify => asked_for("Identify"),
+        Ask::Formats { identifier } => Asked {
+            identifier: text_in(identifier),
+            ..asked_for("ListMetadataFormats")
         },
+        Ask::Sets => asked_for("ListSets"),
         Ask::Get { identifier, prefix } => Asked {
-            verb: Some("GetRecord"),
             identifier: Some(identifier.as_str()),
             prefix: Some(prefix.as_str()),
+            ..asked_for("GetRecord")
+        },
+        Ask::List {
+            verb,
+            prefix,
+            from,
+            until,
+            set,
+        } => Asked {
+            prefix: Some(prefix.as_str()),
+            from: text_in(from),
+            until: text_in(until),
+            set: text_in(set),
+            ..asked_for(name_of(*verb))
+        },
+        Ask::Resume { verb, token } => Asked {
+            token: Some(token.as_str()),
+            ..asked_for(name_of(*verb))
         },
     }
 }
 
+/// The verb alone.
+fn asked_for(verb: &str) -> Asked<'_>
+    ensures { attributes_of result ≡ spec.asked_for verb.now }
+{
+    Asked {
+        verb: Some(verb),
+        ..Asked::nothing()
+    }
+}
+
+/// The name of the verb.
+fn name_of(verb: ListVerb) -> &'static str
+    ensures { result.now ≡ spec.name_of verb }
+{
+    match verb {
+        ListVerb::Identifiers => "ListIdentifiers",
+        ListVerb::Records => "ListRecords",
+        ListVerb::Sets => "ListSets",
+    }
+}
+
+/// The text, where it was given.
+fn text_in(text: &Option<Text>) -> Option<&str>
+    ensures { option_copied result ≡ text.now }
+{
+    match text {
+        Some(text) => Some(text.as_str()),
+        None => None,
+    }
+}
+
 /// What a well-formed request is answered.
-fn answer_to<'a>(config: &'a RepoConfig, items: &'a [Item], ask: &Ask) -> Body<'a>
-    ensures answer { answer_of result ≡ spec.answer_to_ask config.now items.now ask.now }
+fn answer_to<'a>(found: &Snapshot<'a>, ask: &Ask) -> Body<'a>
+    ensures answer { answer_of result ≡ spec.answer_to_ask found.now.config.now (spec.state_in found.now) ask.now }
     ensures writable { HasWritableTimes (answer_of result) }
 {
     match ask {
-        Ask::Identify => Body::Identify(identity(config)),
-        Ask::Get { identifier, prefix } => match item_named(identifier.as_str(), items) {
-            Some(item) => record_answer(config, item, prefix.as_str()),
+        Ask::Identify => Body::Identify(identity(found.config)),
+        Ask::Formats { identifier } => formats_answer(found, identifier),
+        Ask::Sets => sets_answer(found.sets),
+        Ask::Get { identifier, prefix } => match item_named(identifier.as_str(), found.items) {
+            Some(item) => record_answer(found.config, item, prefix.as_str()),
+            None => Body::Error(ErrorCode::IdDoesNotExist),
+        },
+        Ask::List { .. } => Body::Error(ErrorCode::BadVerb),
+        Ask::Resume { verb, .. } => Body::Error(resumption_fault(*verb)),
+    }
+}
+
+/// Why no list goes on: a list of sets is never cut, and the others are not answered.
+fn resumption_fault(verb: ListVerb) -> ErrorCode
+    ensures { result ≡ spec.resumption_fault verb }
+{
+    match verb {
+        ListVerb::Sets => ErrorCode::BadResumptionToken,
+        ListVerb::Identifiers => ErrorCode::BadVerb,
+        ListVerb::Records => ErrorCode::BadVerb,
+    }
+}
+
+/// What ListSets is answered.
+fn sets_answer(sets: &[(SetSpec, Text)]) -> Body<'_>
+    ensures answer { answer_of result ≡ spec.sets_answer sets.now }
+    ensures writable { HasWritableTimes (answer_of result) }
+{
+    if sets.is_empty() {
+        Body::Error(ErrorCode::NoSetHierarchy)
+    } else {
+        Body::ListSets(sets)
+    }
+}
+
+/// What ListMetadataFormats, of the repository or of an item, is answered.
+fn formats_answer<'a>(found: &Snapshot<'a>, identifier: &Option<Text>) -> Body<'a>
+    ensures answer { answer_of result ≡ spec.formats_answer found.now.config.now found.now.items.now identifier.now }
+    ensures writable { HasWritableTimes (answer_of result) }
+{
+    match identifier {
+        None => formats_of(found, None),
+        Some(identifier) => match item_named(identifier.as_str(), found.items) {
+            Some(item) if item.is_live() => formats_of(found, Some(item)),
+            Some(_) => Body::Error(ErrorCode::NoMetadataFormats),
             None => Body::Error(ErrorCode::IdDoesNotExist),
         },
     }
+}
+
+/// The formats of the repository, or those of them that the item has.
+fn formats_of<'a>(found: &Snapshot<'a>, item: Option<&'a Item>) -> Body<'a>
+    ensures answer { answer_of result ≡ lists_formats (offered found.now.config.now.formats (option_copied item.entry)) }
+    ensures writable { HasWritableTimes (answer_of result) }
+{
+    Body::ListMetadataFormats(Offered {
+        formats: found.config.formats().as_slice(),
+        of: item,
+    })
 }
 
 /// What Identify tells.

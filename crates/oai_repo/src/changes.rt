@@ -1,21 +1,100 @@
-ghost use Rattle.std.specs.Prelude.{◌≡◌, ◌≢◌, ◌≤◌, [], true, length, Some, IfOk, OnOk, OnErr, vec_len, vec_capacity};
+ghost use Rattle.std.specs.Prelude.{◌≡◌, ◌≢◌, ◌≤◌, ◌++◌, [], ◌∷◌, true, length, None, Some, IfOk, OnOk, OnErr, vec_len, vec_capacity};
 ghost use Rattle.std.specs.List.{list_all, list_any, position_or_len};
-ghost use Rattle.std.specs.Option.{option_copied};
-ghost use Rattle.oai_item.specs.Item.{IsStamp};
+ghost use Rattle.std.specs.Option.{option_copied, option_or};
+ghost use Rattle.std.specs.Str.{bytes_eq};
+ghost use Rattle.oai_names.specs.Sets.{has_set};
+ghost use Rattle.oai_time.specs.Stamp.{IsWritable};
+ghost use Rattle.oai_item.specs.Item.{IsStamp, are_rising};
 ghost use Rattle.oai_repo.specs.Changes as spec;
 ghost use Rattle.oai_repo.specs.Lines.{rises};
-ghost use Rattle.oai_repo.specs.State.{item_cmp, item_named, placed, precedes, without};
+ghost use Rattle.oai_repo.specs.State.{are_apart, are_in_order, item_cmp, item_named, placed, precedes, without};
 
 use crate::config::RepoConfig;
-use crate::lines::Change;
-use crate::refusals::ChangeRefusal;
+use crate::lines::{Change, Deposit};
+use crate::refusals::{ChangeRefusal, Fault, Refusal};
 use oai_item::{Field, Format, Formats, Item};
-use oai_names::{Identifier, Prefix, Sequence, Text};
+use oai_names::{Identifier, Prefix, Sequence, SetFault, SetSpec, SetTree, Text};
+use oai_time::stamp;
 use std::alloc::{AllocError, Global};
 use std::cmp::Ordering;
 
 /// A record of a deposit: the text that names its format, and its fields.
 type Record = (Text, Sequence<Field>);
+
+/// Makes the change at the clock, in seconds from 1970 on, and answers its datestamp; or refuses it
+/// by the first cause. A change that is not made leaves everything as it was.
+pub(crate) fn make(
+    alloc: Global,
+    config: &RepoConfig,
+    clock: i64,
+    items: &mut Vec<Item>,
+    sets: &mut SetTree,
+    change: &Change,
+) -> Result<i64, Refusal>
+    requires dated { IsWritable clock }
+    requires rising { rises change.now ≡ true }
+    ensures made { spec.IsMade config.now (record { clock = clock; items = items.old.items; sets = sets.old }) change.now result (record { clock = clock; items = items.new.items; sets = sets.new }) }
+    ensures dated { IfOk result IsWritable }
+    ensures ordered { are_in_order items.old.items ≡ true → are_in_order items.new.items ≡ true }
+    ensures apart { are_apart items.old.items ≡ true → are_apart items.new.items ≡ true }
+{
+    let stamp = stamp(config.granularity(), clock);
+    match change {
+        Change::Deposit(deposit) => match put_deposit(alloc, config, sets, stamp, items, deposit) {
+            Ok(()) => Ok(stamp),
+            Err(refusal) => Err(refusal),
+        },
+        Change::AddSet { spec, name } => match add_set(sets, spec, name.as_str()) {
+            Ok(()) => Ok(stamp),
+            Err(refusal) => Err(refusal),
+        },
+    }
+}
+
+/// Adds the set as the last one, or refuses it by the first cause.
+#[tactic(auto, unfolding(crate::specs::Changes::set_refusal))]
+fn add_set(sets: &mut SetTree, set: &SetSpec, name: &str) -> Result<(), Refusal>
+    ensures { spec.IsDone (spec.set_refusal sets.old set.now) sets.old (sets.old ++ (set.now, name.now) ∷ []) result sets.new }
+{
+    match sets.add(set, name) {
+        Ok(()) => Ok(()),
+        Err(SetFault::Exists) => Err(Refusal::Refused(ChangeRefusal::SetExists)),
+        Err(SetFault::NoParent) => Err(Refusal::Refused(ChangeRefusal::NoParent)),
+        Err(SetFault::TooMany) => Err(Refusal::Refused(ChangeRefusal::TooManySets)),
+        Err(SetFault::NoMemory) => Err(Refusal::Fault(Fault::NoMemory)),
+    }
+}
+
+/// Puts the item that is deposited among the others, or refuses it by the first cause.
+fn put_deposit(
+    alloc: Global,
+    config: &RepoConfig,
+    sets: &SetTree,
+    stamp: i64,
+    items: &mut Vec<Item>,
+    deposit: &Deposit,
+) -> Result<(), Refusal>
+    requires stamped { IsStamp stamp }
+    requires rising { are_rising deposit.now.records ≡ true }
+    ensures { spec.IsDone
+        (option_or (spec.deposit_refusal config.now sets.now items.old.items deposit.now) (spec.item_refusal config.now items.old.items (spec.item_of stamp deposit.now)))
+        items.old.items
+        (placed (spec.item_of stamp deposit.now) (without deposit.now.identifier items.old.items))
+        result
+        items.new.items }
+{
+    match deposit_refusal(config, sets, items, deposit) {
+        Some(cause) => return Err(Refusal::Refused(cause)),
+        None => {}
+    }
+    let item = item_of(alloc, config.formats(), stamp, deposit)?;
+    match item_refusal(config, items, &item) {
+        Some(cause) => return Err(Refusal::Refused(cause)),
+        None => {}
+    }
+    put(items, item)?;
+    Ok(())
+}
 
 /// The item of that identifier.
 #[tactic(auto, unfolding(crate::specs::State::item_named))]
@@ -27,36 +106,53 @@ pub(crate) fn item_named<'a>(identifier: &str, items: &'a [Item]) -> Option<&'a 
         .find(|item| item.identifier().as_str() == identifier)
 }
 
-/// Why the change is refused: the first cause.
-#[tactic(auto, unfolding(crate::specs::Changes::refusal_of))]
-pub(crate) fn refusal_of(
+/// Why the deposit may not stand as it is: the first cause.
+#[tactic(auto, unfolding(crate::specs::Changes::deposit_refusal))]
+fn deposit_refusal(
     config: &RepoConfig,
+    sets: &SetTree,
     items: &[Item],
-    change: &Change,
+    deposit: &Deposit,
 ) -> Option<ChangeRefusal>
-    ensures { result ≡ spec.refusal_of config.now items.now change.now }
+    ensures { result ≡ spec.deposit_refusal config.now sets.now items.now deposit.now }
 {
-    let Change::Deposit {
-        identifier,
-        sets,
-        records,
-    } = change;
-    if !sets.as_slice().is_empty() {
+    let records = deposit.records.as_slice();
+    if !have_sets(sets, deposit.sets.as_slice()) {
         return Some(ChangeRefusal::UnknownSet);
     }
-    if !have_formats(config.formats(), records.as_slice()) {
+    if !have_formats(config.formats(), records) {
         return Some(ChangeRefusal::UnknownFormat);
     }
-    if !have_dublin_core(records.as_slice()) {
+    if !have_dublin_core(records) {
         return Some(ChangeRefusal::NoDc);
     }
-    if !have_known_fields(config.formats(), records.as_slice()) {
+    if !have_known_fields(config.formats(), records) {
         return Some(ChangeRefusal::UnknownField);
     }
-    if is_one_too_many(config, items, identifier) {
+    if drops_format(item_named(deposit.identifier.as_str(), items), records) {
+        return Some(ChangeRefusal::DropsFormat);
+    }
+    None
+}
+
+/// Why the item may not stand among the others: the first cause.
+#[tactic(auto, unfolding(crate::specs::Changes::item_refusal))]
+fn item_refusal(config: &RepoConfig, items: &[Item], item: &Item) -> Option<ChangeRefusal>
+    ensures { result ≡ spec.item_refusal config.now items.now item.now }
+{
+    if item.encoded_len().is_err() {
+        return Some(ChangeRefusal::TooLarge);
+    }
+    if is_one_too_many(config, items, item.identifier()) {
         return Some(ChangeRefusal::TooManyItems);
     }
     None
+}
+
+fn have_sets(tree: &SetTree, specs: &[SetSpec]) -> bool
+    ensures { result ≡ list_all (has_set tree.now) specs.now }
+{
+    specs.iter().all(|spec| tree.has(spec))
 }
 
 fn have_formats(formats: &Formats, records: &[Record]) -> bool
@@ -103,6 +199,33 @@ fn is_among(names: &[Text], name: &str) -> bool
     names.iter().any(|other| other.as_str() == name)
 }
 
+/// Whether the item has a format of which there is no record.
+fn drops_format(item: Option<&Item>, records: &[Record]) -> bool
+    ensures { result ≡ spec.drops_format (option_copied item.entry) records.now }
+{
+    match item {
+        Some(item) => !have_each_record(records, item.formats()),
+        None => false,
+    }
+}
+
+/// Whether each format of these is one of a record.
+fn have_each_record(records: &[Record], formats: &[(Prefix, Sequence<Field>)]) -> bool
+    ensures { result ≡ list_all (spec.has_record records.now) formats.now }
+{
+    formats
+        .iter()
+        .all(|format| has_record(records, &format.0))
+}
+
+fn has_record(records: &[Record], prefix: &Prefix) -> bool
+    ensures { result ≡ list_any (λ r. bytes_eq r.0 prefix.now) records.now }
+{
+    records
+        .iter()
+        .any(|record| record.0.as_str() == prefix.as_str())
+}
+
 #[tactic(auto, unfolding(crate::specs::Changes::is_one_too_many))]
 fn is_one_too_many(config: &RepoConfig, items: &[Item], identifier: &Identifier) -> bool
     ensures { result ≡ spec.is_one_too_many config.now items.now identifier.now }
@@ -111,27 +234,36 @@ fn is_one_too_many(config: &RepoConfig, items: &[Item], identifier: &Identifier)
 }
 
 /// The item that a deposit makes of records in formats of the repository.
-pub(crate) fn item_of(
+fn item_of(
     alloc: Global,
     formats: &Formats,
     stamp: i64,
-    change: &Change,
+    deposit: &Deposit,
 ) -> Result<Item, AllocError>
     requires stamped { IsStamp stamp }
-    requires rising { rises change.now ≡ true }
-    requires carries { spec.records_of change.now ≢ [] }
-    requires known { list_all (spec.has_format formats.now) (spec.records_of change.now) ≡ true }
-    ensures { IfOk result (λ item. item ≡ spec.item_of stamp change.now) }
+    requires rising { are_rising deposit.now.records ≡ true }
+    requires carries { deposit.now.records ≢ [] }
+    requires known { list_all (spec.has_format formats.now) deposit.now.records ≡ true }
+    ensures { IfOk result (λ item. item ≡ spec.item_of stamp deposit.now) }
 {
-    let Change::Deposit {
-        identifier,
-        sets,
-        records,
-    } = change;
-    let identifier = identifier.copy(alloc)?;
-    let sets = copy_texts(alloc, sets.as_slice())?;
-    let records = typed_records(alloc, formats, records.as_slice())?;
-    Ok(Item::live(identifier, stamp, sets, records))
+    Item::live(
+        alloc,
+        deposit.identifier.copy(alloc)?,
+        stamp,
+        copy_sets(alloc, deposit.sets.as_slice())?,
+        typed_records(alloc, formats, deposit.records.as_slice())?,
+    )
+}
+
+/// Copies of the setSpecs.
+fn copy_sets(alloc: Global, specs: &[SetSpec]) -> Result<Sequence<SetSpec>, AllocError>
+    ensures { IfOk result (λ copies. copies ≡ specs.now) }
+{
+    let mut copies = Vec::new(alloc);
+    for spec in specs {
+        copies.push(spec.copy(alloc)?)?;
+    }
+    Ok(Sequence::new(copies))
 }
 
 /// Copies of the texts.

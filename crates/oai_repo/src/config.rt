@@ -317,7 +317,7 @@ fn base_url(alloc: Global, base: &str, name: &str) -> Result<Text, AllocError>
 }
 
 #[tactic(auto, unfolding(crate::specs::Configured::is_short_text))]
-fn is_short_text(text: &str) -> bool
+pub(crate) fn is_short_text(text: &str) -> bool
     ensures { result ≡ is_short_text text.now }
 {
     1 <= text.len() && text.len() <= 512 && is_xml_text(text)

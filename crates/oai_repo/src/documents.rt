@@ -6,22 +6,30 @@ ghost use Rattle.oai_repo.specs.Pieces.{Appends};
 
 mod dates;
 mod errors;
+mod formats;
 mod identify;
 mod markup;
 mod metadata;
 mod records;
 mod request;
+mod sets;
+#[cfg(test)]
+mod tests;
 
 use dates::write_second_element;
 pub use errors::ErrorCode;
 use errors::write_error;
+pub use formats::Offered;
+use formats::write_list_metadata_formats;
 use identify::write_identify;
 pub use identify::{DeletedRecord, Identity};
 use markup::put;
+use oai_names::{SetSpec, Text};
 pub use records::Record;
 use records::write_get_record;
 pub use request::Asked;
 use request::write_request;
+use sets::write_list_sets;
 use std::alloc::{AllocError, Global};
 
 /// The XML declaration and the start tag of the root.
@@ -35,6 +43,10 @@ pub enum Body<'a> {
     Error(ErrorCode),
     /// The description of the repository (OAI-PMH 2.0, section 4.2).
     Identify(Identity<'a>),
+    /// The metadata formats of the repository, or of an item (OAI-PMH 2.0, section 4.4).
+    ListMetadataFormats(Offered<'a>),
+    /// The sets of the repository, each its setSpec and its name (OAI-PMH 2.0, section 4.6).
+    ListSets(&'a [(SetSpec, Text)]),
     /// One record (OAI-PMH 2.0, section 4.1).
     GetRecord(Record<'a>),
 }
@@ -99,6 +111,8 @@ fn write_body(base: &str, body: &Body<'_>, out: &mut Vec<u8>) -> Result<(), Allo
     match body {
         Body::Error(code) => write_error(*code, out),
         Body::Identify(identity) => write_identify(base, identity, out),
+        Body::ListMetadataFormats(offered) => write_list_metadata_formats(offered, out),
+        Body::ListSets(sets) => write_list_sets(sets, out),
         Body::GetRecord(record) => write_get_record(record, out),
     }
 }

@@ -2,17 +2,17 @@
 #![tactic(auto)]
 
 mod answers;
-mod arguments;
 mod changes;
 mod config;
 mod documents;
 mod lines;
 mod refusals;
 mod repo;
+#[cfg(test)]
+mod tests;
 
-pub use arguments::{ArgFault, Ask, read_request, request_law};
 pub use config::{ConfigFault, FormatSettings, RepoConfig, Settings};
 pub use documents::DeletedRecord;
-pub use lines::{Change, LineFault, LineRefusal, read_line, shape_law};
+pub use lines::{Change, Deposit, LineFault, LineRefusal, read_line, shape_law};
 pub use refusals::{ChangeRefusal, Fault, Refusal};
 pub use repo::{Reply, Repo};

@@ -8,22 +8,36 @@ ghost use Rattle.oai_repo.specs.Lines as spec;
 ghost use Rattle.oai_repo.specs.Shapes.{ShapeLaw};
 ghost use Rattle.oai_repo.specs.declared.lines.LineFault.TheVariants.{NoMemory};
 
+use crate::config::is_short_text;
 use oai_item::Field;
-use oai_names::{Identifier, NameFault, Sequence, Text, is_xml_text};
+use oai_names::{Identifier, NameFault, Sequence, SetSpec, Text, is_xml_text};
 use serde_json::Value;
 use std::alloc::{AllocError, AllocFailed, Global};
 use std::collections::BTreeMap;
 use thiserror::Error;
 
+/// An item as it is deposited (OAI-PMH 2.0, section 2.3).
+#[derive(Debug, Drop)]
+pub struct Deposit {
+    /// The unique identifier.
+    pub identifier: Identifier,
+    /// The setSpecs of the sets, as they were given.
+    pub sets: Sequence<SetSpec>,
+    /// The record under each metadataPrefix, in the order of the prefixes' bytes.
+    pub records: Sequence<(Text, Sequence<Field>)>,
+}
+
 /// What a line asks for.
 #[derive(Debug, Drop)]
 pub enum Change {
-    /// A new item, or a new state of an old one: its unique identifier, the setSpecs of its sets,
-    /// and its record under each metadataPrefix, in the order of the prefixes' bytes.
-    Deposit {
-        identifier: Identifier,
-        sets: Sequence<Text>,
-        records: Sequence<(Text, Sequence<Field>)>,
+    /// A new item, or a new state of an old one.
+    Deposit(Deposit),
+    /// A new set (OAI-PMH 2.0, section 2.6).
+    AddSet {
+        /// The setSpec.
+        spec: SetSpec,
+        /// The setName: 1 to 512 bytes, of characters that an XML document may hold.
+        name: Text,
     },
 }
 
@@ -39,8 +53,12 @@ pub enum LineRefusal {
     /// The identifier is not of its syntax, or too long.
     #[error("the identifier is of illegal syntax or too long")]
     BadIdentifier,
-    /// A field's text has a character that no XML document may hold.
-    #[error("a text has a character that no XML document may hold")]
+    /// A setSpec is not of its syntax, or too long.
+    #[error("a setSpec is of illegal syntax or too long")]
+    BadSetSpec,
+    /// A field's text, or the name of a set, has a character that no XML document may hold, or the
+    /// name of a set has no byte or more than 512.
+    #[error("a text has a character that no XML document may hold, or is empty or too long")]
     BadText,
 }
 
@@ -54,6 +72,7 @@ impl LineRefusal {
             LineRefusal::BadJson => "refused 1 bad-json",
             LineRefusal::BadCommand => "refused 2 bad-command",
             LineRefusal::BadIdentifier => "refused 3 bad-identifier",
+            LineRefusal::BadSetSpec => "refused 4 bad-set-spec",
             LineRefusal::BadText => "refused 5 bad-text",
         }
     }
@@ -94,12 +113,16 @@ enum Command {
         sets: Sequence<Text>,
         records: Sequence<(Text, Sequence<Field>)>,
     },
+    AddSet {
+        spec: Text,
+        name: Text,
+    },
 }
 
 /// Reads one line of a deposit, without its line end: a JSON object (RFC 8259) of exactly the
 /// members of a command. The errors, in this order: `BadJson`, `BadCommand`, `BadIdentifier`,
-/// `BadText`, each for the whole line before the next; and at any point `NoMemory`. Of two members
-/// of one name the last counts. The prefixes of the records rise strictly by their bytes.
+/// `BadSetSpec`, `BadText`, each for the whole line before the next; and at any point `NoMemory`. Of
+/// two members of one name the last counts. The prefixes of the records rise strictly by their bytes.
 #[tactic(auto, unfolding(crate::specs::Lines::line_of))]
 pub fn read_line(alloc: Global, line: &[u8]) -> Result<Change, LineFault>
     ensures gives { spec.Gives result (spec.line_of line.now) }
@@ -130,6 +153,8 @@ fn shape_of(alloc: Global, value: &Value) -> Result<Command, LineFault>
 {
     if has_members(value, &["deposit", "sets", "records"]) {
         deposit_of(alloc, value)
+    } else if has_members(value, &["set", "name"]) {
+        add_set_of(alloc, value)
     } else {
         Err(LineFault::Refused(LineRefusal::BadCommand))
     }
@@ -154,6 +179,16 @@ fn deposit_of(alloc: Global, value: &Value) -> Result<Command, LineFault>
         sets,
         records,
     })
+}
+
+#[tactic(auto, unfolding(crate::specs::Lines::add_set_of))]
+fn add_set_of(alloc: Global, value: &Value) -> Result<Command, LineFault>
+    ensures gives { spec.Gives result (spec.add_set_of (view value.now)) }
+    ensures rising { IfOk result (λ command. spec.command_rises command ≡ true) }
+{
+    let spec = text_of(alloc, member_of(value, "set")?)?;
+    let name = text_of(alloc, member_of(value, "name")?)?;
+    Ok(Command::AddSet { spec, name })
 }
 
 /// Whether the value is an object of exactly these members.
@@ -303,7 +338,7 @@ fn records_in(
 }
 
 /// The change that the command asks for, once its texts are looked at.
-#[tactic(auto, unfolding(crate::specs::Lines::checked, crate::specs::Lines::xml_records))]
+#[tactic(auto, unfolding(crate::specs::Lines::checked, crate::specs::Lines::xml_records, crate::specs::Lines::set_name_of))]
 fn checked(alloc: Global, command: Command) -> Result<Change, LineFault>
     ensures gives { spec.Gives result (spec.checked command) }
     ensures rising { spec.command_rises command ≡ true
@@ -316,14 +351,22 @@ fn checked(alloc: Global, command: Command) -> Result<Change, LineFault>
             records,
         } => {
             let identifier = identifier_of(alloc, &identifier)?;
+            let sets = set_specs_of(alloc, sets.as_slice())?;
             if !have_xml_texts(records.as_slice()) {
                 return Err(LineFault::Refused(LineRefusal::BadText));
             }
-            Ok(Change::Deposit {
+            Ok(Change::Deposit(Deposit {
                 identifier,
                 sets,
                 records,
-            })
+            }))
+        }
+        Command::AddSet { spec, name } => {
+            let spec = set_spec_of(alloc, &spec)?;
+            if !is_short_text(name.as_str()) {
+                return Err(LineFault::Refused(LineRefusal::BadText));
+            }
+            Ok(Change::AddSet { spec, name })
         }
     }
 }
@@ -338,6 +381,29 @@ fn identifier_of(alloc: Global, text: &Text) -> Result<Identifier, LineFault>
         Err(NameFault::Syntax) => Err(LineFault::Refused(LineRefusal::BadIdentifier)),
         Err(NameFault::TooLong) => Err(LineFault::Refused(LineRefusal::BadIdentifier)),
     }
+}
+
+#[tactic(auto, unfolding(crate::specs::Lines::set_spec_of))]
+fn set_spec_of(alloc: Global, text: &Text) -> Result<SetSpec, LineFault>
+    ensures { spec.Gives result (spec.set_spec_of text.now) }
+{
+    match SetSpec::read(alloc, text.as_str()) {
+        Ok(spec) => Ok(spec),
+        Err(NameFault::NoMemory) => Err(LineFault::NoMemory),
+        Err(NameFault::Syntax) => Err(LineFault::Refused(LineRefusal::BadSetSpec)),
+        Err(NameFault::TooLong) => Err(LineFault::Refused(LineRefusal::BadSetSpec)),
+    }
+}
+
+#[tactic(auto, using(crate::proofs::LineLemmas::starts))]
+fn set_specs_of(alloc: Global, texts: &[Text]) -> Result<Sequence<SetSpec>, LineFault>
+    ensures { spec.Gives result (spec.each_of spec.set_spec_of texts.now) }
+{
+    let mut specs = Vec::new(alloc);
+    for text in texts {
+        specs.push(set_spec_of(alloc, text)?)?;
+    }
+    Ok(Sequence::new(specs))
 }
 
 /// Whether each text of each field may stand in an XML document.

@@ -38,9 +38,24 @@ pub enum ChangeRefusal {
     /// A record has a field that its format does not have. Number 9.
     #[error("the format does not have the field")]
     UnknownField,
+    /// The item has a format, or had it when it was deleted, of which there is no record. Number 10.
+    #[error("the item has a format of which there is no record")]
+    DropsFormat,
+    /// The encoded item would have more than 16,000 bytes. Number 11.
+    #[error("the item is too large")]
+    TooLarge,
     /// The identifier is a new one, and as many items stand as the repository may have. Number 12.
     #[error("the repository has too many items")]
     TooManyItems,
+    /// A set of that setSpec is there. Number 17.
+    #[error("the set exists")]
+    SetExists,
+    /// The setSpec has two or more parts, and without its last part it is no set. Number 18.
+    #[error("the set has no parent")]
+    NoParent,
+    /// There are 10,000 sets. Number 19.
+    #[error("the repository has too many sets")]
+    TooManySets,
 }
 
 impl ChangeRefusal {
@@ -54,7 +69,12 @@ impl ChangeRefusal {
             ChangeRefusal::UnknownFormat => "refused 7 unknown-format",
             ChangeRefusal::NoDc => "refused 8 no-dc",
             ChangeRefusal::UnknownField => "refused 9 unknown-field",
+            ChangeRefusal::DropsFormat => "refused 10 drops-format",
+            ChangeRefusal::TooLarge => "refused 11 too-large",
             ChangeRefusal::TooManyItems => "refused 12 too-many-items",
+            ChangeRefusal::SetExists => "refused 17 set-exists",
+            ChangeRefusal::NoParent => "refused 18 no-parent",
+            ChangeRefusal::TooManySets => "refused 19 too-many-sets",
         }
     }
 }

@@ -6,14 +6,14 @@ ghost use Rattle.oai_repo.specs.Lines.{rises};
 ghost use Rattle.oai_repo.specs.State.{moved};
 ghost use Rattle.oai_repo.specs.Step.{IsAsked};
 
-use crate::answers::page_at;
-use crate::changes::{item_of, put, refusal_of};
+use crate::answers::{Snapshot, page_at};
+use crate::changes::make;
 use crate::config::RepoConfig;
 use crate::lines::Change;
 use crate::refusals::{Fault, Refusal};
 use oai_item::Item;
-use oai_names::Sequence;
-use oai_time::{Clock, stamp};
+use oai_names::{Sequence, SetTree};
+use oai_time::Clock;
 use std::alloc::Global;
 use std::marker::Model;
 
@@ -24,13 +24,14 @@ pub enum Reply {
     Page(Sequence<u8>),
 }
 
-/// One repository: its configuration, its clock and its items.
+/// One repository: its configuration, its clock, its items and its sets.
 #[derive(Debug, Drop)]
 pub struct Repo {
     alloc: Global,
     config: RepoConfig,
     clock: Clock,
     items: Vec<Item>,
+    sets: SetTree,
 }
 
 impl Model for Repo {
@@ -38,13 +39,13 @@ impl Model for Repo {
 
     ghost Value = { Held };
 
-    ghost view = { λ r. record { config = r.config; clock = r.clock; items = r.items.items } };
+    ghost view = { λ r. record { config = r.config; clock = r.clock; items = r.items.items; sets = r.sets } };
 
-    ghost invariant = { λ r. IsHeld (record { config = r.config; clock = r.clock; items = r.items.items }) };
+    ghost invariant = { λ r. IsHeld (record { config = r.config; clock = r.clock; items = r.items.items; sets = r.sets }) };
 }
 
 impl Repo {
-    /// A repository without items, its clock at the lower limit of its datestamps. It takes no
+    /// A repository without items and sets, its clock at the lower limit of its datestamps. It takes no
     /// memory now; what grows in it takes it from `alloc`.
     pub fn new(alloc: Global, config: RepoConfig) -> Result<Repo, Fault>
         ensures { IfOk result (λ repo. IsNew repo config) }
@@ -55,6 +56,7 @@ impl Repo {
             config,
             clock,
             items: Vec::new(alloc),
+            sets: SetTree::new(alloc),
         })
     }
 
@@ -65,7 +67,13 @@ impl Repo {
     {
         let mut clock = self.clock;
         clock.tick(moment);
-        let page = page_at(self.alloc, &self.config, clock.now(), &self.items, query)?;
+        let found = Snapshot {
+            config: &self.config,
+            clock: clock.now(),
+            items: &self.items,
+            sets: self.sets.as_slice(),
+        };
+        let page = page_at(self.alloc, &found, query)?;
         self.clock = clock;
         Ok(Reply::Page(Sequence::new(page)))
     }
@@ -80,18 +88,25 @@ impl Repo {
     {
         let mut clock = self.clock;
         clock.tick(moment);
-        match refusal_of(&self.config, &self.items, change) {
-            Some(cause) => {
+        let made = make(
+            self.alloc,
+            &self.config,
+            clock.now(),
+            &mut self.items,
+            &mut self.sets,
+            change,
+        );
+        match made {
+            Ok(stamp) => {
                 self.clock = clock;
-                return Err(Refusal::Refused(cause));
+                Ok(stamp)
             }
-            None => {}
+            Err(Refusal::Refused(cause)) => {
+                self.clock = clock;
+                Err(Refusal::Refused(cause))
+            }
+            Err(Refusal::Fault(fault)) => Err(Refusal::Fault(fault)),
         }
-        let stamp = stamp(self.config.granularity(), clock.now());
-        let item = item_of(self.alloc, self.config.formats(), stamp, change)?;
-        put(&mut self.items, item)?;
-        self.clock = clock;
-        Ok(stamp)
     }
 
     /// Moves the clock to the moment, in seconds from 1970 on, and changes nothing else.

@@ -23,14 +23,14 @@ nonnegative (pos n) h = refl
 nonnegative (negsuc n) h = absurd (omega (arith, signed_arith))
 
 -- the seconds since 0000-01-01 are what they are called
-era : (t : ℤ) → IsWritable t → pos (seconds_of_era t) ≡ t +ℤ pos 62_167_219_200
+pub era : (t : ℤ) → IsWritable t → pos (seconds_of_era t) ≡ t +ℤ pos 62_167_219_200
 era t h = nonnegative (t +ℤ pos 62_167_219_200) (omega (arith, signed_arith))
 
 -- the day of a time, counted from 0000-01-01, is below that of 10000-01-01
-day_below : (t : ℤ) → IsWritable t → seconds_of_era t / 86_400 < 3_652_425
+pub day_below : (t : ℤ) → IsWritable t → seconds_of_era t / 86_400 < 3_652_425
 day_below t h = omega (arith, signed_arith, era t h)
 
-midnight_is : (t : ℤ) → IsMidnight t → t ≡ pos (86_400 * (seconds_of_era t / 86_400)) -ℤ pos 62_167_219_200
+pub midnight_is : (t : ℤ) → IsMidnight t → t ≡ pos (86_400 * (seconds_of_era t / 86_400)) -ℤ pos 62_167_219_200
 midnight_is t h = omega (arith, signed_arith, era t h.0, int_rem_euclid-parts t 86_400, h.0, h.1)
 
 second_is : (t : ℤ) → IsWritable t → t ≡ pos (86_400 * (seconds_of_era t / 86_400)) -ℤ pos 62_167_219_200 +ℤ pos (seconds_of_era t % 86_400)

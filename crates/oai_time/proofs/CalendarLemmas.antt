@@ -124,3 +124,10 @@ epoch_day_from_zero d h =
     (λ le. let zero_year : d.year ≡ pos 0 = omega (arith, signed_arith) in
     let count = rw zero_year at (day_count-day_of_year d.year d.month d.day d.day_in.0) in
     rw zero_year (omega (arith, signed_arith, days_from_civil-day_count, first_count, count, d.day_in)))
+
+-- two numbers of one day are equal
+pub calendar_day_injective : (m n : ℕ) → calendar_day m ≡ calendar_day n → m ≡ n
+calendar_day_injective m n e =
+    let P : CalendarDay → Type 0 = IsNumbered m in
+    let h = subst P e (numbered m) in
+    omega (arith, h.count, (numbered n).count)

@@ -1,5 +1,6 @@
 -- The bounds of a harvest, the arguments `from` and `until` (OAI-PMH 2.0, 2.7.1 "Selective harvesting and datestamps").
-use Rattle.std.specs.Prelude.{◌≡◌, ℕ, List, ℤ, pos, ◌+ℤ◌}
+use Rattle.std.specs.Prelude.{◌≡◌, ℕ, zero, suc, ◌*◌, Bool, if◌then◌else◌, bytes_eq, Option, None, Some, List, ℤ, pos, ◌+ℤ◌, ◌-ℤ◌}
+use Rattle.std.specs.Option.{option_map, option_or}
 use Rattle.oai_time.specs.declared.granularity.Granularity.TheVariants.{Day}
 use Rattle.oai_time.specs.declared.bound.Bound.{Bound}
 use Rattle.oai_time.specs.declared.bound.Bound.TheVariants.{Day as WholeDay, Second as OneSecond}
@@ -34,3 +35,31 @@ lower_of (OneSecond second) = second
 abbrev pub upper_of : Bound → ℤ
 upper_of (WholeDay midnight) = midnight +ℤ pos 86_399
 upper_of (OneSecond second) = second
+
+-- ---- the same as a function
+
+-- the greatest number below n that passes, if there is one
+unfoldable pub last_below : (ℕ → Bool) → ℕ → Option ℕ
+last_below passes zero = None
+last_below passes (suc n) = if passes n then Some n else last_below passes n
+
+-- the second with that number, counted from 0000-01-01T00:00:00Z
+abbrev pub second_of_era : ℕ → ℤ
+second_of_era n = pos n -ℤ pos 62_167_219_200
+
+-- the midnight of the day with that number, counted from 0000-01-01
+abbrev pub midnight_of : ℕ → ℤ
+midnight_of n = pos (86_400 * n) -ℤ pos 62_167_219_200
+
+-- the day of the years 0000 to 9999 whose text it is
+unfoldable pub day_of : List ℕ → Option ℕ
+day_of text = last_below (λ n. bytes_eq text (day_text (midnight_of n))) 3_652_425
+
+-- the second of the years 0000 to 9999 whose text it is
+unfoldable pub second_of : List ℕ → Option ℕ
+second_of text = last_below (λ n. bytes_eq text (second_text (second_of_era n))) 315_569_520_000
+
+-- the bound that the text stands for, of all that there are
+unfoldable pub bound_of : List ℕ → Option Bound
+bound_of text =
+    option_or (option_map (λ n. WholeDay (midnight_of n)) (day_of text)) (option_map (λ n. OneSecond (second_of_era n)) (second_of text))

@@ -1,5 +1,6 @@
 ghost use Rattle.std.specs.Prelude.{◌≡◌, ℕ, ◌+◌, ◌*◌, ◌-◌, ◌<◌, min, length, ◌↔◌, pos, ◌-ℤ◌, IsTrue, IfOk, OnErr, IfSome};
-ghost use Rattle.oai_time.specs.Bound.{IsBound, IsWritableBound, lower_of, upper_of};
+ghost use Rattle.std.specs.Result.{result_ok};
+ghost use Rattle.oai_time.specs.Bound.{IsBound, IsWritableBound, bound_of, lower_of, upper_of};
 ghost use Rattle.oai_time.specs.Calendar.{calendar_day};
 ghost use Rattle.oai_time.specs.Stamp.{IsWritable};
 ghost use Rattle.oai_time.specs.Text.{date_text, time_text};
@@ -26,12 +27,22 @@ pub struct BadDate;
 /// The bound that the text stands for. It is `YYYY-MM-DD` or `YYYY-MM-DDThh:mm:ssZ` (OAI-PMH 2.0, 3.3
 /// "UTCdatetime"), with ASCII digits and upper case letters, of a date of the years 0000 to 9999 that
 /// the Gregorian calendar has, and of a time from 00:00:00 to 23:59:59. Any other text is refused.
+#[tactic(auto, using(crate::proofs::ReadingLemmas::bound_of_read))]
 pub fn read_bound(text: &str) -> Result<Bound, BadDate>
     ensures found { IfOk result (IsBound text.now) }
     ensures only { (bound : Bound) → IsBound text.now bound → result ≡ Ok bound }
     ensures refused { OnErr result ((bound : Bound) → ¬ IsBound text.now bound) }
+    ensures value { result_ok result ≡ bound_of text.now }
 {
-    let text = text.as_bytes();
+    bound_written(text.as_bytes())
+}
+
+// The bound whose text it is.
+fn bound_written(text: &[u8]) -> Result<Bound, BadDate>
+    ensures found { IfOk result (IsBound text.now) }
+    ensures only { (bound : Bound) → IsBound text.now bound → result ≡ Ok bound }
+    ensures refused { OnErr result ((bound : Bound) → ¬ IsBound text.now bound) }
+{
     match candidate(text) {
         Some(bound) if is_written(bound, text) => Ok(bound),
         _ => Err(BadDate),

@@ -1,5 +1,5 @@
 use oai_names::{Sequence, Text};
-use oai_repo::{ConfigFault, DeletedRecord, RepoConfig, Settings};
+use oai_repo::{ConfigFault, DeletedRecord, FormatSettings, RepoConfig, Settings};
 use oai_time::Granularity;
 use std::alloc::{AllocError, Global};
 
@@ -14,6 +14,8 @@ pub fn archive(alloc: Global) -> Result<RepoConfig, ConfigFault> {
 fn archive_settings(alloc: Global) -> Result<Settings, AllocError> {
     let mut addresses = Vec::new(alloc);
     addresses.push(Text::new(alloc, "a@host.example")?)?;
+    let mut formats = Vec::new(alloc);
+    formats.push(journal(alloc)?)?;
     Ok(Settings {
         base: Text::new(alloc, "http://host.example")?,
         name: Text::new(alloc, "a")?,
@@ -26,6 +28,20 @@ fn archive_settings(alloc: Global) -> Result<Settings, AllocError> {
         lifetime: 60,
         lists: 1,
         items: 1_000,
-        formats: Sequence::new(Vec::new(alloc)),
+        formats: Sequence::new(formats),
+    })
+}
+
+/// The format of that archive for articles of journals, beside Dublin Core.
+fn journal(alloc: Global) -> Result<FormatSettings, AllocError> {
+    let mut fields = Vec::new(alloc);
+    fields.push(Text::new(alloc, "volume")?)?;
+    fields.push(Text::new(alloc, "pages")?)?;
+    Ok(FormatSettings {
+        prefix: Text::new(alloc, "jnl")?,
+        schema: Text::new(alloc, "http://host.example/jnl.xsd")?,
+        namespace: Text::new(alloc, "http://host.example/jnl/")?,
+        root: Text::new(alloc, "article")?,
+        fields: Sequence::new(fields),
     })
 }

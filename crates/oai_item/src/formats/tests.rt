@@ -1,4 +1,5 @@
 use super::{Format, FormatFault, Formats};
+use crate::tests::letters;
 use oai_names::{Prefix, Sequence, Text};
 use std::alloc::{AllocError, Global};
 use std::process::Abort;
@@ -14,58 +15,63 @@ fn texts(alloc: Global, texts: &[&str]) -> Result<Sequence<Text>, AllocError> {
     Ok(Sequence::new(copies))
 }
 
-// `a`, so many times.
-fn letters(alloc: Global, many: usize) -> Result<String, AllocError> {
-    let mut text = String::new(alloc);
-    for _ in 0..many {
-        text.push('a')?;
-    }
-    Ok(text)
-}
-
-// The format `jnl`, of the fields `volume` and `pages`.
-fn jnl(alloc: Global) -> Result<Format, Fail> {
+// The format of these parts, with this namespace.
+fn described(
+    alloc: Global,
+    prefix: &str,
+    schema: &str,
+    root: &str,
+    fields: Sequence<Text>,
+) -> Result<Format, Fail> {
     Ok(Format {
-        prefix: Prefix::read(alloc, "jnl")?,
-        schema: Text::new(alloc, "http://host.example/jnl.xsd")?,
+        prefix: Prefix::read(alloc, prefix)?,
+        schema: Text::new(alloc, schema)?,
         namespace: Text::new(alloc, URI)?,
-        root: Text::new(alloc, "article")?,
-        fields: texts(alloc, &["volume", "pages"])?,
+        root: Text::new(alloc, root)?,
+        fields,
     })
 }
 
+// A format of that prefix, of the fields `volume` and `pages`.
 fn with_prefix(alloc: Global, prefix: &str) -> Result<Format, Fail> {
-    let mut format = jnl(alloc)?;
-    format.prefix = Prefix::read(alloc, prefix)?;
-    Ok(format)
+    let fields = texts(alloc, &["volume", "pages"])?;
+    described(alloc, prefix, URI, "article", fields)
 }
 
-fn with_uris(alloc: Global, schema: &str, namespace: &str) -> Result<Format, Fail> {
-    let mut format = jnl(alloc)?;
-    format.schema = Text::new(alloc, schema)?;
-    format.namespace = Text::new(alloc, namespace)?;
-    Ok(format)
+fn with_namespace(alloc: Global, namespace: &str) -> Result<Format, Fail> {
+    Ok(Format {
+        prefix: Prefix::read(alloc, "jnl")?,
+        schema: Text::new(alloc, URI)?,
+        namespace: Text::new(alloc, namespace)?,
+        root: Text::new(alloc, "article")?,
+        fields: texts(alloc, &["volume"])?,
+    })
 }
 
 fn with_names(alloc: Global, root: &str, fields: &[&str]) -> Result<Format, Fail> {
-    let mut format = jnl(alloc)?;
-    format.root = Text::new(alloc, root)?;
-    format.fields = texts(alloc, fields)?;
-    Ok(format)
+    described(alloc, "jnl", URI, root, texts(alloc, fields)?)
 }
 
-// `jnl` with so many fields, each of 1 to 60 letters, a dot, and other letters.
-fn with_many_fields(alloc: Global, many: usize) -> Result<Format, Fail> {
-    let mut fields = Vec::new(alloc);
+// So many names, each of 1 to 60 letters, a dot, and other letters.
+fn names(alloc: Global, many: usize) -> Result<Vec<Text>, AllocError> {
+    let mut names = Vec::new(alloc);
     for number in 0..many {
-        let mut field = letters(alloc, number % 60 + 1)?;
-        field.push('.')?;
-        field.push_str(letters(alloc, number / 60)?.as_str())?;
-        fields.push(Text::new(alloc, field.as_str())?)?;
+        let mut name = letters(alloc, number % 60 + 1)?;
+        name.push('.')?;
+        name.push_str(letters(alloc, number / 60)?.as_str())?;
+        names.push(Text::new(alloc, name.as_str())?)?;
     }
-    let mut format = jnl(alloc)?;
-    format.fields = Sequence::new(fields);
-    Ok(format)
+    Ok(names)
+}
+
+fn with_many_fields(alloc: Global, many: usize) -> Result<Format, Fail> {
+    described(
+        alloc,
+        "jnl",
+        URI,
+        "article",
+        Sequence::new(names(alloc, many)?),
+    )
 }
 
 // Declares the format beside oai_dc. It stands at the end, or nothing changed.
@@ -107,8 +113,14 @@ fn assert_uri(
     uri: &str,
     answer: Result<(), FormatFault>,
 ) -> Result<(), Fail> {
-    assert_answer(rt, alloc, with_uris(alloc, uri, URI)?, answer)?;
-    assert_answer(rt, alloc, with_uris(alloc, URI, uri)?, answer)
+    let fields = texts(alloc, &["volume"])?;
+    assert_answer(
+        rt,
+        alloc,
+        described(alloc, "jnl", uri, "article", fields)?,
+        answer,
+    )?;
+    assert_answer(rt, alloc, with_namespace(alloc, uri)?, answer)
 }
 
 #[test]
@@ -129,8 +141,11 @@ fn dublin_core_stands_alone(rt: HostRuntime) -> Result<(), Fail> {
 fn a_format_is_declared_once(rt: HostRuntime) -> Result<(), Fail> {
     let alloc = rt.alloc();
     let mut formats = Formats::dc(alloc)?;
-    assert_eq!(rt; formats.declare(jnl(alloc)?), Ok(()));
-    assert_eq!(rt; formats.declare(jnl(alloc)?), Err(FormatFault::Duplicate));
+    assert_eq!(rt; formats.declare(with_prefix(alloc, "jnl")?), Ok(()));
+    assert_eq!(rt;
+        formats.declare(with_prefix(alloc, "jnl")?),
+        Err(FormatFault::Duplicate)
+    );
     let dc = with_prefix(alloc, "oai_dc")?;
     assert_eq!(rt; formats.declare(dc), Err(FormatFault::Duplicate));
     assert_eq!(rt; formats.len(), 2);
@@ -205,7 +220,10 @@ fn formats_of_a_repository(rt: HostRuntime) -> Result<(), Fail> {
         let format = with_prefix(alloc, prefix.as_str())?;
         assert_eq!(rt; formats.declare(format), Ok(()));
     }
-    assert_eq!(rt; formats.declare(jnl(alloc)?), Err(FormatFault::TooMany));
+    assert_eq!(rt;
+        formats.declare(with_prefix(alloc, "jnl")?),
+        Err(FormatFault::TooMany)
+    );
     assert_eq!(rt; formats.len(), 64);
     Ok(())
 }
@@ -213,19 +231,17 @@ fn formats_of_a_repository(rt: HostRuntime) -> Result<(), Fail> {
 #[test]
 fn the_first_cause_is_answered(rt: HostRuntime) -> Result<(), Fail> {
     let alloc = rt.alloc();
-    let mut format = with_names(alloc, "9", &["a", "a"])?;
-    format.schema = Text::new(alloc, "")?;
-    format.prefix = Prefix::read(alloc, "oai_dc")?;
+    let twice = texts(alloc, &["a", "a"])?;
+    let format = described(alloc, "oai_dc", "", "9", twice)?;
     assert_answer(&rt, alloc, format, Err(FormatFault::Duplicate))?;
-    let mut format = with_names(alloc, "9", &["a", "a"])?;
-    format.schema = Text::new(alloc, "")?;
+    let twice = texts(alloc, &["a", "a"])?;
+    let format = described(alloc, "jnl", "", "9", twice)?;
     assert_answer(&rt, alloc, format, Err(FormatFault::BadName))?;
-    let mut format = with_names(alloc, "a", &["a", "a"])?;
-    format.schema = Text::new(alloc, "")?;
+    let twice = texts(alloc, &["a", "a"])?;
+    let format = described(alloc, "jnl", "", "a", twice)?;
     assert_answer(&rt, alloc, format, Err(FormatFault::BadUri))?;
-    let mut format = with_many_fields(alloc, 257)?;
-    let mut fields = format.fields.into_vec();
-    fields.push(Text::new(alloc, "aa.")?)?;
-    format.fields = Sequence::new(fields);
+    let mut many = names(alloc, 257)?;
+    many.push(Text::new(alloc, "aa.")?)?;
+    let format = described(alloc, "jnl", URI, "a", Sequence::new(many))?;
     assert_answer(&rt, alloc, format, Err(FormatFault::FieldTwice))
 }

@@ -12,10 +12,18 @@ pub enum ErrorCode {
     BadVerb,
     /// An argument is illegal, missing, repeated or of illegal syntax.
     BadArgument,
+    /// The resumptionToken is invalid or has expired.
+    BadResumptionToken,
     /// The item, or the repository, does not have that metadata format.
     CannotDisseminateFormat,
     /// No item has that identifier.
     IdDoesNotExist,
+    /// No record is of that format, in that set and of those dates.
+    NoRecordsMatch,
+    /// The item has no metadata formats.
+    NoMetadataFormats,
+    /// The repository has no sets.
+    NoSetHierarchy,
 }
 
 impl ErrorCode {
@@ -26,8 +34,12 @@ impl ErrorCode {
         match self {
             ErrorCode::BadVerb => "badVerb",
             ErrorCode::BadArgument => "badArgument",
+            ErrorCode::BadResumptionToken => "badResumptionToken",
             ErrorCode::CannotDisseminateFormat => "cannotDisseminateFormat",
             ErrorCode::IdDoesNotExist => "idDoesNotExist",
+            ErrorCode::NoRecordsMatch => "noRecordsMatch",
+            ErrorCode::NoMetadataFormats => "noMetadataFormats",
+            ErrorCode::NoSetHierarchy => "noSetHierarchy",
         }
     }
 
@@ -39,8 +51,12 @@ impl ErrorCode {
             ErrorCode::BadVerb => "The verb is missing, repeated or illegal.",
             ErrorCode::BadArgument =>
                 "An argument is illegal, missing, repeated or of illegal syntax.",
+            ErrorCode::BadResumptionToken => "The resumption token is invalid or has expired.",
             ErrorCode::CannotDisseminateFormat => "The metadata format is not available.",
             ErrorCode::IdDoesNotExist => "No item has this identifier.",
+            ErrorCode::NoRecordsMatch => "No records match.",
+            ErrorCode::NoMetadataFormats => "The item has no metadata formats.",
+            ErrorCode::NoSetHierarchy => "The repository has no sets.",
         }
     }
 }

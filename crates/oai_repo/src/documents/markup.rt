@@ -1,9 +1,9 @@
-ghost use Rattle.std.specs.Prelude.{OnOk};
+ghost use Rattle.std.specs.Prelude.{OnOk, codes};
 ghost use Rattle.std.specs.List.{flat_map};
 ghost use Rattle.oai_names.specs.Escapes.{escaped_attribute, escaped_text};
 ghost use Rattle.oai_repo.specs.Pieces.{Appends, attribute, element, end_tag, plain, start_tag, text_element};
 
-use oai_names::{Text, escape_attr, escape_text};
+use oai_names::{SetSpec, Text, escape_attr, escape_text};
 use std::alloc::AllocError;
 
 /// Appends markup as it stands.
@@ -62,6 +62,16 @@ pub(super) fn text_elements(name: &str, texts: &[Text], out: &mut Vec<u8>) -> Re
 {
     for text in texts {
         text_element(name, text.as_str(), out)?;
+    }
+    Ok(())
+}
+
+/// Appends the element `setSpec` for each setSpec.
+pub(super) fn set_specs(specs: &[SetSpec], out: &mut Vec<u8>) -> Result<(), AllocError>
+    ensures { OnOk result (Appends out.old.items out.new.items (flat_map (text_element (codes "setSpec")) specs.now)) }
+{
+    for spec in specs {
+        text_element("setSpec", spec.as_str(), out)?;
     }
     Ok(())
 }

@@ -4,7 +4,7 @@ ghost use Rattle.oai_repo.specs.Documents.{header_element, header_start, metadat
 ghost use Rattle.oai_repo.specs.Pieces.{Appends, element};
 
 use super::dates::write_datestamp;
-use super::markup::{end, put, start, text_element, text_elements};
+use super::markup::{end, put, set_specs, start, text_element};
 use super::metadata::write_metadata;
 use oai_item::{Field, Format, Item};
 use oai_time::Granularity;
@@ -57,7 +57,7 @@ fn write_header(granularity: Granularity, item: &Item, out: &mut Vec<u8>) -> Res
     write_header_start(item.is_live(), out)?;
     text_element("identifier", item.identifier().as_str(), out)?;
     write_datestamp("datestamp", granularity, item.stamp(), out)?;
-    text_elements("setSpec", item.sets(), out)?;
+    set_specs(item.sets(), out)?;
     end("header", out)?;
     Ok(())
 }

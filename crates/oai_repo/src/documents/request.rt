@@ -1,7 +1,7 @@
-ghost use Rattle.std.specs.Prelude.{OnOk};
+ghost use Rattle.std.specs.Prelude.{◌≡◌, OnOk};
 ghost use Rattle.std.specs.Option.{option_copied};
 ghost use Rattle.oai_repo.specs.Docs.{answer_of, attributes_of, document_of};
-ghost use Rattle.oai_repo.specs.Documents.{attributes, attributes_beside, given_attribute, request_element};
+ghost use Rattle.oai_repo.specs.Documents.{attributes, attributes_beside, given_attribute, no_arguments, request_element};
 ghost use Rattle.oai_repo.specs.Pieces.{Appends};
 
 use super::markup::{attribute, end, put};
@@ -19,6 +19,31 @@ pub struct Asked<'a> {
     pub identifier: Option<&'a str>,
     /// The metadataPrefix.
     pub prefix: Option<&'a str>,
+    /// The lower bound of datestamps.
+    pub from: Option<&'a str>,
+    /// The upper bound of datestamps.
+    pub until: Option<&'a str>,
+    /// The setSpec.
+    pub set: Option<&'a str>,
+    /// The resumptionToken.
+    pub token: Option<&'a str>,
+}
+
+impl<'a> Asked<'a> {
+    /// No arguments.
+    pub fn nothing() -> Asked<'a>
+        ensures { attributes_of result ≡ no_arguments }
+    {
+        Asked {
+            verb: None,
+            identifier: None,
+            prefix: None,
+            from: None,
+            until: None,
+            set: None,
+            token: None,
+        }
+    }
 }
 
 /// Appends the element `request` (OAI-PMH 2.0, section 3.2).
@@ -57,6 +82,10 @@ fn write_attributes(asked: &Asked<'_>, out: &mut Vec<u8>) -> Result<(), AllocErr
     write_given("verb", asked.verb, out)?;
     write_given("identifier", asked.identifier, out)?;
     write_given("metadataPrefix", asked.prefix, out)?;
+    write_given("from", asked.from, out)?;
+    write_given("until", asked.until, out)?;
+    write_given("set", asked.set, out)?;
+    write_given("resumptionToken", asked.token, out)?;
     Ok(())
 }
 

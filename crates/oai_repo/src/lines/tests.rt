@@ -6,20 +6,29 @@ const DEPOSIT: &str =
 
 #[test]
 fn reads_a_deposit(rt: HostRuntime) -> Result<(), Fail> {
-    let Change::Deposit {
-        identifier,
-        sets,
-        records,
-    } = read_line(rt.alloc(), DEPOSIT.as_bytes())?;
-    assert_eq!(rt; identifier.as_str(), "oai:x:1");
-    assert_eq!(rt; sets.as_slice().len(), 2);
-    assert_eq!(rt; sets.as_slice()[0].as_str(), "b");
-    assert_eq!(rt; records.as_slice().len(), 2);
-    let (prefix, fields) = &records.as_slice()[0];
+    let change = read_line(rt.alloc(), DEPOSIT.as_bytes())?;
+    let Change::Deposit(deposit) = &change else {
+        panic!(rt; "a new set")
+    };
+    assert_eq!(rt; deposit.identifier.as_str(), "oai:x:1");
+    assert_eq!(rt; deposit.sets.as_slice().len(), 2);
+    assert_eq!(rt; deposit.sets.as_slice()[0].as_str(), "b");
+    assert_eq!(rt; deposit.records.as_slice().len(), 2);
+    let (prefix, fields) = &deposit.records.as_slice()[0];
     assert_eq!(rt; prefix.as_str(), "oai_dc");
     assert_eq!(rt; fields.as_slice().len(), 1);
     assert_eq!(rt; fields.as_slice()[0].name.as_str(), "title");
     assert_eq!(rt; fields.as_slice()[0].text.as_str(), "Grüße");
+    Ok(())
+}
+
+#[test]
+fn reads_a_new_set(rt: HostRuntime) -> Result<(), Fail> {
+    let change = read_line(rt.alloc(), br#"{"set":"x:y","name":"X & Y"}"#)?;
+    let Change::AddSet { spec, name } = &change else {
+        panic!(rt; "a deposit")
+    };
+    assert_eq!(rt; (spec.as_str(), name.as_str()), ("x:y", "X & Y"));
     Ok(())
 }
 
@@ -28,6 +37,23 @@ fn answer_to(alloc: Global, line: &[u8]) -> &'static str {
         Ok(_) => "read",
         Err(LineFault::NoMemory) => "no memory",
         Err(LineFault::Refused(refusal)) => refusal.answer(),
+    }
+}
+
+/// The first cause is answered: of the setSpec, then of the name.
+#[test]
+fn refuses_sets(rt: HostRuntime) {
+    for (line, want) in [
+        (r#"{"set":"x","name":"X","y":0}"#, "refused 2 bad-command"),
+        (r#"{"set":"x:","name":""}"#, "refused 4 bad-set-spec"),
+        (r#"{"set":"x","name":""}"#, "refused 5 bad-text"),
+        (r#"{"set":"x","name":"\u0001"}"#, "refused 5 bad-text"),
+        (
+            r#"{"deposit":"a:b","sets":["x","x:"],"records":{"x":[["a","\u0000"]]}}"#,
+            "refused 4 bad-set-spec",
+        ),
+    ] {
+        assert_eq!(rt; answer_to(rt.alloc(), line.as_bytes()), want, "at {line}");
     }
 }
 

@@ -1,50 +1,32 @@
--- Each answer gives the case of the definition, over the fields that the repository is opened to.
-use Rattle.std.proofs.Common.{◌≡◌, sym, ◌∙◌, refl, Some, None, FitsSigned, w64}
-use Rattle.std.proofs.lemmas.Int.{to_z-of_z}
+-- Each way out gives the case of the definition, over the fields that the repository is opened to.
+use Rattle.std.proofs.Common.{◌≡◌, ◌∙◌, ℤ, refl, ap, Ok, Err, arith, FitsSigned, w64, to_z, of_z}
+use Rattle.std.proofs.lemmas.Int.{to_z-of_z, ints}
 use Rattle.oai_time.specs.Clock.{tick}
-use Rattle.oai_time.specs.Stamp.{stamp_of}
-use Rattle.oai_repo.specs.Changes.{refusal_of, item_of}
-use Rattle.oai_repo.specs.State.{placed, without}
-use Rattle.oai_repo.proofs.ChangeLemmas.{change_of-refused, change_of-made, known_formats, carries_record}
-use Rattle.oai_repo.proofs.OrderLemmas.{in_order-changed, apart-changed}
+use Rattle.oai_time.specs.Stamp.{IsWritable}
+use Rattle.oai_repo.specs.Changes.{IsMade}
+use Rattle.oai_repo.specs.declared.refusals.Refusal.TheVariants as refusal
+use Rattle.oai_repo.proofs.ChangeLemmas.{standing, changes-Ok, changes-Refused}
 use Rattle.oai_repo.proofs.repo.Repo.change.Goals as goal
 
-pub returns-in-Some-clause-changed : goal.returns-in-Some-clause-changed
-returns-in-Some-clause-changed c =
-    let fits : FitsSigned w64 c.args.moment = c.ranges.moment in
-    let held = c.self.inside in
-    let moved : c.tick.new.self ≡ tick held.clock c.args.moment = simp to_z-of_z at c.tick.ensures.moved in
-    let refused : refusal_of held.config held.items.items c.args.change.now ≡ Some c.in-Some.cause = rw (← c.deref.ensures.value) (sym c.refusal_of.ensures ∙ c.in-Some.is) in
-    rw (← c.self.view_is) (change_of-refused _ _ _ _ _ _ _ refused moved, refl)
-
-pub item_of-requires-clause-carries : goal.item_of-requires-clause-carries
-item_of-requires-clause-carries c =
-    let held = c.self.inside in
-    let made : refusal_of held.config held.items.items c.args.change.now ≡ None = rw (← c.deref.ensures.value) (sym c.refusal_of.ensures ∙ c.in-None.is) in
-    carries_record held.config held.items.items c.args.change.now made
-
-pub item_of-requires-clause-known : goal.item_of-requires-clause-known
-item_of-requires-clause-known c =
-    let held = c.self.inside in
-    let made : refusal_of held.config held.items.items c.args.change.now ≡ None = rw (← c.deref.ensures.value) (sym c.refusal_of.ensures ∙ c.in-None.is) in
-    rw c.formats.ensures (known_formats held.config held.items.items c.args.change.now made)
-
-pub returns-clause-changed : goal.returns-clause-changed
-returns-clause-changed c =
-    let held = c.self.inside in
+pub returns-in-Ok-clause-changed : goal.returns-in-Ok-clause-changed
+returns-in-Ok-clause-changed c =
     let fits : FitsSigned w64 c.args.moment = c.ranges.moment in
     let fits_now : FitsSigned w64 c.now.result = record { sfits = c.now.type_inv } in
-    let fits_stamp : FitsSigned w64 c.stamp-stamp.result = record { sfits = c.stamp-stamp.type_inv } in
-    let moved : c.tick.new.self ≡ tick held.clock c.args.moment = simp to_z-of_z at c.tick.ensures.moved in
-    let made : refusal_of held.config held.items.items c.args.change.now ≡ None = rw (← c.deref.ensures.value) (sym c.refusal_of.ensures ∙ c.in-None.is) in
-    let stamped : c.stamp-stamp.result ≡ stamp_of held.config.granularity c.tick.new.self = rw (← c.granularity.ensures, ← c.now.ensures) (simp to_z-of_z at c.stamp-stamp.ensures.value) in
-    let item : c.in_ok-item.item ≡ item_of c.stamp-stamp.result c.args.change.now = simp to_z-of_z at c.in_ok-item.ensures in
-    let put : c.put.new.items.items ≡ placed (item_of c.stamp-stamp.result c.args.change.now) (without (item_of c.stamp-stamp.result c.args.change.now).identifier held.items.items) = rw (← item) c.in_ok-put.ensures.ok in
-    rw (← c.self.view_is) (simp to_z-of_z (change_of-made _ _ _ _ _ _ _ _ made moved stamped put), refl)
+    let dated : IsWritable c.in-Ok.stamp = c.in-Ok.ensures.dated in
+    let fits_stamp : FitsSigned w64 c.in-Ok.stamp = omega (arith, ints) in
+    let held = c.self.inside in
+    let moved : c.now.result ≡ tick held.clock c.args.moment = c.now.ensures ∙ (simp to_z-of_z at c.tick.ensures.moved) in
+    let made : IsMade held.config (standing c.now.result held.items.items held.sets) c.args.change.now (Ok c.in-Ok.stamp) (standing c.now.result c.make-made.new.items.items c.make-made.new.sets) = simp to_z-of_z at c.in-Ok.ensures.made in
+    rw (← c.self.view_is, ← c.now.ensures) (simp to_z-of_z (changes-Ok _ _ _ _ _ _ _ _ _ _ moved made), refl)
 
-pub invariant_of-self-2 : goal.invariant_of-self-2
-invariant_of-self-2 c = record {
-  dated = c.tick.ensures.in_range c.self.invariant.dated;
-  ordered = rw c.in_ok-put.ensures.ok (in_order-changed _ _ c.self.invariant.ordered);
-  apart = rw c.in_ok-put.ensures.ok (apart-changed _ _ c.self.invariant.apart);
-}
+pub returns-in-Err-Refused-clause-changed : goal.returns-in-Err-Refused-clause-changed
+returns-in-Err-Refused-clause-changed c =
+    let fits : FitsSigned w64 c.args.moment = c.ranges.moment in
+    let fits_now : FitsSigned w64 c.now.result = record { sfits = c.now.type_inv } in
+    let held = c.self.inside in
+    let moved : c.now.result ≡ tick held.clock c.args.moment = c.now.ensures ∙ (simp to_z-of_z at c.tick.ensures.moved) in
+    let at : ℤ = to_z w64 (of_z w64 c.now.result) in
+    let arrived : at ≡ tick held.clock c.args.moment = simp to_z-of_z moved in
+    let known = rw c.in-Err-Refused.is at c.in-Err-Refused.field-0-is in
+    let refused : c.make-made.result ≡ Err (refusal.Refused c.in-Err-Refused.cause) = c.in-Err-Refused.is ∙ ap (λ r. Err r) known in
+    rw (← c.self.view_is, ← c.now.ensures) (changes-Refused held.config held.clock at c.now.result held.items.items c.make-made.new.items.items held.sets c.make-made.new.sets c.args.moment c.args.change.now c.in-Err-Refused.cause c.make-made.result arrived moved refused c.make-made.ensures.made, refl)

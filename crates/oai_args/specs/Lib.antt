@@ -1,0 +1,5 @@
+pub mod Asks
+pub mod Pairs
+pub mod Requests
+pub mod Slots
+pub mod Verbs

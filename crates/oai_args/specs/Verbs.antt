@@ -1,0 +1,30 @@
+-- The six verbs and their names. OAI-PMH 2.0, section 4.
+use Rattle.std.specs.Prelude.{◌≡◌, ℕ, List, [], ◌∷◌, codes}
+use Rattle.oai_names.specs.declared.list_verbs.ListVerb.{ListVerb}
+use Rattle.oai_names.specs.declared.list_verbs.ListVerb.TheVariants.{Identifiers, Records, Sets}
+use Rattle.oai_args.specs.Pairs.{Pair, values_of}
+use Rattle.oai_args.specs.declared.verbs.Verb.{Verb}
+use Rattle.oai_args.specs.declared.verbs.Verb.TheVariants.{Identify, ListMetadataFormats, ListSets, GetRecord, ListIdentifiers, ListRecords}
+
+-- the verbs
+abbrev pub verbs : List Verb
+verbs = Identify ∷ ListMetadataFormats ∷ ListSets ∷ GetRecord ∷ ListIdentifiers ∷ ListRecords ∷ []
+
+-- the value of the argument `verb` that asks for the verb
+abbrev pub name_of : Verb → List ℕ
+name_of Identify = codes "Identify"
+name_of ListMetadataFormats = codes "ListMetadataFormats"
+name_of ListSets = codes "ListSets"
+name_of GetRecord = codes "GetRecord"
+name_of ListIdentifiers = codes "ListIdentifiers"
+name_of ListRecords = codes "ListRecords"
+
+-- the verb whose answers are these lists
+abbrev pub verb_of_list : ListVerb → Verb
+verb_of_list Identifiers = ListIdentifiers
+verb_of_list Records = ListRecords
+verb_of_list Sets = ListSets
+
+-- `verb` is given once, with the name of this verb
+abbrev pub NamesVerb : List Pair → Verb → Type 0
+NamesVerb pairs verb = values_of (codes "verb") pairs ≡ name_of verb ∷ []

@@ -1,0 +1,57 @@
+ghost use Rattle.std.specs.Prelude.{◌≡◌, ◌∷◌, [], IfOk};
+ghost use Rattle.oai_args.specs.Slots as spec;
+
+use oai_names::Text;
+use std::alloc::{AllocError, Global};
+
+/// How often a key is given, with the value of one that is given once.
+#[derive(Drop)]
+pub(crate) enum Given {
+    Never,
+    Once(Text),
+    Often,
+}
+
+impl Given {
+    /// Takes one more value of the key.
+    #[tactic(auto, unfolding(crate::specs::Slots::given_with))]
+    pub(crate) fn add(&mut self, alloc: Global, value: &str) -> Result<(), AllocError>
+        ensures { IfOk result (λ _. self.new ≡ spec.given_with self.old (value.now ∷ [])) }
+    {
+        *self = match self {
+            Given::Never => Given::Once(Text::new(alloc, value)?),
+            Given::Once(_) => Given::Often,
+            Given::Often => Given::Often,
+        };
+        Ok(())
+    }
+
+    /// The value of a key that is given once.
+    pub(crate) fn once(self) -> Option<Text>
+        ensures { result ≡ spec.once_in self }
+    {
+        match self {
+            Given::Once(value) => Some(value),
+            Given::Never => None,
+            Given::Often => None,
+        }
+    }
+
+    /// The value of a key that is given once, or that none is given; nothing where more are given.
+    pub(crate) fn at_most_once(self) -> Option<Option<Text>>
+        ensures { result ≡ spec.at_most_once_in self }
+    {
+        match self {
+            Given::Once(value) => Some(Some(value)),
+            Given::Never => Some(None),
+            Given::Often => None,
+        }
+    }
+
+    /// Whether the key is not given.
+    pub(crate) fn is_never(&self) -> bool
+        ensures { result ≡ spec.is_never self.now }
+    {
+        matches!(self, Given::Never)
+    }
+}

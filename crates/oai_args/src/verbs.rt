@@ -1,0 +1,30 @@
+ghost use Rattle.std.specs.Prelude.{◌≡◌};
+ghost use Rattle.oai_args.specs.Requests.{verb_named};
+
+/// The verbs of the protocol (OAI-PMH 2.0, section 4).
+#[derive(Clone, Copy)]
+pub(crate) enum Verb {
+    Identify,
+    ListMetadataFormats,
+    ListSets,
+    GetRecord,
+    ListIdentifiers,
+    ListRecords,
+}
+
+impl Verb {
+    /// The verb of that name, letter case included.
+    pub(crate) fn named(name: &str) -> Option<Verb>
+        ensures { result ≡ verb_named name.now }
+    {
+        match name {
+            "Identify" => Some(Verb::Identify),
+            "ListMetadataFormats" => Some(Verb::ListMetadataFormats),
+            "ListSets" => Some(Verb::ListSets),
+            "GetRecord" => Some(Verb::GetRecord),
+            "ListIdentifiers" => Some(Verb::ListIdentifiers),
+            "ListRecords" => Some(Verb::ListRecords),
+            _ => None,
+        }
+    }
+}

@@ -1,0 +1,15 @@
+use Rattle.std.proofs.Common.{◌≡◌, ◌||◌, ℕ, List, true, not, take}
+use Rattle.std.specs.List.{filter, list_any}
+use Rattle.std.specs.Str.{bytes_eq}
+use Rattle.oai_item.specs.Item.{are_set_specs}
+use Rattle.oai_item.specs.Membership.{distinct, is_above}
+use Rattle.oai_item.specs.Texts.{holds}
+use Rattle.oai_item.proofs.reductions.reduced.Given as goal
+
+-- of the setSpecs so far those are kept that are to stay, of the grammar; no other of these, and none above one of all, is to be kept
+abbrev pub invariant-loop-set : goal.invariant-loop-set
+invariant-loop-set l = record {
+  kept : l.kept.items ≡ filter (λ s. not (list_any (is_above s) l.sets)) (distinct (take l.set-index l.sets));
+  names : are_set_specs l.kept.items ≡ true;
+  out : (q : List ℕ) → holds l.out q ≡ (list_any (is_above q) l.sets || list_any (bytes_eq q) (take l.set-index l.sets));
+}

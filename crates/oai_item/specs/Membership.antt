@@ -1,0 +1,26 @@
+-- The sets that an item is in, and the setSpecs that say so. OAI-PMH 2.0, section 2.6.
+use Rattle.std.specs.Prelude.{◌≡◌, ◌≢◌, ℕ, Bool, false, ◌&&◌, not, List, [], ◌∷◌, Some, slice_get}
+use Rattle.std.specs.List.{list_any, filter}
+use Rattle.std.specs.Str.{bytes_eq}
+use Rattle.oai_names.specs.Sets.{covers}
+
+-- an item of these setSpecs is in the set s: one of them is s, or begins with s and a colon
+unfoldable pub is_in : List ℕ → List (List ℕ) → Bool
+is_in s sets = list_any (covers s) sets
+
+-- the setSpec s covers the setSpec t, and is another
+unfoldable pub is_above : List ℕ → List ℕ → Bool
+is_above s t = covers s t && not (bytes_eq s t)
+
+-- the texts without repetitions: of equal ones the first stays
+unfoldable pub distinct : List (List ℕ) → List (List ℕ)
+distinct [] = []
+distinct (s ∷ sets) = s ∷ filter (λ t. not (bytes_eq s t)) (distinct sets)
+
+-- the setSpecs without repetitions, and without any that covers another of them
+unfoldable pub reduced : List (List ℕ) → List (List ℕ)
+reduced sets = filter (λ s. not (list_any (is_above s) sets)) (distinct sets)
+
+-- of two setSpecs at different places neither covers the other
+abbrev pub AreApart : List (List ℕ) → Type 0
+AreApart sets = (i j : ℕ) (s t : List ℕ) → slice_get sets i ≡ Some s → slice_get sets j ≡ Some t → i ≢ j → covers s t ≡ false

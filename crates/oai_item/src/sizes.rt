@@ -1,0 +1,88 @@
+ghost use Rattle.std.specs.Prelude.{◌+◌, length};
+ghost use Rattle.oai_item.specs.Encoding.{IsMeasure, encoded_field, encoded_list, encoded_record, encoded_text};
+
+use crate::fields::Field;
+use oai_names::{Prefix, Sequence, SetSpec};
+use thiserror::Error;
+
+/// The most bytes that the spelling of an item has.
+const MOST_BYTES: usize = 16_000;
+
+/// The bytes of a count in the spelling of an item.
+const COUNT_BYTES: usize = 4;
+
+/// The spelling of an item has more than 16,000 bytes.
+#[derive(Clone, Copy, Debug, PartialEq, Eq, Error)]
+#[error("the encoded item has more than 16,000 bytes")]
+pub struct TooLarge;
+
+/// The sum, where it is at most 16,000.
+fn plus(size: usize, more: usize) -> Result<usize, TooLarge>
+    ensures { IsMeasure (size + more) result }
+{
+    match size.checked_add(more) {
+        Some(sum) if sum <= MOST_BYTES => Ok(sum),
+        _ => Err(TooLarge),
+    }
+}
+
+/// So many bytes, and those of the text.
+pub(crate) fn with_text(size: usize, text: &str) -> Result<usize, TooLarge>
+    ensures { IsMeasure (size + length (encoded_text text.now)) result }
+{
+    let front = plus(size, COUNT_BYTES)?;
+    plus(front, text.len())
+}
+
+/// So many bytes, and those of the list of sets.
+pub(crate) fn with_sets(size: usize, sets: &[SetSpec]) -> Result<usize, TooLarge>
+    ensures { IsMeasure (size + length (encoded_list encoded_text sets.now)) result }
+{
+    let mut sum = plus(size, COUNT_BYTES)?;
+    for set in sets {
+        sum = with_text(sum, set.as_str())?;
+    }
+    Ok(sum)
+}
+
+/// So many bytes, and those of the list of records.
+pub(crate) fn with_records(
+    size: usize,
+    records: &[(Prefix, Sequence<Field>)],
+) -> Result<usize, TooLarge>
+    ensures { IsMeasure (size + length (encoded_list encoded_record records.now)) result }
+{
+    let mut sum = plus(size, COUNT_BYTES)?;
+    for format in records {
+        sum = with_record(sum, format)?;
+    }
+    Ok(sum)
+}
+
+/// So many bytes, and those of a record.
+fn with_record(size: usize, format: &(Prefix, Sequence<Field>)) -> Result<usize, TooLarge>
+    ensures { IsMeasure (size + length (encoded_record format.now)) result }
+{
+    let (prefix, fields) = format;
+    let front = with_text(size, prefix.as_str())?;
+    with_fields(front, fields.as_slice())
+}
+
+/// So many bytes, and those of the list of fields.
+fn with_fields(size: usize, fields: &[Field]) -> Result<usize, TooLarge>
+    ensures { IsMeasure (size + length (encoded_list encoded_field fields.now)) result }
+{
+    let mut sum = plus(size, COUNT_BYTES)?;
+    for field in fields {
+        sum = with_field(sum, field)?;
+    }
+    Ok(sum)
+}
+
+/// So many bytes, and those of a field.
+fn with_field(size: usize, field: &Field) -> Result<usize, TooLarge>
+    ensures { IsMeasure (size + length (encoded_field field.now)) result }
+{
+    let front = with_text(size, field.name.as_str())?;
+    with_text(front, field.text.as_str())
+}
