@@ -1,7 +1,6 @@
 -- The parent of a set: what `rsplit_once` at a colon gives, and that it stands before the set.
-use Rattle.std.proofs.Common.{◌≡◌, ◌≢◌, ◌∙◌, ℕ, ◌+◌, ◌-◌, ◌<◌, ◌≤◌, true, false, not, List, [], ◌∷◌, ◌++◌, length, take, drop, get_or, Option, None, Some, ◌⊎◌, inl, inr, refl, sym, ap, subst, arith, append_assoc, length-append, length-drop, lit<}
-use Rattle.std.specs.List.{list_any, suffix_len, before_last}
-use Rattle.std.specs.Option.{MatchOption, option_map}
+use Rattle.std.proofs.Common.{◌≡◌, ◌≢◌, ◌∙◌, ℕ, ◌+◌, ◌-◌, ◌<◌, ◌≤◌, true, false, not, List, [], ◌∷◌, ◌++◌, length, take, drop, get_or, None, Some, ◌⊎◌, inl, inr, refl, sym, ap, subst, arith, append_assoc, length-append, length-drop, lit<}
+use Rattle.std.specs.List.{list_any, suffix_len}
 use Rattle.std.specs.Str.{NoCharPasses}
 use Rattle.std.specs.Str.Pattern.{RFindsChar}
 use Rattle.std.proofs.lemmas.Bool.{cases_Bool, eqb-true, or_from, or_right, eq-eqb, ne_eqb, not_from_true, not_from_false, cond-true, cond-false, true≢false}
@@ -77,8 +76,8 @@ pub parent_splits_off : (path p : List ℕ) → parent_of path ≡ Some p → (l
 parent_splits_off path p is = elim (last_colon path) [
   | inl none ↦ absurd (none-some p (root_of path none ∙ is))
   | inr w ↦
-    let same : w.0 ≡ p = same_Some _ _ (path_parent w.0 w.1 w.3 ∙ ap parent_of (sym w.2) ∙ is) in
-    (w.1, w.2 ∙ ap (λ front. front ++ 58 ∷ w.1) same, w.3)
+      let same : w.0 ≡ p = same_Some _ _ (path_parent w.0 w.1 w.3 ∙ ap parent_of (sym w.2) ∙ is) in
+      (w.1, w.2 ∙ ap (λ front. front ++ 58 ∷ w.1) same, w.3)
 ]
 
 -- where two colons of a path stand, and the second is the last: the first front is the second, or lies above it

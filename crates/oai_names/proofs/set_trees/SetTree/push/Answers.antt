@@ -1,4 +1,4 @@
-use Rattle.std.proofs.Common.{◌≡◌, ◌∙◌, ◌≤◌, ◌++◌, [], ◌∷◌, length, ap, arith}
+use Rattle.std.proofs.Common.{◌≡◌, ◌∙◌, ◌++◌, [], ◌∷◌, ap}
 use Rattle.std.specs.String.{string_bytes}
 use Rattle.oai_names.specs.Sets.{has_set, has_parent}
 use Rattle.oai_names.proofs.Additions.{IsSetTree-push, index_push}
