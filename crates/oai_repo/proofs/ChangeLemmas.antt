@@ -80,10 +80,11 @@ pub deposit_failed : (config : Config) (clock stamp : ℤ) (items new : List Ite
     → IsDone (option_or (deposit_refusal config sets items deposit) (item_refusal config items (item_of stamp deposit))) items (placed (item_of stamp deposit) (without deposit.identifier items)) (Err r) new
     → IsMade config (record { clock = clock; items = items; sets = sets }) asked (Err r) (record { clock = clock; items = new; sets = sets })
 unfolding refusal_of
-deposit_failed config clock stamp items new sets asked deposit (refusal.Refused cause) is stamped done =
-    (ap (refusal_of config (record { clock = clock; items = items; sets = sets })) is
-    ∙ ap (λ (s : ℤ). option_or (deposit_refusal config sets items deposit) (item_refusal config items (item_of s deposit))) (sym stamped) ∙ done.0
-    , ap (λ (xs : List ItemState). record { clock = clock; items = xs; sets = sets }) done.1)
+deposit_failed config clock stamp items new sets asked deposit (refusal.Refused cause) is stamped done = (
+  ap (refusal_of config (record { clock = clock; items = items; sets = sets })) is
+      ∙ ap (λ (s : ℤ). option_or (deposit_refusal config sets items deposit) (item_refusal config items (item_of s deposit))) (sym stamped) ∙ done.0,
+  ap (λ (xs : List ItemState). record { clock = clock; items = xs; sets = sets }) done.1,
+)
 deposit_failed config clock stamp items new sets asked deposit (refusal.Fault fault) is stamped done =
     ap (λ (xs : List ItemState). record { clock = clock; items = xs; sets = sets }) done
 
@@ -94,10 +95,11 @@ pub deposit_made : (config : Config) (clock stamp : ℤ) (items new : List ItemS
     → new ≡ placed (item_of stamp deposit) (without deposit.identifier items)
     → IsMade config (record { clock = clock; items = items; sets = sets }) (change.Deposit deposit) (Ok stamp) (record { clock = clock; items = new; sets = sets })
 unfolding refusal_of changed
-deposit_made config clock stamp items new sets deposit stamped none made =
-    (ap (λ (s : ℤ). option_or (deposit_refusal config sets items deposit) (item_refusal config items (item_of s deposit))) (sym stamped) ∙ none
-    , stamped
-    , ap (λ (xs : List ItemState). record { clock = clock; items = xs; sets = sets }) (made ∙ ap (λ (s : ℤ). placed (item_of s deposit) (without deposit.identifier items)) stamped))
+deposit_made config clock stamp items new sets deposit stamped none made = (
+  ap (λ (s : ℤ). option_or (deposit_refusal config sets items deposit) (item_refusal config items (item_of s deposit))) (sym stamped) ∙ none,
+  stamped,
+  ap (λ (xs : List ItemState). record { clock = clock; items = xs; sets = sets }) (made ∙ ap (λ (s : ℤ). placed (item_of s deposit) (without deposit.identifier items)) stamped),
+)
 
 -- a set that is not added
 pub set_failed : (config : Config) (clock : ℤ) (items : List ItemState) (sets made new : List NamedSet) (asked : Change) (set name : List ℕ) (r : Refusal)

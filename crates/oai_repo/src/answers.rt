@@ -59,11 +59,7 @@ fn asked_page(alloc: Global, found: &Snapshot<'_>, ask: &Ask) -> Result<Vec<u8>,
 }
 
 /// The page that answers a request that is none.
-fn error_page(
-    alloc: Global,
-    found: &Snapshot<'_>,
-    code: ErrorCode,
-) -> Result<Vec<u8>, AllocError>
+fn error_page(alloc: Global, found: &Snapshot<'_>, code: ErrorCode) -> Result<Vec<u8>, AllocError>
     requires { IsWritable found.now.clock }
     ensures { IfOk result (λ page. page.items ≡ document (record { date = found.now.clock; base = found.now.config.now.base; asked = no_arguments; answer = fails code })) }
 {

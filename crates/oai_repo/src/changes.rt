@@ -213,9 +213,7 @@ fn drops_format(item: Option<&Item>, records: &[Record]) -> bool
 fn have_each_record(records: &[Record], formats: &[(Prefix, Sequence<Field>)]) -> bool
     ensures { result ≡ list_all (spec.has_record records.now) formats.now }
 {
-    formats
-        .iter()
-        .all(|format| has_record(records, &format.0))
+    formats.iter().all(|format| has_record(records, &format.0))
 }
 
 fn has_record(records: &[Record], prefix: &Prefix) -> bool

@@ -26,10 +26,7 @@ fn settings_of_b(alloc: Global) -> Result<Settings, AllocError> {
 }
 
 fn repository_b(alloc: Global) -> Result<Repo, Fail> {
-    Ok(Repo::new(
-        alloc,
-        RepoConfig::new(alloc, settings_of_b(alloc)?)?,
-    )?)
+    Ok(Repo::new(alloc, RepoConfig::new(alloc, settings_of_b(alloc)?)?)?)
 }
 
 fn identify_of_b() -> &'static str {
@@ -175,7 +172,11 @@ fn dates_and_numbers(rt: HostRuntime) -> Result<(), Fail> {
         let mut settings = settings_of_b(alloc)?;
         settings.earliest = earliest;
         settings.lists = 10_001;
-        assert_eq!(rt; fault_of(alloc, settings), Some(ConfigFault::BadDate), "{earliest}");
+        assert_eq!(rt;
+            fault_of(alloc, settings),
+            Some(ConfigFault::BadDate),
+            "{earliest}"
+        );
     }
     let mut settings = settings_of_b(alloc)?;
     settings.items = 1_000_001;

@@ -194,7 +194,11 @@ fn stop_at(rt: &impl Abort, alloc: Global, input: &str) -> Result<Stop, Fail> {
 #[test]
 fn bad_exchanges(rt: HostRuntime) -> Result<(), Fail> {
     for line in transcripts::bad_lines().lines() {
-        assert_eq!(rt; stop_at(&rt, rt.alloc(), line)?, Stop::BadExchange(1), "{line}");
+        assert_eq!(rt;
+            stop_at(&rt, rt.alloc(), line)?,
+            Stop::BadExchange(1),
+            "{line}"
+        );
     }
     Ok(())
 }
