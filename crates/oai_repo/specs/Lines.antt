@@ -1,5 +1,5 @@
 -- One line of a deposit: which change it asks for, or the first cause to refuse it.
-use Rattle.std.specs.Prelude.{◌≡◌, ℕ, Bool, true, ◌&&◌, nat_le, if◌then◌else◌, List, [], ◌∷◌, length, codes, option_map, Result, Ok, Err}
+use Rattle.std.specs.Prelude.{◌≡◌, ℕ, Bool, ◌&&◌, nat_le, if◌then◌else◌, List, [], ◌∷◌, length, codes, option_map, Result, Ok, Err}
 use Rattle.std.specs.List.{list_all}
 use Rattle.std.specs.Option.{ok_or}
 use Rattle.std.specs.Str.{is_utf8}
@@ -10,7 +10,7 @@ use Rattle.oai_names.specs.Names.{is_identifier}
 use Rattle.oai_names.specs.Sets.{is_set_spec}
 use Rattle.oai_names.specs.Text.{is_xml_text}
 use Rattle.oai_item.specs.declared.fields.Field.{Field}
-use Rattle.oai_item.specs.Item.{Metadata, are_rising}
+use Rattle.oai_item.specs.Item.{Metadata}
 use Rattle.oai_repo.specs.Configured.{is_short_text}
 use Rattle.oai_repo.specs.Json.{values_in, members_in, has_members}
 use Rattle.oai_repo.specs.declared.lines.Change.{Change}
@@ -188,16 +188,6 @@ line_of line = do
   d ← json_of line
   asked ← shape_of d
   checked asked
-
--- the prefixes of the records of a command rise, byte by byte
-abbrev pub command_rises : Command → Bool
-command_rises (command.Deposit identifier sets records) = are_rising records
-command_rises (command.AddSet spec name) = true
-
--- the prefixes of the records of a change rise, byte by byte
-abbrev pub rises : Change → Bool
-rises (change.Deposit deposit) = are_rising deposit.records
-rises (change.AddSet spec name) = true
 
 -- the line of the answer
 abbrev pub refusal_line : LineRefusal → List ℕ

@@ -4,9 +4,8 @@ ghost use Rattle.std.specs.Option.{option_copied, option_or};
 ghost use Rattle.std.specs.Str.{bytes_eq};
 ghost use Rattle.oai_names.specs.Sets.{has_set};
 ghost use Rattle.oai_time.specs.Stamp.{IsWritable};
-ghost use Rattle.oai_item.specs.Item.{IsStamp, are_rising};
+ghost use Rattle.oai_item.specs.Item.{IsStamp};
 ghost use Rattle.oai_repo.specs.Changes as spec;
-ghost use Rattle.oai_repo.specs.Lines.{rises};
 ghost use Rattle.oai_repo.specs.State.{are_apart, are_in_order, item_cmp, item_named, placed, precedes, without};
 
 use crate::config::RepoConfig;
@@ -31,8 +30,7 @@ pub(crate) fn make(
     sets: &mut SetTree,
     change: &Change,
 ) -> Result<i64, Refusal>
-    requires dated { IsWritable clock }
-    requires rising { rises change.now ≡ true }
+    requires { IsWritable clock }
     ensures made { spec.IsMade config.now (record { clock = clock; items = items.old.items; sets = sets.old }) change.now result (record { clock = clock; items = items.new.items; sets = sets.new }) }
     ensures dated { IfOk result IsWritable }
     ensures ordered { are_in_order items.old.items ≡ true → are_in_order items.new.items ≡ true }
@@ -74,8 +72,7 @@ fn put_deposit(
     items: &mut Vec<Item>,
     deposit: &Deposit,
 ) -> Result<(), Refusal>
-    requires stamped { IsStamp stamp }
-    requires rising { are_rising deposit.now.records ≡ true }
+    requires { IsStamp stamp }
     ensures { spec.IsDone
         (option_or (spec.deposit_refusal config.now sets.now items.old.items deposit.now) (spec.item_refusal config.now items.old.items (spec.item_of stamp deposit.now)))
         items.old.items
@@ -239,7 +236,6 @@ fn item_of(
     deposit: &Deposit,
 ) -> Result<Item, AllocError>
     requires stamped { IsStamp stamp }
-    requires rising { are_rising deposit.now.records ≡ true }
     requires carries { deposit.now.records ≢ [] }
     requires known { list_all (spec.has_format formats.now) deposit.now.records ≡ true }
     ensures { IfOk result (λ item. item ≡ spec.item_of stamp deposit.now) }

@@ -1,14 +1,14 @@
-ghost use Rattle.std.specs.Prelude.{◌≡◌, ◌≤◌, length, true, is_some, map, string_bytes, IfOk};
+ghost use Rattle.std.specs.Prelude.{◌≡◌, ◌≤◌, length, is_some, map, string_bytes};
 ghost use Rattle.std.specs.List.{list_all};
 ghost use Rattle.serde_json.specs.Find.{get};
 ghost use Rattle.serde_json.specs.View.{view};
-ghost use Rattle.oai_item.specs.Item.{are_rising};
 ghost use Rattle.oai_repo.specs.Json as json;
 ghost use Rattle.oai_repo.specs.Lines as spec;
 ghost use Rattle.oai_repo.specs.Shapes.{ShapeLaw};
 ghost use Rattle.oai_repo.specs.declared.lines.LineFault.TheVariants.{NoMemory};
 
 use crate::config::is_short_text;
+use crate::records::Records;
 use oai_item::Field;
 use oai_names::{Identifier, NameFault, Sequence, SetSpec, Text, is_xml_text};
 use serde_json::Value;
@@ -23,8 +23,8 @@ pub struct Deposit {
     pub identifier: Identifier,
     /// The setSpecs of the sets, as they were given.
     pub sets: Sequence<SetSpec>,
-    /// The record under each metadataPrefix, in the order of the prefixes' bytes.
-    pub records: Sequence<(Text, Sequence<Field>)>,
+    /// The record under each metadataPrefix.
+    pub records: Records,
 }
 
 /// What a line asks for.
@@ -111,7 +111,7 @@ enum Command {
     Deposit {
         identifier: Text,
         sets: Sequence<Text>,
-        records: Sequence<(Text, Sequence<Field>)>,
+        records: Records,
     },
     AddSet {
         spec: Text,
@@ -122,11 +122,10 @@ enum Command {
 /// Reads one line of a deposit, without its line end: a JSON object (RFC 8259) of exactly the
 /// members of a command. The errors, in this order: `BadJson`, `BadCommand`, `BadIdentifier`,
 /// `BadSetSpec`, `BadText`, each for the whole line before the next; and at any point `NoMemory`. Of
-/// two members of one name the last counts. The prefixes of the records rise strictly by their bytes.
+/// two members of one name the last counts.
 #[tactic(auto, unfolding(crate::specs::Lines::line_of))]
 pub fn read_line(alloc: Global, line: &[u8]) -> Result<Change, LineFault>
-    ensures gives { spec.Gives result (spec.line_of line.now) }
-    ensures rising { IfOk result (λ change. spec.rises change ≡ true) }
+    ensures { spec.Gives result (spec.line_of line.now) }
 {
     let value = json_of(alloc, line)?;
     let command = shape_of(alloc, &value)?;
@@ -148,8 +147,7 @@ fn json_of(alloc: Global, line: &[u8]) -> Result<Value, LineFault>
 /// The command that the value has the shape of.
 #[tactic(auto, unfolding(crate::specs::Lines::shape_of))]
 fn shape_of(alloc: Global, value: &Value) -> Result<Command, LineFault>
-    ensures gives { spec.Gives result (spec.shape_of (view value.now)) }
-    ensures rising { IfOk result (λ command. spec.command_rises command ≡ true) }
+    ensures { spec.Gives result (spec.shape_of (view value.now)) }
 {
     if has_members(value, &["deposit", "sets", "records"]) {
         deposit_of(alloc, value)
@@ -168,8 +166,7 @@ pub fn shape_law()
 
 #[tactic(auto, unfolding(crate::specs::Lines::deposit_of))]
 fn deposit_of(alloc: Global, value: &Value) -> Result<Command, LineFault>
-    ensures gives { spec.Gives result (spec.deposit_of (view value.now)) }
-    ensures rising { IfOk result (λ command. spec.command_rises command ≡ true) }
+    ensures { spec.Gives result (spec.deposit_of (view value.now)) }
 {
     let identifier = text_of(alloc, member_of(value, "deposit")?)?;
     let sets = texts_of(alloc, member_of(value, "sets")?)?;
@@ -183,8 +180,7 @@ fn deposit_of(alloc: Global, value: &Value) -> Result<Command, LineFault>
 
 #[tactic(auto, unfolding(crate::specs::Lines::add_set_of))]
 fn add_set_of(alloc: Global, value: &Value) -> Result<Command, LineFault>
-    ensures gives { spec.Gives result (spec.add_set_of (view value.now)) }
-    ensures rising { IfOk result (λ command. spec.command_rises command ≡ true) }
+    ensures { spec.Gives result (spec.add_set_of (view value.now)) }
 {
     let spec = text_of(alloc, member_of(value, "set")?)?;
     let name = text_of(alloc, member_of(value, "name")?)?;
@@ -309,9 +305,8 @@ fn fields_in(alloc: Global, values: &[Value]) -> Result<Sequence<Field>, LineFau
 }
 
 #[tactic(auto, unfolding(crate::specs::Lines::records_of))]
-fn records_of(alloc: Global, value: &Value) -> Result<Sequence<(Text, Sequence<Field>)>, LineFault>
-    ensures gives { spec.Gives result (spec.records_of (view value.now)) }
-    ensures rising { IfOk result (λ records. are_rising records ≡ true) }
+fn records_of(alloc: Global, value: &Value) -> Result<Records, LineFault>
+    ensures { spec.Gives result (spec.records_of (view value.now)) }
 {
     match value {
         Value::Object(members) => records_in(alloc, members),
@@ -321,28 +316,22 @@ fn records_of(alloc: Global, value: &Value) -> Result<Sequence<(Text, Sequence<F
 
 /// The record that each member is, in the order of the prefixes.
 #[tactic(auto, using(crate::proofs::LineLemmas::starts), unfolding(crate::specs::Lines::record_of))]
-fn records_in(
-    alloc: Global,
-    members: &BTreeMap<String, Value>,
-) -> Result<Sequence<(Text, Sequence<Field>)>, LineFault>
-    ensures gives { spec.Gives result
+fn records_in(alloc: Global, members: &BTreeMap<String, Value>) -> Result<Records, LineFault>
+    ensures { spec.Gives result
         (spec.each_of spec.record_of (map (λ m. (string_bytes m.0, view m.1)) members.now.entries)) }
-    ensures rising { IfOk result (λ records. are_rising records ≡ true) }
 {
     let mut records = Vec::new(alloc);
     for (prefix, fields) in members.iter() {
         let prefix = Text::new(alloc, prefix.as_str())?;
         records.push((prefix, fields_of(alloc, fields)?))?;
     }
-    Ok(Sequence::new(records))
+    Ok(Records::new(Sequence::new(records)))
 }
 
 /// The change that the command asks for, once its texts are looked at.
 #[tactic(auto, unfolding(crate::specs::Lines::checked, crate::specs::Lines::xml_records, crate::specs::Lines::set_name_of))]
 fn checked(alloc: Global, command: Command) -> Result<Change, LineFault>
-    ensures gives { spec.Gives result (spec.checked command) }
-    ensures rising { spec.command_rises command ≡ true
-        → IfOk result (λ change. spec.rises change ≡ true) }
+    ensures { spec.Gives result (spec.checked command) }
 {
     match command {
         Command::Deposit {

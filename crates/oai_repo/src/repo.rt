@@ -2,7 +2,6 @@ ghost use Rattle.std.specs.Prelude.{◌≡◌, true, IfOk};
 ghost use Rattle.oai_time.specs.Stamp.{IsWritable};
 ghost use Rattle.oai_repo.specs.Changes.{IsChanged};
 ghost use Rattle.oai_repo.specs.Held.{IsHeld, IsNew, state_of};
-ghost use Rattle.oai_repo.specs.Lines.{rises};
 ghost use Rattle.oai_repo.specs.State.{moved};
 ghost use Rattle.oai_repo.specs.Step.{IsAsked};
 
@@ -80,9 +79,7 @@ impl Repo {
 
     /// Makes a change at the moment, in seconds from 1970 on, and answers its datestamp. A change
     /// that is refused has moved the clock and nothing else; a fault leaves everything as it was.
-    /// The prefixes of the records rise by their bytes.
     pub fn change(&mut self, moment: i64, change: &Change) -> Result<i64, Refusal>
-        requires { rises change.now ≡ true }
         ensures changed { IsChanged self.old moment change.now result self.new }
         ensures dated { IfOk result IsWritable }
     {

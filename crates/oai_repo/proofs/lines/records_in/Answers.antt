@@ -15,7 +15,7 @@ loop-prefix-preserved c =
     let left = ap (λ es. with_front c.loop-prefix.records.items (each_of record_of (map seen es))) c.in-Some.ensures.steps in
     rw c.in_ok-push.ensures.items (goes_on record_of c.loop-prefix.records.items (seen e) (map seen c.next.new.self) _ _ read (sym left ∙ c.loop-prefix.invariant))
 
-pub returns-clause-rising : goal.returns-clause-rising
-returns-clause-rising c =
+pub new-requires-3 : goal.new-requires-3
+new-requires-3 c =
     let all = is_done record_of c.loop-prefix.records.items (map seen c.loop-prefix.prefix-iterator) _ (ap (map seen) c.in-None.ensures.steps.0) c.loop-prefix.invariant in
     rw c.new-2.ensures (rising c.args.members.now.entries c.loop-prefix.records.items all c.iter-prefix-items.ensures.ordered)

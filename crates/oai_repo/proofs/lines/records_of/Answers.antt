@@ -1,5 +1,5 @@
 use Rattle.oai_repo.proofs.LineLemmas.{records_of-Object}
 use Rattle.oai_repo.proofs.lines.records_of.Goals as goal
 
-pub returns-in-Object-clause-gives : goal.returns-in-Object-clause-gives
-returns-in-Object-clause-gives c = rw (c.in-Object.is, records_of-Object c.in-Object.members) c.records_in.ensures.gives
+pub returns-in-Object : goal.returns-in-Object
+returns-in-Object c = rw (c.in-Object.is, records_of-Object c.in-Object.members) c.records_in.ensures
