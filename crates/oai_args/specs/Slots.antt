@@ -1,4 +1,5 @@
--- What one pass over the pairs keeps of them.
+-- What one pass over the pairs keeps of them. These words are the reader's own: no public contract names them, and a lemma
+-- (`SlotLemmas.request_in_slots`) ties them to those of `Requests`.
 use Rattle.std.specs.Prelude.{ℕ, Bool, true, false, ◌&&◌, List, [], ◌∷◌, codes, Option, Some, None, if◌then◌else◌}
 use Rattle.oai_names.specs.Names.{is_prefix}
 use Rattle.oai_names.specs.declared.list_verbs.ListVerb.{ListVerb}

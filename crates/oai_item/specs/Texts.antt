@@ -1,4 +1,4 @@
--- Sorted sets of texts.
+-- Sorted sets of texts, as the reduction of sets uses them: this repository's own.
 use Rattle.std.specs.Prelude.{ℕ, Bool, List}
 use Rattle.std.specs.BTreeSet.{BTreeSet, contains_by}
 use Rattle.std.specs.Cmp.Lexicographic.{slice_cmp}

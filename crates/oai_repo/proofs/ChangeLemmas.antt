@@ -6,7 +6,7 @@ use Rattle.oai_names.specs.Sets.{has_set}
 use Rattle.oai_item.specs.Item.{ItemState, Metadata}
 use Rattle.oai_time.specs.Clock.{tick}
 use Rattle.oai_time.specs.Stamp.{stamp_of}
-use Rattle.oai_repo.specs.Changes.{refusal_of, deposit_refusal, item_refusal, set_refusal, change_of, answered_change, changed, stamp_at, item_of, has_format, is_dublin_core, IsMade, IsDone}
+use Rattle.oai_repo.specs.Changes.{refusal_of, deposit_refusal, item_refusal, set_refusal, change_of, answered_change, changed, early_refusal, stamp_at, item_of, has_format, is_dublin_core, IsMade, IsDone}
 use Rattle.oai_repo.specs.Configured.{Config}
 use Rattle.oai_repo.specs.State.{State, NamedSet, moved, placed, without}
 use Rattle.oai_repo.specs.declared.lines.Change.{Change}
@@ -46,78 +46,75 @@ any_is_there p [] h = cc
 any_is_there p (record' ∷ records) h = λ e. cc
 
 -- of a deposit that may stand as it is: the repository has each format
-pub known_formats : (config : Config) (sets : List NamedSet) (items : List ItemState) (deposit : Deposit)
-    → deposit_refusal config sets items deposit ≡ None → list_all (has_format config.formats) deposit.records ≡ true
+pub known_formats : (config : Config) (sets : List NamedSet) (deposit : Deposit)
+    → deposit_refusal config sets deposit ≡ None → list_all (has_format config.formats) deposit.records ≡ true
 unfolding deposit_refusal
-known_formats config sets items deposit h =
+known_formats config sets deposit h =
     let after_sets = passed (not (list_all (has_set sets) deposit.sets)) UnknownSet _ h in
     let after_formats = passed (not (list_all (has_format config.formats) deposit.records)) UnknownFormat _ after_sets.1 in
     is_true (list_all (has_format config.formats) deposit.records) after_formats.0
 
 -- and there is a record
-pub carries_record : (config : Config) (sets : List NamedSet) (items : List ItemState) (deposit : Deposit)
-    → deposit_refusal config sets items deposit ≡ None → deposit.records ≢ []
+pub carries_record : (config : Config) (sets : List NamedSet) (deposit : Deposit)
+    → deposit_refusal config sets deposit ≡ None → deposit.records ≢ []
 unfolding deposit_refusal
-carries_record config sets items deposit h =
+carries_record config sets deposit h =
     let after_sets = passed (not (list_all (has_set sets) deposit.sets)) UnknownSet _ h in
     let after_formats = passed (not (list_all (has_format config.formats) deposit.records)) UnknownFormat _ after_sets.1 in
     let after_core = passed (not (list_any is_dublin_core deposit.records)) NoDc _ after_formats.1 in
     any_is_there is_dublin_core deposit.records (is_true (list_any is_dublin_core deposit.records) after_core.0)
-
--- the first of two causes
-pub first_cause : {A : Type 0} (one two : Option A) (cause : A) → one ≡ Some cause → option_or one two ≡ Some cause
-first_cause one two cause is = rw is refl
-
--- the second, where there is no first
-pub second_cause : {A : Type 0} (one two rest : Option A) → one ≡ None → two ≡ rest → option_or one two ≡ rest
-second_cause one two rest none is = rw none is
 
 -- ---- the state after a call that makes a change in a part of it
 
 -- a deposit that is not made
 pub deposit_failed : (config : Config) (clock stamp : ℤ) (items new : List ItemState) (sets : List NamedSet) (asked : Change) (deposit : Deposit) (r : Refusal)
     → asked ≡ change.Deposit deposit → stamp ≡ stamp_of config.granularity clock
-    → IsDone (option_or (deposit_refusal config sets items deposit) (item_refusal config items (item_of stamp deposit))) items (placed (item_of stamp deposit) (without deposit.identifier items)) (Err r) new
+    → IsDone (deposit_refusal config sets deposit) (item_refusal config items (item_of stamp deposit)) items (placed (item_of stamp deposit) (without deposit.identifier items)) (Err r) new
     → IsMade config (record { clock = clock; items = items; sets = sets }) asked (Err r) (record { clock = clock; items = new; sets = sets })
 unfolding refusal_of
 deposit_failed config clock stamp items new sets asked deposit (refusal.Refused cause) is stamped done = (
   ap (refusal_of config (record { clock = clock; items = items; sets = sets })) is
-      ∙ ap (λ (s : ℤ). option_or (deposit_refusal config sets items deposit) (item_refusal config items (item_of s deposit))) (sym stamped) ∙ done.0,
+      ∙ ap (λ (s : ℤ). option_or (deposit_refusal config sets deposit) (item_refusal config items (item_of s deposit))) (sym stamped) ∙ done.0,
   ap (λ (xs : List ItemState). record { clock = clock; items = xs; sets = sets }) done.1,
 )
 deposit_failed config clock stamp items new sets asked deposit (refusal.Fault fault) is stamped done =
-    ap (λ (xs : List ItemState). record { clock = clock; items = xs; sets = sets }) done
+    (ap (early_refusal config (record { clock = clock; items = items; sets = sets })) is ∙ done.0, ap (λ (xs : List ItemState). record { clock = clock; items = xs; sets = sets }) done.1)
 
 -- a deposit that is made
 pub deposit_made : (config : Config) (clock stamp : ℤ) (items new : List ItemState) (sets : List NamedSet) (deposit : Deposit)
     → stamp ≡ stamp_of config.granularity clock
-    → option_or (deposit_refusal config sets items deposit) (item_refusal config items (item_of stamp deposit)) ≡ None
+    → option_or (deposit_refusal config sets deposit) (item_refusal config items (item_of stamp deposit)) ≡ None
     → new ≡ placed (item_of stamp deposit) (without deposit.identifier items)
     → IsMade config (record { clock = clock; items = items; sets = sets }) (change.Deposit deposit) (Ok stamp) (record { clock = clock; items = new; sets = sets })
 unfolding refusal_of changed
 deposit_made config clock stamp items new sets deposit stamped none made = (
-  ap (λ (s : ℤ). option_or (deposit_refusal config sets items deposit) (item_refusal config items (item_of s deposit))) (sym stamped) ∙ none,
+  ap (λ (s : ℤ). option_or (deposit_refusal config sets deposit) (item_refusal config items (item_of s deposit))) (sym stamped) ∙ none,
   stamped,
   ap (λ (xs : List ItemState). record { clock = clock; items = xs; sets = sets }) (made ∙ ap (λ (s : ℤ). placed (item_of s deposit) (without deposit.identifier items)) stamped),
 )
 
+-- no cause is looked for later
+no_later : {A : Type 0} (o : Option A) → o ≡ option_or o None
+no_later None = refl
+no_later (Some x) = refl
+
 -- a set that is not added
 pub set_failed : (config : Config) (clock : ℤ) (items : List ItemState) (sets made new : List NamedSet) (asked : Change) (set name : List ℕ) (r : Refusal)
-    → asked ≡ change.AddSet set name → IsDone (set_refusal sets set) sets made (Err r) new
+    → asked ≡ change.AddSet set name → IsDone (set_refusal sets set) None sets made (Err r) new
     → IsMade config (record { clock = clock; items = items; sets = sets }) asked (Err r) (record { clock = clock; items = items; sets = new })
 unfolding refusal_of
 set_failed config clock items sets made new asked set name (refusal.Refused cause) is done =
-    (ap (refusal_of config (record { clock = clock; items = items; sets = sets })) is ∙ done.0, ap (λ (xs : List NamedSet). record { clock = clock; items = items; sets = xs }) done.1)
+    (ap (refusal_of config (record { clock = clock; items = items; sets = sets })) is ∙ no_later (set_refusal sets set) ∙ done.0, ap (λ (xs : List NamedSet). record { clock = clock; items = items; sets = xs }) done.1)
 set_failed config clock items sets made new asked set name (refusal.Fault fault) is done =
-    ap (λ (xs : List NamedSet). record { clock = clock; items = items; sets = xs }) done
+    (ap (early_refusal config (record { clock = clock; items = items; sets = sets })) is ∙ done.0, ap (λ (xs : List NamedSet). record { clock = clock; items = items; sets = xs }) done.1)
 
 -- a set that is added
 pub set_added : (config : Config) (clock stamp : ℤ) (items : List ItemState) (sets new : List NamedSet) (set name : List ℕ)
-    → stamp ≡ stamp_of config.granularity clock → set_refusal sets set ≡ None → new ≡ sets ++ (set, name) ∷ []
+    → stamp ≡ stamp_of config.granularity clock → option_or (set_refusal sets set) None ≡ None → new ≡ sets ++ (set, name) ∷ []
     → IsMade config (record { clock = clock; items = items; sets = sets }) (change.AddSet set name) (Ok stamp) (record { clock = clock; items = items; sets = new })
 unfolding refusal_of changed
 set_added config clock stamp items sets new set name stamped none made =
-    (none, stamped, ap (λ (xs : List NamedSet). record { clock = clock; items = items; sets = xs }) made)
+    (no_later (set_refusal sets set) ∙ none, stamped, ap (λ (xs : List NamedSet). record { clock = clock; items = items; sets = xs }) made)
 
 -- ---- the same at a moment
 

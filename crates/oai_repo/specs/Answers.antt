@@ -9,18 +9,14 @@ use Rattle.oai_repo.specs.State.{State, NamedSet, item_named}
 use Rattle.oai_args.specs.Asks.{Request, asks, bad_verb, bad_argument}
 use Rattle.oai_args.specs.Pairs.{decoded_pairs}
 use Rattle.oai_args.specs.Requests.{request_of}
+use Rattle.oai_args.specs.Verbs.{name_of, verb_of_list}
 use Rattle.oai_args.specs.declared.requests.Ask.{Ask}
 use Rattle.oai_args.specs.declared.requests.Ask.TheVariants as ask
 use Rattle.oai_names.specs.declared.list_verbs.ListVerb.{ListVerb}
 use Rattle.oai_names.specs.declared.list_verbs.ListVerb.TheVariants as list
 use Rattle.oai_repo.specs.Documents.{Attributes, Description, Answer, fails, identifies, gives_record, lists_formats, lists_sets, offered, no_arguments, Document, document}
-use Rattle.oai_repo.specs.declared.answers.Snapshot.{Snapshot}
 use Rattle.oai_repo.specs.declared.documents.errors.ErrorCode.{ErrorCode}
 use Rattle.oai_repo.specs.declared.documents.errors.ErrorCode.TheVariants.{BadVerb, BadArgument, BadResumptionToken, CannotDisseminateFormat, IdDoesNotExist, NoMetadataFormats, NoSetHierarchy}
-
--- the state that a request finds
-abbrev pub state_in : Snapshot → State
-state_in found = record { clock = found.clock; items = found.items.now; sets = found.sets.now }
 
 -- what Identify tells
 abbrev pub description : Config → Description
@@ -91,20 +87,14 @@ answer_to config state (asks ask) = answer_to_ask config state ask
 abbrev pub asked_for : List ℕ → Attributes
 asked_for verb = record no_arguments { verb = Some verb }
 
--- the name of a verb that answers lists
-abbrev pub name_of : ListVerb → List ℕ
-name_of list.Identifiers = codes "ListIdentifiers"
-name_of list.Records = codes "ListRecords"
-name_of list.Sets = codes "ListSets"
-
 -- the arguments of a request that is well-formed
 abbrev pub arguments_of_ask : Ask → Attributes
 arguments_of_ask ask.Identify = asked_for (codes "Identify")
 arguments_of_ask (ask.Formats identifier) = record (asked_for (codes "ListMetadataFormats")) { identifier = identifier }
 arguments_of_ask ask.Sets = asked_for (codes "ListSets")
 arguments_of_ask (ask.Get identifier prefix) = record (asked_for (codes "GetRecord")) { identifier = Some identifier; prefix = Some prefix }
-arguments_of_ask (ask.List verb prefix from until set) = record (asked_for (name_of verb)) { prefix = Some prefix; from = from; until = until; set = set }
-arguments_of_ask (ask.Resume verb token) = record (asked_for (name_of verb)) { token = Some token }
+arguments_of_ask (ask.List verb prefix from until set) = record (asked_for (name_of (verb_of_list verb))) { prefix = Some prefix; from = from; until = until; set = set }
+arguments_of_ask (ask.Resume verb token) = record (asked_for (name_of (verb_of_list verb))) { token = Some token }
 
 -- the arguments of a request, as far as the document tells them
 abbrev pub arguments_of_request : Request → Attributes

@@ -45,30 +45,29 @@ are_fields_of (Some format) fields = list_all (λ field. is_among format.fields 
 abbrev pub has_known_fields : List Format → Metadata → Bool
 has_known_fields formats metadata = are_fields_of (format_named metadata.0 formats) metadata.1
 
--- there is a record of that format among these
-abbrev pub has_record : List Metadata → Metadata → Bool
-has_record records metadata = list_any (λ (r : Metadata). bytes_eq r.0 metadata.0) records
-
--- the item has, or had when it was deleted, a format of which there is no record
-abbrev pub drops_format : Option ItemState → List Metadata → Bool
-drops_format None records = false
-drops_format (Some item) records = not (list_all (has_record records) item.formats)
-
 -- why the deposit may not stand as it is: the first cause, in the order of their numbers
-unfoldable pub deposit_refusal : Config → List NamedSet → List ItemState → Deposit → Option ChangeRefusal
-deposit_refusal config sets items deposit =
+unfoldable pub deposit_refusal : Config → List NamedSet → Deposit → Option ChangeRefusal
+deposit_refusal config sets deposit =
     if not (list_all (has_set sets) deposit.sets) then Some UnknownSet
     else (if not (list_all (has_format config.formats) deposit.records) then Some UnknownFormat
     else (if not (list_any is_dublin_core deposit.records) then Some NoDc
     else (if not (list_all (has_known_fields config.formats) deposit.records) then Some UnknownField
-    else (if drops_format (item_named deposit.identifier items) deposit.records then Some DropsFormat
-    else None))))
+    else None)))
 
 -- ---- the item that a deposit makes
 
 -- live, of that datestamp, in the sets that were given, and with their records
 abbrev pub item_of : ℤ → Deposit → ItemState
 item_of stamp deposit = live_item deposit.identifier stamp (reduced deposit.sets) deposit.records
+
+-- there is a record of that format among these
+abbrev pub has_record : List Metadata → Metadata → Bool
+has_record records metadata = list_any (λ (r : Metadata). bytes_eq r.0 metadata.0) records
+
+-- the item that it replaces has, or had when it was deleted, a format of which there is no record
+abbrev pub drops_format : Option ItemState → List Metadata → Bool
+drops_format None records = false
+drops_format (Some item) records = not (list_all (has_record records) item.formats)
 
 -- its spelling has more than 16,000 bytes
 abbrev pub is_too_large : ItemState → Bool
@@ -81,9 +80,10 @@ is_one_too_many config items identifier = is_none (item_named identifier items) 
 -- why the item may not stand among these: the first cause
 unfoldable pub item_refusal : Config → List ItemState → ItemState → Option ChangeRefusal
 item_refusal config items item =
-    if is_too_large item then Some TooLarge
+    if drops_format (item_named item.identifier items) item.formats then Some DropsFormat
+    else (if is_too_large item then Some TooLarge
     else (if is_one_too_many config items item.identifier then Some TooManyItems
-    else None)
+    else None))
 
 -- ---- a new set
 
@@ -104,8 +104,13 @@ stamp_at config state = stamp_of config.granularity state.clock
 -- why a change is refused: the first cause
 unfoldable pub refusal_of : Config → State → Change → Option ChangeRefusal
 refusal_of config state (change.Deposit deposit) =
-    option_or (deposit_refusal config state.sets state.items deposit) (item_refusal config state.items (item_of (stamp_at config state) deposit))
+    option_or (deposit_refusal config state.sets deposit) (item_refusal config state.items (item_of (stamp_at config state) deposit))
 refusal_of config state (change.AddSet spec name) = set_refusal state.sets spec
+
+-- the causes among these that are looked for before any memory is taken
+abbrev pub early_refusal : Config → State → Change → Option ChangeRefusal
+early_refusal config state (change.Deposit deposit) = deposit_refusal config state.sets deposit
+early_refusal config state (change.AddSet spec name) = set_refusal state.sets spec
 
 -- the state after a change that is not refused: the items without that identifier, and the new one; or the sets, and the new
 -- one behind them
@@ -125,11 +130,12 @@ unfoldable pub change_of : Config → State → ℤ → Change → Result ℤ Ch
 change_of config state moment change =
     let now = moved moment state in answered_change (refusal_of config now change) config now change
 
--- a call of `change`: it meets the definition and keeps the configuration, or it is a fault and leaves everything as it was
+-- a call of `change`: it meets the definition and keeps the configuration; or it is a fault, where no early cause refuses the
+-- change, and leaves everything as it was
 abbrev pub IsChanged : Held → ℤ → Change → Result ℤ Refusal → Held → Type 0
 IsChanged old moment change (Ok stamp) new = (change_of old.config (state_of old) moment change ≡ (Ok stamp, state_of new)) × (new.config ≡ old.config)
 IsChanged old moment change (Err (refusal.Refused cause)) new = (change_of old.config (state_of old) moment change ≡ (Err cause, state_of new)) × (new.config ≡ old.config)
-IsChanged old moment change (Err (refusal.Fault fault)) new = new ≡ old
+IsChanged old moment change (Err (refusal.Fault fault)) new = (early_refusal old.config (state_of old) change ≡ None) × (new ≡ old)
 
 -- ---- the calls behind it
 
@@ -138,10 +144,11 @@ IsChanged old moment change (Err (refusal.Fault fault)) new = new ≡ old
 abbrev pub IsMade : Config → State → Change → Result ℤ Refusal → State → Type 0
 IsMade config old change (Ok stamp) new = (refusal_of config old change ≡ None) × (stamp ≡ stamp_at config old) × (new ≡ changed config old change)
 IsMade config old change (Err (refusal.Refused cause)) new = (refusal_of config old change ≡ Some cause) × (new ≡ old)
-IsMade config old change (Err (refusal.Fault fault)) new = new ≡ old
+IsMade config old change (Err (refusal.Fault fault)) new = (early_refusal config old change ≡ None) × (new ≡ old)
 
--- a part of the state after a change that no cause refuses, that this cause refuses, or that fails
-abbrev pub IsDone : {A : Type 0} → Option ChangeRefusal → A → A → Result (Unit {0}) Refusal → A → Type 0
-IsDone cause old made (Ok _) new = (cause ≡ None) × (new ≡ made)
-IsDone cause old made (Err (refusal.Refused refused)) new = (cause ≡ Some refused) × (new ≡ old)
-IsDone cause old made (Err (refusal.Fault fault)) new = new ≡ old
+-- a part of the state after a change that neither an early cause nor a late one refuses, that the first of them refuses, or
+-- that fails where there is no early one
+abbrev pub IsDone : {A : Type 0} → Option ChangeRefusal → Option ChangeRefusal → A → A → Result (Unit {0}) Refusal → A → Type 0
+IsDone early late old made (Ok _) new = (option_or early late ≡ None) × (new ≡ made)
+IsDone early late old made (Err (refusal.Refused refused)) new = (option_or early late ≡ Some refused) × (new ≡ old)
+IsDone early late old made (Err (refusal.Fault fault)) new = (early ≡ None) × (new ≡ old)

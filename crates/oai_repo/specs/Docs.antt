@@ -1,12 +1,17 @@
--- The plain data that a `Doc` and its parts borrow.
+-- The plain data that a `Doc` and its parts borrow, and the state that a request finds.
 use Rattle.std.specs.Option.{option_copied}
 use Rattle.oai_repo.specs.Documents.{Attributes, Description, Dissemination, Answer, fails, identifies, lists_formats, lists_sets, gives_record, Document, offered}
+use Rattle.oai_repo.specs.State.{State}
+use Rattle.oai_repo.specs.declared.answers.Snapshot.{Snapshot}
 use Rattle.oai_repo.specs.declared.documents.request.Asked.{Asked}
 use Rattle.oai_repo.specs.declared.documents.identify.Identity.{Identity}
 use Rattle.oai_repo.specs.declared.documents.records.Record.{Record}
 use Rattle.oai_repo.specs.declared.documents.Body.{Body}
 use Rattle.oai_repo.specs.declared.documents.Body.TheVariants.{Error, Identify, ListMetadataFormats, ListSets, GetRecord}
 use Rattle.oai_repo.specs.declared.documents.Doc.{Doc}
+
+abbrev pub state_in : Snapshot → State
+state_in found = record { clock = found.clock; items = found.items.now; sets = found.sets.now }
 
 abbrev pub attributes_of : Asked → Attributes
 attributes_of a = record {

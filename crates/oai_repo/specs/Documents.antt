@@ -149,7 +149,7 @@ set_element set = element (codes "set") (text_element (codes "setSpec") set.0 ++
 unfoldable pub sets_element : List (List ℕ × List ℕ) → List ℕ
 sets_element sets = element (codes "ListSets") (flat_map set_element sets)
 
--- Headers, records and metadata. Sections 2.5 and 4.1
+-- Headers, records and metadata. Sections 2.5, 2.5.1 and 4.1
 
 abbrev pub header_start : Bool → List ℕ
 header_start true = plain (codes "<header>")
@@ -231,7 +231,7 @@ attributes asked =
     ++ given_attribute (codes "set") asked.set
     ++ given_attribute (codes "resumptionToken") asked.token
 
--- those that `request` has beside an answer: none after badVerb and badArgument, since then they can't be told
+-- those that `request` has beside an answer: none after badVerb and badArgument (section 3.2: the base URL alone)
 abbrev pub attributes_beside : Answer → Attributes → List ℕ
 attributes_beside (fails BadVerb) asked = []
 attributes_beside (fails BadArgument) asked = []

@@ -1,4 +1,4 @@
--- One line of a deposit: which change it asks for, or the first cause to refuse it.
+-- One line of a deposit: which change it asks for, or the first cause to refuse it. The lines are this repository's own.
 use Rattle.std.specs.Prelude.{◌≡◌, ℕ, Bool, ◌&&◌, nat_le, if◌then◌else◌, List, [], ◌∷◌, length, codes, option_map, Result, Ok, Err}
 use Rattle.std.specs.List.{list_all}
 use Rattle.std.specs.Option.{ok_or}

@@ -1,4 +1,4 @@
--- The pieces of which documents are made: tags, elements and attributes. XML 1.0, section 3.1.
+-- The pieces of which documents are made: tags, elements and attributes. XML 1.0, sections 3 and 3.1.
 use Rattle.std.specs.Prelude.{◌≡◌, ℕ, List, ◌++◌, codes}
 use Rattle.oai_names.specs.Escapes.{escaped_text, escaped_attribute}
 

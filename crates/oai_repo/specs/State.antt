@@ -1,4 +1,5 @@
--- The state of a repository, which is all that its answers depend on beside its configuration.
+-- The state of a repository, which is all that its answers depend on beside its configuration: this
+-- repository's own view of OAI-PMH 2.0, sections 2.3 to 2.7.
 use Rattle.std.specs.Prelude.{ℕ, ℤ, Bool, true, not, ◌&&◌, List, [], ◌∷◌, Option, filter, find}
 use Rattle.std.specs.List.{insert, list_all, position_or_len}
 use Rattle.std.specs.Str.{bytes_eq}

@@ -1,4 +1,4 @@
--- The step of a repository: what a command is answered at a moment, and what it leaves.
+-- The step of a repository: what a command is answered at a moment, and what it leaves. This repository's own.
 use Rattle.std.specs.Prelude.{◌≡◌, ℕ, ℤ, List, ◌++◌, codes, Result, Ok, Err}
 use Rattle.oai_time.specs.declared.granularity.Granularity.{Granularity}
 use Rattle.oai_repo.specs.AnswerLines.{refused_line}

@@ -2,7 +2,8 @@ ghost use Rattle.std.specs.Prelude.{◌≡◌, Some, IfOk};
 ghost use Rattle.std.specs.Option.{option_copied};
 ghost use Rattle.oai_time.specs.Stamp.{IsWritable};
 ghost use Rattle.oai_repo.specs.Answers as spec;
-ghost use Rattle.oai_repo.specs.Docs.{answer_of, attributes_of, description_of, document_of};
+ghost use Rattle.oai_repo.specs.Docs.{answer_of, attributes_of, description_of, document_of, state_in};
+ghost use Rattle.oai_args.specs.Verbs.{name_of, verb_of_list};
 ghost use Rattle.oai_repo.specs.Documents.{HasWritableTimes, IsWritableDocument, document, fails, lists_formats, no_arguments, offered};
 ghost use Rattle.oai_args.specs.Asks.{asks};
 
@@ -32,7 +33,7 @@ pub(crate) struct Snapshot<'a> {
 #[tactic(auto, unfolding(crate::specs::Answers::page_at))]
 pub(crate) fn page_at(alloc: Global, found: &Snapshot<'_>, query: &[u8]) -> Result<Vec<u8>, Fault>
     requires { IsWritable found.now.clock }
-    ensures { IfOk result (λ page. page.items ≡ spec.page_at found.now.config.now (spec.state_in found.now) query.now) }
+    ensures { IfOk result (λ page. page.items ≡ spec.page_at found.now.config.now (state_in found.now) query.now) }
 {
     match read_request(alloc, query, found.config.granularity()) {
         Ok(ask) => Ok(asked_page(alloc, found, &ask)?),
@@ -45,7 +46,7 @@ pub(crate) fn page_at(alloc: Global, found: &Snapshot<'_>, query: &[u8]) -> Resu
 /// The page that answers a well-formed request.
 fn asked_page(alloc: Global, found: &Snapshot<'_>, ask: &Ask) -> Result<Vec<u8>, AllocError>
     requires { IsWritable found.now.clock }
-    ensures { IfOk result (λ page. page.items ≡ document (spec.document_at found.now.config.now (spec.state_in found.now) (asks ask.now))) }
+    ensures { IfOk result (λ page. page.items ≡ document (spec.document_at found.now.config.now (state_in found.now) (asks ask.now))) }
 {
     page_of(
         alloc,
@@ -132,7 +133,7 @@ fn asked_for(verb: &str) -> Asked<'_>
 
 /// The name of the verb.
 fn name_of(verb: ListVerb) -> &'static str
-    ensures { result.now ≡ spec.name_of verb }
+    ensures { result.now ≡ name_of (verb_of_list verb) }
 {
     match verb {
         ListVerb::Identifiers => "ListIdentifiers",
@@ -153,7 +154,7 @@ fn text_in(text: &Option<Text>) -> Option<&str>
 
 /// What a well-formed request is answered.
 fn answer_to<'a>(found: &Snapshot<'a>, ask: &Ask) -> Body<'a>
-    ensures answer { answer_of result ≡ spec.answer_to_ask found.now.config.now (spec.state_in found.now) ask.now }
+    ensures answer { answer_of result ≡ spec.answer_to_ask found.now.config.now (state_in found.now) ask.now }
     ensures writable { HasWritableTimes (answer_of result) }
 {
     match ask {

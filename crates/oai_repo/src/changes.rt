@@ -52,7 +52,7 @@ pub(crate) fn make(
 /// Adds the set as the last one, or refuses it by the first cause.
 #[tactic(auto, unfolding(crate::specs::Changes::set_refusal))]
 fn add_set(sets: &mut SetTree, set: &SetSpec, name: &str) -> Result<(), Refusal>
-    ensures { spec.IsDone (spec.set_refusal sets.old set.now) sets.old (sets.old ++ (set.now, name.now) ∷ []) result sets.new }
+    ensures { spec.IsDone (spec.set_refusal sets.old set.now) None sets.old (sets.old ++ (set.now, name.now) ∷ []) result sets.new }
 {
     match sets.add(set, name) {
         Ok(()) => Ok(()),
@@ -74,13 +74,14 @@ fn put_deposit(
 ) -> Result<(), Refusal>
     requires { IsStamp stamp }
     ensures { spec.IsDone
-        (option_or (spec.deposit_refusal config.now sets.now items.old.items deposit.now) (spec.item_refusal config.now items.old.items (spec.item_of stamp deposit.now)))
+        (spec.deposit_refusal config.now sets.now deposit.now)
+        (spec.item_refusal config.now items.old.items (spec.item_of stamp deposit.now))
         items.old.items
         (placed (spec.item_of stamp deposit.now) (without deposit.now.identifier items.old.items))
         result
         items.new.items }
 {
-    match deposit_refusal(config, sets, items, deposit) {
+    match deposit_refusal(config, sets, deposit) {
         Some(cause) => return Err(Refusal::Refused(cause)),
         None => {}
     }
@@ -105,13 +106,8 @@ pub(crate) fn item_named<'a>(identifier: &str, items: &'a [Item]) -> Option<&'a 
 
 /// Why the deposit may not stand as it is: the first cause.
 #[tactic(auto, unfolding(crate::specs::Changes::deposit_refusal))]
-fn deposit_refusal(
-    config: &RepoConfig,
-    sets: &SetTree,
-    items: &[Item],
-    deposit: &Deposit,
-) -> Option<ChangeRefusal>
-    ensures { result ≡ spec.deposit_refusal config.now sets.now items.now deposit.now }
+fn deposit_refusal(config: &RepoConfig, sets: &SetTree, deposit: &Deposit) -> Option<ChangeRefusal>
+    ensures { result ≡ spec.deposit_refusal config.now sets.now deposit.now }
 {
     let records = deposit.records.as_slice();
     if !have_sets(sets, deposit.sets.as_slice()) {
@@ -126,9 +122,6 @@ fn deposit_refusal(
     if !have_known_fields(config.formats(), records) {
         return Some(ChangeRefusal::UnknownField);
     }
-    if drops_format(item_named(deposit.identifier.as_str(), items), records) {
-        return Some(ChangeRefusal::DropsFormat);
-    }
     None
 }
 
@@ -137,6 +130,12 @@ fn deposit_refusal(
 fn item_refusal(config: &RepoConfig, items: &[Item], item: &Item) -> Option<ChangeRefusal>
     ensures { result ≡ spec.item_refusal config.now items.now item.now }
 {
+    if drops_format(
+        item_named(item.identifier().as_str(), items),
+        item.formats(),
+    ) {
+        return Some(ChangeRefusal::DropsFormat);
+    }
     if item.encoded_len().is_err() {
         return Some(ChangeRefusal::TooLarge);
     }
@@ -196,8 +195,8 @@ fn is_among(names: &[Text], name: &str) -> bool
     names.iter().any(|other| other.as_str() == name)
 }
 
-/// Whether the item has a format of which there is no record.
-fn drops_format(item: Option<&Item>, records: &[Record]) -> bool
+/// Whether the item has a format that none of the records is in.
+fn drops_format(item: Option<&Item>, records: &[(Prefix, Sequence<Field>)]) -> bool
     ensures { result ≡ spec.drops_format (option_copied item.entry) records.now }
 {
     match item {
@@ -207,13 +206,16 @@ fn drops_format(item: Option<&Item>, records: &[Record]) -> bool
 }
 
 /// Whether each format of these is one of a record.
-fn have_each_record(records: &[Record], formats: &[(Prefix, Sequence<Field>)]) -> bool
+fn have_each_record(
+    records: &[(Prefix, Sequence<Field>)],
+    formats: &[(Prefix, Sequence<Field>)],
+) -> bool
     ensures { result ≡ list_all (spec.has_record records.now) formats.now }
 {
     formats.iter().all(|format| has_record(records, &format.0))
 }
 
-fn has_record(records: &[Record], prefix: &Prefix) -> bool
+fn has_record(records: &[(Prefix, Sequence<Field>)], prefix: &Prefix) -> bool
     ensures { result ≡ list_any (λ r. bytes_eq r.0 prefix.now) records.now }
 {
     records

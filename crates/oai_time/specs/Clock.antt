@@ -1,4 +1,4 @@
--- The clock of a repository.
+-- The clock of a repository: this repository's own, since OAI-PMH only wants that datestamps do not fall behind (section 2.7.1).
 use Rattle.std.specs.Prelude.{ℤ, pos}
 use Rattle.std.specs.Int.{int_max, int_min}
 

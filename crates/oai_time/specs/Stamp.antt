@@ -1,4 +1,4 @@
--- Datestamps (OAI-PMH 2.0, "Datestamps"), as seconds from 1970-01-01T00:00:00Z.
+-- Datestamps (OAI-PMH 2.0, sections 2.7.1 and 3.3), as seconds from 1970-01-01T00:00:00Z.
 use Rattle.std.specs.Prelude.{ℤ, pos, neg_ℤ, ◌-ℤ◌}
 use Rattle.std.specs.Int.{int_rem_euclid}
 use Rattle.jiff.specs.Words.{IsBetween}

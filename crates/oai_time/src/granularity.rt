@@ -1,7 +1,7 @@
 ghost use Rattle.std.specs.Prelude.{◌≡◌, ℤ, ◌≤ℤ◌};
 ghost use Rattle.oai_time.specs.Stamp.{IsWritable, stamp_of};
 
-/// How fine the datestamps of a repository are (OAI-PMH 2.0, "Datestamps").
+/// How fine the datestamps of a repository are (OAI-PMH 2.0, section 2.7.1).
 #[derive(Clone, Copy, Debug, PartialEq, Eq)]
 pub enum Granularity {
     /// Whole days: `YYYY-MM-DD`.

@@ -1,4 +1,4 @@
-//! The time of a repository (OAI-PMH 2.0, "Datestamps"): its clock, its datestamps, their texts,
+//! The time of a repository (OAI-PMH 2.0, sections 2.7.1 and 3.3): its clock, its datestamps, their texts,
 //! and the bounds of a harvest.
 //!
 //! Times are whole seconds from 1970-01-01T00:00:00Z, negative before it, of days that each have

@@ -6,8 +6,8 @@ use Rattle.oai_repo.proofs.changes.put_deposit.Goals as goal
 
 pub item_of-requires-clause-carries : goal.item_of-requires-clause-carries
 item_of-requires-clause-carries c =
-    carries_record c.args.config.now c.args.sets.now c.args.items.now.items c.args.deposit.now (rw (← c.deref.ensures.value) (sym c.deposit_refusal.ensures ∙ c.in-None.is))
+    carries_record c.args.config.now c.args.sets.now c.args.deposit.now (sym c.deposit_refusal.ensures ∙ c.in-None.is)
 
 pub item_of-requires-clause-known : goal.item_of-requires-clause-known
 item_of-requires-clause-known c =
-    rw c.formats.ensures (known_formats c.args.config.now c.args.sets.now c.args.items.now.items c.args.deposit.now (rw (← c.deref.ensures.value) (sym c.deposit_refusal.ensures ∙ c.in-None.is)))
+    rw c.formats.ensures (known_formats c.args.config.now c.args.sets.now c.args.deposit.now (sym c.deposit_refusal.ensures ∙ c.in-None.is))
