@@ -164,6 +164,7 @@ fn add(formats: &mut Vec<Format>, format: Format) -> Result<(), FormatFault>
     }
 }
 
+/// The format of that prefix among these.
 #[tactic(auto, unfolding(crate::specs::Formats::format_named))]
 fn format_named<'a>(prefix: &str, formats: &'a [Format]) -> Option<&'a Format>
     ensures { option_copied result ≡ format_named prefix.now formats.now }
@@ -173,6 +174,7 @@ fn format_named<'a>(prefix: &str, formats: &'a [Format]) -> Option<&'a Format>
         .find(|format| format.prefix.as_str() == prefix)
 }
 
+/// The format oai_dc.
 #[tactic(auto, unfolding(crate::specs::Formats::dublin_core))]
 fn dublin_core(alloc: Global) -> Result<Format, AllocError>
     ensures { IfOk result (λ format. format ≡ dublin_core) }
@@ -186,6 +188,7 @@ fn dublin_core(alloc: Global) -> Result<Format, AllocError>
     })
 }
 
+/// Its prefix.
 #[tactic(auto, unfolding(oai_names::specs::Names::is_prefix))]
 fn dublin_core_prefix(alloc: Global) -> Result<Prefix, AllocError>
     ensures { IfOk result (λ prefix. prefix ≡ DUBLIN_CORE.now) }
@@ -198,6 +201,7 @@ fn dublin_core_prefix(alloc: Global) -> Result<Prefix, AllocError>
     }
 }
 
+/// Copies of the names.
 fn texts(alloc: Global, names: &[&str]) -> Result<Sequence<Text>, AllocError>
     ensures { IfOk result (λ texts. texts ≡ map (λ name. name.now) names.now) }
 {

@@ -31,6 +31,7 @@ pub fn escape_attr(text: &str, out: &mut Vec<u8>) -> Result<(), AllocError>
     escape(Place::Attribute, text, out)
 }
 
+/// Appends the text, each of its characters as the table spells it.
 fn escape(place: Place, text: &str, out: &mut Vec<u8>) -> Result<(), AllocError>
     ensures ok { OnOk result (out.new.items ≡ out.old.items ++ spec.escaped place text.now) }
     ensures err { OnErr result (out.new.items ≡ out.old.items) }

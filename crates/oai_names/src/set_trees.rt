@@ -134,6 +134,7 @@ impl SetTree {
         }
     }
 
+    /// Whether a set of that setSpec is there.
     fn has_text(&self, spec: &str) -> bool
         ensures { result ≡ has_set self.now spec.now }
     {

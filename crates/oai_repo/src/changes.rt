@@ -145,12 +145,14 @@ fn item_refusal(config: &RepoConfig, items: &[Item], item: &Item) -> Option<Chan
     None
 }
 
+/// Whether each setSpec is that of a set.
 fn have_sets(tree: &SetTree, specs: &[SetSpec]) -> bool
     ensures { result ≡ list_all (has_set tree.now) specs.now }
 {
     specs.iter().all(|spec| tree.has(spec))
 }
 
+/// Whether the repository has the format of each record.
 fn have_formats(formats: &Formats, records: &[Record]) -> bool
     ensures { result ≡ list_all (spec.has_format formats.now) records.now }
 {
@@ -159,12 +161,14 @@ fn have_formats(formats: &Formats, records: &[Record]) -> bool
         .all(|record| formats.find_named(record.0.as_str()).is_some())
 }
 
+/// Whether one of the records is in oai_dc.
 fn have_dublin_core(records: &[Record]) -> bool
     ensures { result ≡ list_any spec.is_dublin_core records.now }
 {
     records.iter().any(|record| record.0.as_str() == "oai_dc")
 }
 
+/// Whether each field of each record is one of its format's.
 fn have_known_fields(formats: &Formats, records: &[Record]) -> bool
     ensures { result ≡ list_all (spec.has_known_fields formats.now) records.now }
 {
@@ -183,12 +187,14 @@ fn has_known_fields(formats: &Formats, metadata: &Record) -> bool
     }
 }
 
+/// Whether each field is one of the format's.
 fn are_fields_of(format: &Format, fields: &[Field]) -> bool
     ensures { result ≡ spec.are_fields_of (Some format.now) fields.now }
 {
     fields.iter().all(|field| is_among(format.fields.as_slice(), field.name.as_str()))
 }
 
+/// Whether the name is one of these.
 fn is_among(names: &[Text], name: &str) -> bool
     ensures { result ≡ spec.is_among names.now name.now }
 {
@@ -215,6 +221,7 @@ fn have_each_record(
     formats.iter().all(|format| has_record(records, &format.0))
 }
 
+/// Whether one of the records is in the format of that prefix.
 fn has_record(records: &[(Prefix, Sequence<Field>)], prefix: &Prefix) -> bool
     ensures { result ≡ list_any (λ r. bytes_eq r.0 prefix.now) records.now }
 {
@@ -223,6 +230,7 @@ fn has_record(records: &[(Prefix, Sequence<Field>)], prefix: &Prefix) -> bool
         .any(|record| record.0.as_str() == prefix.as_str())
 }
 
+/// Whether the identifier is a new one and no further item may stand.
 #[tactic(auto, unfolding(crate::specs::Changes::is_one_too_many))]
 fn is_one_too_many(config: &RepoConfig, items: &[Item], identifier: &Identifier) -> bool
     ensures { result ≡ spec.is_one_too_many config.now items.now identifier.now }

@@ -164,6 +164,7 @@ pub fn shape_law()
     ensures { ShapeLaw }
 {}
 
+/// The deposit that an object of its members is; `BadCommand` where a value has not its shape.
 #[tactic(auto, unfolding(crate::specs::Lines::deposit_of))]
 fn deposit_of(alloc: Global, value: &Value) -> Result<Command, LineFault>
     ensures { spec.Gives result (spec.deposit_of (view value.now)) }
@@ -178,6 +179,7 @@ fn deposit_of(alloc: Global, value: &Value) -> Result<Command, LineFault>
     })
 }
 
+/// The new set that an object of its members is; `BadCommand` where a value is no string.
 #[tactic(auto, unfolding(crate::specs::Lines::add_set_of))]
 fn add_set_of(alloc: Global, value: &Value) -> Result<Command, LineFault>
     ensures { spec.Gives result (spec.add_set_of (view value.now)) }
@@ -202,6 +204,7 @@ fn has_each(value: &Value, names: &[&str]) -> bool
     names.iter().all(|name| has(value, name))
 }
 
+/// Whether the value is an object with a member of that name.
 fn has(value: &Value, name: &str) -> bool
     ensures { result ≡ is_some (get name.now (view value.now)) }
 {
@@ -218,6 +221,7 @@ fn size(value: &Value) -> usize
     }
 }
 
+/// The member of that name; `BadCommand` where there is none.
 #[tactic(auto, unfolding(crate::specs::Lines::member_of))]
 fn member_of<'v>(value: &'v Value, name: &str) -> Result<&'v Value, LineFault>
     ensures { spec.GivesBy (λ v. view v.now) result (spec.member_of name.now (view value.now)) }
@@ -228,6 +232,7 @@ fn member_of<'v>(value: &'v Value, name: &str) -> Result<&'v Value, LineFault>
     }
 }
 
+/// The values of an array; `BadCommand` at any other value.
 #[tactic(auto, unfolding(crate::specs::Lines::list_of))]
 fn list_of(value: &Value) -> Result<&[Value], LineFault>
     ensures { spec.GivesBy (λ values. map view values.now) result (spec.list_of (view value.now)) }
@@ -238,6 +243,7 @@ fn list_of(value: &Value) -> Result<&[Value], LineFault>
     }
 }
 
+/// The text of a string; `BadCommand` at any other value.
 #[tactic(auto, unfolding(crate::specs::Lines::text_of))]
 fn text_of(alloc: Global, value: &Value) -> Result<Text, LineFault>
     ensures { spec.Gives result (spec.text_of (view value.now)) }
@@ -248,6 +254,7 @@ fn text_of(alloc: Global, value: &Value) -> Result<Text, LineFault>
     }
 }
 
+/// The texts of an array of strings; `BadCommand` at any other value.
 #[tactic(auto, unfolding(crate::specs::Lines::texts_of))]
 fn texts_of(alloc: Global, value: &Value) -> Result<Sequence<Text>, LineFault>
     ensures { spec.Gives result (spec.texts_of (view value.now)) }
@@ -255,6 +262,7 @@ fn texts_of(alloc: Global, value: &Value) -> Result<Sequence<Text>, LineFault>
     texts_in(alloc, list_of(value)?)
 }
 
+/// The text of each string; `BadCommand` at the first that is none.
 #[tactic(auto, using(crate::proofs::LineLemmas::starts))]
 fn texts_in(alloc: Global, values: &[Value]) -> Result<Sequence<Text>, LineFault>
     ensures { spec.Gives result (spec.each_of spec.text_of (map view values.now)) }
@@ -266,6 +274,7 @@ fn texts_in(alloc: Global, values: &[Value]) -> Result<Sequence<Text>, LineFault
     Ok(Sequence::new(texts))
 }
 
+/// The field that `[NAME,TEXT]` is; `BadCommand` at any other value.
 #[tactic(auto, unfolding(crate::specs::Lines::field_of))]
 fn field_of(alloc: Global, value: &Value) -> Result<Field, LineFault>
     ensures { spec.Gives result (spec.field_of (view value.now)) }
@@ -273,6 +282,7 @@ fn field_of(alloc: Global, value: &Value) -> Result<Field, LineFault>
     pair_of(alloc, list_of(value)?)
 }
 
+/// The field of two strings; `BadCommand` at any other number of values.
 #[tactic(auto, unfolding(crate::specs::Lines::pair_of))]
 fn pair_of(alloc: Global, values: &[Value]) -> Result<Field, LineFault>
     ensures { spec.Gives result (spec.pair_of (map view values.now)) }
@@ -286,6 +296,7 @@ fn pair_of(alloc: Global, values: &[Value]) -> Result<Field, LineFault>
     }
 }
 
+/// The fields of an array of them; `BadCommand` at any other value.
 #[tactic(auto, unfolding(crate::specs::Lines::fields_of))]
 fn fields_of(alloc: Global, value: &Value) -> Result<Sequence<Field>, LineFault>
     ensures { spec.Gives result (spec.fields_of (view value.now)) }
@@ -293,6 +304,7 @@ fn fields_of(alloc: Global, value: &Value) -> Result<Sequence<Field>, LineFault>
     fields_in(alloc, list_of(value)?)
 }
 
+/// The field that each value is; `BadCommand` at the first that is none.
 #[tactic(auto, using(crate::proofs::LineLemmas::starts))]
 fn fields_in(alloc: Global, values: &[Value]) -> Result<Sequence<Field>, LineFault>
     ensures { spec.Gives result (spec.each_of spec.field_of (map view values.now)) }
@@ -304,6 +316,7 @@ fn fields_in(alloc: Global, values: &[Value]) -> Result<Sequence<Field>, LineFau
     Ok(Sequence::new(fields))
 }
 
+/// The records that the members of an object are; `BadCommand` at any other value.
 #[tactic(auto, unfolding(crate::specs::Lines::records_of))]
 fn records_of(alloc: Global, value: &Value) -> Result<Records, LineFault>
     ensures { spec.Gives result (spec.records_of (view value.now)) }
@@ -360,6 +373,7 @@ fn checked(alloc: Global, command: Command) -> Result<Change, LineFault>
     }
 }
 
+/// The identifier that the text is; `BadIdentifier` where it is none.
 #[tactic(auto, unfolding(crate::specs::Lines::identifier_of))]
 fn identifier_of(alloc: Global, text: &Text) -> Result<Identifier, LineFault>
     ensures { spec.Gives result (spec.identifier_of text.now) }
@@ -372,6 +386,7 @@ fn identifier_of(alloc: Global, text: &Text) -> Result<Identifier, LineFault>
     }
 }
 
+/// The setSpec that the text is; `BadSetSpec` where it is none.
 #[tactic(auto, unfolding(crate::specs::Lines::set_spec_of))]
 fn set_spec_of(alloc: Global, text: &Text) -> Result<SetSpec, LineFault>
     ensures { spec.Gives result (spec.set_spec_of text.now) }
@@ -384,6 +399,7 @@ fn set_spec_of(alloc: Global, text: &Text) -> Result<SetSpec, LineFault>
     }
 }
 
+/// The setSpec that each text is; `BadSetSpec` at the first that is none.
 #[tactic(auto, using(crate::proofs::LineLemmas::starts))]
 fn set_specs_of(alloc: Global, texts: &[Text]) -> Result<Sequence<SetSpec>, LineFault>
     ensures { spec.Gives result (spec.each_of spec.set_spec_of texts.now) }
@@ -405,6 +421,7 @@ fn have_xml_texts(records: &[(Text, Sequence<Field>)]) -> bool
         .all(|record| are_xml_texts(record.1.as_slice()))
 }
 
+/// Whether the text of each field may stand in an XML document.
 fn are_xml_texts(fields: &[Field]) -> bool
     ensures { result ≡ spec.are_xml_texts fields.now }
 {

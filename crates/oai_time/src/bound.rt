@@ -37,7 +37,7 @@ pub fn read_bound(text: &str) -> Result<Bound, BadDate>
     bound_written(text.as_bytes())
 }
 
-// The bound whose text it is.
+/// The bound whose text it is.
 fn bound_written(text: &[u8]) -> Result<Bound, BadDate>
     ensures found { IfOk result (IsBound text.now) }
     ensures only { (bound : Bound) → IsBound text.now bound → result ≡ Ok bound }
@@ -73,7 +73,7 @@ pub fn upper(bound: Bound) -> i64
     }
 }
 
-// Whether the text is what is written for the bound.
+/// Whether the text is what is written for the bound.
 fn is_written(bound: Bound, text: &[u8]) -> bool
     requires { IsWritableBound bound }
     ensures { IsTrue result ↔ IsBound text.now bound }
@@ -84,8 +84,8 @@ fn is_written(bound: Bound, text: &[u8]) -> bool
     }
 }
 
-// The only bound that the text can stand for, if there is one. The digits are taken from their places
-// and nothing else is looked at: whether the text is of the form is seen by writing the bound again.
+/// The only bound that the text can stand for, if there is one. The digits are taken from their places
+/// and nothing else is looked at: whether the text is of the form is seen by writing the bound again.
 fn candidate(text: &[u8]) -> Option<Bound>
     ensures in_range { IfSome result IsWritableBound }
     ensures only { (bound : Bound) → IsBound text.now bound → result ≡ Some bound }
@@ -102,7 +102,7 @@ fn candidate(text: &[u8]) -> Option<Bound>
     None
 }
 
-// The midnight that begins the day with that number, counted from 0000-01-01.
+/// The midnight that begins the day with that number, counted from 0000-01-01.
 fn midnight_of(days: u64) -> i64
     requires { days < 3_652_425 }
     ensures { result ≡ pos (86_400 * days) -ℤ pos 62_167_219_200 }
@@ -110,7 +110,7 @@ fn midnight_of(days: u64) -> i64
     86_400 * days as i64 + FIRST_SECOND
 }
 
-// The number of the only day that the ten bytes can name, if there is one.
+/// The number of the only day that the ten bytes can name, if there is one.
 fn day_number(text: &[u8]) -> Option<u64>
     requires { length text.now ≡ 10 }
     ensures in_range { IfSome result (λ days. days < 3_652_425) }
@@ -123,7 +123,7 @@ fn day_number(text: &[u8]) -> Option<u64>
     day_of_calendar(year, month, day)
 }
 
-// The number of the day that has this place in the calendar, if there is one.
+/// The number of the day that has this place in the calendar, if there is one.
 fn day_of_calendar(year: u64, month: u64, day: u64) -> Option<u64>
     requires year_in { year < 10_000 }
     requires month_in { month < 100 }
@@ -138,7 +138,7 @@ fn day_of_calendar(year: u64, month: u64, day: u64) -> Option<u64>
     Some((date.to_plain().to_unix_epoch_day() + 719_528) as u64)
 }
 
-// The only second of the day that the ten bytes can name.
+/// The only second of the day that the ten bytes can name.
 fn second_of_day(text: &[u8]) -> u64
     requires { length text.now ≡ 10 }
     ensures in_range { result < 86_400 }
@@ -150,7 +150,7 @@ fn second_of_day(text: &[u8]) -> u64
     (3600 * hour + 60 * minute + second) % 86_400
 }
 
-// The number that two digits write. Of other bytes it is some number below 100.
+/// The number that two digits write. Of other bytes it is some number below 100.
 fn two_digits(tens: u8, ones: u8) -> u64
     ensures value { result ≡ 10 * min (tens - 48) 9 + min (ones - 48) 9 }
     ensures in_range { result < 100 }
@@ -158,7 +158,7 @@ fn two_digits(tens: u8, ones: u8) -> u64
     10 * digit_value(tens) + digit_value(ones)
 }
 
-// The value of a digit. Of another byte it is some number below 10.
+/// The value of a digit. Of another byte it is some number below 10.
 fn digit_value(byte: u8) -> u64
     ensures { result ≡ min (byte - 48) 9 }
 {

@@ -4,7 +4,7 @@ ghost use Rattle.oai_time.specs.Stamp.{IsWritable};
 
 use std::marker::Model;
 
-// The last second of the year 9998.
+/// The last second of the year 9998.
 const LAST_TICK: i64 = 253_370_764_799;
 
 /// A clock of whole seconds that never goes back and never passes 9998-12-31T23:59:59Z, whatever

@@ -9,7 +9,7 @@ use crate::granularity::Granularity;
 use jiff::ToSpan;
 use jiff::civil::Date;
 
-// 0000-01-01T00:00:00Z.
+/// 0000-01-01T00:00:00Z.
 pub(crate) const FIRST_SECOND: i64 = -62_167_219_200;
 
 /// The text `YYYY-MM-DD` of the day in which `seconds` lie (OAI-PMH 2.0, 3.3 "UTCdatetime"). The
@@ -49,7 +49,7 @@ pub fn write_second(seconds: i64) -> [u8; 20]
     text
 }
 
-// The text `Thh:mm:ssZ` of the time of day.
+/// The text `Thh:mm:ssZ` of the time of day.
 #[tactic(auto, unfolding(crate::specs::Text::time_text))]
 fn write_time(seconds: i64) -> [u8; 10]
     requires { IsWritable seconds }
@@ -71,7 +71,7 @@ fn write_time(seconds: i64) -> [u8; 10]
     ]
 }
 
-// The decimal digit at the place 1, 10, 100 or 1000, in ASCII.
+/// The decimal digit at the place 1, 10, 100 or 1000, in ASCII.
 fn digit(place: u64, number: u64) -> u8
     requires { 0 < place }
     ensures { result ≡ digit place number }
@@ -79,7 +79,7 @@ fn digit(place: u64, number: u64) -> u8
     b'0' + (number / place % 10) as u8
 }
 
-// The date that lies that many days after 0000-01-01.
+/// The date that lies that many days after 0000-01-01.
 fn date_after(days: u64) -> Date
     requires { days < 3_652_425 }
     ensures year { result.year ≡ pos (calendar_day days).year }
@@ -89,7 +89,7 @@ fn date_after(days: u64) -> Date
     Date::ZERO.checked_add((days as i64).days()).unwrap()
 }
 
-// The seconds after 0000-01-01T00:00:00Z.
+/// The seconds after 0000-01-01T00:00:00Z.
 fn seconds_of_era(seconds: i64) -> u64
     requires { IsWritable seconds }
     ensures value { result ≡ seconds_of_era seconds }

@@ -35,6 +35,7 @@ pub fn ask_lines<R: Read, W: Write>(
     asked
 }
 
+/// Reads the input to its end, and performs each line as it ends.
 fn ask_all<R: Read, W: Write>(
     alloc: Global,
     served: &mut Repo,

@@ -11,6 +11,7 @@ pub fn archive(alloc: Global) -> Result<RepoConfig, ConfigFault> {
     RepoConfig::new(alloc, settings)
 }
 
+/// The settings of that archive.
 fn archive_settings(alloc: Global) -> Result<Settings, AllocError> {
     let mut addresses = Vec::new(alloc);
     addresses.push(Text::new(alloc, "a@host.example")?)?;

@@ -27,6 +27,7 @@ impl Slots {
         }
     }
 
+    /// Identify, if no argument is given.
     #[tactic(auto, unfolding(crate::specs::Slots::identify_in))]
     fn into_identify(self) -> Option<Ask>
         ensures { result ≡ spec.identify_in self }
@@ -38,6 +39,7 @@ impl Slots {
         }
     }
 
+    /// ListMetadataFormats, if no argument but an identifier is given.
     #[tactic(auto, unfolding(crate::specs::Slots::formats_in))]
     fn into_formats(self) -> Option<Ask>
         ensures { result ≡ spec.formats_in self }
@@ -49,6 +51,7 @@ impl Slots {
         Some(Ask::Formats { identifier })
     }
 
+    /// A first ListSets, if no argument is given.
     #[tactic(auto, unfolding(crate::specs::Slots::sets_in))]
     fn into_sets(self) -> Option<Ask>
         ensures { result ≡ spec.sets_in self }
@@ -60,6 +63,7 @@ impl Slots {
         }
     }
 
+    /// GetRecord, if an identifier and a prefix of its syntax are given, and nothing else.
     #[tactic(auto, unfolding(crate::specs::Slots::get_in))]
     fn into_get(self) -> Option<Ask>
         ensures { result ≡ spec.get_in self }
@@ -76,6 +80,7 @@ impl Slots {
         }
     }
 
+    /// The first part of a list, or its next part where a resumptionToken is given.
     fn into_part(self, verb: ListVerb, granularity: Granularity) -> Option<Ask>
         ensures { result ≡ spec.part_in verb (spec.list_in granularity verb self) self }
     {
@@ -86,6 +91,7 @@ impl Slots {
         }
     }
 
+    /// A first ListIdentifiers or ListRecords, if its arguments are there and of their syntax.
     #[tactic(auto, unfolding(crate::specs::Slots::list_in))]
     fn into_list(self, verb: ListVerb, granularity: Granularity) -> Option<Ask>
         ensures { result ≡ spec.list_in granularity verb self }
@@ -110,6 +116,7 @@ impl Slots {
         }
     }
 
+    /// The next part of a list, if its resumptionToken stands alone.
     #[tactic(auto, unfolding(crate::specs::Slots::resume_in))]
     fn into_resume(self, verb: ListVerb) -> Option<Ask>
         ensures { result ≡ spec.resume_in verb self }
