@@ -1,12 +1,14 @@
 -- Declaring keeps what is true of the formats of a repository.
-use Rattle.std.proofs.Common.{◌≡◌, ◌<◌, ◌∙◌, ap, sym, subst, ℕ, Bool, true, false, cond, ◌||◌, ◌&&◌, List, [], ◌∷◌, ◌++◌, length, length-append, refl, Option, Some, None, Result, Ok, Err, map, arith, is_some, not, if◌then◌else◌, nat_lt, nat_le, slice_get}
-use Rattle.std.specs.List.{list_any}
+use Rattle.std.proofs.Common.{◌≡◌, ◌<◌, ◌∙◌, ap, sym, subst, ℕ, Bool, true, false, cond, ◌||◌, ◌&&◌, List, [], ◌∷◌, ◌++◌, length, length-append, refl, Option, Some, None, Result, Ok, Err, map, arith, is_some, not, if◌then◌else◌, nat_lt, slice_get, drop}
+use Rattle.std.specs.List.{list_all, list_any}
 use Rattle.std.specs.Str.{bytes_eq}
-use Rattle.std.proofs.lemmas.Bool.{and_parts, ltb-true, or_from}
+use Rattle.std.proofs.lemmas.Bool.{and_from, and_parts, ltb-true, not_from_false, or_from}
 use Rattle.std.proofs.lemmas.Cmp.{nat_list_eq_equiv}
 use Rattle.std.proofs.lemmas.List.{map-append}
-use Rattle.oai_item.specs.Formats.{IsFormats, dublin_core, format_named, has_repeat}
-use Rattle.oai_item.specs.Declaring.{IsDeclaring, declare_fault, are_names, are_uris, has_room}
+use Rattle.std.proofs.lemmas.List.Folds.{list_all-append}
+use Rattle.oai_item.specs.Formats.{IsFormats, dublin_core, format_named}
+use Rattle.oai_item.specs.Rules.{are_names, are_uris, has_fields, has_repeat, is_allowed}
+use Rattle.oai_item.specs.Declaring.{HasGoodTexts, IsDeclaring, declare_fault, has_room}
 use Rattle.oai_item.specs.declared.formats.Format.{Format}
 use Rattle.oai_item.specs.declared.formats.FormatFault.{FormatFault}
 use Rattle.oai_item.specs.declared.formats.FormatFault.TheVariants.{Duplicate, BadName, BadUri, FieldTwice, TooMany, NoMemory}
@@ -35,29 +37,44 @@ first_kept : (old more : List Format) (format : Format) → slice_get old 0 ≡ 
 first_kept [] more format h = cc
 first_kept (first ∷ old) more format h = h
 
--- the causes in their order, over the tests alone: with none, the prefix is new and there is room
-none_left : (named names uris twice room : Bool) → (if named then Some Duplicate else (if not names then Some BadName else (if not uris then Some BadUri else (if twice then Some FieldTwice else (if not room then Some TooMany else None))))) ≡ None → (named ≡ false) × (room ≡ true)
+-- the causes in their order, over the tests alone: with none, the prefix is new, the names and the URIs are such, no field
+-- stands twice and there is room
+none_left : (named names uris twice room : Bool) → (if named then Some Duplicate else (if not names then Some BadName else (if not uris then Some BadUri else (if twice then Some FieldTwice else (if not room then Some TooMany else None))))) ≡ None → (named ≡ false) × (names ≡ true) × (uris ≡ true) × (twice ≡ false) × (room ≡ true)
 none_left true names uris twice room h = cc
 none_left false false uris twice room h = cc
 none_left false true false twice room h = cc
 none_left false true true true room h = cc
 none_left false true true false false h = cc
-none_left false true true false true h = (refl, refl)
+none_left false true true false true h = (refl, refl, refl, refl, refl)
 
-admitted : (old : List Format) (format : Format) → declare_fault old format ≡ None → (is_some (format_named format.prefix old) ≡ false) × (has_room old format ≡ true)
+admitted : (old : List Format) (format : Format) → declare_fault old format ≡ None → (is_some (format_named format.prefix old) ≡ false) × (are_names format ≡ true) × (are_uris format ≡ true) × (has_repeat format.fields ≡ false) × (has_room old format ≡ true)
 unfolding declare_fault
 admitted old format h = none_left (is_some (format_named format.prefix old)) (are_names format) (are_uris format) (has_repeat format.fields) (has_room old format) h
 
-room_for : (a b : ℕ) (c d : Bool) → (nat_lt a b && c && d) ≡ true → a < b
-room_for a b c d h = ltb-true a b (and_parts (nat_lt a b) c (and_parts (nat_lt a b && c) d h).0).0
+-- a format that may be declared has good texts
+pub good_texts : (old : List Format) (format : Format) → declare_fault old format ≡ None → HasGoodTexts old format
+good_texts old format none = let fits = admitted old format none in (fits.0, fits.1, fits.2)
+
+is_allowed-from : (old : List Format) (format : Format) → declare_fault old format ≡ None → is_allowed format ≡ true
+unfolding is_allowed
+is_allowed-from old format none =
+    let fits = admitted old format none in
+    let fields : has_fields format ≡ true = (and_parts (nat_lt (length old) 64) (has_fields format) fits.4).1 in
+    and_from _ _ (and_from _ _ (and_from _ _ fits.1 fits.2) fields) (not_from_false _ fits.3)
+
+-- one more format that keeps the rules, after the first
+allowed_kept : (old : List Format) (format : Format) → slice_get old 0 ≡ Some dublin_core → list_all is_allowed (drop 1 old) ≡ true → is_allowed format ≡ true → list_all is_allowed (drop 1 (old ++ format ∷ [])) ≡ true
+allowed_kept [] format first kept allowed = cc
+allowed_kept (dc ∷ old) format first kept allowed = list_all-append is_allowed old (format ∷ []) ∙ and_from _ _ kept (and_from _ _ allowed refl)
 
 IsFormats-push : (old : List Format) (format : Format) → IsFormats old → declare_fault old format ≡ None → IsFormats (old ++ format ∷ [])
 IsFormats-push old format valid none =
     let fits = admitted old format none in
     record {
       first = first_kept old (format ∷ []) dublin_core valid.first;
+      declared = allowed_kept old format valid.first valid.declared (is_allowed-from old format none);
       apart = ap has_repeat (prefixes-push old format) ∙ has_repeat-push (prefixes old) format.prefix ∙ or_from _ _ (sym (is_some-format_named format.prefix old) ∙ fits.0) valid.apart;
-      few = let below : length old < 64 = room_for (length old) 64 (nat_lt 0 (length format.fields)) (nat_le (length format.fields) 256) fits.1 in simp length-append (omega arith);
+      few = let below : length old < 64 = ltb-true (length old) 64 (and_parts (nat_lt (length old) 64) (has_fields format) fits.4).0 in simp length-append (omega arith);
     }
 
 -- declaring keeps what is true of the formats
@@ -68,4 +85,4 @@ IsFormats-declared old format (Err BadName) new valid declaring = subst IsFormat
 IsFormats-declared old format (Err BadUri) new valid declaring = subst IsFormats (sym declaring.1) valid
 IsFormats-declared old format (Err FieldTwice) new valid declaring = subst IsFormats (sym declaring.1) valid
 IsFormats-declared old format (Err TooMany) new valid declaring = subst IsFormats (sym declaring.1) valid
-IsFormats-declared old format (Err NoMemory) new valid declaring = subst IsFormats (sym declaring) valid
+IsFormats-declared old format (Err NoMemory) new valid declaring = subst IsFormats (sym declaring.1) valid

@@ -9,7 +9,7 @@ use Rattle.std.proofs.lemmas.List.Elements.{filter-append}
 use Rattle.std.proofs.lemmas.Map.Views.{any-filter_same}
 use Rattle.std.proofs.lemmas.Option.{none-some, same_Some}
 use Rattle.std.proofs.lemmas.Slice.Eq.{bytes_eq-Decides}
-use Rattle.oai_item.specs.Formats.{has_repeat}
+use Rattle.oai_item.specs.Rules.{has_repeat}
 use Rattle.oai_names.specs.Sets.{covers}
 use Rattle.oai_item.specs.Membership.{AreApart, distinct, is_above, reduced}
 

@@ -1,11 +1,12 @@
 -- Metadata formats. OAI-PMH 2.0, section 3.4.
-use Rattle.std.specs.Prelude.{◌≡◌, ◌≤◌, ℕ, Bool, false, ◌||◌, List, [], ◌∷◌, length, map, slice_get, codes, Option, Some}
-use Rattle.std.specs.List.{find, list_any}
+use Rattle.std.specs.Prelude.{◌≡◌, ◌≤◌, ℕ, true, false, List, [], ◌∷◌, length, map, drop, slice_get, codes, Option, Some}
+use Rattle.std.specs.List.{find, list_all}
 use Rattle.std.specs.Str.{bytes_eq}
+use Rattle.oai_item.specs.Rules.{has_repeat, is_allowed}
 use Rattle.oai_item.specs.declared.formats.Format.{Format}
 
--- oai_dc, which every repository has: unqualified Dublin Core (OAI-PMH 2.0, section 2.5 and its guidelines for oai_dc),
--- with the fifteen elements of DCES 1.1
+-- oai_dc, which every repository has: unqualified Dublin Core (OAI-PMH 2.0, sections 2.5 and 3.4, and its guidelines for
+-- oai_dc), with the fifteen elements of DCES 1.1
 unfoldable pub dublin_core : Format
 dublin_core = record {
   prefix = codes "oai_dc";
@@ -19,13 +20,10 @@ dublin_core = record {
 unfoldable pub format_named : List ℕ → List Format → Option Format
 format_named prefix formats = find (λ format. bytes_eq format.prefix prefix) formats
 
--- some text of the list stands again behind itself
-abbrev pub has_repeat : List (List ℕ) → Bool
-has_repeat [] = false
-has_repeat (text ∷ texts) = list_any (bytes_eq text) texts || has_repeat texts
-
--- what is true of the formats of each repository: oai_dc is the first, no prefix stands twice, and there are at most 64
+-- what is true of the formats of each repository: oai_dc is the first, each after it keeps the rules, no prefix stands
+-- twice, and there are at most 64
 pub record IsFormats (formats : List Format) : Type 0 where
   pub first : slice_get formats 0 ≡ Some dublin_core
+  pub declared : list_all is_allowed (drop 1 formats) ≡ true
   pub apart : has_repeat (map (λ format. format.prefix) formats) ≡ false
   pub few : length formats ≤ 64

@@ -1,5 +1,5 @@
 -- Items, and the records that they carry. OAI-PMH 2.0, sections 2.3 to 2.6.
-use Rattle.std.specs.Prelude.{◌≡◌, ◌≢◌, ℕ, ℤ, pos, negsuc, ◌≤ℤ◌, Bool, true, ◌&&◌, nat_le, List, [], ◌∷◌, length}
+use Rattle.std.specs.Prelude.{◌≡◌, ◌≢◌, ℕ, ℤ, pos, negsuc, ◌≤ℤ◌, Bool, true, false, ◌==◌, ◌&&◌, nat_le, List, [], ◌∷◌, length}
 use Rattle.std.specs.List.{list_all}
 use Rattle.std.specs.Ordering.{nat_cmp, is_lt}
 use Rattle.std.specs.Cmp.Lexicographic.{slice_cmp}
@@ -51,8 +51,13 @@ are_set_specs sets = list_all (is_short is_set_spec 256) sets
 unfoldable pub are_prefixed : List Metadata → Bool
 are_prefixed formats = list_all (λ format. is_short is_prefix 64 format.0) formats
 
+-- no record has a field
+unfoldable pub are_empty : List Metadata → Bool
+are_empty formats = list_all (λ format. length format.1 == 0) formats
+
 -- what is true of each item: its names are of their grammars, its datestamp can be written, no setSpec of it covers another,
--- and it has one record a format, in the order of the prefixes
+-- it has one record a format, in the order of the prefixes, and where it is deleted they have no fields (OAI-PMH 2.0, section
+-- 2.5.1)
 pub record IsItem (item : ItemState) : Type 0 where
   pub identified : is_short is_identifier 512 item.identifier ≡ true
   pub stamped : IsStamp item.stamp
@@ -61,3 +66,4 @@ pub record IsItem (item : ItemState) : Type 0 where
   pub prefixed : are_prefixed item.formats ≡ true
   pub rising : are_rising item.formats ≡ true
   pub carries : item.formats ≢ []
+  pub emptied : item.live ≡ false → are_empty item.formats ≡ true

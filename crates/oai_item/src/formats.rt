@@ -51,7 +51,8 @@ pub struct Format {
 }
 
 /// The metadata formats of a repository: oai_dc, and those declared, in that order. There are at
-/// most 64, and no two have the same prefix.
+/// most 64, no two have the same prefix, and each that was declared keeps the rules that
+/// `FormatFault` names.
 #[derive(Debug, Drop)]
 pub struct Formats {
     formats: Vec<Format>,
@@ -154,6 +155,7 @@ impl Formats {
 }
 
 /// Adds the format at the end, if it may be declared beside those that stand.
+#[tactic(auto, using(crate::proofs::Declarations::good_texts))]
 fn add(formats: &mut Vec<Format>, format: Format) -> Result<(), FormatFault>
     ensures { IsDeclaring formats.old.items format result formats.new.items }
 {

@@ -14,7 +14,8 @@ use std::marker::Model;
 const FIRST_BYTES: usize = 9;
 
 /// An item of a repository (OAI-PMH 2.0, section 2.3): its identifier, its datestamp, whether it is
-/// live or deleted, its sets, and its record in each of its formats.
+/// live or deleted, its sets, and its record in each of its formats. The records of a deleted item
+/// have no fields (section 2.5.1).
 #[derive(Debug, Drop)]
 pub struct Item {
     identifier: Identifier,

@@ -7,8 +7,8 @@ use Rattle.oai_item.specs.declared.formats.Format.{Format}
 use Rattle.oai_repo.specs.declared.config.FormatSettings.{FormatSettings}
 use Rattle.oai_repo.specs.declared.config.Settings.{Settings}
 use Rattle.oai_repo.specs.declared.config.ConfigFault.{ConfigFault}
-use Rattle.oai_repo.specs.declared.config.ConfigFault.TheVariants.{BadShape, BadFormat, BadDate, BadNumber, NoMemory}
-use Rattle.oai_repo.specs.Configured.{Config, is_described, is_date, are_limits, is_short_text}
+use Rattle.oai_repo.specs.declared.config.ConfigFault.TheVariants.{BadShape, BadName, BadFormat, BadDate, BadNumber, NoMemory}
+use Rattle.oai_repo.specs.Configured.{Config, is_described, is_repository_name, is_date, are_limits, is_short_text}
 
 -- ---- the formats
 
@@ -51,19 +51,24 @@ config_of s = record {
   formats = formats_of s.formats;
 }
 
+-- the base, the name for people and the addresses are of their lengths and their number, and of such characters
+abbrev pub has_shape : Settings → Bool
+has_shape s = is_short_text s.base && is_described s.repository_name s.addresses
+
 -- the first fault of the settings, in the order of the faults' numbers
 unfoldable pub config_fault : Settings → Option ConfigFault
 config_fault s =
-    if not (is_short_text s.base && is_described s.repository_name s.addresses) then Some BadShape
+    if not (has_shape s) then Some BadShape
+    else (if not (is_repository_name s.name) then Some BadName
     else (if not (may_all_stand (dublin_core ∷ []) s.formats) then Some BadFormat
     else (if not (is_date s.granularity s.earliest) then Some BadDate
     else (if not (are_limits s.chunk s.lifetime s.lists s.items) then Some BadNumber
-    else None)))
+    else None))))
 
--- what making a configuration of the settings answers; memory may be refused at any time
+-- what making a configuration of the settings answers; memory may be refused once shape and name are found good
 abbrev pub IsConfigured : Settings → Result Config ConfigFault → Type 0
 IsConfigured settings (Ok config) = (config_fault settings ≡ None) × (config ≡ config_of settings)
-IsConfigured settings (Err NoMemory) = Unit {0}
+IsConfigured settings (Err NoMemory) = (has_shape settings ≡ true) × (is_repository_name settings.name ≡ true)
 IsConfigured settings (Err fault) = config_fault settings ≡ Some fault
 
 -- ---- the calls behind it: each answers its value, or that the format is a bad one, or that memory was refused

@@ -1,5 +1,6 @@
 -- A repository as it is configured, and the rules of its configuration.
-use Rattle.std.specs.Prelude.{◌≡◌, ℕ, ℤ, pos, neg_ℤ, Bool, true, ◌&&◌, not, nat_le, int_lt, List, length}
+use Rattle.std.specs.Prelude.{◌≡◌, ℕ, ℤ, pos, neg_ℤ, Bool, true, ◌==◌, ◌||◌, ◌&&◌, not, nat_le, int_lt, List, length}
+use Rattle.std.specs.Char.{is_ascii_digit, is_ascii_lowercase}
 use Rattle.std.specs.List.{list_all}
 use Rattle.std.specs.Ordering.{int_eq}
 use Rattle.oai_names.specs.Text.{is_xml_text}
@@ -30,7 +31,15 @@ is_from_to least most n = nat_le least n && nat_le n most
 unfoldable pub is_short_text : List ℕ → Bool
 is_short_text text = is_from_to 1 512 (length text) && is_xml_text text
 
--- a name, and 1 to 16 addresses
+-- a character of a repository's name: [a-z0-9-], a profile of this repository's own
+abbrev pub is_repository_byte : ℕ → Bool
+is_repository_byte b = is_ascii_lowercase b || is_ascii_digit b || b == 45
+
+-- a repository's name in its base URL: 1 to 32 of these, this repository's own rule
+unfoldable pub is_repository_name : List ℕ → Bool
+is_repository_name name = is_from_to 1 32 (length name) && list_all is_repository_byte name
+
+-- a name for people, and 1 to 16 addresses
 unfoldable pub is_described : List ℕ → List (List ℕ) → Bool
 is_described name addresses =
     is_short_text name && is_from_to 1 16 (length addresses) && list_all is_short_text addresses
@@ -49,6 +58,7 @@ are_limits chunk lifetime lists items =
 
 -- the rules that a configuration keeps
 pub record IsConfig (config : Config) : Type 0 where
+  pub based : is_xml_text config.base ≡ true
   pub described : is_described config.name config.addresses ≡ true
   pub dated : is_date config.granularity config.earliest ≡ true
   pub limited : are_limits config.chunk config.lifetime config.lists config.items ≡ true

@@ -1,8 +1,9 @@
-ghost use Rattle.std.specs.Prelude.{◌≡◌, ◌++◌, codes, IfOk};
+ghost use Rattle.std.specs.Prelude.{◌≡◌, ◌++◌, true, codes, IfOk};
 ghost use Rattle.std.specs.List.{list_all};
+ghost use Rattle.oai_names.specs.Text as text;
 ghost use Rattle.oai_time.specs.Stamp.{IsWritable};
 ghost use Rattle.oai_repo.specs.Config.{AreDeclared, IsConfigured, IsDeclared, IsFormatOf, IsPrefixOf};
-ghost use Rattle.oai_repo.specs.Configured.{are_limits, is_date, is_described, is_from_to, is_short_text};
+ghost use Rattle.oai_repo.specs.Configured.{IsConfig, are_limits, is_date, is_described, is_from_to, is_repository_byte, is_repository_name, is_short_text};
 
 use crate::changes::copy_texts;
 use crate::documents::DeletedRecord;
@@ -18,6 +19,27 @@ const FIRST_DATE: i64 = -62_135_596_800;
 
 /// The last second of the year 9998.
 const LAST_DATE: i64 = 253_370_764_799;
+
+/// The most bytes of a base, a name for people or an address.
+const MOST_BYTES: usize = 512;
+
+/// The most bytes of a repository's name in its base URL.
+const MOST_NAME_BYTES: usize = 32;
+
+/// The most addresses of administrators.
+const MOST_ADDRESSES: usize = 16;
+
+/// The most records a page.
+const MOST_CHUNK: u64 = 1_000;
+
+/// The most seconds that a list stays open: a year of 365 days.
+const MOST_LIFETIME: u64 = 31_536_000;
+
+/// The most lists that are open at once.
+const MOST_LISTS: u64 = 10_000;
+
+/// The most items, deleted ones counted.
+const MOST_ITEMS: u64 = 1_000_000;
 
 /// What is told of a metadata format, before it is looked at.
 #[derive(Debug, Drop)]
@@ -39,7 +61,7 @@ pub struct FormatSettings {
 pub struct Settings {
     /// What the base URLs of all repositories begin with: 1 to 512 bytes.
     pub base: Text,
-    /// The repository's name in its base URL.
+    /// The repository's name in its base URL: 1 to 32 of `a` to `z`, `0` to `9` and `-`.
     pub name: Text,
     /// The name for people: 1 to 512 bytes.
     pub repository_name: Text,
@@ -67,10 +89,13 @@ pub struct Settings {
 /// Why settings make no configuration, in the order in which the causes are looked for.
 #[derive(Clone, Copy, Debug, PartialEq, Eq, Error)]
 pub enum ConfigFault {
-    /// The base, the name or an address is not of 1 to 512 bytes, or has a character that no XML
+    /// The base, the name for people or an address is not of 1 to 512 bytes, or has a character that no XML
     /// document may hold; or there is no address, or more than 16. Number 2.
     #[error("2 BadShape")]
     BadShape,
+    /// The name in the base URL is not of 1 to 32 of `a` to `z`, `0` to `9` and `-`. Number 3.
+    #[error("3 BadName")]
+    BadName,
     /// A format has no prefix of a metadataPrefix's syntax and at most 64 bytes, or may not be declared
     /// beside oai_dc and the formats before it. Number 5.
     #[error("5 BadFormat")]
@@ -98,7 +123,8 @@ impl From<AllocError> for ConfigFault {
     }
 }
 
-/// The configuration of a repository, which keeps the rules of its settings.
+/// The configuration of a repository, which keeps the rules of its settings: its name, addresses and
+/// earliest datestamp, its limits, and the characters of its base URL.
 #[derive(Debug, Drop)]
 pub struct RepoConfig {
     base: Text,
@@ -126,8 +152,9 @@ impl Model for RepoConfig {
 
 impl RepoConfig {
     /// The configuration of these settings: the base URL is the base, `/oai/` and the name. The
-    /// errors, in this order: `BadShape`, `BadFormat`, `BadDate`, `BadNumber`; and `NoMemory`, which
-    /// may come in place of any but the first.
+    /// errors, in this order: `BadShape`, `BadName`, `BadFormat`, `BadDate`, `BadNumber`; and
+    /// `NoMemory`, which may come in place of any but the first two: their causes are looked for
+    /// before any memory is taken.
     #[tactic(auto, unfolding(crate::specs::Config::config_fault))]
     pub fn new(alloc: Global, settings: Settings) -> Result<RepoConfig, ConfigFault>
         ensures { IsConfigured settings result }
@@ -140,6 +167,9 @@ impl RepoConfig {
             settings.addresses.as_slice(),
         ) {
             return Err(ConfigFault::BadShape);
+        }
+        if !is_repository_name(settings.name.as_str()) {
+            return Err(ConfigFault::BadName);
         }
         let formats = declared_formats(alloc, settings.formats.as_slice())?;
         if !is_date(settings.granularity, settings.earliest) {
@@ -169,23 +199,26 @@ impl RepoConfig {
         })
     }
 
-    /// The base URL.
+    /// The base URL: its characters may stand in an XML document.
     pub fn base(&self) -> &str
-        ensures { result.now ≡ self.now.base }
+        ensures base { result.now ≡ self.now.base }
+        ensures valid { IsConfig self.now }
     {
         self.base.as_str()
     }
 
-    /// The name for people.
+    /// The name for people: 1 to 512 bytes.
     pub fn name(&self) -> &str
-        ensures { result.now ≡ self.now.name }
+        ensures name { result.now ≡ self.now.name }
+        ensures valid { IsConfig self.now }
     {
         self.name.as_str()
     }
 
-    /// The addresses of the administrators.
+    /// The addresses of the administrators: 1 to 16, of 1 to 512 bytes each.
     pub fn addresses(&self) -> &[Text]
-        ensures { result.now ≡ self.now.addresses }
+        ensures addresses { result.now ≡ self.now.addresses }
+        ensures valid { IsConfig self.now }
     {
         self.addresses.as_slice()
     }
@@ -195,6 +228,7 @@ impl RepoConfig {
     pub fn earliest(&self) -> i64
         ensures earliest { result ≡ self.now.earliest }
         ensures in_range { IsWritable self.now.earliest }
+        ensures valid { IsConfig self.now }
     {
         self.earliest
     }
@@ -215,28 +249,32 @@ impl RepoConfig {
 
     /// Records a page: 1 to 1,000.
     pub fn chunk(&self) -> u64
-        ensures { result ≡ self.now.chunk }
+        ensures chunk { result ≡ self.now.chunk }
+        ensures valid { IsConfig self.now }
     {
         self.chunk
     }
 
     /// Seconds that a list stays open after each of its pages: 1 to 31,536,000.
     pub fn lifetime(&self) -> u64
-        ensures { result ≡ self.now.lifetime }
+        ensures lifetime { result ≡ self.now.lifetime }
+        ensures valid { IsConfig self.now }
     {
         self.lifetime
     }
 
     /// Lists that are open at once: 1 to 10,000.
     pub fn lists(&self) -> u64
-        ensures { result ≡ self.now.lists }
+        ensures lists { result ≡ self.now.lists }
+        ensures valid { IsConfig self.now }
     {
         self.lists
     }
 
     /// Items, deleted ones counted: 1 to 1,000,000.
     pub fn items(&self) -> u64
-        ensures { result ≡ self.now.items }
+        ensures items { result ≡ self.now.items }
+        ensures valid { IsConfig self.now }
     {
         self.items
     }
@@ -307,8 +345,10 @@ fn read_prefix(alloc: Global, text: &str) -> Result<Prefix, ConfigFault>
     }
 }
 
+#[tactic(auto, using(crate::proofs::ConfigLemmas::base_url_is_xml_text))]
 fn base_url(alloc: Global, base: &str, name: &str) -> Result<Text, AllocError>
-    ensures { IfOk result (λ url. url ≡ base.now ++ codes "/oai/" ++ name.now) }
+    ensures url { IfOk result (λ url. url ≡ base.now ++ codes "/oai/" ++ name.now) }
+    ensures based { is_short_text base.now ≡ true → is_repository_name name.now ≡ true → text.is_xml_text (base.now ++ codes "/oai/" ++ name.now) ≡ true }
 {
     let mut url = String::from_str(alloc, base)?;
     url.push_str("/oai/")?;
@@ -320,7 +360,7 @@ fn base_url(alloc: Global, base: &str, name: &str) -> Result<Text, AllocError>
 pub(crate) fn is_short_text(text: &str) -> bool
     ensures { result ≡ is_short_text text.now }
 {
-    1 <= text.len() && text.len() <= 512 && is_xml_text(text)
+    1 <= text.len() && text.len() <= MOST_BYTES && is_xml_text(text)
 }
 
 #[tactic(auto, unfolding(crate::specs::Configured::is_described))]
@@ -329,8 +369,27 @@ fn is_described(name: &str, addresses: &[Text]) -> bool
 {
     is_short_text(name)
         && 1 <= addresses.len()
-        && addresses.len() <= 16
+        && addresses.len() <= MOST_ADDRESSES
         && are_short_texts(addresses)
+}
+
+#[tactic(auto, unfolding(crate::specs::Configured::is_repository_name))]
+fn is_repository_name(name: &str) -> bool
+    ensures { result ≡ is_repository_name name.now }
+{
+    1 <= name.len() && name.len() <= MOST_NAME_BYTES && are_repository_bytes(name)
+}
+
+fn are_repository_bytes(name: &str) -> bool
+    ensures { result ≡ list_all is_repository_byte name.now }
+{
+    name.bytes().all(is_repository_byte)
+}
+
+fn is_repository_byte(byte: u8) -> bool
+    ensures { result ≡ is_repository_byte byte }
+{
+    byte.is_ascii_lowercase() || byte.is_ascii_digit() || byte == b'-'
 }
 
 fn are_short_texts(texts: &[Text]) -> bool
@@ -350,10 +409,10 @@ fn is_date(granularity: Granularity, seconds: i64) -> bool
 fn are_limits(chunk: u64, lifetime: u64, lists: u64, items: u64) -> bool
     ensures { result ≡ are_limits chunk lifetime lists items }
 {
-    is_from_to(1, 1_000, chunk)
-        && is_from_to(1, 31_536_000, lifetime)
-        && is_from_to(1, 10_000, lists)
-        && is_from_to(1, 1_000_000, items)
+    is_from_to(1, MOST_CHUNK, chunk)
+        && is_from_to(1, MOST_LIFETIME, lifetime)
+        && is_from_to(1, MOST_LISTS, lists)
+        && is_from_to(1, MOST_ITEMS, items)
 }
 
 fn is_from_to(least: u64, most: u64, n: u64) -> bool

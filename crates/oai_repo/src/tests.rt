@@ -166,6 +166,26 @@ fn shapes(rt: HostRuntime) -> Result<(), Fail> {
 }
 
 #[test]
+fn names(rt: HostRuntime) -> Result<(), Fail> {
+    let alloc = rt.alloc();
+    for name in ["", "A", "a b", "abcdefghijklmnopqrstuvwxyz0123456"] {
+        let mut settings = settings_with(alloc, "a b")?;
+        settings.name = Text::new(alloc, name)?;
+        assert_eq!(rt;
+            fault_of(alloc, settings),
+            Some(ConfigFault::BadName),
+            "{name}"
+        );
+    }
+    for name in ["-", "0"] {
+        let mut settings = settings_of_b(alloc)?;
+        settings.name = Text::new(alloc, name)?;
+        assert_eq!(rt; fault_of(alloc, settings), None, "{name}");
+    }
+    Ok(())
+}
+
+#[test]
 fn dates_and_numbers(rt: HostRuntime) -> Result<(), Fail> {
     let alloc = rt.alloc();
     for earliest in [1_704_067_201, -62_135_683_200, 253_370_764_800] {

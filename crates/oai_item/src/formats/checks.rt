@@ -1,7 +1,7 @@
 ghost use Rattle.std.specs.Prelude.{◌≡◌, IfOk};
 ghost use Rattle.std.specs.List.{list_all, list_any};
-ghost use Rattle.oai_item.specs.Formats.{has_repeat};
-ghost use Rattle.oai_item.specs.Declaring.{IsCheck, are_names, are_uris, has_room, is_element_name, is_first_byte, is_name, is_name_byte, is_space, is_uri};
+ghost use Rattle.oai_item.specs.Declaring.{IsCheck, has_room};
+ghost use Rattle.oai_item.specs.Rules.{are_names, are_uris, has_repeat, is_element_name, is_first_byte, is_name, is_name_byte, is_space, is_uri};
 
 use super::{Format, FormatFault, format_named};
 use oai_names::{Text, is_xml_text};
@@ -67,7 +67,7 @@ fn is_name(text: &str) -> bool
 
 /// Whether the text is the name of an element, of any length: an ASCII letter or `_`, followed by
 /// letters, digits, `-`, `_` and `.` (XML 1.0, section 2.3).
-#[tactic(auto, unfolding(crate::specs::Declaring::is_element_name))]
+#[tactic(auto, unfolding(crate::specs::Rules::is_element_name))]
 fn is_element_name(text: &str) -> bool
     ensures { result ≡ is_element_name text.now }
 {
@@ -104,7 +104,7 @@ fn are_uris(format: &Format) -> bool
 
 /// Whether the text may stand for a URI in a document: 1 to 512 bytes, of characters that a
 /// document may hold, without a space, tab, LF and CR.
-#[tactic(auto, unfolding(crate::specs::Declaring::is_uri))]
+#[tactic(auto, unfolding(crate::specs::Rules::is_uri))]
 fn is_uri(text: &str) -> bool
     ensures { result ≡ is_uri text.now }
 {

@@ -3,7 +3,7 @@ use Rattle.std.specs.List.{list_any}
 use Rattle.std.specs.Str.{bytes_eq}
 use Rattle.std.proofs.lemmas.Bool.{not-false, not-true, or_from}
 use Rattle.std.proofs.lemmas.List.{take_more}
-use Rattle.oai_item.specs.Formats.{has_repeat}
+use Rattle.oai_item.specs.Rules.{has_repeat}
 use Rattle.oai_item.proofs.Repeats.{has_repeat_at, has_repeat-push, seen_more}
 use Rattle.oai_item.proofs.formats.checks.has_repeat.Goals as goal
 

@@ -4,7 +4,7 @@ use Rattle.std.specs.Cmp.Lexicographic.{slice_cmp}
 use Rattle.std.specs.List.{list_any}
 use Rattle.std.specs.Str.{bytes_eq}
 use Rattle.std.specs.BTreeSet.{contains_by}
-use Rattle.oai_item.specs.Formats.{has_repeat}
+use Rattle.oai_item.specs.Rules.{has_repeat}
 use Rattle.oai_item.proofs.formats.checks.has_repeat.Given as goal
 
 -- the set holds the texts so far, which are apart

@@ -1,4 +1,5 @@
 use Rattle.std.proofs.Common.{◌≡◌, ◌∙◌, ◌≤◌, ℕ, List, true, length, ap, subst, sym, w64, FitsSigned}
+use Rattle.std.proofs.lemmas.Bool.{false≢true}
 use Rattle.std.proofs.lemmas.Int.{to_z-of_z}
 use Rattle.oai_names.specs.Names.{is_identifier}
 use Rattle.oai_item.proofs.Grammars.{short_from}
@@ -22,4 +23,5 @@ invariant_of-result c =
       prefixed = ap are_prefixed (sym c.as_slice.ensures) ∙ c.see_prefixes.ensures;
       rising = c.requires.rising;
       carries = c.requires.carries;
+      emptied = λ deleted. absurd (false≢true (sym deleted));
     }

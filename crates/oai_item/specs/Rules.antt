@@ -1,0 +1,57 @@
+-- What the description of a metadata format may say. OAI-PMH 2.0, section 3.4, and XML 1.0.
+use Rattle.std.specs.Prelude.{ℕ, Bool, false, ◌==◌, ◌||◌, ◌&&◌, not, nat_lt, nat_le, List, [], ◌∷◌, length, codes}
+use Rattle.std.specs.List.{list_all, list_any}
+use Rattle.std.specs.Char.{is_ascii_alphabetic, is_ascii_alphanumeric}
+use Rattle.std.specs.Str.{bytes_eq}
+use Rattle.oai_names.specs.Names.{is_one_of}
+use Rattle.oai_names.specs.Text.{is_xml_text}
+use Rattle.oai_item.specs.declared.formats.Format.{Format}
+
+-- a character of an element's name after its first (XML 1.0, section 2.3, NameChar): of those in ASCII, all but the colon
+-- (Namespaces in XML 1.0, section 3, NCName), so a letter, a digit, `-`, `_` or `.`
+abbrev pub is_name_byte : ℕ → Bool
+is_name_byte b = is_ascii_alphanumeric b || is_one_of (codes "-_.") b
+
+-- the first character (XML 1.0, section 2.3, NameStartChar): of those in ASCII, all but the colon (Namespaces in XML 1.0,
+-- section 3, NCName), so a letter or `_`
+abbrev pub is_first_byte : ℕ → Bool
+is_first_byte b = is_ascii_alphabetic b || b == 95
+
+-- an element's name (XML 1.0, section 2.3, Name): such a first, and any of the others after it
+unfoldable pub is_element_name : List ℕ → Bool
+is_element_name [] = false
+is_element_name (b ∷ bytes) = is_first_byte b && list_all is_name_byte bytes
+
+-- such a name, of at most 64 bytes
+abbrev pub is_name : List ℕ → Bool
+is_name text = is_element_name text && nat_le (length text) 64
+
+-- the root and each field have a name
+abbrev pub are_names : Format → Bool
+are_names format = is_name format.root && list_all is_name format.fields
+
+-- white space (XML 1.0, section 2.3, S): space, tab, LF or CR
+abbrev pub is_space : ℕ → Bool
+is_space b = b == 32 || b == 9 || b == 10 || b == 13
+
+-- what may stand for a URI in a document: 1 to 512 bytes, of characters that a document may hold, and no white space
+unfoldable pub is_uri : List ℕ → Bool
+is_uri text = nat_lt 0 (length text) && nat_le (length text) 512 && is_xml_text text && not (list_any is_space text)
+
+-- the schema and the namespace are such
+abbrev pub are_uris : Format → Bool
+are_uris format = is_uri format.schema && is_uri format.namespace
+
+-- some text of the list stands again behind itself
+abbrev pub has_repeat : List (List ℕ) → Bool
+has_repeat [] = false
+has_repeat (text ∷ texts) = list_any (bytes_eq text) texts || has_repeat texts
+
+-- the format has 1 to 256 fields
+abbrev pub has_fields : Format → Bool
+has_fields format = nat_lt 0 (length format.fields) && nat_le (length format.fields) 256
+
+-- a format of these rules, as each that is declared: the names and the URIs are such, it has 1 to 256 fields, and none stands
+-- twice
+unfoldable pub is_allowed : Format → Bool
+is_allowed format = are_names format && are_uris format && has_fields format && not (has_repeat format.fields)
