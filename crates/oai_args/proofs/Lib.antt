@@ -1,2 +1,2 @@
+pub mod ArgumentLemmas
 pub mod RequestLemmas
-pub mod SlotLemmas

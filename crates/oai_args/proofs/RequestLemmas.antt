@@ -1,26 +1,30 @@
--- The function of requests is the graph of the relation.
-use Rattle.std.proofs.Common.{◌≡◌, ℕ, Bool, true, false, ◌&&◌, cond, List, [], ◌∷◌, codes, Option, Some, None, Ok, Err, Result, sym, refl, ap, ◌∙◌, subst, arith}
-use Rattle.std.specs.Prelude.{bytes_eq, find, int_le, ◌≤ℤ◌, ℤ}
-use Rattle.std.specs.Option.{option_to_list}
-use Rattle.std.proofs.lemmas.Bool.{and_parts}
-use Rattle.std.proofs.lemmas.Int.{ints}
+-- The function of what is asked is the graph of the relation.
+use Rattle.std.proofs.Common.{◌≡◌, ◌∙◌, ℕ, Bool, true, false, ◌&&◌, cond, List, [], ◌∷◌, codes, Option, Some, None, Result, sym, refl, ap, subst}
+use Rattle.std.specs.Prelude.{bytes_eq, find}
+use Rattle.std.proofs.lemmas.Bool.{and_parts, true≢false}
 use Rattle.std.proofs.lemmas.Slice.Eq.{bytes_eq-Decides}
 use Rattle.oai_names.specs.Names.{is_prefix}
 use Rattle.oai_names.specs.declared.list_verbs.ListVerb.{ListVerb}
 use Rattle.oai_names.specs.declared.list_verbs.ListVerb.TheVariants as list
-use Rattle.oai_time.specs.Bound.{bound_of}
-use Rattle.oai_time.specs.declared.bound.Bound.{Bound}
-use Rattle.oai_time.specs.declared.bound.Bound.TheVariants.{Day as WholeDay, Second as OneSecond}
 use Rattle.oai_time.specs.declared.granularity.Granularity.{Granularity}
-use Rattle.oai_time.proofs.ReadingLemmas.{bound_of_is, bound_of_found}
-use Rattle.oai_args.specs.Asks.{Request, asks, bad_verb, bad_argument, is_among, has_only_keys, has_xml_values, fits, is_set, IsOf, IsAsk, IsFormats, IsGet, IsList, IsResume, IsBoundAt, AreInOrder, IsAnswered}
-use Rattle.oai_args.specs.Pairs.{Pair, values_of}
-use Rattle.oai_args.specs.Requests.{once, at_most_once, is_empty, checked, provided, is_bound, given_bound, are_in_order, are_bounds, verb_named, asked_verb, identify_of, formats_of, sets_of, get_of, list_of, resume_of, part_of, form_of, asked_or_bad, request_for, request_of, IsReadAs, IsReading, GivesTheAnswer, ◌>>=◌}
+use Rattle.oai_args.specs.Arguments.{key_of, known_keys, role_of, given_of, given, once, is_never, suits, arguments_in}
+use Rattle.oai_args.specs.Asks.{AskOrError, asks, bad_verb, bad_argument, at_most_once, IsOf, IsGetRecord, IsList, IsAsk, IsAskOrError}
+use Rattle.oai_args.specs.Bounds.{is_none_or_set_spec, are_bounds}
+use Rattle.oai_args.specs.Pairs.{Pair, values_of, has_only_keys, has_xml_values}
+use Rattle.oai_args.specs.Requests.{provided, verb_named, list_of_verb, suit, get_record_of, first_list_of, first_of, next_of, form_of, asked_or_bad, asked_of_verb, asked_verb, request_in, request_of, IsReadAs, IsReadFrom, GivesTheAnswer, ◌>>=◌}
+use Rattle.oai_args.specs.Steps.{result_of}
 use Rattle.oai_args.specs.Verbs.{verbs, name_of, verb_of_list, NamesVerb}
+use Rattle.oai_args.specs.declared.arguments.Arguments.{Arguments}
+use Rattle.oai_args.specs.declared.givens.Given.{Given}
+use Rattle.oai_args.specs.declared.givens.Given.TheVariants.{Never, Once, Often}
 use Rattle.oai_args.specs.declared.requests.Ask.{Ask}
 use Rattle.oai_args.specs.declared.requests.Ask.TheVariants as ask
 use Rattle.oai_args.specs.declared.requests.ArgFault.{ArgFault}
-use Rattle.oai_args.specs.declared.requests.ArgFault.TheVariants.{BadVerb, BadArgument, NoMemory}
+use Rattle.oai_args.specs.declared.roles.Key.{Key}
+use Rattle.oai_args.specs.declared.roles.Key.TheVariants.{Identifier, MetadataPrefix, From, Until, Set, ResumptionToken}
+use Rattle.oai_args.specs.declared.roles.Part.{Part}
+use Rattle.oai_args.specs.declared.roles.Part.TheVariants.{First, Next}
+use Rattle.oai_args.specs.declared.roles.Role.TheVariants.{Optional}
 use Rattle.oai_args.specs.declared.verbs.Verb.{Verb}
 use Rattle.oai_args.specs.declared.verbs.Verb.TheVariants.{Identify, ListMetadataFormats, ListSets, GetRecord, ListIdentifiers, ListRecords}
 
@@ -48,347 +52,258 @@ verb_named-name_of GetRecord = refl
 verb_named-name_of ListIdentifiers = refl
 verb_named-name_of ListRecords = refl
 
--- a verb of these values of the key `verb`
-verb_of-is : (values : List (List ℕ)) (verb : Verb) → (once values >>= verb_named) ≡ Some verb → values ≡ name_of verb ∷ []
+verb_of-is : (values : List (List ℕ)) (verb : Verb) → (once (given_of values) >>= verb_named) ≡ Some verb → values ≡ name_of verb ∷ []
 verb_of-is [] verb asked = cc
 verb_of-is (name ∷ []) verb asked = ap (λ (n : List ℕ). n ∷ []) (verb_named-is name verb asked)
 verb_of-is (name ∷ other ∷ values) verb asked = cc
 
-asked_verb-is : (pairs : List Pair) (verb : Verb) → asked_verb pairs ≡ Some verb → NamesVerb pairs verb
-unfolding asked_verb
+asked_verb-is : (pairs : List Pair) (verb : Verb) → asked_verb (arguments_in pairs) ≡ Some verb → NamesVerb pairs verb
+unfolding asked_verb arguments_in given
 asked_verb-is pairs verb asked = verb_of-is (values_of (codes "verb") pairs) verb asked
 
-asked_verb-from : (pairs : List Pair) (verb : Verb) → NamesVerb pairs verb → asked_verb pairs ≡ Some verb
-unfolding asked_verb
+asked_verb-from : (pairs : List Pair) (verb : Verb) → NamesVerb pairs verb → asked_verb (arguments_in pairs) ≡ Some verb
+unfolding asked_verb arguments_in given
 asked_verb-from pairs verb named = rw named (verb_named-name_of verb)
 
--- ---- keys that are not given
+list_of_verb-of_list : (verb : ListVerb) → list_of_verb (verb_of_list verb) ≡ Some verb
+list_of_verb-of_list list.Identifiers = refl
+list_of_verb-of_list list.Records = refl
+list_of_verb-of_list list.Sets = refl
 
-skipped : (key : List ℕ) (pair : Pair) (pairs : List Pair) → bytes_eq pair.0 key ≡ false → values_of key pairs ≡ [] → values_of key (pair ∷ pairs) ≡ []
-unfolding values_of
-skipped key pair pairs other rest = rw other rest
+-- ---- the test of the arguments
 
-another_key : (keys : List (List ℕ)) (key own : List ℕ) (same : Bool) → bytes_eq own key ≡ same → is_among keys own ≡ true → is_among keys key ≡ false → same ≡ false
-another_key keys key own true e among lacks =
-    let both = ap (is_among keys) ((bytes_eq-Decides own key).0 e) in cc
-another_key keys key own false e among lacks = refl
+-- all seven parts of the test hold
+seven : (a b c d e f g : Bool) → (a && b && c && d && e && f && g) ≡ true → (a ≡ true) × (b ≡ true) × (c ≡ true) × (d ≡ true) × (e ≡ true) × (f ≡ true) × (g ≡ true)
+seven a b c d e f g h =
+    let to_f = and_parts (a && b && c && d && e && f) g h in
+    let to_e = and_parts (a && b && c && d && e) f to_f.0 in
+    let to_d = and_parts (a && b && c && d) e to_e.0 in
+    let to_c = and_parts (a && b && c) d to_d.0 in
+    let to_b = and_parts (a && b) c to_c.0 in
+    let to_a = and_parts a b to_b.0 in
+    (to_a.0, to_a.1, to_b.1, to_c.1, to_d.1, to_e.1, to_f.1)
 
-absent_of_none : (key : List ℕ) → values_of key [] ≡ []
-unfolding values_of
-absent_of_none key = refl
+seven_from : (a b c d e f g : Bool) → a ≡ true → b ≡ true → c ≡ true → d ≡ true → e ≡ true → f ≡ true → g ≡ true → (a && b && c && d && e && f && g) ≡ true
+seven_from a b c d e f g p q r s t u v = rw (p, q, r, s, t, u, v) refl
 
--- a key that is none of the only keys has no value
-absent : (keys : List (List ℕ)) (key : List ℕ) (pairs : List Pair) → is_among keys key ≡ false → has_only_keys keys pairs ≡ true → values_of key pairs ≡ []
-unfolding has_only_keys
-absent keys key [] lacks only = absent_of_none key
-absent keys key (pair ∷ pairs) lacks only =
-    let parts = and_parts (is_among keys pair.0) _ only in
-    skipped key pair pairs (another_key keys key pair.0 (bytes_eq pair.0 key) refl parts.0 lacks) (absent keys key pairs lacks parts.1)
+suited_at : (part : Part) (verb : Verb) (pairs : List Pair) → suit part verb (arguments_in pairs) ≡ true → (k : Key) → suits part (role_of verb k) (given (key_of k) pairs) ≡ true
+unfolding suit arguments_in
+suited_at part verb pairs h k =
+    let test : Key → Bool = λ key. suits part (role_of verb key) (given (key_of key) pairs) in
+    let parts = seven (has_only_keys known_keys pairs) (test Identifier) (test MetadataPrefix) (test From) (test Until) (test Set) (test ResumptionToken) h in
+    elim k as (λ key. suits part (role_of verb key) (given (key_of key) pairs) ≡ true) [
+      | Identifier ↦ parts.1
+      | MetadataPrefix ↦ parts.2
+      | From ↦ parts.3
+      | Until ↦ parts.4
+      | Set ↦ parts.5
+      | ResumptionToken ↦ parts.6
+    ]
 
--- ---- bounds
+known_at : (part : Part) (verb : Verb) (pairs : List Pair) → suit part verb (arguments_in pairs) ≡ true → has_only_keys known_keys pairs ≡ true
+unfolding suit arguments_in
+known_at part verb pairs h =
+    let test : Key → Bool = λ key. suits part (role_of verb key) (given (key_of key) pairs) in
+    (seven (has_only_keys known_keys pairs) (test Identifier) (test MetadataPrefix) (test From) (test Until) (test Set) (test ResumptionToken) h).0
 
--- an argument that is a bound: the test passes, and the bound is the one of its text
-pub bound_is_given : (granularity : Granularity) (argument : Option (List ℕ)) (bound : Option Bound) → IsBoundAt granularity argument bound → (is_bound granularity argument ≡ true) × (given_bound argument ≡ bound)
-bound_is_given granularity None None h = (refl, refl)
-bound_is_given granularity None (Some bound) h = absurd h
-bound_is_given granularity (Some text) None h = absurd h
-bound_is_given granularity (Some text) (Some bound) h = let e = bound_of_found text bound h.0 in (rw e h.1, e)
+is_of : (part : Part) (verb : Verb) (pairs : List Pair) → NamesVerb pairs verb → has_xml_values pairs ≡ true → suit part verb (arguments_in pairs) ≡ true → IsOf part verb pairs
+is_of part verb pairs named texts h = record { named = named; known = known_at part verb pairs h; suited = suited_at part verb pairs h; texts = texts }
 
-given_is_bound : (granularity : Granularity) (argument : Option (List ℕ)) (bound : Option Bound) → given_bound argument ≡ bound → is_bound granularity argument ≡ true → IsBoundAt granularity argument bound
-given_is_bound granularity None None e h = tt
-given_is_bound granularity None (Some bound) e h = cc
-given_is_bound granularity (Some text) None e h = let no = rw e at h in cc
-given_is_bound granularity (Some text) (Some bound) e h = (bound_of_is text bound e, rw e at h)
+suit_from : (part : Part) (verb : Verb) (pairs : List Pair) → IsOf part verb pairs → suit part verb (arguments_in pairs) ≡ true
+unfolding suit arguments_in
+suit_from part verb pairs h =
+    let test : Key → Bool = λ key. suits part (role_of verb key) (given (key_of key) pairs) in
+    seven_from (has_only_keys known_keys pairs) (test Identifier) (test MetadataPrefix) (test From) (test Until) (test Set) (test ResumptionToken)
+    h.known (h.suited Identifier) (h.suited MetadataPrefix) (h.suited From) (h.suited Until) (h.suited Set) (h.suited ResumptionToken)
 
--- so a given text that a condition calls a bound has one, which reading it gives
-pub bound_of_given : (granularity : Granularity) (text : List ℕ) (bound : Option Bound) → IsBoundAt granularity (Some text) bound → (read : Bound) × (bound_of text ≡ Some read) × (fits granularity read ≡ true) × (bound ≡ Some read)
-bound_of_given granularity text None h = absurd h
-bound_of_given granularity text (Some bound) h = (bound, bound_of_found text bound h.0, h.1, refl)
+-- ---- one value
 
-le_from : (x y : ℤ) → x ≤ℤ y → int_le x y ≡ true
-le_from x y h = by (int_le x y) refl
-  where
-    by : (t : Bool) → int_le x y ≡ t → t ≡ true
-    by true e = refl
-    by false e = absurd (omega (arith, ints))
+once-then : (value : Given) (next : List ℕ → Option Ask) (request : Ask) → (once value >>= next) ≡ Some request → (text : List ℕ) × (value ≡ Once text) × (next text ≡ Some request)
+once-then Never next request made = cc
+once-then (Once text) next request made = (text, refl, made)
+once-then Often next request made = cc
 
-le_is : (x y : ℤ) → int_le x y ≡ true → x ≤ℤ y
-le_is x y h = omega (arith, ints)
+-- an optional argument that suits is given with its value, or not
+optional-is : (value : Given) → suits First Optional value ≡ true → value ≡ at_most_once (once value)
+optional-is Never h = refl
+optional-is (Once text) h = refl
+optional-is Often h = cc
 
-order_from : (lower upper : Option Bound) → AreInOrder lower upper → are_in_order lower upper ≡ true
-order_from (Some (WholeDay from)) (Some (WholeDay until)) h = le_from from until h
-order_from (Some (OneSecond from)) (Some (OneSecond until)) h = le_from from until h
-order_from (Some (WholeDay from)) (Some (OneSecond until)) h = absurd h
-order_from (Some (OneSecond from)) (Some (WholeDay until)) h = absurd h
-order_from None (Some until) h = refl
-order_from None None h = refl
-order_from (Some (WholeDay from)) None h = refl
-order_from (Some (OneSecond from)) None h = refl
+once-at_most_once : (value : Option (List ℕ)) → once (at_most_once value) ≡ value
+once-at_most_once None = refl
+once-at_most_once (Some value) = refl
 
-order_is : (lower upper : Option Bound) → are_in_order lower upper ≡ true → AreInOrder lower upper
-order_is (Some (WholeDay from)) (Some (WholeDay until)) h = le_is from until h
-order_is (Some (OneSecond from)) (Some (OneSecond until)) h = le_is from until h
-order_is (Some (WholeDay from)) (Some (OneSecond until)) h = cc
-order_is (Some (OneSecond from)) (Some (WholeDay until)) h = cc
-order_is None (Some until) h = tt
-order_is None None h = tt
-order_is (Some (WholeDay from)) None h = tt
-order_is (Some (OneSecond from)) None h = tt
-
-bounds_from : (granularity : Granularity) (from until : Option (List ℕ)) (lower upper : Option Bound)
-    → IsBoundAt granularity from lower → IsBoundAt granularity until upper → AreInOrder lower upper → are_bounds granularity from until ≡ true
-unfolding are_bounds
-bounds_from granularity from until lower upper first second order =
-    let a = bound_is_given granularity from lower first in
-    let b = bound_is_given granularity until upper second in
-    rw (a.0, b.0, a.1, b.1) (order_from lower upper order)
-
-record AreBounds (granularity : Granularity) (from until : Option (List ℕ)) : Type 0 where
-  first : is_bound granularity from ≡ true
-  second : is_bound granularity until ≡ true
-  order : are_in_order (given_bound from) (given_bound until) ≡ true
+provided-is : (passes : Bool) (made request : Ask) → provided passes made ≡ Some request → (passes ≡ true) × (made ≡ request)
+provided-is true made request answer = (refl, cc)
+provided-is false made request answer = cc
 
 three_parts : (a b c : Bool) → (a && b && c) ≡ true → (a ≡ true) × (b ≡ true) × (c ≡ true)
-three_parts true true true h = (refl, refl, refl)
-three_parts true true false h = cc
-three_parts true false c h = cc
-three_parts false b c h = cc
-
-bounds_are : (granularity : Granularity) (from until : Option (List ℕ)) → are_bounds granularity from until ≡ true → AreBounds granularity from until
-unfolding are_bounds
-bounds_are granularity from until h =
-    let parts = three_parts (is_bound granularity from) (is_bound granularity until) _ h in
-    record { first = parts.0; second = parts.1; order = parts.2 }
+three_parts a b c h = let front = and_parts (a && b) c h in let parts = and_parts a b front.0 in (parts.0, parts.1, front.1)
 
 -- ---- from an answer to the relation
 
-checked-is : (passes : Bool) (made request : Ask) → checked passes made ≡ Some request → (passes ≡ true) × (made ≡ request)
-checked-is true made request answer = (refl, cc)
-checked-is false made request answer = cc
+made_as : (granularity : Granularity) (pairs : List Pair) (made request : Ask) → made ≡ request → IsAsk granularity pairs made → IsAsk granularity pairs request
+made_as granularity pairs made request same h =
+    let IsMade : Ask → Type 0 = λ a. IsAsk granularity pairs a in
+    subst IsMade same h
 
-kept-is : (passes : Bool) (next : Unit {0} → Option Ask) (request : Ask) → (provided passes >>= next) ≡ Some request → (passes ≡ true) × (next tt ≡ Some request)
-kept-is true next request answer = (refl, answer)
-kept-is false next request answer = cc
+formats_is : (granularity : Granularity) (pairs : List Pair) (request : Ask) → IsOf First ListMetadataFormats pairs → first_of granularity ListMetadataFormats (arguments_in pairs) ≡ Some request → IsAsk granularity pairs request
+unfolding first_of arguments_in
+formats_is granularity pairs request asked made =
+    let identifier : Given = given (key_of Identifier) pairs in
+    made_as granularity pairs (ask.Formats (once identifier)) request (cc) (asked, optional-is identifier (asked.suited Identifier))
 
-once-is : (values : List (List ℕ)) (next : List ℕ → Option Ask) (request : Ask) → (once values >>= next) ≡ Some request → (value : List ℕ) × (values ≡ value ∷ []) × (next value ≡ Some request)
-once-is [] next request answer = cc
-once-is (value ∷ []) next request answer = (value, refl, answer)
-once-is (value ∷ other ∷ values) next request answer = cc
+item_is : (granularity : Granularity) (pairs : List Pair) (request : Ask) → IsOf First GetRecord pairs → get_record_of (arguments_in pairs) ≡ Some request → IsAsk granularity pairs request
+unfolding get_record_of arguments_in
+item_is granularity pairs request asked made =
+    let i = once-then (given (key_of Identifier) pairs) _ request made in
+    let p = once-then (given (key_of MetadataPrefix) pairs) _ request i.2 in
+    let parts = provided-is (is_prefix p.0) (ask.Get i.0 p.0) request p.2 in
+    made_as granularity pairs _ request parts.1 (record { asked = asked; identified = i.1; formatted = p.1; syntax = parts.0 })
 
-at_most_once-is : (values : List (List ℕ)) (next : Option (List ℕ) → Option Ask) (request : Ask) → (at_most_once values >>= next) ≡ Some request → (value : Option (List ℕ)) × (values ≡ option_to_list value) × (next value ≡ Some request)
-at_most_once-is [] next request answer = (None, refl, answer)
-at_most_once-is (value ∷ []) next request answer = (Some value, refl, answer)
-at_most_once-is (value ∷ other ∷ values) next request answer = cc
+list_is : (granularity : Granularity) (verb : ListVerb) (pairs : List Pair) (request : Ask) → IsOf First (verb_of_list verb) pairs
+    → suits First Optional (given (key_of From) pairs) ≡ true → suits First Optional (given (key_of Until) pairs) ≡ true → suits First Optional (given (key_of Set) pairs) ≡ true
+    → first_list_of granularity verb (arguments_in pairs) ≡ Some request → IsAsk granularity pairs request
+unfolding first_list_of arguments_in
+list_is granularity verb pairs request asked starts ends selected made =
+    let from : Option (List ℕ) = once (given (key_of From) pairs) in
+    let until : Option (List ℕ) = once (given (key_of Until) pairs) in
+    let set : Option (List ℕ) = once (given (key_of Set) pairs) in
+    let p = once-then (given (key_of MetadataPrefix) pairs) _ request made in
+    let parts = provided-is (is_prefix p.0 && is_none_or_set_spec set && are_bounds granularity from until) (ask.List verb p.0 from until set) request p.2 in
+    let tests = three_parts (is_prefix p.0) (is_none_or_set_spec set) (are_bounds granularity from until) parts.0 in
+    made_as granularity pairs (ask.List verb p.0 from until set) request parts.1 (record {
+      asked = asked;
+      formatted = p.1;
+      starts = optional-is (given (key_of From) pairs) starts;
+      ends = optional-is (given (key_of Until) pairs) ends;
+      selected = optional-is (given (key_of Set) pairs) selected;
+      prefix_syntax = tests.0;
+      set_syntax = tests.1;
+      bounds = tests.2;
+    })
 
--- the verb and the values are as every form has them
-record IsAsked (verb : Verb) (pairs : List Pair) : Type 0 where
-  named : NamesVerb pairs verb
-  texts : has_xml_values pairs ≡ true
+first_is : (granularity : Granularity) (verb : Verb) (pairs : List Pair) (request : Ask) → IsOf First verb pairs → first_of granularity verb (arguments_in pairs) ≡ Some request → IsAsk granularity pairs request
+unfolding first_of
+first_is granularity Identify pairs request asked made = made_as granularity pairs ask.Identify request (cc) asked
+first_is granularity ListMetadataFormats pairs request asked made = formats_is granularity pairs request asked made
+first_is granularity ListSets pairs request asked made = made_as granularity pairs ask.Sets request (cc) asked
+first_is granularity GetRecord pairs request asked made = item_is granularity pairs request asked made
+first_is granularity ListIdentifiers pairs request asked made = list_is granularity list.Identifiers pairs request asked (asked.suited From) (asked.suited Until) (asked.suited Set) made
+first_is granularity ListRecords pairs request asked made = list_is granularity list.Records pairs request asked (asked.suited From) (asked.suited Until) (asked.suited Set) made
 
-identify_is : (granularity : Granularity) (pairs : List Pair) (request : Ask) → IsAsked Identify pairs → identify_of pairs ≡ Some request → IsAsk granularity pairs request
-unfolding identify_of
-identify_is granularity pairs request asked answer =
-    let parts = checked-is (has_only_keys (codes "verb" ∷ []) pairs) ask.Identify request answer in
-    let IsMadeBy : Ask → Type 0 = λ a. IsAsk granularity pairs a in
-    subst IsMadeBy parts.1 (record { named = asked.named; keys = parts.0; texts = asked.texts })
+resume_is : (granularity : Granularity) (verb : ListVerb) (pairs : List Pair) (request : Ask) → IsOf Next (verb_of_list verb) pairs
+    → (once (given (key_of ResumptionToken) pairs) >>= (λ token. Some (ask.Resume verb token))) ≡ Some request → IsAsk granularity pairs request
+resume_is granularity verb pairs request asked made =
+    let t = once-then (given (key_of ResumptionToken) pairs) _ request made in
+    made_as granularity pairs (ask.Resume verb t.0) request (cc (t.2)) (asked, t.1)
 
-sets_is : (granularity : Granularity) (pairs : List Pair) (request : Ask) → IsAsked ListSets pairs → sets_of pairs ≡ Some request → IsAsk granularity pairs request
-unfolding sets_of
-sets_is granularity pairs request asked answer =
-    let parts = checked-is (has_only_keys (codes "verb" ∷ []) pairs) ask.Sets request answer in
-    let IsMadeBy : Ask → Type 0 = λ a. IsAsk granularity pairs a in
-    subst IsMadeBy parts.1 (record { named = asked.named; keys = parts.0; texts = asked.texts })
+next_is : (granularity : Granularity) (verb : Verb) (pairs : List Pair) (request : Ask) → IsOf Next verb pairs → next_of verb (arguments_in pairs) ≡ Some request → IsAsk granularity pairs request
+unfolding next_of arguments_in
+next_is granularity Identify pairs request asked made = cc
+next_is granularity ListMetadataFormats pairs request asked made = cc
+next_is granularity ListSets pairs request asked made = resume_is granularity list.Sets pairs request asked made
+next_is granularity GetRecord pairs request asked made = cc
+next_is granularity ListIdentifiers pairs request asked made = resume_is granularity list.Identifiers pairs request asked made
+next_is granularity ListRecords pairs request asked made = resume_is granularity list.Records pairs request asked made
 
-formats_is : (granularity : Granularity) (pairs : List Pair) (request : Ask) → IsAsked ListMetadataFormats pairs → formats_of pairs ≡ Some request → IsAsk granularity pairs request
-unfolding formats_of
-formats_is granularity pairs request asked answer =
-    let kept = kept-is (has_only_keys (codes "verb" ∷ codes "identifier" ∷ []) pairs) _ request answer in
-    let i = at_most_once-is (values_of (codes "identifier") pairs) _ request kept.1 in
-    let same : ask.Formats i.0 ≡ request = cc (i.2) in
-    let IsMadeBy : Ask → Type 0 = λ a. IsAsk granularity pairs a in
-    subst IsMadeBy same (record { asked = record { named = asked.named; keys = kept.0; texts = asked.texts }; identified = i.1 })
+form_step : (granularity : Granularity) (verb : Verb) (pairs : List Pair) (request : Ask) → NamesVerb pairs verb → has_xml_values pairs ≡ true → (never first next : Bool)
+    → suit First verb (arguments_in pairs) ≡ first → suit Next verb (arguments_in pairs) ≡ next
+    → cond never (cond first (first_of granularity verb (arguments_in pairs)) None) (cond next (next_of verb (arguments_in pairs)) None) ≡ Some request → IsAsk granularity pairs request
+form_step granularity verb pairs request named texts true true next f n made = first_is granularity verb pairs request (is_of First verb pairs named texts f) made
+form_step granularity verb pairs request named texts true false next f n made = cc
+form_step granularity verb pairs request named texts false first true f n made = next_is granularity verb pairs request (is_of Next verb pairs named texts n) made
+form_step granularity verb pairs request named texts false first false f n made = cc
 
-get_is : (granularity : Granularity) (pairs : List Pair) (request : Ask) → IsAsked GetRecord pairs → get_of pairs ≡ Some request → IsAsk granularity pairs request
-unfolding get_of
-get_is granularity pairs request asked answer =
-    let kept = kept-is (has_only_keys (codes "verb" ∷ codes "identifier" ∷ codes "metadataPrefix" ∷ []) pairs) _ request answer in
-    let i = once-is (values_of (codes "identifier") pairs) _ request kept.1 in
-    let p = once-is (values_of (codes "metadataPrefix") pairs) _ request i.2 in
-    let parts = checked-is (is_prefix p.0) (ask.Get i.0 p.0) request p.2 in
-    let IsMadeBy : Ask → Type 0 = λ a. IsAsk granularity pairs a in
-    subst IsMadeBy parts.1 (record { asked = record { named = asked.named; keys = kept.0; texts = asked.texts }; identified = i.1; formatted = p.1; syntax = parts.0 })
-
--- the parts of the first part of a list
-record IsFirst (granularity : Granularity) (verb : Verb) (own : ListVerb) (pairs : List Pair) (request : Ask) : Type 0 where
-  prefix : List ℕ
-  from : Option (List ℕ)
-  until : Option (List ℕ)
-  set : Option (List ℕ)
-  is : ask.List own prefix from until set ≡ request
-  made : IsList granularity verb pairs prefix from until set
-
-list_is : (granularity : Granularity) (verb : Verb) (own : ListVerb) (pairs : List Pair) (request : Ask) → IsAsked verb pairs → list_of granularity own pairs ≡ Some request → IsFirst granularity verb own pairs request
-unfolding list_of
-list_is granularity verb own pairs request asked answer =
-    let kept = kept-is (has_only_keys (codes "verb" ∷ codes "metadataPrefix" ∷ codes "from" ∷ codes "until" ∷ codes "set" ∷ []) pairs) _ request answer in
-    let p = once-is (values_of (codes "metadataPrefix") pairs) _ request kept.1 in
-    let f = at_most_once-is (values_of (codes "from") pairs) _ request p.2 in
-    let u = at_most_once-is (values_of (codes "until") pairs) _ request f.2 in
-    let s = at_most_once-is (values_of (codes "set") pairs) _ request u.2 in
-    let parts = checked-is (is_prefix p.0 && is_set s.0 && are_bounds granularity f.0 u.0) (ask.List own p.0 f.0 u.0 s.0) request s.2 in
-    let tests = three_parts (is_prefix p.0) (is_set s.0) (are_bounds granularity f.0 u.0) parts.0 in
-    let bounds = bounds_are granularity f.0 u.0 tests.2 in
-    record {
-      prefix = p.0;
-      from = f.0;
-      until = u.0;
-      set = s.0;
-      is = parts.1;
-      made = record {
-        asked = record { named = asked.named; keys = kept.0; texts = asked.texts };
-        formatted = p.1;
-        starts = f.1;
-        ends = u.1;
-        selected = s.1;
-        prefix_syntax = tests.0;
-        set_syntax = tests.1;
-        lower = given_bound f.0;
-        upper = given_bound u.0;
-        from_bound = given_is_bound granularity f.0 (given_bound f.0) refl bounds.first;
-        until_bound = given_is_bound granularity u.0 (given_bound u.0) refl bounds.second;
-        order = order_is (given_bound f.0) (given_bound u.0) bounds.order;
-      };
-    }
-
-resume_is : (granularity : Granularity) (verb : ListVerb) (pairs : List Pair) (request : Ask) → IsAsked (verb_of_list verb) pairs → resume_of verb pairs ≡ Some request → IsAsk granularity pairs request
-unfolding resume_of
-resume_is granularity verb pairs request asked answer =
-    let kept = kept-is (has_only_keys (codes "verb" ∷ codes "resumptionToken" ∷ []) pairs) _ request answer in
-    let t = once-is (values_of (codes "resumptionToken") pairs) _ request kept.1 in
-    let same : ask.Resume verb t.0 ≡ request = cc (t.2) in
-    let IsMadeBy : Ask → Type 0 = λ a. IsAsk granularity pairs a in
-    subst IsMadeBy same (record { asked = record { named = asked.named; keys = kept.0; texts = asked.texts }; resumed = t.1 })
-
-part_is : (granularity : Granularity) (verb : ListVerb) (pairs : List Pair) (request : Ask) (first : Option Ask) (absent : Bool) → IsAsked (verb_of_list verb) pairs
-    → (first ≡ Some request → IsAsk granularity pairs request) → cond absent first (resume_of verb pairs) ≡ Some request → IsAsk granularity pairs request
-part_is granularity verb pairs request first true asked is answer = is answer
-part_is granularity verb pairs request first false asked is answer = resume_is granularity verb pairs request asked answer
-
-identifiers_is : (granularity : Granularity) (pairs : List Pair) (request : Ask) → IsAsked ListIdentifiers pairs → list_of granularity list.Identifiers pairs ≡ Some request → IsAsk granularity pairs request
-identifiers_is granularity pairs request asked answer =
-    let h = list_is granularity ListIdentifiers list.Identifiers pairs request asked answer in
-    let IsMadeBy : Ask → Type 0 = λ a. IsAsk granularity pairs a in
-    subst IsMadeBy h.is h.made
-
-records_is : (granularity : Granularity) (pairs : List Pair) (request : Ask) → IsAsked ListRecords pairs → list_of granularity list.Records pairs ≡ Some request → IsAsk granularity pairs request
-records_is granularity pairs request asked answer =
-    let h = list_is granularity ListRecords list.Records pairs request asked answer in
-    let IsMadeBy : Ask → Type 0 = λ a. IsAsk granularity pairs a in
-    subst IsMadeBy h.is h.made
-
-form_of-is : (granularity : Granularity) (pairs : List Pair) (verb : Verb) (request : Ask) → IsAsked verb pairs → form_of granularity verb pairs ≡ Some request → IsAsk granularity pairs request
+form_is : (granularity : Granularity) (verb : Verb) (pairs : List Pair) (request : Ask) → NamesVerb pairs verb → has_xml_values pairs ≡ true → form_of granularity verb (arguments_in pairs) ≡ Some request → IsAsk granularity pairs request
 unfolding form_of
-form_of-is granularity pairs Identify request asked answer = identify_is granularity pairs request asked answer
-form_of-is granularity pairs ListMetadataFormats request asked answer = formats_is granularity pairs request asked answer
-form_of-is granularity pairs ListSets request asked answer =
-    part_is granularity list.Sets pairs request (sets_of pairs) (is_empty (values_of (codes "resumptionToken") pairs)) asked (sets_is granularity pairs request asked) answer
-form_of-is granularity pairs GetRecord request asked answer = get_is granularity pairs request asked answer
-form_of-is granularity pairs ListIdentifiers request asked answer =
-    part_is granularity list.Identifiers pairs request (list_of granularity list.Identifiers pairs) (is_empty (values_of (codes "resumptionToken") pairs)) asked (identifiers_is granularity pairs request asked) answer
-form_of-is granularity pairs ListRecords request asked answer =
-    part_is granularity list.Records pairs request (list_of granularity list.Records pairs) (is_empty (values_of (codes "resumptionToken") pairs)) asked (records_is granularity pairs request asked) answer
+form_is granularity verb pairs request named texts made =
+    form_step granularity verb pairs request named texts (is_never (arguments_in pairs).token) (suit First verb (arguments_in pairs)) (suit Next verb (arguments_in pairs)) refl refl made
 
--- the parts of an answer
-record IsMade (granularity : Granularity) (pairs : List Pair) (verb : Verb) (request : Ask) : Type 0 where
-  texts : has_xml_values pairs ≡ true
-  form : form_of granularity verb pairs ≡ Some request
+texts_of : (pairs : List Pair) → (arguments_in pairs).are_values_xml ≡ has_xml_values pairs
+unfolding arguments_in
+texts_of pairs = refl
 
-made_from : (granularity : Granularity) (pairs : List Pair) (verb : Verb) (request : Ask) (texts : Bool) (form : Option Ask)
-    → has_xml_values pairs ≡ texts → form_of granularity verb pairs ≡ form
-    → cond texts (asked_or_bad form) bad_argument ≡ asks request → IsMade granularity pairs verb request
-made_from granularity pairs verb request false form t f answer = cc
-made_from granularity pairs verb request true None t f answer = cc
-made_from granularity pairs verb request true (Some other) t f answer =
-    let same : other ≡ request = cc in record { texts = t; form = f ∙ ap (λ (a : Ask). Some a) same }
+made_step : (granularity : Granularity) (verb : Verb) (pairs : List Pair) (request : Ask) → NamesVerb pairs verb → (texts : Bool) (form : Option Ask)
+    → has_xml_values pairs ≡ texts → form_of granularity verb (arguments_in pairs) ≡ form → cond texts (asked_or_bad form) bad_argument ≡ asks request → IsAsk granularity pairs request
+made_step granularity verb pairs request named false form t f answer = cc
+made_step granularity verb pairs request named true None t f answer = cc
+made_step granularity verb pairs request named true (Some other) t f answer =
+    let same : other ≡ request = cc in
+    form_is granularity verb pairs request named t (f ∙ ap (λ (a : Ask). Some a) same)
 
-ask_from : (granularity : Granularity) (pairs : List Pair) (request : Ask) (asked : Option Verb) → asked_verb pairs ≡ asked → request_for granularity asked pairs ≡ asks request → IsAsk granularity pairs request
+ask_from : (granularity : Granularity) (pairs : List Pair) (request : Ask) (asked : Option Verb) → asked_verb (arguments_in pairs) ≡ asked → asked_of_verb granularity asked (arguments_in pairs) ≡ asks request → IsAsk granularity pairs request
 ask_from granularity pairs request None named answer = cc
 ask_from granularity pairs request (Some verb) named answer =
-    let made = made_from granularity pairs verb request _ _ refl refl answer in
-    form_of-is granularity pairs verb request (record { named = asked_verb-is pairs verb named; texts = made.texts }) made.form
+    made_step granularity verb pairs request (asked_verb-is pairs verb named) (arguments_in pairs).are_values_xml (form_of granularity verb (arguments_in pairs)) (sym (texts_of pairs)) refl answer
+
+asks_is : (granularity : Granularity) (pairs : List Pair) (request : Ask) → request_of granularity pairs ≡ asks request → IsAsk granularity pairs request
+unfolding request_of request_in
+asks_is granularity pairs request answer = ask_from granularity pairs request (asked_verb (arguments_in pairs)) refl answer
 
 -- ---- from the relation to an answer
 
-answer_from : (granularity : Granularity) (pairs : List Pair) (verb : Verb) (keys : List (List ℕ)) (request : Ask) → IsOf verb keys pairs → form_of granularity verb pairs ≡ Some request → request_of granularity pairs ≡ asks request
-unfolding request_of
-answer_from granularity pairs verb keys request of made =
-    rw (asked_verb-from pairs verb of.named) (rw (of.texts, made) refl)
+asked_step : (texts : Bool) (form : Option Ask) (request : Ask) → texts ≡ true → form ≡ Some request → cond texts (asked_or_bad form) bad_argument ≡ asks request
+asked_step texts form request t f = rw (t, f) refl
 
-at_most_once-to_list : (value : Option (List ℕ)) → at_most_once (option_to_list value) ≡ Some value
-at_most_once-to_list None = refl
-at_most_once-to_list (Some value) = refl
+answer_step : (granularity : Granularity) (verb : Verb) (a : Arguments) (request : Ask) → asked_verb a ≡ Some verb → a.are_values_xml ≡ true → form_of granularity verb a ≡ Some request → request_in granularity a ≡ asks request
+unfolding request_in
+answer_step granularity verb a request named texts made = rw named (asked_step a.are_values_xml (form_of granularity verb a) request texts made)
 
-identify_from : (pairs : List Pair) → has_only_keys (codes "verb" ∷ []) pairs ≡ true → identify_of pairs ≡ Some ask.Identify
-unfolding identify_of
-identify_from pairs keys = rw keys refl
-
-sets_from : (pairs : List Pair) → has_only_keys (codes "verb" ∷ []) pairs ≡ true → sets_of pairs ≡ Some ask.Sets
-unfolding sets_of
-sets_from pairs keys = rw keys refl
-
-formats_from : (pairs : List Pair) (identifier : Option (List ℕ)) → IsFormats pairs identifier → formats_of pairs ≡ Some (ask.Formats identifier)
-unfolding formats_of
-formats_from pairs identifier h = rw (h.asked.keys, h.identified, at_most_once-to_list identifier) refl
-
-get_from : (pairs : List Pair) (identifier prefix : List ℕ) → IsGet pairs identifier prefix → get_of pairs ≡ Some (ask.Get identifier prefix)
-unfolding get_of
-get_from pairs identifier prefix h = rw (h.asked.keys, h.identified, h.formatted, h.syntax) refl
-
-list_from : (granularity : Granularity) (verb : Verb) (own : ListVerb) (pairs : List Pair) (prefix : List ℕ) (from until set : Option (List ℕ)) → IsList granularity verb pairs prefix from until set → list_of granularity own pairs ≡ Some (ask.List own prefix from until set)
-unfolding list_of
-list_from granularity verb own pairs prefix from until set h =
-    let bounds = bounds_from granularity from until h.lower h.upper h.from_bound h.until_bound h.order in
-    rw (h.asked.keys, h.formatted, h.starts, at_most_once-to_list from, h.ends, at_most_once-to_list until, h.selected, at_most_once-to_list set)
-    (rw (h.prefix_syntax, h.set_syntax, bounds) refl)
-
-resume_from : (verb : ListVerb) (pairs : List Pair) (token : List ℕ) → IsResume (verb_of_list verb) pairs token → resume_of verb pairs ≡ Some (ask.Resume verb token)
-unfolding resume_of
-resume_from verb pairs token h = rw (h.asked.keys, h.resumed) refl
-
--- no resumptionToken is given: the first part
-first_from : (verb : ListVerb) (keys : List (List ℕ)) (pairs : List Pair) (first : Option Ask) (request : Ask) → is_among keys (codes "resumptionToken") ≡ false → has_only_keys keys pairs ≡ true → first ≡ Some request → part_of verb first pairs ≡ Some request
-first_from verb keys pairs first request lacks only made = rw (absent keys (codes "resumptionToken") pairs lacks only) made
-
--- and the next one
-next_from : (verb : ListVerb) (pairs : List Pair) (first : Option Ask) (token : List ℕ) → IsResume (verb_of_list verb) pairs token → part_of verb first pairs ≡ Some (ask.Resume verb token)
-next_from verb pairs first token h = rw h.resumed (resume_from verb pairs token h)
-
-answer_of : (granularity : Granularity) (pairs : List Pair) (request : Ask) → IsAsk granularity pairs request → request_of granularity pairs ≡ asks request
+first_step : (granularity : Granularity) (verb : Verb) (a : Arguments) (request : Ask) → is_never a.token ≡ true → suit First verb a ≡ true → first_of granularity verb a ≡ Some request → form_of granularity verb a ≡ Some request
 unfolding form_of
-answer_of granularity pairs ask.Identify made = answer_from granularity pairs Identify _ ask.Identify made (identify_from pairs made.keys)
-answer_of granularity pairs (ask.Formats identifier) made = answer_from granularity pairs ListMetadataFormats _ (ask.Formats identifier) made.asked (formats_from pairs identifier made)
-answer_of granularity pairs ask.Sets made =
-    answer_from granularity pairs ListSets _ ask.Sets made (first_from list.Sets (codes "verb" ∷ []) pairs (sets_of pairs) ask.Sets refl made.keys (sets_from pairs made.keys))
-answer_of granularity pairs (ask.Get identifier prefix) made = answer_from granularity pairs GetRecord _ (ask.Get identifier prefix) made.asked (get_from pairs identifier prefix made)
-answer_of granularity pairs (ask.List list.Identifiers prefix from until set) made =
-    answer_from granularity pairs ListIdentifiers _ (ask.List list.Identifiers prefix from until set) made.asked
-    (first_from list.Identifiers _ pairs (list_of granularity list.Identifiers pairs) (ask.List list.Identifiers prefix from until set) refl made.asked.keys (list_from granularity ListIdentifiers list.Identifiers pairs prefix from until set made))
-answer_of granularity pairs (ask.List list.Records prefix from until set) made =
-    answer_from granularity pairs ListRecords _ (ask.List list.Records prefix from until set) made.asked
-    (first_from list.Records _ pairs (list_of granularity list.Records pairs) (ask.List list.Records prefix from until set) refl made.asked.keys (list_from granularity ListRecords list.Records pairs prefix from until set made))
-answer_of granularity pairs (ask.List list.Sets prefix from until set) made = absurd made
-answer_of granularity pairs (ask.Resume list.Identifiers token) made =
-    answer_from granularity pairs ListIdentifiers _ (ask.Resume list.Identifiers token) made.asked (next_from list.Identifiers pairs (list_of granularity list.Identifiers pairs) token made)
-answer_of granularity pairs (ask.Resume list.Records token) made =
-    answer_from granularity pairs ListRecords _ (ask.Resume list.Records token) made.asked (next_from list.Records pairs (list_of granularity list.Records pairs) token made)
-answer_of granularity pairs (ask.Resume list.Sets token) made =
-    answer_from granularity pairs ListSets _ (ask.Resume list.Sets token) made.asked (next_from list.Sets pairs (sets_of pairs) token made)
+first_step granularity verb a request never suited made = rw (never, suited) made
+
+next_step : (granularity : Granularity) (verb : Verb) (a : Arguments) (request : Ask) → is_never a.token ≡ false → suit Next verb a ≡ true → next_of verb a ≡ Some request → form_of granularity verb a ≡ Some request
+unfolding form_of
+next_step granularity verb a request never suited made = rw (never, suited) made
+
+token_of : (pairs : List Pair) → (arguments_in pairs).token ≡ given (key_of ResumptionToken) pairs
+unfolding arguments_in
+token_of pairs = refl
+
+first_from : (granularity : Granularity) (verb : Verb) (pairs : List Pair) (request : Ask) → IsOf First verb pairs → is_never (given (key_of ResumptionToken) pairs) ≡ true
+    → first_of granularity verb (arguments_in pairs) ≡ Some request → request_of granularity pairs ≡ asks request
+unfolding request_of
+first_from granularity verb pairs request asked never made =
+    answer_step granularity verb (arguments_in pairs) request (asked_verb-from pairs verb asked.named) (texts_of pairs ∙ asked.texts)
+    (first_step granularity verb (arguments_in pairs) request (ap is_never (token_of pairs) ∙ never) (suit_from First verb pairs asked) made)
+
+formats_from : (granularity : Granularity) (pairs : List Pair) (identifier : Option (List ℕ)) → given (key_of Identifier) pairs ≡ at_most_once identifier → first_of granularity ListMetadataFormats (arguments_in pairs) ≡ Some (ask.Formats identifier)
+unfolding first_of arguments_in
+formats_from granularity pairs identifier is = ap (λ (i : Option (List ℕ)). Some (ask.Formats i)) (ap once is ∙ once-at_most_once identifier)
+
+item_from : (granularity : Granularity) (pairs : List Pair) (identifier prefix : List ℕ) → IsGetRecord pairs identifier prefix → first_of granularity GetRecord (arguments_in pairs) ≡ Some (ask.Get identifier prefix)
+unfolding first_of get_record_of arguments_in
+item_from granularity pairs identifier prefix h = rw (h.identified, h.formatted, h.syntax) refl
+
+list_from : (granularity : Granularity) (verb : ListVerb) (pairs : List Pair) (prefix : List ℕ) (from until set : Option (List ℕ)) → IsList granularity (verb_of_list verb) pairs prefix from until set → first_list_of granularity verb (arguments_in pairs) ≡ Some (ask.List verb prefix from until set)
+unfolding first_list_of arguments_in
+list_from granularity verb pairs prefix from until set h =
+    rw (h.formatted, h.starts, once-at_most_once from, h.ends, once-at_most_once until, h.selected, once-at_most_once set)
+    (rw (h.prefix_syntax, h.set_syntax, h.bounds) refl)
+
+next_from : (granularity : Granularity) (verb : ListVerb) (pairs : List Pair) (token : List ℕ) → IsOf Next (verb_of_list verb) pairs → given (key_of ResumptionToken) pairs ≡ Once token → request_of granularity pairs ≡ asks (ask.Resume verb token)
+unfolding request_of next_of
+next_from granularity verb pairs token asked is =
+    let given_once : (arguments_in pairs).token ≡ Once token = token_of pairs ∙ is in
+    answer_step granularity (verb_of_list verb) (arguments_in pairs) (ask.Resume verb token) (asked_verb-from pairs (verb_of_list verb) asked.named) (texts_of pairs ∙ asked.texts)
+    (next_step granularity (verb_of_list verb) (arguments_in pairs) (ask.Resume verb token) (ap is_never given_once) (suit_from Next (verb_of_list verb) pairs asked) (rw (list_of_verb-of_list verb, given_once) refl))
+
+ask_is : (granularity : Granularity) (pairs : List Pair) (request : Ask) → IsAsk granularity pairs request → request_of granularity pairs ≡ asks request
+unfolding first_of
+ask_is granularity pairs ask.Identify h = first_from granularity Identify pairs ask.Identify h (h.suited ResumptionToken) refl
+ask_is granularity pairs (ask.Formats identifier) h = first_from granularity ListMetadataFormats pairs (ask.Formats identifier) h.0 (h.0.suited ResumptionToken) (formats_from granularity pairs identifier h.1)
+ask_is granularity pairs ask.Sets h = first_from granularity ListSets pairs ask.Sets h (h.suited ResumptionToken) refl
+ask_is granularity pairs (ask.Get identifier prefix) h = first_from granularity GetRecord pairs (ask.Get identifier prefix) h.asked (h.asked.suited ResumptionToken) (item_from granularity pairs identifier prefix h)
+ask_is granularity pairs (ask.List list.Identifiers prefix from until set) h =
+    first_from granularity ListIdentifiers pairs (ask.List list.Identifiers prefix from until set) h.asked (h.asked.suited ResumptionToken) (list_from granularity list.Identifiers pairs prefix from until set h)
+ask_is granularity pairs (ask.List list.Records prefix from until set) h =
+    first_from granularity ListRecords pairs (ask.List list.Records prefix from until set) h.asked (h.asked.suited ResumptionToken) (list_from granularity list.Records pairs prefix from until set h)
+ask_is granularity pairs (ask.List list.Sets prefix from until set) h = absurd (true≢false (sym (h.asked.suited MetadataPrefix) ∙ ap is_never h.formatted))
+ask_is granularity pairs (ask.Resume verb token) h = next_from granularity verb pairs token h.0 h.1
 
 -- ---- the law
-
-asks_is : (granularity : Granularity) (pairs : List Pair) (request : Ask) → request_of granularity pairs ≡ asks request → IsAsk granularity pairs request
-unfolding request_of
-asks_is granularity pairs request answer = ask_from granularity pairs request (asked_verb pairs) refl answer
 
 bad_verb_is : (texts : Bool) (form : Option Ask) → cond texts (asked_or_bad form) bad_argument ≡ bad_verb → ⊥
 bad_verb_is false form answer = cc
@@ -396,53 +311,68 @@ bad_verb_is true None answer = cc
 bad_verb_is true (Some request) answer = cc
 
 none_named : (granularity : Granularity) (pairs : List Pair) → request_of granularity pairs ≡ bad_verb → (verb : Verb) → ¬ NamesVerb pairs verb
-unfolding request_of
+unfolding request_of request_in
 none_named granularity pairs answer verb named =
-    bad_verb_is (has_xml_values pairs) (form_of granularity verb pairs)
-    (sym (ap (λ asked. request_for granularity asked pairs) (asked_verb-from pairs verb named)) ∙ answer)
+    bad_verb_is (arguments_in pairs).are_values_xml (form_of granularity verb (arguments_in pairs))
+    (sym (ap (λ asked. asked_of_verb granularity asked (arguments_in pairs)) (asked_verb-from pairs verb named)) ∙ answer)
 
-bad_verb_for : (granularity : Granularity) (pairs : List Pair) (asked : Option Verb) → asked_verb pairs ≡ asked → ((verb : Verb) → ¬ NamesVerb pairs verb) → request_for granularity asked pairs ≡ bad_verb
+bad_verb_for : (granularity : Granularity) (pairs : List Pair) (asked : Option Verb) → asked_verb (arguments_in pairs) ≡ asked → ((verb : Verb) → ¬ NamesVerb pairs verb) → asked_of_verb granularity asked (arguments_in pairs) ≡ bad_verb
 bad_verb_for granularity pairs None named none = refl
 bad_verb_for granularity pairs (Some verb) named none = absurd (none verb (asked_verb-is pairs verb named))
 
 bad_verb_from : (granularity : Granularity) (pairs : List Pair) → ((verb : Verb) → ¬ NamesVerb pairs verb) → request_of granularity pairs ≡ bad_verb
-unfolding request_of
-bad_verb_from granularity pairs none = bad_verb_for granularity pairs (asked_verb pairs) refl none
+unfolding request_of request_in
+bad_verb_from granularity pairs none = bad_verb_for granularity pairs (asked_verb (arguments_in pairs)) refl none
 
-verb_from : (granularity : Granularity) (pairs : List Pair) (asked : Option Verb) → asked_verb pairs ≡ asked → request_for granularity asked pairs ≡ bad_argument → (verb : Verb) × NamesVerb pairs verb
-verb_from granularity pairs None named answer = cc
-verb_from granularity pairs (Some verb) named answer = (verb, asked_verb-is pairs verb named)
+verb_for : (granularity : Granularity) (pairs : List Pair) (asked : Option Verb) → asked_verb (arguments_in pairs) ≡ asked → asked_of_verb granularity asked (arguments_in pairs) ≡ bad_argument → (verb : Verb) × NamesVerb pairs verb
+verb_for granularity pairs None named answer = cc
+verb_for granularity pairs (Some verb) named answer = (verb, asked_verb-is pairs verb named)
 
 verb_at_bad_argument : (granularity : Granularity) (pairs : List Pair) → request_of granularity pairs ≡ bad_argument → (verb : Verb) × NamesVerb pairs verb
-unfolding request_of
-verb_at_bad_argument granularity pairs answer = verb_from granularity pairs (asked_verb pairs) refl answer
+unfolding request_of request_in
+verb_at_bad_argument granularity pairs answer = verb_for granularity pairs (asked_verb (arguments_in pairs)) refl answer
 
-two_answers : (answer : Request) (request : Ask) → answer ≡ bad_argument → answer ≡ asks request → ⊥
-two_answers answer request bad made = cc
+two_answers : (asked : AskOrError) (request : Ask) → asked ≡ bad_argument → asked ≡ asks request → ⊥
+two_answers asked request bad made = cc
 
-bad_argument_from : (granularity : Granularity) (pairs : List Pair) (answer : Request) → request_of granularity pairs ≡ answer → (verb : Verb) → NamesVerb pairs verb → ((request : Ask) → ¬ IsAsk granularity pairs request) → request_of granularity pairs ≡ bad_argument
+bad_argument_from : (granularity : Granularity) (pairs : List Pair) (asked : AskOrError) → request_of granularity pairs ≡ asked → (verb : Verb) → NamesVerb pairs verb → ((request : Ask) → ¬ IsAsk granularity pairs request) → request_of granularity pairs ≡ bad_argument
 bad_argument_from granularity pairs (asks request) is verb named none = absurd (none request (asks_is granularity pairs request is))
 bad_argument_from granularity pairs bad_verb is verb named none = absurd (none_named granularity pairs is verb named)
 bad_argument_from granularity pairs bad_argument is verb named none = is
 
-answered : (granularity : Granularity) (pairs : List Pair) (request : Request) → request_of granularity pairs ≡ request → IsAnswered granularity pairs request
+answered : (granularity : Granularity) (pairs : List Pair) (asked : AskOrError) → request_of granularity pairs ≡ asked → IsAskOrError granularity pairs asked
 answered granularity pairs (asks request) is = asks_is granularity pairs request is
 answered granularity pairs bad_verb is = none_named granularity pairs is
 answered granularity pairs bad_argument is =
     let found = verb_at_bad_argument granularity pairs is in
-    (found.0, found.1, λ request made. two_answers (request_of granularity pairs) request is (answer_of granularity pairs request made))
+    (found.0, found.1, λ request made. two_answers (request_of granularity pairs) request is (ask_is granularity pairs request made))
 
-answers : (granularity : Granularity) (pairs : List Pair) (request : Request) → IsAnswered granularity pairs request → request_of granularity pairs ≡ request
-answers granularity pairs (asks request) made = answer_of granularity pairs request made
+answers : (granularity : Granularity) (pairs : List Pair) (asked : AskOrError) → IsAskOrError granularity pairs asked → request_of granularity pairs ≡ asked
+answers granularity pairs (asks request) made = ask_is granularity pairs request made
 answers granularity pairs bad_verb none = bad_verb_from granularity pairs none
 answers granularity pairs bad_argument found = bad_argument_from granularity pairs (request_of granularity pairs) refl found.0 found.1 found.2
 
 pub gives_the_answer : GivesTheAnswer
-gives_the_answer granularity pairs request = (answered granularity pairs request, answers granularity pairs request)
+gives_the_answer granularity pairs asked = (answered granularity pairs asked, answers granularity pairs asked)
 
--- and so an answer of the function is one of the relation
-pub is_reading : (granularity : Granularity) (pairs : List Pair) (result : Result Ask ArgFault) → IsReadAs result (request_of granularity pairs) → IsReading granularity pairs result
-is_reading granularity pairs (Ok request) h = answered granularity pairs (asks request) h
-is_reading granularity pairs (Err BadVerb) h = answered granularity pairs bad_verb h
-is_reading granularity pairs (Err BadArgument) h = answered granularity pairs bad_argument h
-is_reading granularity pairs (Err NoMemory) h = tt
+-- ---- what is answered
+
+answered_as : (asked : AskOrError) → IsReadAs (result_of asked) asked
+answered_as (asks request) = refl
+answered_as bad_verb = refl
+answered_as bad_argument = refl
+
+pub read_as : (result : Result Ask ArgFault) (asked : AskOrError) → result ≡ result_of asked → IsReadAs result asked
+read_as result asked e =
+    let Is : Result Ask ArgFault → Type 0 = λ r. IsReadAs r asked in
+    subst Is (sym e) (answered_as asked)
+
+answered_from : (granularity : Granularity) (pairs : List Pair) (asked : AskOrError) → request_of granularity pairs ≡ asked → IsReadFrom granularity pairs (result_of asked)
+answered_from granularity pairs (asks request) is = answered granularity pairs (asks request) is
+answered_from granularity pairs bad_verb is = answered granularity pairs bad_verb is
+answered_from granularity pairs bad_argument is = answered granularity pairs bad_argument is
+
+pub read_from : (granularity : Granularity) (pairs : List Pair) (result : Result Ask ArgFault) → result ≡ result_of (request_of granularity pairs) → IsReadFrom granularity pairs result
+read_from granularity pairs result e =
+    let Is : Result Ask ArgFault → Type 0 = λ r. IsReadFrom granularity pairs r in
+    subst Is (sym e) (answered_from granularity pairs (request_of granularity pairs) refl)

@@ -1,5 +1,7 @@
+pub mod Arguments
 pub mod Asks
+pub mod Bounds
 pub mod Pairs
 pub mod Requests
-pub mod Slots
+pub mod Steps
 pub mod Verbs

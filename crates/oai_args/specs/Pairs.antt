@@ -1,8 +1,11 @@
 -- The arguments of a request: pairs of a key and a value, in the type application/x-www-form-urlencoded.
 -- OAI-PMH 2.0, section 3.1.1; URL Standard, section 5.1.
-use Rattle.std.specs.Prelude.{ℕ, List, map, filter, bytes_eq}
+use Rattle.std.specs.Prelude.{ℕ, Bool, List, map, filter, bytes_eq}
+use Rattle.std.specs.List.{list_all}
 use Rattle.std.specs.Str.Lossy.{utf8_lossy}
 use Rattle.form_urlencoded.specs.Form.{raw_pairs, decode}
+use Rattle.oai_names.specs.Characters.{is_xml_text}
+use Rattle.oai_names.specs.Names.{is_among}
 
 -- a key and its value
 abbrev pub Pair : Type 0
@@ -23,3 +26,11 @@ decoded_pairs query = map decoded_pair (raw_pairs query)
 -- the values given to a key, in order
 unfoldable pub values_of : List ℕ → List Pair → List (List ℕ)
 values_of key pairs = map (λ (pair : Pair). pair.1) (filter (λ (pair : Pair). bytes_eq pair.0 key) pairs)
+
+-- every key is one of these
+unfoldable pub has_only_keys : List (List ℕ) → List Pair → Bool
+has_only_keys keys pairs = list_all (λ (pair : Pair). is_among keys pair.0) pairs
+
+-- every value is a text of XML characters, so that the answer can repeat it (OAI-PMH 2.0, section 3.2)
+unfoldable pub has_xml_values : List Pair → Bool
+has_xml_values pairs = list_all (λ (pair : Pair). is_xml_text pair.1) pairs

@@ -1,5 +1,6 @@
 ghost use Rattle.std.specs.Prelude.{◌≡◌, ◌∷◌, [], IfOk};
-ghost use Rattle.oai_args.specs.Slots as spec;
+ghost use Rattle.oai_args.specs.Arguments as spec;
+ghost use Rattle.oai_args.specs.Steps.{given_with};
 
 use oai_names::Text;
 use std::alloc::{AllocError, Global};
@@ -14,9 +15,9 @@ pub(crate) enum Given {
 
 impl Given {
     /// Takes one more value of the key.
-    #[tactic(auto, unfolding(crate::specs::Slots::given_with))]
+    #[tactic(auto, unfolding(crate::specs::Steps::given_with))]
     pub(crate) fn add(&mut self, alloc: Global, value: &str) -> Result<(), AllocError>
-        ensures { IfOk result (λ _. self.new ≡ spec.given_with self.old (value.now ∷ [])) }
+        ensures { IfOk result (λ _. self.new ≡ given_with self.old (value.now ∷ [])) }
     {
         *self = match self {
             Given::Never => Given::Once(Text::new(alloc, value)?),
@@ -28,22 +29,11 @@ impl Given {
 
     /// The value of a key that is given once.
     pub(crate) fn once(self) -> Option<Text>
-        ensures { result ≡ spec.once_in self }
+        ensures { result ≡ spec.once self }
     {
         match self {
             Given::Once(value) => Some(value),
             Given::Never => None,
-            Given::Often => None,
-        }
-    }
-
-    /// The value of a key that is given once, or that none is given; nothing where more are given.
-    pub(crate) fn at_most_once(self) -> Option<Option<Text>>
-        ensures { result ≡ spec.at_most_once_in self }
-    {
-        match self {
-            Given::Once(value) => Some(Some(value)),
-            Given::Never => Some(None),
             Given::Often => None,
         }
     }
@@ -53,5 +43,19 @@ impl Given {
         ensures { result ≡ spec.is_never self.now }
     {
         matches!(self, Given::Never)
+    }
+
+    /// Whether the key is given once.
+    pub(crate) fn is_once(&self) -> bool
+        ensures { result ≡ spec.is_once self.now }
+    {
+        matches!(self, Given::Once(_))
+    }
+
+    /// Whether the key is given more than once.
+    pub(crate) fn is_often(&self) -> bool
+        ensures { result ≡ spec.is_often self.now }
+    {
+        matches!(self, Given::Often)
     }
 }

@@ -1,12 +1,13 @@
 //! The arguments of the requests of OAI-PMH 2.0: which of the six verbs is asked for, and with what.
 #![tactic(auto)]
 
+mod arguments;
 mod bounds;
+mod forms;
 mod givens;
 mod requests;
-mod slots;
-#[cfg(test)]
-mod tests;
+mod roles;
 mod verbs;
 
+pub use bounds::given_bound;
 pub use requests::{ArgFault, Ask, read_request, request_law};

@@ -1,12 +1,11 @@
 ghost use Rattle.std.specs.Prelude.{◌≡◌};
 ghost use Rattle.oai_args.specs.Pairs.{decoded_pairs};
-ghost use Rattle.oai_args.specs.Requests.{GivesTheAnswer, IsReadAs, IsReading, request_of};
-ghost use Rattle.oai_args.specs.Slots.{request_in};
+ghost use Rattle.oai_args.specs.Requests.{GivesTheAnswer, IsReadAs, IsReadFrom, request_of};
 
-use crate::slots::{Slots, read_slots};
+use crate::arguments::Arguments;
 use oai_names::{ListVerb, Text};
 use oai_time::Granularity;
-use std::alloc::{AllocError, Global};
+use std::alloc::Global;
 use thiserror::Error;
 
 /// A request (OAI-PMH 2.0, section 4). Its texts are decoded, and otherwise as they were given.
@@ -51,59 +50,31 @@ pub enum Ask {
     },
 }
 
-/// Why arguments make no request, in the order in which the causes are looked for (OAI-PMH 2.0,
-/// section 3.6).
+/// Why arguments make no request (OAI-PMH 2.0, section 3.6).
 #[derive(Clone, Copy, Debug, PartialEq, Eq, Error)]
 pub enum ArgFault {
-    /// `verb` is missing, given more than once, or none of the six verbs.
+    /// `verb` is missing, given more than once, or none of the six verbs, whatever else is given.
     #[error("the verb is missing, repeated or illegal")]
     BadVerb,
     /// An argument is not the verb's, repeated, missing or of illegal syntax.
     #[error("an argument is illegal, repeated, missing or of illegal syntax")]
     BadArgument,
-    /// The arguments could not be stored.
+    /// The arguments could not be stored; what they mean was not looked at.
     #[error("out of memory")]
     NoMemory,
 }
 
-impl From<AllocError> for ArgFault {
-    ghost use Rattle.std.specs.Prelude.{◌≡◌};
-    ghost use Rattle.oai_args.specs.declared.requests.ArgFault.TheVariants.{NoMemory};
-
-    ghost from_gives = { λ _ e. e ≡ NoMemory };
-
-    fn from(_e: AllocError) -> ArgFault {
-        ArgFault::NoMemory
-    }
-}
-
 /// Reads the arguments of a request from the bytes of a query, in the type
 /// `application/x-www-form-urlencoded` (OAI-PMH 2.0, section 3.1.1), for a repository of that
-/// granularity. The errors, in this order: `BadVerb`, `BadArgument`; and `NoMemory`, before either
-/// is looked for.
-#[tactic(auto, using(crate::proofs::SlotLemmas::request_in_slots, crate::proofs::RequestLemmas::is_reading))]
+/// granularity. `NoMemory` is told while the arguments are stored, before their meaning is looked at,
+/// and never of an empty query; then `BadVerb` comes before `BadArgument`.
 pub fn read_request(alloc: Global, query: &[u8], granularity: Granularity) -> Result<Ask, ArgFault>
     ensures value { IsReadAs result (request_of granularity (decoded_pairs query.now)) }
-    ensures relation { IsReading granularity (decoded_pairs query.now) result }
+    ensures relation { IsReadFrom granularity (decoded_pairs query.now) result }
 {
-    let slots = read_slots(alloc, query)?;
-    request_in(slots, granularity)
-}
-
-/// The request that the arguments make.
-#[tactic(auto, unfolding(crate::specs::Slots::request_in))]
-fn request_in(slots: Slots, granularity: Granularity) -> Result<Ask, ArgFault>
-    ensures { IsReadAs result (request_in granularity slots) }
-{
-    let Some(verb) = slots.asked_verb() else {
-        return Err(ArgFault::BadVerb);
-    };
-    if !slots.has_xml_values() {
-        return Err(ArgFault::BadArgument);
-    }
-    match slots.into_ask(verb, granularity) {
-        Some(ask) => Ok(ask),
-        None => Err(ArgFault::BadArgument),
+    match Arguments::read(alloc, query) {
+        Ok(arguments) => arguments.into_request(granularity),
+        Err(_) => Err(ArgFault::NoMemory),
     }
 }
 

@@ -1,5 +1,7 @@
 ghost use Rattle.std.specs.Prelude.{◌≡◌};
-ghost use Rattle.oai_args.specs.Requests.{verb_named};
+ghost use Rattle.oai_args.specs.Requests.{list_of_verb, verb_named};
+
+use oai_names::ListVerb;
 
 /// The verbs of the protocol (OAI-PMH 2.0, section 4).
 #[derive(Clone, Copy)]
@@ -25,6 +27,20 @@ impl Verb {
             "ListIdentifiers" => Some(Verb::ListIdentifiers),
             "ListRecords" => Some(Verb::ListRecords),
             _ => None,
+        }
+    }
+
+    /// The lists that have parts, if the verb answers such lists.
+    pub(crate) fn list(self) -> Option<ListVerb>
+        ensures { result ≡ list_of_verb self }
+    {
+        match self {
+            Verb::ListSets => Some(ListVerb::Sets),
+            Verb::ListIdentifiers => Some(ListVerb::Identifiers),
+            Verb::ListRecords => Some(ListVerb::Records),
+            Verb::Identify => None,
+            Verb::ListMetadataFormats => None,
+            Verb::GetRecord => None,
         }
     }
 }

@@ -12,7 +12,7 @@ use Rattle.std.proofs.lemmas.Str.Pattern.{NoCharPasses-char}
 use Rattle.std.proofs.lemmas.List.{get_or-append_right, get_or-drop, get_or_at, get_or_default}
 use Rattle.std.proofs.Math.Seq.{take-append_seam}
 use Rattle.oai_names.specs.Names.{is_colon}
-use Rattle.oai_names.specs.Sets.{HasParentsBefore, IsSetTree, has_any, parent_of}
+use Rattle.oai_names.specs.Sets.{HasParentsBefore, IsSetTree, is_none_or_has, parent_of}
 
 -- the last colon stands at k
 parent_at : (bs : List ℕ) (k : ℕ) → k < length bs → get_or bs k 0 ≡ 58 → ((i : ℕ) → k < i → i < length bs → get_or bs i 0 ≢ 58) → Some (take k bs) ≡ parent_of bs
@@ -54,7 +54,7 @@ path_parent parent last none =
 
 pub parents_stand_before : (sets : List (List ℕ × List ℕ)) → IsSetTree sets → HasParentsBefore sets
 parents_stand_before sets tree i parent last name at none =
-    subst (λ p. has_any (take i sets) p ≡ true) (sym (path_parent parent last none)) (tree.parents i (parent ++ 58 ∷ last, name) at)
+    subst (λ p. is_none_or_has (take i sets) p ≡ true) (sym (path_parent parent last none)) (tree.parents i (parent ++ 58 ∷ last, name) at)
 
 -- t is p, a colon, and something more
 abbrev pub IsBelow : List ℕ → List ℕ → Type 0

@@ -1,4 +1,5 @@
-pub mod Text
+pub mod Characters
 pub mod Names
 pub mod Escapes
+pub mod Paths
 pub mod Sets

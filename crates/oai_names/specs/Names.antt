@@ -1,7 +1,9 @@
 -- The grammars of names, over the bytes of a text.
-use Rattle.std.specs.Prelude.{◌≡◌, ◌<◌, ◌≤◌, ℕ, Bool, true, false, ◌==◌, ◌||◌, ◌&&◌, not, List, [], ◌∷◌, length, codes, Result, Ok, Err}
+use Rattle.std.specs.Prelude.{◌≡◌, ◌<◌, ℕ, Bool, true, false, ◌==◌, ◌||◌, ◌&&◌, not, nat_le, List, [], ◌∷◌, length, codes, Result, Ok, Err}
 use Rattle.std.specs.List.{list_all, list_any, before_first, after_first}
 use Rattle.std.specs.Char.{is_ascii_alphabetic, is_ascii_alphanumeric}
+use Rattle.std.specs.Str.{bytes_eq}
+use Rattle.oai_names.specs.declared.limits.TheConstants.{MOST_PREFIX_BYTES, MOST_IDENTIFIER_BYTES}
 use Rattle.oai_names.specs.declared.readings.NameFault.{NameFault}
 use Rattle.oai_names.specs.declared.readings.NameFault.TheVariants.{Syntax, TooLong, NoMemory}
 
@@ -38,14 +40,34 @@ is_uri_byte b = is_ascii_alphanumeric b || is_one_of (codes "-._~:/?#[]@!$&'()*+
 abbrev pub is_colon : ℕ → Bool
 is_colon b = b == 58
 
--- a unique identifier is a URI: a scheme, a colon, and one or more characters (OAI-PMH 2.0, section 2.4)
+-- a unique identifier has the characters of a URI: a scheme, a colon, and one or more others (OAI-PMH 2.0, section 2.4)
 unfoldable pub is_identifier : List ℕ → Bool
 is_identifier text =
     is_scheme (before_first is_colon text) && is_some_of is_uri_byte (after_first is_colon text)
 
+-- ---- names that are kept: of a grammar, and not too long (the lengths are this repository's own)
+
+-- a text of the grammar, of at most so many bytes
+abbrev pub is_name_of : (List ℕ → Bool) → ℕ → List ℕ → Bool
+is_name_of grammar most text = grammar text && nat_le (length text) most
+
+-- a text that a metadataPrefix may be
+abbrev pub may_be_prefix : List ℕ → Bool
+may_be_prefix text = is_name_of is_prefix MOST_PREFIX_BYTES text
+
+-- a text that a unique identifier may be
+abbrev pub may_be_identifier : List ℕ → Bool
+may_be_identifier text = is_name_of is_identifier MOST_IDENTIFIER_BYTES text
+
 -- what reading a name of the grammar, of at most so many bytes, answers: the first cause that applies
 abbrev pub IsReading : (List ℕ → Bool) → ℕ → List ℕ → Result (List ℕ) NameFault → Type 0
-IsReading is_name most text (Ok name) = (name ≡ text) × (is_name text ≡ true) × (length text ≤ most)
-IsReading is_name most text (Err Syntax) = is_name text ≡ false
-IsReading is_name most text (Err TooLong) = (is_name text ≡ true) × (most < length text)
-IsReading is_name most text (Err NoMemory) = (is_name text ≡ true) × (length text ≤ most)
+IsReading grammar most text (Ok name) = (name ≡ text) × (is_name_of grammar most text ≡ true)
+IsReading grammar most text (Err Syntax) = grammar text ≡ false
+IsReading grammar most text (Err TooLong) = (grammar text ≡ true) × (most < length text)
+IsReading grammar most text (Err NoMemory) = is_name_of grammar most text ≡ true
+
+-- ---- lists of names
+
+-- the text is one of these
+abbrev pub is_among : List (List ℕ) → List ℕ → Bool
+is_among texts text = list_any (λ other. bytes_eq text other) texts

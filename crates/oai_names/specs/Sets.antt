@@ -2,13 +2,18 @@
 use Rattle.std.specs.Prelude.{◌≡◌, ◌<◌, ◌≤◌, ℕ, Bool, true, false, nat_eq, ◌||◌, List, [], ◌∷◌, ◌++◌, ◌⊎◌, length, take, Option, None, Some, Result, Ok, Err, if◌then◌else◌}
 use Rattle.std.specs.List.{list_all, list_any, slice_split, slice_get, starts_with, before_last}
 use Rattle.std.specs.Str.{bytes_eq}
-use Rattle.oai_names.specs.Names.{is_prefix, is_colon}
+use Rattle.oai_names.specs.Names.{is_prefix, is_colon, is_name_of}
+use Rattle.oai_names.specs.declared.limits.TheConstants.{MOST_SET_SPEC_BYTES, MOST_SETS}
 use Rattle.oai_names.specs.declared.set_trees.SetFault.{SetFault}
 use Rattle.oai_names.specs.declared.set_trees.SetFault.TheVariants.{Exists, NoParent, TooMany, NoMemory}
 
 -- a setSpec is the colon-separated path from a root of the hierarchy: each part is one or more URI unreserved characters, as a metadataPrefix is
 unfoldable pub is_set_spec : List ℕ → Bool
 is_set_spec text = list_all is_prefix (slice_split is_colon text)
+
+-- a text that a setSpec may be
+abbrev pub may_be_set_spec : List ℕ → Bool
+may_be_set_spec text = is_name_of is_set_spec MOST_SET_SPEC_BYTES text
 
 -- the setSpec t lies in the set s: it is s, or s, a colon, and the rest of a path
 abbrev pub Covers : List ℕ → List ℕ → Type 0
@@ -18,11 +23,6 @@ Covers s t = (t ≡ s) ⊎ ((rest : List ℕ) × (t ≡ s ++ 58 ∷ rest))
 unfoldable pub covers : List ℕ → List ℕ → Bool
 covers s t = bytes_eq s t || starts_with nat_eq t (s ++ 58 ∷ [])
 
--- a part of a path ends where these bytes begin
-abbrev pub ends_part : List ℕ → Bool
-ends_part [] = true
-ends_part (b ∷ bytes) = is_colon b
-
 -- the setSpec of the set right above: everything before the last colon. A set of one part is a root, with none above it
 unfoldable pub parent_of : List ℕ → Option (List ℕ)
 parent_of spec = if list_any is_colon spec then Some (before_last is_colon spec) else None
@@ -31,20 +31,20 @@ parent_of spec = if list_any is_colon spec then Some (before_last is_colon spec)
 abbrev pub has_set : List (List ℕ × List ℕ) → List ℕ → Bool
 has_set sets spec = list_any (λ set. bytes_eq spec set.0) sets
 
--- none is needed, or it is one of the sets
-abbrev pub has_any : List (List ℕ × List ℕ) → Option (List ℕ) → Bool
-has_any sets None = true
-has_any sets (Some spec) = has_set sets spec
+-- no set is asked for, or one that is one of the sets
+abbrev pub is_none_or_has : List (List ℕ × List ℕ) → Option (List ℕ) → Bool
+is_none_or_has sets None = true
+is_none_or_has sets (Some spec) = has_set sets spec
 
 -- the set right above this one, if it is no root, is one of the sets
 abbrev pub has_parent : List (List ℕ × List ℕ) → List ℕ → Bool
-has_parent sets spec = has_any sets (parent_of spec)
+has_parent sets spec = is_none_or_has sets (parent_of spec)
 
 -- the sets of a repository in order of addition: the setSpecs are distinct, each set's parent stands before it, and there are not too many
 pub record IsSetTree (sets : List (List ℕ × List ℕ)) : Type 0 where
   pub distinct : (i : ℕ) (set : List ℕ × List ℕ) → slice_get sets i ≡ Some set → has_set (take i sets) set.0 ≡ false
   pub parents : (i : ℕ) (set : List ℕ × List ℕ) → slice_get sets i ≡ Some set → has_parent (take i sets) set.0 ≡ true
-  pub few : length sets ≤ 10000
+  pub few : length sets ≤ MOST_SETS
 
 -- the law of the hierarchy: where a set's last part follows another setSpec and a colon, a set of that setSpec stands before it
 abbrev pub HasParentsBefore : List (List ℕ × List ℕ) → Type 0
@@ -53,8 +53,8 @@ HasParentsBefore sets = (i : ℕ) (parent last name : List ℕ)
 
 -- what adding a set answers, and the sets then: it is the last one, or the first cause that applies is told and they are as they were
 abbrev pub IsAdding : List (List ℕ × List ℕ) → List ℕ → List ℕ → Result (Unit {0}) SetFault → List (List ℕ × List ℕ) → Type 0
-IsAdding old spec name (Ok _) new = (has_set old spec ≡ false) × (has_parent old spec ≡ true) × (length old < 10000) × (new ≡ old ++ (spec, name) ∷ [])
+IsAdding old spec name (Ok _) new = (has_set old spec ≡ false) × (has_parent old spec ≡ true) × (length old < MOST_SETS) × (new ≡ old ++ (spec, name) ∷ [])
 IsAdding old spec name (Err Exists) new = (has_set old spec ≡ true) × (new ≡ old)
 IsAdding old spec name (Err NoParent) new = (has_set old spec ≡ false) × (has_parent old spec ≡ false) × (new ≡ old)
-IsAdding old spec name (Err TooMany) new = (has_set old spec ≡ false) × (has_parent old spec ≡ true) × (10000 ≤ length old) × (new ≡ old)
-IsAdding old spec name (Err NoMemory) new = (has_set old spec ≡ false) × (has_parent old spec ≡ true) × (length old < 10000) × (new ≡ old)
+IsAdding old spec name (Err TooMany) new = (has_set old spec ≡ false) × (has_parent old spec ≡ true) × (MOST_SETS ≤ length old) × (new ≡ old)
+IsAdding old spec name (Err NoMemory) new = (has_set old spec ≡ false) × (has_parent old spec ≡ true) × (length old < MOST_SETS) × (new ≡ old)

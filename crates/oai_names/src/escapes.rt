@@ -1,4 +1,4 @@
-ghost use Rattle.std.specs.Prelude.{◌≡◌, ◌++◌, [], ◌∷◌, length, take, unwrap_or, OnOk, OnErr};
+ghost use Rattle.std.specs.Prelude.{◌≡◌, ◌≤◌, ◌++◌, [], ◌∷◌, length, take, unwrap_or, OnOk, OnErr};
 ghost use Rattle.std.specs.Option.{option_copied};
 ghost use Rattle.oai_names.specs.Escapes as spec;
 
@@ -37,7 +37,7 @@ fn escape(place: Place, text: &str, out: &mut Vec<u8>) -> Result<(), AllocError>
     ensures err { OnErr result (out.new.items ≡ out.old.items) }
 {
     let old_len = out.len();
-    let written = append(place, text, out);
+    let written = append(place, text.as_bytes(), out);
     if written.is_err() {
         out.truncate(old_len);
     }
@@ -46,15 +46,44 @@ fn escape(place: Place, text: &str, out: &mut Vec<u8>) -> Result<(), AllocError>
 
 /// As `escape`, but what was appended before memory was refused stays.
 #[tactic(auto, unfolding(crate::specs::Escapes::escaped))]
-fn append(place: Place, text: &str, out: &mut Vec<u8>) -> Result<(), AllocError>
+fn append(place: Place, text: &[u8], out: &mut Vec<u8>) -> Result<(), AllocError>
     ensures ok { OnOk result (out.new.items ≡ out.old.items ++ spec.escaped place text.now) }
     ensures err { OnErr result (take (length out.old.items) out.new.items ≡ out.old.items) }
 {
-    for b in text.as_bytes() {
-        match escape_of(place, *b) {
-            Some(spelling) => out.extend_from_slice(spelling.as_bytes())?,
-            None => out.push(*b)?,
+    let mut rest = text;
+    loop {
+        let (run, after) = rest.split_at(run_len(place, rest));
+        out.extend_from_slice(run)?;
+        let Some((b, tail)) = after.split_first() else {
+            return Ok(());
+        };
+        append_byte(place, *b, out)?;
+        rest = tail;
+    }
+}
+
+/// How many bytes at the front are spelled as they are.
+#[tactic(auto, unfolding(crate::specs::Escapes::escaped))]
+fn run_len(place: Place, bytes: &[u8]) -> usize
+    ensures within { result ≤ length bytes.now }
+    ensures run { spec.escaped place (take result bytes.now) ≡ take result bytes.now }
+{
+    for (i, b) in bytes.iter().enumerate() {
+        if escape_of(place, *b).is_some() {
+            return i;
         }
+    }
+    bytes.len()
+}
+
+/// Appends one byte as the table spells it.
+fn append_byte(place: Place, b: u8, out: &mut Vec<u8>) -> Result<(), AllocError>
+    ensures ok { OnOk result (out.new.items ≡ out.old.items ++ spec.spelling place b) }
+    ensures err { OnErr result (out.new.items ≡ out.old.items) }
+{
+    match escape_of(place, b) {
+        Some(spelling) => out.extend_from_slice(spelling.as_bytes())?,
+        None => out.push(b)?,
     }
     Ok(())
 }

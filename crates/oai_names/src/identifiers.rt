@@ -1,13 +1,11 @@
-ghost use Rattle.std.specs.Prelude.{◌≡◌, ◌≤◌, true, length, IfOk};
+ghost use Rattle.std.specs.Prelude.{◌≡◌, true, IfOk};
 ghost use Rattle.std.specs.List.{list_all};
-ghost use Rattle.oai_names.specs.Names.{IsReading, is_identifier, is_scheme, is_scheme_byte, is_some_of, is_uri_byte};
+ghost use Rattle.oai_names.specs.Names.{IsReading, may_be_identifier, is_identifier, is_scheme, is_scheme_byte, is_some_of, is_uri_byte};
 
+use crate::limits::MOST_IDENTIFIER_BYTES;
 use crate::readings::NameFault;
 use std::alloc::{AllocError, Global};
 use std::marker::Model;
-
-/// The most bytes that an identifier has.
-const MOST_BYTES: usize = 512;
 
 /// The unique identifier of an item, a URI: a scheme (a letter, then letters, digits and `+ - .`),
 /// a colon, and one or more of the characters of a URI, at most 512 bytes in all (OAI-PMH 2.0,
@@ -18,28 +16,28 @@ pub struct Identifier {
 }
 
 impl Model for Identifier {
-    ghost use Rattle.std.specs.Prelude.{◌≡◌, ◌≤◌, ℕ, true, List, length};
+    ghost use Rattle.std.specs.Prelude.{◌≡◌, ℕ, true, List};
     ghost use Rattle.std.specs.String.{string_bytes};
 
     ghost Value = { List ℕ };
 
-    ghost use Rattle.oai_names.specs.Names.{is_identifier};
+    ghost use Rattle.oai_names.specs.Names.{may_be_identifier};
 
     ghost view = { λ i. string_bytes i.text };
 
-    ghost invariant = { λ i. (is_identifier (string_bytes i.text) ≡ true) × (length (string_bytes i.text) ≤ 512) };
+    ghost invariant = { λ i. may_be_identifier (string_bytes i.text) ≡ true };
 }
 
 impl Identifier {
     /// Reads an identifier. The errors, in this order: `Syntax`, `TooLong` above 512 bytes,
     /// `NoMemory`.
     pub fn read(alloc: Global, text: &str) -> Result<Identifier, NameFault>
-        ensures { IsReading is_identifier 512 text.now result }
+        ensures { IsReading is_identifier MOST_IDENTIFIER_BYTES text.now result }
     {
         if !is_identifier(text) {
             return Err(NameFault::Syntax);
         }
-        if text.len() > MOST_BYTES {
+        if text.len() > MOST_IDENTIFIER_BYTES {
             return Err(NameFault::TooLong);
         }
         match String::from_str(alloc, text) {
@@ -51,8 +49,7 @@ impl Identifier {
     /// The identifier as text.
     pub fn as_str(&self) -> &str
         ensures text { result.now ≡ self.now }
-        ensures syntax { is_identifier self.now ≡ true }
-        ensures short { length self.now ≤ 512 }
+        ensures name { may_be_identifier self.now ≡ true }
     {
         self.text.as_str()
     }

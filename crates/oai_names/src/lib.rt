@@ -5,18 +5,18 @@
 
 mod escapes;
 mod identifiers;
+mod limits;
 mod list_verbs;
 mod prefixes;
 mod readings;
 mod sequences;
 mod set_specs;
 mod set_trees;
-#[cfg(test)]
-mod tests;
 mod texts;
 
 pub use escapes::{escape_attr, escape_text};
 pub use identifiers::Identifier;
+pub use limits::{MOST_IDENTIFIER_BYTES, MOST_PREFIX_BYTES, MOST_SET_SPEC_BYTES, MOST_SETS};
 pub use list_verbs::ListVerb;
 pub use prefixes::{Prefix, is_prefix};
 pub use readings::NameFault;

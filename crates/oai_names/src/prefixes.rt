@@ -1,13 +1,11 @@
-ghost use Rattle.std.specs.Prelude.{◌≡◌, ◌≤◌, true, length, IfOk};
+ghost use Rattle.std.specs.Prelude.{◌≡◌, true, IfOk};
 ghost use Rattle.std.specs.List.{list_all};
-ghost use Rattle.oai_names.specs.Names.{IsReading, is_prefix, is_prefix_byte};
+ghost use Rattle.oai_names.specs.Names.{IsReading, is_prefix, is_prefix_byte, may_be_prefix};
 
+use crate::limits::MOST_PREFIX_BYTES;
 use crate::readings::NameFault;
 use std::alloc::{AllocError, Global};
 use std::marker::Model;
-
-/// The most bytes that a metadata prefix has.
-const MOST_BYTES: usize = 64;
 
 /// A metadata prefix, the name of a metadata format: one or more ASCII letters, digits and
 /// `- _ . ! ~ * ' ( )`, at most 64 bytes (OAI-PMH 2.0, section 3.4).
@@ -17,27 +15,27 @@ pub struct Prefix {
 }
 
 impl Model for Prefix {
-    ghost use Rattle.std.specs.Prelude.{◌≡◌, ◌≤◌, ℕ, true, List, length};
+    ghost use Rattle.std.specs.Prelude.{◌≡◌, ℕ, true, List};
     ghost use Rattle.std.specs.String.{string_bytes};
 
     ghost Value = { List ℕ };
 
-    ghost use Rattle.oai_names.specs.Names.{is_prefix};
+    ghost use Rattle.oai_names.specs.Names.{may_be_prefix};
 
     ghost view = { λ p. string_bytes p.text };
 
-    ghost invariant = { λ p. (is_prefix (string_bytes p.text) ≡ true) × (length (string_bytes p.text) ≤ 64) };
+    ghost invariant = { λ p. may_be_prefix (string_bytes p.text) ≡ true };
 }
 
 impl Prefix {
     /// Reads a prefix. The errors, in this order: `Syntax`, `TooLong` above 64 bytes, `NoMemory`.
     pub fn read(alloc: Global, text: &str) -> Result<Prefix, NameFault>
-        ensures { IsReading is_prefix 64 text.now result }
+        ensures { IsReading is_prefix MOST_PREFIX_BYTES text.now result }
     {
         if !is_prefix(text) {
             return Err(NameFault::Syntax);
         }
-        if text.len() > MOST_BYTES {
+        if text.len() > MOST_PREFIX_BYTES {
             return Err(NameFault::TooLong);
         }
         match String::from_str(alloc, text) {
@@ -49,8 +47,7 @@ impl Prefix {
     /// The prefix as text.
     pub fn as_str(&self) -> &str
         ensures text { result.now ≡ self.now }
-        ensures syntax { is_prefix self.now ≡ true }
-        ensures short { length self.now ≤ 64 }
+        ensures name { may_be_prefix self.now ≡ true }
     {
         self.text.as_str()
     }

@@ -1,14 +1,13 @@
-ghost use Rattle.std.specs.Prelude.{◌≡◌, ◌≤◌, ◌↔◌, true, length, IfOk, IsTrue};
+ghost use Rattle.std.specs.Prelude.{◌≡◌, ◌↔◌, true, IfOk, IsTrue};
 ghost use Rattle.oai_names.specs.Names.{IsReading};
-ghost use Rattle.oai_names.specs.Sets.{Covers, covers, ends_part, is_set_spec};
+ghost use Rattle.oai_names.specs.Paths.{ends_part};
+ghost use Rattle.oai_names.specs.Sets.{Covers, covers, is_set_spec, may_be_set_spec};
 
+use crate::limits::MOST_SET_SPEC_BYTES;
 use crate::prefixes::is_prefix;
 use crate::readings::NameFault;
 use std::alloc::{AllocError, Global};
 use std::marker::Model;
-
-/// The most bytes that a setSpec has.
-const MOST_BYTES: usize = 256;
 
 /// A setSpec, the name of a set: the path from a root of the hierarchy of sets, one or more parts
 /// joined by colons, each of them one or more ASCII letters, digits and `- _ . ! ~ * ' ( )`, at
@@ -19,27 +18,27 @@ pub struct SetSpec {
 }
 
 impl Model for SetSpec {
-    ghost use Rattle.std.specs.Prelude.{◌≡◌, ◌≤◌, ℕ, true, List, length};
+    ghost use Rattle.std.specs.Prelude.{◌≡◌, ℕ, true, List};
     ghost use Rattle.std.specs.String.{string_bytes};
 
     ghost Value = { List ℕ };
 
-    ghost use Rattle.oai_names.specs.Sets.{is_set_spec};
+    ghost use Rattle.oai_names.specs.Sets.{may_be_set_spec};
 
     ghost view = { λ s. string_bytes s.text };
 
-    ghost invariant = { λ s. (is_set_spec (string_bytes s.text) ≡ true) × (length (string_bytes s.text) ≤ 256) };
+    ghost invariant = { λ s. may_be_set_spec (string_bytes s.text) ≡ true };
 }
 
 impl SetSpec {
     /// Reads a setSpec. The errors, in this order: `Syntax`, `TooLong` above 256 bytes, `NoMemory`.
     pub fn read(alloc: Global, text: &str) -> Result<SetSpec, NameFault>
-        ensures { IsReading is_set_spec 256 text.now result }
+        ensures { IsReading is_set_spec MOST_SET_SPEC_BYTES text.now result }
     {
         if !is_set_spec(text) {
             return Err(NameFault::Syntax);
         }
-        if text.len() > MOST_BYTES {
+        if text.len() > MOST_SET_SPEC_BYTES {
             return Err(NameFault::TooLong);
         }
         match String::from_str(alloc, text) {
@@ -51,8 +50,7 @@ impl SetSpec {
     /// The setSpec as text.
     pub fn as_str(&self) -> &str
         ensures text { result.now ≡ self.now }
-        ensures syntax { is_set_spec self.now ≡ true }
-        ensures short { length self.now ≤ 256 }
+        ensures name { may_be_set_spec self.now ≡ true }
     {
         self.text.as_str()
     }
@@ -73,8 +71,17 @@ impl SetSpec {
         ensures test { result ≡ covers self.now other.now }
         ensures relation { IsTrue result ↔ Covers self.now other.now }
     {
-        let own = self.as_str().as_bytes();
-        match other.as_str().as_bytes().strip_prefix(own) {
+        other.lies_in(self.as_str())
+    }
+
+    /// Whether this set is the one of that setSpec, which may be of any length, or lies below it, as
+    /// `covers` says it. It takes no memory.
+    pub fn lies_in(&self, set: &str) -> bool
+        ensures test { result ≡ covers set.now self.now }
+        ensures relation { IsTrue result ↔ Covers set.now self.now }
+    {
+        let own = set.as_bytes();
+        match self.as_str().as_bytes().strip_prefix(own) {
             Some(rest) => ends_part(rest),
             None => false,
         }

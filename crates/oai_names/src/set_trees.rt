@@ -1,17 +1,15 @@
 ghost use Rattle.std.specs.Prelude.{◌≡◌, ◌<◌, ◌≤◌, ◌++◌, [], ◌∷◌, true, false, length, MatchResult};
 ghost use Rattle.std.specs.List.{slice_get};
 ghost use Rattle.std.specs.Option.{option_copied, option_map};
-ghost use Rattle.oai_names.specs.Sets.{HasParentsBefore, IsAdding, IsSetTree, has_any, has_parent, has_set, parent_of};
+ghost use Rattle.oai_names.specs.Sets.{HasParentsBefore, IsAdding, IsSetTree, has_parent, has_set, parent_of};
 
+use crate::limits::MOST_SETS;
 use crate::set_specs::SetSpec;
 use crate::texts::Text;
 use std::alloc::{AllocError, Global};
 use std::collections::BTreeSet;
 use std::marker::Model;
 use thiserror::Error;
-
-/// The most sets that a repository has.
-const MOST_SETS: usize = 10_000;
 
 /// Why a set was not added, in the order in which the causes are looked for.
 #[derive(Clone, Copy, Debug, PartialEq, Eq, Error)]
@@ -145,7 +143,7 @@ impl SetTree {
     fn push(&mut self, spec: &SetSpec, name: &str) -> Result<(), AllocError>
         requires apart { has_set self.old spec.now ≡ false }
         requires parent { has_parent self.old spec.now ≡ true }
-        requires room { length self.old < 10000 }
+        requires room { length self.old < MOST_SETS }
         ensures { MatchResult result (λ _. self.new ≡ self.old ++ (spec.now, name.now) ∷ []) (λ _. self.new ≡ self.old) }
     {
         let alloc = *self.sets.allocator();

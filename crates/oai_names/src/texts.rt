@@ -1,12 +1,13 @@
 ghost use Rattle.std.specs.Prelude.{◌≡◌, IfOk};
-ghost use Rattle.oai_names.specs.Text as spec;
+ghost use Rattle.std.specs.String.{string_bytes};
+ghost use Rattle.oai_names.specs.Characters as spec;
 
 use std::alloc::{AllocError, Global};
 use std::marker::Model;
 
 /// Whether each character of the text may stand in an XML document: everything but U+0000 to
 /// U+001F without tab, LF and CR, and but U+FFFE and U+FFFF (XML 1.0, section 2.2).
-#[tactic(auto, unfolding(crate::specs::Text::is_xml_text))]
+#[tactic(auto, unfolding(crate::specs::Characters::is_xml_text))]
 pub fn is_xml_text(text: &str) -> bool
     ensures { result ≡ spec.is_xml_text text.now }
 {
@@ -45,6 +46,13 @@ impl Text {
         })
     }
 
+    /// The text that was made. It takes no memory.
+    pub fn from_string(text: String) -> Text
+        ensures { result ≡ string_bytes text }
+    {
+        Text { text }
+    }
+
     /// The text.
     pub fn as_str(&self) -> &str
         ensures { result.now ≡ self.now }
@@ -57,5 +65,13 @@ impl Text {
         ensures { IfOk result (λ copy. copy ≡ self.now) }
     {
         Text::new(alloc, self.as_str())
+    }
+
+    /// The text, to be changed. It takes no memory.
+    pub fn into_string(self) -> String
+        ensures { string_bytes result ≡ self }
+    {
+        let Text { text } = self;
+        text
     }
 }

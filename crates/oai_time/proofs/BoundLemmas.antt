@@ -8,7 +8,7 @@ use Rattle.oai_time.specs.Bound.{IsBound, IsMidnight}
 use Rattle.oai_time.specs.Calendar.{calendar_day}
 use Rattle.oai_time.specs.Stamp.{IsWritable, stamp_of}
 use Rattle.oai_time.proofs.StampLemmas.{stamp_of-in_range}
-use Rattle.oai_time.specs.Text.{date_text, time_text, day_text, second_text, seconds_of_era}
+use Rattle.oai_time.specs.TimeTexts.{date_text, time_text, day_text, second_text, seconds_of_era}
 
 pub length-day_text : (t : ℤ) → length (day_text t) ≡ 10
 unfolding day_text date_text
@@ -18,7 +18,7 @@ pub length-second_text : (t : ℤ) → length (second_text t) ≡ 20
 unfolding second_text day_text date_text time_text
 length-second_text t = refl
 
-nonnegative : (z : ℤ) → pos 0 ≤ℤ z → pos (unsigned_abs z) ≡ z
+pub nonnegative : (z : ℤ) → pos 0 ≤ℤ z → pos (unsigned_abs z) ≡ z
 nonnegative (pos n) h = refl
 nonnegative (negsuc n) h = absurd (omega (arith, signed_arith))
 
@@ -62,6 +62,15 @@ pub record IsSecondBound (text : List ℕ) (bound : Bound) : Type 0 where
   pub date : take 10 text ≡ date_text (calendar_day days)
   pub time : drop 10 text ≡ time_text second
   pub is : bound ≡ OneSecond (pos (86_400 * days) -ℤ pos 62_167_219_200 +ℤ pos second)
+
+-- the day stands in front of the text of the second
+pub day_in_second : (t : ℤ) → take 10 (second_text t) ≡ day_text t
+unfolding second_text day_text date_text time_text
+day_in_second t = refl
+
+pub whole_second : (t : ℤ) → take 20 (second_text t) ≡ second_text t
+unfolding second_text day_text date_text time_text
+whole_second t = refl
 
 front-second_text : (t : ℤ) → take 10 (second_text t) ≡ date_text (calendar_day (seconds_of_era t / 86_400))
 unfolding second_text day_text date_text time_text

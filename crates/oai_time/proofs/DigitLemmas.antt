@@ -1,6 +1,6 @@
 -- Decimal digits give their number back.
 use Rattle.std.proofs.Common.{◌≡◌, ℕ, ◌+◌, ◌-◌, ◌*◌, ◌<◌, min, arith}
-use Rattle.oai_time.specs.Text.{digit}
+use Rattle.oai_time.specs.TimeTexts.{digit}
 
 -- the number that two bytes are read as
 abbrev pub read_two : ℕ → ℕ → ℕ

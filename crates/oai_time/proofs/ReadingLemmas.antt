@@ -9,9 +9,9 @@ use Rattle.jiff_core.proofs.SignedLemmas.{signed_arith, int_rem_euclid-parts}
 use Rattle.oai_time.specs.declared.bound.BadDate.{BadDate}
 use Rattle.oai_time.specs.declared.bound.Bound.{Bound}
 use Rattle.oai_time.specs.declared.bound.Bound.TheVariants.{Day as WholeDay, Second as OneSecond}
-use Rattle.oai_time.specs.Bound.{IsBound, last_below, second_of_era, midnight_of, day_of, second_of, bound_of}
+use Rattle.oai_time.specs.Bound.{IsBound, IsMidnight, last_below, second_of_era, midnight_of, day_of, second_of, bound_of}
 use Rattle.oai_time.specs.Calendar.{CalendarDay, calendar_day}
-use Rattle.oai_time.specs.Text.{date_text, time_text, day_text, second_text, seconds_of_era}
+use Rattle.oai_time.specs.TimeTexts.{date_text, time_text, day_text, second_text, seconds_of_era}
 use Rattle.oai_time.proofs.BoundLemmas.{IsDayBound, IsSecondBound, by_ten, by_twenty, length-day_text, length-second_text, day_below, era, midnight_is}
 use Rattle.oai_time.proofs.CalendarLemmas.{calendar_day_bounds, calendar_day_injective}
 use Rattle.oai_time.proofs.DigitLemmas.{read_two, two_digits_back, four_digits_back}
@@ -36,7 +36,7 @@ day_back : (d : CalendarDay) → d.day < 100 → read_at 8 (date_text d) ≡ d.d
 unfolding date_text read_at
 day_back d below = two_digits_back d.day below
 
-same_parts : (c d : CalendarDay) → c.year ≡ d.year → c.month ≡ d.month → c.day ≡ d.day → c ≡ d
+pub same_parts : (c d : CalendarDay) → c.year ≡ d.year → c.month ≡ d.month → c.day ≡ d.day → c ≡ d
 same_parts c d year month day =
     let made : ℕ → ℕ → ℕ → CalendarDay = λ y m n. record { year = y; month = m; day = n } in
     ap (λ (y : ℕ). made y c.month c.day) year ∙ ap (λ (m : ℕ). made d.year m c.day) month ∙ ap (λ (n : ℕ). made d.year d.month n) day
@@ -120,14 +120,17 @@ some p (suc n) k below passes = some_step p n k (p n) refl (λ lt. some p n k lt
 
 -- ---- what is found
 
+pub midnight_in_range : (n : ℕ) → n < 3_652_425 → IsMidnight (midnight_of n)
+midnight_in_range n below =
+    (omega (arith, signed_arith), omega (arith, signed_arith, int_rem_euclid-parts (midnight_of n) 86_400))
+
 day_is : (text : List ℕ) (n : ℕ) → day_of text ≡ Some n → IsBound text (WholeDay (midnight_of n))
 unfolding day_of
 day_is text n e =
     let h = found (λ n. bytes_eq text (day_text (midnight_of n))) 3_652_425 n e in
     let seconds = midnight_of n in
-    let low = h.1 in
     record {
-      in_range = (omega (arith, signed_arith), omega (arith, signed_arith, int_rem_euclid-parts seconds 86_400));
+      in_range = midnight_in_range n h.1;
       written = (bytes_eq-Decides text (day_text seconds)).0 h.0;
     }
 

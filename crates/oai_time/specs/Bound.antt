@@ -1,11 +1,14 @@
 -- The bounds of a harvest, the arguments `from` and `until` (OAI-PMH 2.0, 2.7.1 "Selective harvesting and datestamps").
-use Rattle.std.specs.Prelude.{◌≡◌, ℕ, zero, suc, ◌*◌, Bool, if◌then◌else◌, bytes_eq, Option, None, Some, List, ℤ, pos, ◌+ℤ◌, ◌-ℤ◌}
+use Rattle.std.specs.Prelude.{◌≡◌, ◌<◌, ℕ, zero, suc, ◌*◌, Bool, true, false, if◌then◌else◌, bytes_eq, Option, None, Some, List, ℤ, pos, ◌+ℤ◌, ◌-ℤ◌}
+use Rattle.std.specs.Int.{IsInRange}
 use Rattle.std.specs.Option.{option_map, option_or}
-use Rattle.oai_time.specs.declared.granularity.Granularity.TheVariants.{Day}
+use Rattle.jiff.specs.Words.{days_in_month}
+use Rattle.oai_time.specs.declared.granularity.Granularity.{Granularity}
+use Rattle.oai_time.specs.declared.granularity.Granularity.TheVariants.{Day, Second}
 use Rattle.oai_time.specs.declared.bound.Bound.{Bound}
 use Rattle.oai_time.specs.declared.bound.Bound.TheVariants.{Day as WholeDay, Second as OneSecond}
 use Rattle.oai_time.specs.Stamp.{IsWritable, stamp_of}
-use Rattle.oai_time.specs.Text.{day_text, second_text}
+use Rattle.oai_time.specs.TimeTexts.{date_text, day_text, second_text}
 
 -- the second in which a day begins
 abbrev pub IsMidnight : ℤ → Type 0
@@ -35,6 +38,17 @@ lower_of (OneSecond second) = second
 abbrev pub upper_of : Bound → ℤ
 upper_of (WholeDay midnight) = midnight +ℤ pos 86_399
 upper_of (OneSecond second) = second
+
+-- a bound is no finer than the granularity: a repository of days has no seconds to compare
+abbrev pub is_no_finer_than : Bound → Granularity → Bool
+is_no_finer_than (WholeDay midnight) granularity = true
+is_no_finer_than (OneSecond second) Second = true
+is_no_finer_than (OneSecond second) Day = false
+
+-- the law of the calendar: the date of each year from 0000 to 9999, month from 1 to 12, and day up to the month's last is the text of a day
+abbrev pub HasEachDate : Type 0
+HasEachDate = (year month day : ℕ) → year < 10_000 → IsInRange 1 12 month → IsInRange 1 (days_in_month (pos year) month) day
+    → (midnight : ℤ) × IsBound (date_text (record { year = year; month = month; day = day })) (WholeDay midnight)
 
 -- ---- the same as a function
 

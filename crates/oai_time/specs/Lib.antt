@@ -2,4 +2,4 @@ pub mod Bound
 pub mod Calendar
 pub mod Clock
 pub mod Stamp
-pub mod Text
+pub mod TimeTexts

@@ -1,10 +1,11 @@
 ghost use Rattle.std.specs.Prelude.{◌≡◌, ℕ, ◌+◌, ◌*◌, ◌-◌, ◌<◌, min, length, ◌↔◌, pos, ◌-ℤ◌, IsTrue, IfOk, OnErr, IfSome};
 ghost use Rattle.std.specs.Result.{result_ok};
-ghost use Rattle.oai_time.specs.Bound.{IsBound, IsWritableBound, bound_of, lower_of, upper_of};
+ghost use Rattle.oai_time.specs.Bound.{HasEachDate, IsBound, IsWritableBound, bound_of, is_no_finer_than, lower_of, upper_of};
 ghost use Rattle.oai_time.specs.Calendar.{calendar_day};
 ghost use Rattle.oai_time.specs.Stamp.{IsWritable};
-ghost use Rattle.oai_time.specs.Text.{date_text, time_text};
+ghost use Rattle.oai_time.specs.TimeTexts.{date_text, time_text};
 
+use crate::granularity::Granularity;
 use crate::text::{FIRST_SECOND, write_day, write_second};
 use jiff::civil::Date;
 use thiserror::Error;
@@ -72,6 +73,25 @@ pub fn upper(bound: Bound) -> i64
         Bound::Second(second) => second,
     }
 }
+
+/// Whether the bound is no finer than the granularity: a repository of days has no seconds to
+/// compare with a bound of seconds (OAI-PMH 2.0, section 2.7.1).
+pub fn is_no_finer_than(bound: Bound, granularity: Granularity) -> bool
+    ensures { result ≡ is_no_finer_than bound granularity }
+{
+    match (bound, granularity) {
+        (Bound::Day(_), _) => true,
+        (Bound::Second(_), Granularity::Second) => true,
+        (Bound::Second(_), Granularity::Day) => false,
+    }
+}
+
+/// The law of the calendar: each date of a year from 0000 to 9999, a month from 1 to 12, and a day
+/// from 1 to the month's last is the text of a day. It does nothing at run time.
+#[tactic(auto, using(crate::proofs::DateLemmas::has_each_date))]
+pub fn calendar_law()
+    ensures { HasEachDate }
+{}
 
 /// Whether the text is what is written for the bound.
 fn is_written(bound: Bound, text: &[u8]) -> bool

@@ -7,8 +7,9 @@ use std::marker::Model;
 /// The last second of the year 9998.
 const LAST_TICK: i64 = 253_370_764_799;
 
-/// A clock of whole seconds that never goes back and never passes 9998-12-31T23:59:59Z, whatever
-/// moments it is told. What is added to it for an end still has a date of four digits.
+/// A clock of whole seconds that never goes back and, where it starts no later than
+/// 9998-12-31T23:59:59Z, never passes that second, whatever moments it is told. What is added to it
+/// for an end, up to a year, then still has a date of four digits.
 #[derive(Clone, Copy, Debug, PartialEq, Eq)]
 pub struct Clock(i64);
 

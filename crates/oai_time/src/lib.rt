@@ -8,12 +8,12 @@
 
 mod bound;
 mod clock;
+mod datestamp;
 mod granularity;
-#[cfg(test)]
-mod tests;
 mod text;
 
-pub use bound::{BadDate, Bound, lower, read_bound, upper};
+pub use bound::{BadDate, Bound, calendar_law, is_no_finer_than, lower, read_bound, upper};
 pub use clock::Clock;
+pub use datestamp::{Datestamp, write_datestamp};
 pub use granularity::{Granularity, stamp};
 pub use text::{write_day, write_second};

@@ -2,7 +2,7 @@ ghost use Rattle.std.specs.Prelude.{◌≡◌, pos, ◌%◌, ◌<◌};
 ghost use Rattle.oai_time.specs.Calendar.{calendar_day};
 ghost use Rattle.oai_time.specs.Bound.{IsBound};
 ghost use Rattle.oai_time.specs.Stamp.{IsWritable, stamp_of};
-ghost use Rattle.oai_time.specs.Text.{day_text, digit, second_text, seconds_of_era, time_text};
+ghost use Rattle.oai_time.specs.TimeTexts.{day_text, digit, second_text, seconds_of_era, time_text};
 
 use crate::bound::Bound;
 use crate::granularity::Granularity;
@@ -14,7 +14,7 @@ pub(crate) const FIRST_SECOND: i64 = -62_167_219_200;
 
 /// The text `YYYY-MM-DD` of the day in which `seconds` lie (OAI-PMH 2.0, 3.3 "UTCdatetime"). The
 /// seconds are of the years 0000 to 9999.
-#[tactic(auto, unfolding(crate::specs::Text::day_text, crate::specs::Text::date_text))]
+#[tactic(auto, unfolding(crate::specs::TimeTexts::day_text, crate::specs::TimeTexts::date_text))]
 pub fn write_day(seconds: i64) -> [u8; 10]
     requires { IsWritable seconds }
     ensures text { result ≡ day_text seconds }
@@ -50,7 +50,7 @@ pub fn write_second(seconds: i64) -> [u8; 20]
 }
 
 /// The text `Thh:mm:ssZ` of the time of day.
-#[tactic(auto, unfolding(crate::specs::Text::time_text))]
+#[tactic(auto, unfolding(crate::specs::TimeTexts::time_text))]
 fn write_time(seconds: i64) -> [u8; 10]
     requires { IsWritable seconds }
     ensures { result ≡ time_text (seconds_of_era seconds % 86_400) }

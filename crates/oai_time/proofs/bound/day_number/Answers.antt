@@ -1,6 +1,6 @@
 use Rattle.std.proofs.Common.{◌≡◌, ◌+◌, ◌*◌, ◌∙◌, refl}
 use Rattle.oai_time.specs.Calendar.{calendar_day}
-use Rattle.oai_time.specs.Text.{date_text}
+use Rattle.oai_time.specs.TimeTexts.{date_text}
 use Rattle.oai_time.proofs.CalendarLemmas.{calendar_day_bounds}
 use Rattle.oai_time.proofs.DigitLemmas.{two_digits_back, four_digits_back}
 use Rattle.oai_time.proofs.bound.day_number.Goals as goal

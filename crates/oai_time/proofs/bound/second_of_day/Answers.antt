@@ -1,5 +1,5 @@
 use Rattle.std.proofs.Common.{◌/◌, ◌%◌, ◌∙◌, arith}
-use Rattle.oai_time.specs.Text.{time_text}
+use Rattle.oai_time.specs.TimeTexts.{time_text}
 use Rattle.oai_time.proofs.DigitLemmas.{two_digits_back}
 use Rattle.oai_time.proofs.bound.second_of_day.Goals as goal
 

@@ -1,5 +1,5 @@
 use Rattle.std.proofs.Common.{rules, ◌∙◌}
-use Rattle.oai_time.specs.Text.{date_text, day_text}
+use Rattle.oai_time.specs.TimeTexts.{date_text, day_text}
 use Rattle.oai_time.proofs.BoundLemmas.{stamp_of-IsMidnight, day_text-stamp_of}
 use Rattle.oai_time.proofs.text.write_day.Goals as goal
 

@@ -1,7 +1,7 @@
 use Rattle.std.proofs.Common.{◌≡◌, ℕ, List, ◌++◌, length, refl, ap, ◌∙◌, arith, FitsSigned, w64, to_z-of_z}
 use borrow.Rule.Slice.PartMut.{put_mid}
 use Rattle.std.proofs.lemmas.List.{places, same_lists}
-use Rattle.oai_time.specs.Text.{second_text, time_text}
+use Rattle.oai_time.specs.TimeTexts.{second_text, time_text}
 use Rattle.oai_time.proofs.text.write_second.Goals as goal
 
 -- a write over the second of two parts

@@ -1,0 +1,70 @@
+-- What one more pair at the end does to the arguments.
+use Rattle.std.proofs.Common.{◌≡◌, ◌≢◌, ◌∙◌, ℕ, Bool, ◌&&◌, List, [], ◌∷◌, ◌++◌, map, codes, refl, sym, ap, append_assoc}
+use Rattle.std.specs.Prelude.{bytes_eq}
+use Rattle.std.proofs.lemmas.List.{map-append}
+use Rattle.std.proofs.lemmas.List.Elements.{filter-append}
+use Rattle.std.proofs.lemmas.List.Folds.{list_all-append}
+use Rattle.oai_names.specs.Characters.{is_xml_text}
+use Rattle.oai_names.specs.Names.{is_among}
+use Rattle.oai_args.specs.Arguments.{known_keys, given_of, given, arguments_in}
+use Rattle.oai_args.specs.Pairs.{Pair, decoded_text, decoded_pair, decoded_pairs, values_of, has_only_keys, has_xml_values}
+use Rattle.oai_args.specs.declared.arguments.Arguments.{Arguments}
+use Rattle.oai_args.specs.Steps.{given_with, arguments_with}
+
+given_with-given_of : (front rest : List (List ℕ)) → given_with (given_of front) rest ≡ given_of (front ++ rest)
+unfolding given_with
+given_with-given_of [] [] = refl
+given_with-given_of [] (value ∷ []) = refl
+given_with-given_of [] (value ∷ other ∷ values) = refl
+given_with-given_of (first ∷ []) [] = refl
+given_with-given_of (first ∷ []) (value ∷ values) = refl
+given_with-given_of (first ∷ second ∷ front) [] = refl
+given_with-given_of (first ∷ second ∷ front) (value ∷ values) = refl
+
+values_of-append : (key : List ℕ) (front rest : List Pair) → values_of key (front ++ rest) ≡ values_of key front ++ values_of key rest
+unfolding values_of
+values_of-append key front rest =
+    let test : Pair → Bool = λ pair. bytes_eq pair.0 key in
+    let value : Pair → List ℕ = λ pair. pair.1 in
+    rw (filter-append test front rest) (map-append value _ _)
+
+given_with-append : (key : List ℕ) (front rest : List Pair) → given_with (given key front) (values_of key rest) ≡ given key (front ++ rest)
+unfolding given
+given_with-append key front rest =
+    given_with-given_of (values_of key front) (values_of key rest) ∙ ap given_of (sym (values_of-append key front rest))
+
+known-append : (keys : List (List ℕ)) (front rest : List Pair) → (has_only_keys keys front && has_only_keys keys rest) ≡ has_only_keys keys (front ++ rest)
+unfolding has_only_keys
+known-append keys front rest = sym (list_all-append (λ (pair : Pair). is_among keys pair.0) front rest)
+
+xml-append : (front rest : List Pair) → (has_xml_values front && has_xml_values rest) ≡ has_xml_values (front ++ rest)
+unfolding has_xml_values
+xml-append front rest = sym (list_all-append (λ (pair : Pair). is_xml_text pair.1) front rest)
+
+pub arguments_with-append : (front : List Pair) (pair : Pair) → arguments_with (arguments_in front) (pair ∷ []) ≡ arguments_in (front ++ pair ∷ [])
+unfolding arguments_with arguments_in
+arguments_with-append front pair =
+    let rest : List Pair = pair ∷ [] in
+    rw (given_with-append (codes "verb") front rest, given_with-append (codes "identifier") front rest, given_with-append (codes "metadataPrefix") front rest, given_with-append (codes "from") front rest, given_with-append (codes "until") front rest, given_with-append (codes "set") front rest, given_with-append (codes "resumptionToken") front rest, known-append known_keys front rest, xml-append front rest) refl
+
+-- a pair was read, and the arguments are those of one pair more
+pub read_on : (query : List ℕ) (front left rest : List Pair) (name value key text : List ℕ) (old new : Arguments)
+    → decoded_pairs query ≡ front ++ map decoded_pair left → old ≡ arguments_in front → left ≡ (name, value) ∷ rest
+    → key ≡ decoded_text name → text ≡ decoded_text value → new ≡ arguments_with old ((key, text) ∷ [])
+    → (x : List Pair) × (decoded_pairs query ≡ x ++ map decoded_pair rest) × (new ≡ arguments_in x)
+read_on query front left rest name value key text old new all so_far taken is_key is_text added =
+    let pair : Pair = decoded_pair (name, value) in (
+      front ++ pair ∷ [],
+      rw (all, taken) (sym (append_assoc front (pair ∷ []) (map decoded_pair rest))),
+      rw (added, so_far, is_key, is_text) (arguments_with-append front pair),
+    )
+
+not_empty : (front : List Pair) (pair : Pair) (rest : List Pair) → front ++ pair ∷ rest ≡ [] → ⊥
+not_empty [] pair rest e = cc
+not_empty (first ∷ front) pair rest e = cc
+
+-- where a pair is left, there are pairs
+pub some_pairs : (query : List ℕ) (front left rest : List Pair) (name value : List ℕ)
+    → decoded_pairs query ≡ front ++ map decoded_pair left → left ≡ (name, value) ∷ rest → decoded_pairs query ≢ []
+some_pairs query front left rest name value all taken none =
+    not_empty front (decoded_pair (name, value)) (map decoded_pair rest) (rw taken at (sym all ∙ none))

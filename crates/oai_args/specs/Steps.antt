@@ -1,0 +1,40 @@
+-- What one pass over the pairs does at each. These words are the reader's own: no public contract names them.
+use Rattle.std.specs.Prelude.{ℕ, ◌&&◌, List, [], ◌∷◌, codes, Result, Ok, Err}
+use Rattle.oai_args.specs.Arguments.{key_of, known_keys}
+use Rattle.oai_args.specs.Asks.{AskOrError, asks, bad_verb, bad_argument}
+use Rattle.oai_args.specs.Pairs.{Pair, values_of, has_only_keys, has_xml_values}
+use Rattle.oai_args.specs.declared.arguments.Arguments.{Arguments}
+use Rattle.oai_args.specs.declared.givens.Given.{Given}
+use Rattle.oai_args.specs.declared.givens.Given.TheVariants.{Never, Once, Often}
+use Rattle.oai_args.specs.declared.requests.Ask.{Ask}
+use Rattle.oai_args.specs.declared.requests.ArgFault.{ArgFault}
+use Rattle.oai_args.specs.declared.requests.ArgFault.TheVariants.{BadVerb, BadArgument}
+use Rattle.oai_args.specs.declared.roles.Key.TheVariants as key
+
+-- a key after these further values
+unfoldable pub given_with : Given → List (List ℕ) → Given
+given_with given [] = given
+given_with Never (value ∷ []) = Once value
+given_with Never (value ∷ other ∷ values) = Often
+given_with (Once first) (value ∷ values) = Often
+given_with Often (value ∷ values) = Often
+
+-- the arguments after these further pairs
+unfoldable pub arguments_with : Arguments → List Pair → Arguments
+arguments_with given pairs = record {
+  verb = given_with given.verb (values_of (codes "verb") pairs);
+  identifier = given_with given.identifier (values_of (key_of key.Identifier) pairs);
+  prefix = given_with given.prefix (values_of (key_of key.MetadataPrefix) pairs);
+  from = given_with given.from (values_of (key_of key.From) pairs);
+  until = given_with given.until (values_of (key_of key.Until) pairs);
+  set = given_with given.set (values_of (key_of key.Set) pairs);
+  token = given_with given.token (values_of (key_of key.ResumptionToken) pairs);
+  are_keys_known = given.are_keys_known && has_only_keys known_keys pairs;
+  are_values_xml = given.are_values_xml && has_xml_values pairs;
+}
+
+-- the answer to what is asked
+abbrev pub result_of : AskOrError → Result Ask ArgFault
+result_of (asks request) = Ok request
+result_of bad_verb = Err BadVerb
+result_of bad_argument = Err BadArgument

@@ -1,0 +1,104 @@
+ghost use Rattle.std.specs.Prelude.{◌≡◌, ◌≢◌, ◌∷◌, [], IfOk, OnErr};
+ghost use Rattle.oai_args.specs.Arguments.{arguments_in};
+ghost use Rattle.oai_args.specs.Pairs.{decoded_pairs};
+ghost use Rattle.oai_args.specs.Requests.{asked_verb, suit};
+ghost use Rattle.oai_args.specs.Steps.{arguments_with};
+
+use crate::givens::Given;
+use crate::roles::{Key, Part};
+use crate::verbs::Verb;
+use oai_names::is_xml_text;
+use std::alloc::{AllocError, Global};
+
+/// The arguments of a request: how often each key is given that some verb has, and its value.
+#[derive(Drop)]
+pub(crate) struct Arguments {
+    pub(crate) verb: Given,
+    pub(crate) identifier: Given,
+    pub(crate) prefix: Given,
+    pub(crate) from: Given,
+    pub(crate) until: Given,
+    pub(crate) set: Given,
+    pub(crate) token: Given,
+    pub(crate) are_keys_known: bool,
+    pub(crate) are_values_xml: bool,
+}
+
+impl Arguments {
+    /// What no pairs give.
+    #[tactic(auto, unfolding(crate::specs::Arguments::arguments_in, crate::specs::Arguments::given, crate::specs::Pairs::values_of, crate::specs::Pairs::has_only_keys, crate::specs::Pairs::has_xml_values))]
+    fn new() -> Arguments
+        ensures { result ≡ arguments_in [] }
+    {
+        Arguments {
+            verb: Given::Never,
+            identifier: Given::Never,
+            prefix: Given::Never,
+            from: Given::Never,
+            until: Given::Never,
+            set: Given::Never,
+            token: Given::Never,
+            are_keys_known: true,
+            are_values_xml: true,
+        }
+    }
+
+    /// The arguments of a query, by one pass over its pairs.
+    #[tactic(auto, unfolding(crate::specs::Pairs::decoded_pairs))]
+    pub(crate) fn read(alloc: Global, query: &[u8]) -> Result<Arguments, AllocError>
+        ensures read { IfOk result (λ given. given ≡ arguments_in (decoded_pairs query.now)) }
+        ensures memory { OnErr result (decoded_pairs query.now ≢ []) }
+    {
+        let mut arguments = Arguments::new();
+        for pair in form_urlencoded::parse(alloc, query) {
+            let (key, value) = pair?;
+            arguments.add(alloc, key.as_str(), value.as_str())?;
+        }
+        Ok(arguments)
+    }
+
+    /// Takes one more pair.
+    #[tactic(auto, unfolding(crate::specs::Steps::arguments_with, crate::specs::Steps::given_with, crate::specs::Pairs::values_of, crate::specs::Pairs::has_only_keys, crate::specs::Pairs::has_xml_values))]
+    fn add(&mut self, alloc: Global, key: &str, value: &str) -> Result<(), AllocError>
+        ensures { IfOk result (λ _. self.new ≡ arguments_with self.old ((key.now, value.now) ∷ [])) }
+    {
+        self.are_values_xml = self.are_values_xml && is_xml_text(value);
+        match key {
+            "verb" => self.verb.add(alloc, value)?,
+            "identifier" => self.identifier.add(alloc, value)?,
+            "metadataPrefix" => self.prefix.add(alloc, value)?,
+            "from" => self.from.add(alloc, value)?,
+            "until" => self.until.add(alloc, value)?,
+            "set" => self.set.add(alloc, value)?,
+            "resumptionToken" => self.token.add(alloc, value)?,
+            _ => self.are_keys_known = false,
+        }
+        Ok(())
+    }
+
+    /// The verb that is asked for, if `verb` is given once and names one.
+    #[tactic(auto, unfolding(crate::specs::Requests::asked_verb))]
+    pub(crate) fn asked_verb(&self) -> Option<Verb>
+        ensures { result ≡ asked_verb self.now }
+    {
+        match &self.verb {
+            Given::Once(name) => Verb::named(name.as_str()),
+            Given::Never => None,
+            Given::Often => None,
+        }
+    }
+
+    /// Whether every key is known, and each argument is given as often as its role wants.
+    #[tactic(auto, unfolding(crate::specs::Requests::suit))]
+    pub(crate) fn suit(&self, part: Part, verb: Verb) -> bool
+        ensures { result ≡ suit part verb self.now }
+    {
+        self.are_keys_known
+            && part.suits(verb.role_of(Key::Identifier), &self.identifier)
+            && part.suits(verb.role_of(Key::MetadataPrefix), &self.prefix)
+            && part.suits(verb.role_of(Key::From), &self.from)
+            && part.suits(verb.role_of(Key::Until), &self.until)
+            && part.suits(verb.role_of(Key::Set), &self.set)
+            && part.suits(verb.role_of(Key::ResumptionToken), &self.token)
+    }
+}

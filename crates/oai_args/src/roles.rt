@@ -1,0 +1,94 @@
+ghost use Rattle.std.specs.Prelude.{◌≡◌};
+ghost use Rattle.oai_args.specs.Arguments.{role_in_list, role_of, suits};
+
+use crate::givens::Given;
+use crate::verbs::Verb;
+
+/// The keys of arguments.
+#[derive(Clone, Copy)]
+pub(crate) enum Key {
+    Identifier,
+    MetadataPrefix,
+    From,
+    Until,
+    Set,
+    ResumptionToken,
+}
+
+/// What an argument is to a verb (OAI-PMH 2.0, section 4).
+#[derive(Clone, Copy)]
+pub(crate) enum Role {
+    Required,
+    Optional,
+    /// It is given alone, in place of all others.
+    Exclusive,
+    /// The verb has no such argument.
+    Absent,
+}
+
+/// Which requests of a verb are meant.
+#[derive(Clone, Copy)]
+pub(crate) enum Part {
+    /// Those without a resumptionToken.
+    First,
+    /// Those for the next part of a list.
+    Next,
+}
+
+impl Verb {
+    /// What the argument is to this verb: the one table of arguments.
+    pub(crate) fn role_of(self, key: Key) -> Role
+        ensures { result ≡ role_of self key }
+    {
+        match self {
+            Verb::Identify => Role::Absent,
+            Verb::ListMetadataFormats => match key {
+                Key::Identifier => Role::Optional,
+                _ => Role::Absent,
+            },
+            Verb::ListSets => match key {
+                Key::ResumptionToken => Role::Exclusive,
+                _ => Role::Absent,
+            },
+            Verb::GetRecord => match key {
+                Key::Identifier => Role::Required,
+                Key::MetadataPrefix => Role::Required,
+                _ => Role::Absent,
+            },
+            Verb::ListIdentifiers => role_in_list(key),
+            Verb::ListRecords => role_in_list(key),
+        }
+    }
+}
+
+/// What the argument is to ListIdentifiers and ListRecords.
+fn role_in_list(key: Key) -> Role
+    ensures { result ≡ role_in_list key }
+{
+    match key {
+        Key::Identifier => Role::Absent,
+        Key::MetadataPrefix => Role::Required,
+        Key::From => Role::Optional,
+        Key::Until => Role::Optional,
+        Key::Set => Role::Optional,
+        Key::ResumptionToken => Role::Exclusive,
+    }
+}
+
+impl Part {
+    /// Whether an argument of the role is given as often as it is to be in such a request.
+    pub(crate) fn suits(self, role: Role, given: &Given) -> bool
+        ensures { result ≡ suits self role given.now }
+    {
+        match (self, role) {
+            (Part::First, Role::Required) => given.is_once(),
+            (Part::First, Role::Optional) => !given.is_often(),
+            (Part::First, Role::Exclusive) => given.is_never(),
+            (Part::First, Role::Absent) => given.is_never(),
+            (Part::Next, Role::Required) => given.is_never(),
+            (Part::Next, Role::Optional) => given.is_never(),
+            (Part::Next, Role::Exclusive) => given.is_once(),
+            (Part::Next, Role::Absent) => given.is_never(),
+        }
+    }
+}
