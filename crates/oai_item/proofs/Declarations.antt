@@ -6,7 +6,7 @@ use Rattle.std.proofs.lemmas.Bool.{and_from, and_parts, ltb-true, not_from_false
 use Rattle.std.proofs.lemmas.Cmp.{nat_list_eq_equiv}
 use Rattle.std.proofs.lemmas.List.{map-append}
 use Rattle.std.proofs.lemmas.List.Folds.{list_all-append}
-use Rattle.oai_item.specs.Formats.{IsFormats, dublin_core, format_named}
+use Rattle.oai_item.specs.Formats.{AreRepositoryFormats, dublin_core, format_named}
 use Rattle.oai_item.specs.Rules.{are_names, are_uris, has_fields, has_repeat, is_allowed}
 use Rattle.oai_item.specs.Declaring.{HasGoodTexts, IsDeclaring, declare_fault, has_room}
 use Rattle.oai_item.specs.declared.formats.Format.{Format}
@@ -67,8 +67,8 @@ allowed_kept : (old : List Format) (format : Format) → slice_get old 0 ≡ Som
 allowed_kept [] format first kept allowed = cc
 allowed_kept (dc ∷ old) format first kept allowed = list_all-append is_allowed old (format ∷ []) ∙ and_from _ _ kept (and_from _ _ allowed refl)
 
-IsFormats-push : (old : List Format) (format : Format) → IsFormats old → declare_fault old format ≡ None → IsFormats (old ++ format ∷ [])
-IsFormats-push old format valid none =
+AreRepositoryFormats-push : (old : List Format) (format : Format) → AreRepositoryFormats old → declare_fault old format ≡ None → AreRepositoryFormats (old ++ format ∷ [])
+AreRepositoryFormats-push old format valid none =
     let fits = admitted old format none in
     record {
       first = first_kept old (format ∷ []) dublin_core valid.first;
@@ -78,11 +78,11 @@ IsFormats-push old format valid none =
     }
 
 -- declaring keeps what is true of the formats
-pub IsFormats-declared : (old : List Format) (format : Format) (result : Result (Unit {0}) FormatFault) (new : List Format) → IsFormats old → IsDeclaring old format result new → IsFormats new
-IsFormats-declared old format (Ok _) new valid declaring = subst IsFormats (sym declaring.1) (IsFormats-push old format valid declaring.0)
-IsFormats-declared old format (Err Duplicate) new valid declaring = subst IsFormats (sym declaring.1) valid
-IsFormats-declared old format (Err BadName) new valid declaring = subst IsFormats (sym declaring.1) valid
-IsFormats-declared old format (Err BadUri) new valid declaring = subst IsFormats (sym declaring.1) valid
-IsFormats-declared old format (Err FieldTwice) new valid declaring = subst IsFormats (sym declaring.1) valid
-IsFormats-declared old format (Err TooMany) new valid declaring = subst IsFormats (sym declaring.1) valid
-IsFormats-declared old format (Err NoMemory) new valid declaring = subst IsFormats (sym declaring.1) valid
+pub AreRepositoryFormats-declared : (old : List Format) (format : Format) (result : Result (Unit {0}) FormatFault) (new : List Format) → AreRepositoryFormats old → IsDeclaring old format result new → AreRepositoryFormats new
+AreRepositoryFormats-declared old format (Ok _) new valid declaring = subst AreRepositoryFormats (sym declaring.1) (AreRepositoryFormats-push old format valid declaring.0)
+AreRepositoryFormats-declared old format (Err Duplicate) new valid declaring = subst AreRepositoryFormats (sym declaring.1) valid
+AreRepositoryFormats-declared old format (Err BadName) new valid declaring = subst AreRepositoryFormats (sym declaring.1) valid
+AreRepositoryFormats-declared old format (Err BadUri) new valid declaring = subst AreRepositoryFormats (sym declaring.1) valid
+AreRepositoryFormats-declared old format (Err FieldTwice) new valid declaring = subst AreRepositoryFormats (sym declaring.1) valid
+AreRepositoryFormats-declared old format (Err TooMany) new valid declaring = subst AreRepositoryFormats (sym declaring.1) valid
+AreRepositoryFormats-declared old format (Err NoMemory) new valid declaring = subst AreRepositoryFormats (sym declaring.1) valid

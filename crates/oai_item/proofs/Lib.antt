@@ -3,6 +3,12 @@ pub mod Repeats
 pub mod Declarations
 pub mod Lengths
 pub mod Above
+pub mod Flagged
 pub mod Grammars
+pub mod Tombstones
 pub mod Kept
 pub mod SetLaws
+pub mod Members
+pub mod OrderLemmas
+pub mod Selecting
+pub mod Around

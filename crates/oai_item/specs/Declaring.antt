@@ -24,12 +24,6 @@ declare_fault formats format =
 abbrev pub HasGoodTexts : List Format → Format → Type 0
 HasGoodTexts formats format = (is_some (format_named format.prefix formats) ≡ false) × (are_names format ≡ true) × (are_uris format ≡ true)
 
--- what a test of the format answers; memory may be refused once its texts are good
-abbrev pub IsCheck : List Format → Format → Result (Unit {0}) FormatFault → Type 0
-IsCheck formats format (Ok _) = declare_fault formats format ≡ None
-IsCheck formats format (Err NoMemory) = HasGoodTexts formats format
-IsCheck formats format (Err fault) = declare_fault formats format ≡ Some fault
-
 -- what declaring the format answers, from the formats before to those after: it stands at the end, or nothing changed.
 -- Memory may be refused once its texts are good
 abbrev pub IsDeclaring : List Format → Format → Result (Unit {0}) FormatFault → List Format → Type 0

@@ -4,6 +4,7 @@ use Rattle.std.specs.Int.{w64, bytes_high_first, cast_unsigned}
 use Rattle.std.specs.List.{flat_map}
 use Rattle.oai_item.specs.declared.fields.Field.{Field}
 use Rattle.oai_item.specs.declared.sizes.TooLarge.{TooLarge}
+use Rattle.oai_item.specs.declared.sizes.TheConstants.{MOST_ITEM_BYTES}
 use Rattle.oai_item.specs.Item.{ItemState, Metadata}
 
 -- one byte: 1 where the item is live, 0 where it is deleted
@@ -44,7 +45,7 @@ encoded item =
     ++ encoded_list encoded_text item.sets
     ++ encoded_list encoded_record item.formats
 
--- what measuring so many bytes answers: their number where it is at most 16,000, or that they are too many
+-- what measuring so many bytes answers: their number where it is at most `MOST_ITEM_BYTES`, or that they are too many
 abbrev pub IsMeasure : ℕ → Result ℕ TooLarge → Type 0
-IsMeasure bytes (Ok n) = (n ≡ bytes) × (bytes ≤ 16000)
-IsMeasure bytes (Err _) = 16000 < bytes
+IsMeasure bytes (Ok n) = (n ≡ bytes) × (bytes ≤ MOST_ITEM_BYTES)
+IsMeasure bytes (Err _) = MOST_ITEM_BYTES < bytes

@@ -22,7 +22,7 @@ format_named prefix formats = find (λ format. bytes_eq format.prefix prefix) fo
 
 -- what is true of the formats of each repository: oai_dc is the first, each after it keeps the rules, no prefix stands
 -- twice, and there are at most 64
-pub record IsFormats (formats : List Format) : Type 0 where
+pub record AreRepositoryFormats (formats : List Format) : Type 0 where
   pub first : slice_get formats 0 ≡ Some dublin_core
   pub declared : list_all is_allowed (drop 1 formats) ≡ true
   pub apart : has_repeat (map (λ format. format.prefix) formats) ≡ false

@@ -1,10 +1,11 @@
 -- Items, and the records that they carry. OAI-PMH 2.0, sections 2.3 to 2.6.
-use Rattle.std.specs.Prelude.{◌≡◌, ◌≢◌, ℕ, ℤ, pos, negsuc, ◌≤ℤ◌, Bool, true, false, ◌==◌, ◌&&◌, nat_le, List, [], ◌∷◌, length}
+use Rattle.std.specs.Prelude.{◌≡◌, ◌≢◌, ℕ, ℤ, pos, negsuc, ◌≤ℤ◌, Bool, true, false, ◌==◌, ◌&&◌, nat_le, List, [], ◌∷◌, length, map, find, Option, None, Some, is_some}
 use Rattle.std.specs.List.{list_all}
+use Rattle.std.specs.Str.{bytes_eq}
 use Rattle.std.specs.Ordering.{nat_cmp, is_lt}
 use Rattle.std.specs.Cmp.Lexicographic.{slice_cmp}
-use Rattle.oai_names.specs.Names.{is_identifier, is_prefix}
-use Rattle.oai_names.specs.Sets.{is_set_spec}
+use Rattle.oai_names.specs.Names.{may_be_identifier, may_be_prefix}
+use Rattle.oai_names.specs.Sets.{may_be_set_spec}
 use Rattle.oai_item.specs.declared.fields.Field.{Field}
 use Rattle.oai_item.specs.Membership.{AreApart}
 
@@ -39,31 +40,52 @@ IsStamp stamp = (negsuc 62167219199 ≤ℤ stamp) × (stamp ≤ℤ pos 253402300
 abbrev pub live_item : List ℕ → ℤ → List (List ℕ) → List Metadata → ItemState
 live_item identifier stamp sets formats = record { identifier = identifier; stamp = stamp; live = true; sets = sets; formats = formats }
 
--- a text of that grammar, of at most so many bytes
-abbrev pub is_short : (List ℕ → Bool) → ℕ → List ℕ → Bool
-is_short is_name most text = is_name text && nat_le (length text) most
+-- the record of that prefix, without its fields
+abbrev pub emptied : Metadata → Metadata
+emptied format = (format.0, [])
 
--- each is a setSpec of at most 256 bytes
+-- the deleted item that is left of an item: the same sets and prefixes, no fields, and the datestamp of its deletion
+abbrev pub tombstone_of : ℤ → ItemState → ItemState
+tombstone_of stamp item = record { identifier = item.identifier; stamp = stamp; live = false; sets = item.sets; formats = map emptied item.formats }
+
+-- the record of that metadataPrefix
+unfoldable pub record_named : List ℕ → List Metadata → Option Metadata
+record_named prefix formats = find (λ format. bytes_eq format.0 prefix) formats
+
+-- there is a record of that metadataPrefix
+abbrev pub has_record : List ℕ → List Metadata → Bool
+has_record prefix formats = is_some (record_named prefix formats)
+
+-- the fields of a record, where there is one
+abbrev pub fields_of : Option Metadata → List Field
+fields_of None = []
+fields_of (Some format) = format.1
+
+-- the fields of the record of that metadataPrefix; none where there is no such record
+abbrev pub fields_in : List ℕ → List Metadata → List Field
+fields_in prefix formats = fields_of (record_named prefix formats)
+
+-- each is a setSpec, and not too long
 unfoldable pub are_set_specs : List (List ℕ) → Bool
-are_set_specs sets = list_all (is_short is_set_spec 256) sets
+are_set_specs sets = list_all may_be_set_spec sets
 
--- each record is of a metadataPrefix of at most 64 bytes
+-- each record is of a metadataPrefix, and that is not too long
 unfoldable pub are_prefixed : List Metadata → Bool
-are_prefixed formats = list_all (λ format. is_short is_prefix 64 format.0) formats
+are_prefixed formats = list_all (λ format. may_be_prefix format.0) formats
 
 -- no record has a field
-unfoldable pub are_empty : List Metadata → Bool
-are_empty formats = list_all (λ format. length format.1 == 0) formats
+unfoldable pub have_no_fields : List Metadata → Bool
+have_no_fields formats = list_all (λ format. length format.1 == 0) formats
 
 -- what is true of each item: its names are of their grammars, its datestamp can be written, no setSpec of it covers another,
 -- it has one record a format, in the order of the prefixes, and where it is deleted they have no fields (OAI-PMH 2.0, section
 -- 2.5.1)
 pub record IsItem (item : ItemState) : Type 0 where
-  pub identified : is_short is_identifier 512 item.identifier ≡ true
+  pub identified : may_be_identifier item.identifier ≡ true
   pub stamped : IsStamp item.stamp
   pub in_sets : are_set_specs item.sets ≡ true
   pub apart : AreApart item.sets
   pub prefixed : are_prefixed item.formats ≡ true
   pub rising : are_rising item.formats ≡ true
   pub carries : item.formats ≢ []
-  pub emptied : item.live ≡ false → are_empty item.formats ≡ true
+  pub deleted : item.live ≡ false → have_no_fields item.formats ≡ true

@@ -1,7 +1,13 @@
-pub mod Texts
 pub mod Membership
 pub mod Item
+pub mod Order
+pub mod Items
+pub mod Selection
 pub mod Rules
 pub mod Formats
+pub mod Known
 pub mod Declaring
 pub mod Encoding
+pub mod Refusals
+pub mod ShortTexts
+pub mod Workings

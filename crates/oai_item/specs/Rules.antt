@@ -4,7 +4,7 @@ use Rattle.std.specs.List.{list_all, list_any}
 use Rattle.std.specs.Char.{is_ascii_alphabetic, is_ascii_alphanumeric}
 use Rattle.std.specs.Str.{bytes_eq}
 use Rattle.oai_names.specs.Names.{is_one_of}
-use Rattle.oai_names.specs.Text.{is_xml_text}
+use Rattle.oai_names.specs.Characters.{is_xml_text}
 use Rattle.oai_item.specs.declared.formats.Format.{Format}
 
 -- a character of an element's name after its first (XML 1.0, section 2.3, NameChar): of those in ASCII, all but the colon

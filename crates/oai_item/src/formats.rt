@@ -1,10 +1,8 @@
 mod checks;
-#[cfg(test)]
-mod tests;
 
 ghost use Rattle.std.specs.Prelude.{◌≡◌, [], ◌∷◌, length, map, IfOk, IfSome, slice_get};
 ghost use Rattle.std.specs.Option.{option_copied};
-ghost use Rattle.oai_item.specs.Formats.{IsFormats, dublin_core, format_named};
+ghost use Rattle.oai_item.specs.Formats.{AreRepositoryFormats, dublin_core, format_named};
 ghost use Rattle.oai_item.specs.Declaring.{IsDeclaring};
 
 use checks::check;
@@ -58,7 +56,8 @@ pub struct Formats {
     formats: Vec<Format>,
 }
 
-/// Why a format was not declared, in the order in which the causes are looked for.
+/// Why a format was not declared, in the order in which the causes are looked for; want of memory
+/// apart, which may come in place of `FieldTwice` and of `TooMany`.
 #[derive(Clone, Copy, Debug, PartialEq, Eq, Error)]
 pub enum FormatFault {
     /// A format of that prefix stands already, as oai_dc always does.
@@ -89,11 +88,11 @@ impl Model for Formats {
 
     ghost Value = { List Format };
 
-    ghost use Rattle.oai_item.specs.Formats.{IsFormats};
+    ghost use Rattle.oai_item.specs.Formats.{AreRepositoryFormats};
 
     ghost view = { λ f. f.formats.items };
 
-    ghost invariant = { λ f. IsFormats f.formats.items };
+    ghost invariant = { λ f. AreRepositoryFormats f.formats.items };
 }
 
 impl Formats {
@@ -126,7 +125,7 @@ impl Formats {
     pub fn find_named(&self, prefix: &str) -> Option<&Format>
         ensures found { option_copied result ≡ format_named prefix.now self.now }
         ensures prefix { IfSome (option_copied result) (λ format. format.prefix ≡ prefix.now) }
-        ensures valid { IsFormats self.now }
+        ensures valid { AreRepositoryFormats self.now }
     {
         format_named(prefix, self.formats.as_slice())
     }
@@ -148,7 +147,7 @@ impl Formats {
     /// How many formats there are.
     pub fn len(&self) -> usize
         ensures count { result ≡ length self.now }
-        ensures valid { IsFormats self.now }
+        ensures valid { AreRepositoryFormats self.now }
     {
         self.formats.len()
     }

@@ -1,8 +1,10 @@
 ghost use Rattle.std.specs.Prelude.{◌≡◌, ◌≢◌, ℕ, List, [], true, length, IfOk};
+ghost use Rattle.std.specs.Option.{option_copied, option_map};
 ghost use Rattle.oai_item.specs.Encoding.{IsMeasure, encoded};
-ghost use Rattle.oai_item.specs.Item.{IsItem, IsStamp, are_prefixed, are_rising, live_item};
+ghost use Rattle.oai_item.specs.Item.{IsItem, IsStamp, are_prefixed, are_rising, has_record, live_item, record_named, tombstone_of};
 ghost use Rattle.oai_item.specs.Membership.{AreApart, is_in, reduced};
 
+use crate::copies::{copy_records, copy_sets, emptied};
 use crate::fields::Field;
 use crate::reductions::reduced;
 use crate::sizes::{TooLarge, with_records, with_sets, with_text};
@@ -58,8 +60,37 @@ impl Item {
             identifier,
             stamp,
             live: true,
-            sets: reduced(alloc, sets.as_slice())?,
+            sets: reduced(alloc, sets)?,
             formats,
+        })
+    }
+
+    /// An equal item. The error is want of memory.
+    pub fn copy(&self, alloc: Global) -> Result<Item, AllocError>
+        ensures { IfOk result (λ copy. copy ≡ self.now) }
+    {
+        Ok(Item {
+            identifier: self.identifier.copy(alloc)?,
+            stamp: self.stamp,
+            live: self.live,
+            sets: copy_sets(alloc, self.sets.as_slice())?,
+            formats: copy_records(alloc, self.formats.as_slice())?,
+        })
+    }
+
+    /// The deleted item that is left of this one: of the same identifier, sets and prefixes, without
+    /// fields, and of that datestamp, in seconds from 1970 on, of years 0000 to 9999. The error is
+    /// want of memory.
+    pub fn tombstone(&self, alloc: Global, stamp: i64) -> Result<Item, AllocError>
+        requires { IsStamp stamp }
+        ensures { IfOk result (λ tombstone. tombstone ≡ tombstone_of stamp self.now) }
+    {
+        Ok(Item {
+            identifier: self.identifier.copy(alloc)?,
+            stamp,
+            live: false,
+            sets: copy_sets(alloc, self.sets.as_slice())?,
+            formats: emptied(alloc, self.formats.as_slice())?,
         })
     }
 
@@ -102,6 +133,24 @@ impl Item {
         self.formats.as_slice()
     }
 
+    /// Whether the item has a record of that prefix. It takes no memory.
+    pub fn has_record(&self, prefix: &str) -> bool
+        ensures { result ≡ has_record prefix.now self.now.formats }
+    {
+        record_named(prefix, self.formats.as_slice()).is_some()
+    }
+
+    /// The fields of the record of that prefix, or None where the item has no such record. It takes
+    /// no memory.
+    pub fn fields_in(&self, prefix: &str) -> Option<&[Field]>
+        ensures { option_copied result ≡ option_map (λ r. r.1) (record_named prefix.now self.now.formats) }
+    {
+        match record_named(prefix, self.formats.as_slice()) {
+            Some((_, fields)) => Some(fields.as_slice()),
+            None => None,
+        }
+    }
+
     /// The number of bytes of the item's spelling, where it is stored. The error: they are more than
     /// 16,000. It takes no memory.
     pub fn encoded_len(&self) -> Result<usize, TooLarge>
@@ -113,6 +162,17 @@ impl Item {
     }
 }
 
+/// The record of that prefix.
+#[tactic(auto, unfolding(crate::specs::Item::record_named))]
+fn record_named<'a>(
+    prefix: &str,
+    formats: &'a [(Prefix, Sequence<Field>)],
+) -> Option<&'a (Prefix, Sequence<Field>)>
+    ensures { option_copied result ≡ record_named prefix.now formats.now }
+{
+    formats.iter().find(|format| format.0.as_str() == prefix)
+}
+
 /// Looks at each prefix, so that what its type says of it, its grammar and its length, is known of
 /// all of them. It changes nothing.
 #[tactic(auto, unfolding(crate::specs::Item::are_prefixed))]
@@ -122,6 +182,14 @@ fn see_prefixes(formats: &[(Prefix, Sequence<Field>)])
     for (prefix, _) in formats {
         prefix.as_str();
     }
+}
+
+/// Whether an item of these setSpecs is in the set.
+#[tactic(auto, unfolding(crate::specs::Membership::is_in))]
+pub fn is_in(set: &SetSpec, sets: &[SetSpec]) -> bool
+    ensures { result ≡ is_in set.now sets.now }
+{
+    sets.iter().any(|other| set.covers(other))
 }
 
 /// What leaving sets out of an item's list keeps: the item is in the same sets (OAI-PMH 2.0, section

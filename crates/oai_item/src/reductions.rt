@@ -1,27 +1,56 @@
-ghost use Rattle.std.specs.Prelude.{◌≡◌, ◌||◌, true, List, ℕ, IfOk, OnOk};
+ghost use Rattle.std.specs.Prelude.{◌≡◌, ◌||◌, true, List, ℕ, length, IfOk, OnOk, vec_len};
 ghost use Rattle.std.specs.List.{list_any};
 ghost use Rattle.oai_item.specs.Item.{are_set_specs};
 ghost use Rattle.oai_item.specs.Membership.{is_above, reduced};
-ghost use Rattle.oai_item.specs.Texts.{holds};
+ghost use Rattle.oai_item.specs.Workings.{flagged, holds};
 
 use oai_names::{Sequence, SetSpec, parent_of};
 use std::alloc::{AllocError, Global};
 use std::collections::BTreeSet;
 
 /// The setSpecs without repetitions, and without any that covers another of them, in their order.
-/// The time is that of a search in a sorted set for each part of each setSpec.
-pub(crate) fn reduced(alloc: Global, sets: &[SetSpec]) -> Result<Sequence<SetSpec>, AllocError>
-    ensures kept { IfOk result (λ kept. kept ≡ reduced sets.now) }
-    ensures names { OnOk result (are_set_specs (reduced sets.now) ≡ true) }
+/// Those that stay are not copied. The time is that of a search in a sorted set for each part of each
+/// setSpec.
+pub(crate) fn reduced(
+    alloc: Global,
+    sets: Sequence<SetSpec>,
+) -> Result<Sequence<SetSpec>, AllocError>
+    ensures kept { IfOk result (λ kept. kept ≡ reduced sets) }
+    ensures names { OnOk result (are_set_specs (reduced sets) ≡ true) }
+{
+    let stay = which_stay(alloc, sets.as_slice())?;
+    let mut kept = sets.into_vec();
+    keep(&mut kept, stay.as_slice());
+    Ok(Sequence::new(kept))
+}
+
+/// Of each setSpec whether it stays.
+fn which_stay(alloc: Global, sets: &[SetSpec]) -> Result<Vec<bool>, AllocError>
+    ensures kept { IfOk result (λ stay. flagged stay.items sets.now ≡ reduced sets.now) }
+    ensures len { IfOk result (λ stay. vec_len stay ≡ length sets.now) }
+    ensures names { OnOk result (are_set_specs sets.now ≡ true) }
 {
     let mut out = names_above(alloc, sets)?;
-    let mut kept = Vec::new(alloc);
+    let mut stay = Vec::with_capacity(alloc, sets.len())?;
     for set in sets {
-        if out.insert(set.as_str())? {
-            kept.push(set.copy(alloc)?)?;
+        stay.push(out.insert(set.as_str())?)?;
+    }
+    Ok(stay)
+}
+
+/// Takes the setSpecs that do not stay out, in place.
+fn keep(sets: &mut Vec<SetSpec>, stay: &[bool])
+    requires { length stay.now ≡ vec_len sets.old }
+    ensures { sets.new.items ≡ flagged stay.now sets.old.items }
+{
+    let mut kept = 0;
+    for at in 0..stay.len() {
+        if stay[at] {
+            sets.swap(kept, at);
+            kept += 1;
         }
     }
-    Ok(Sequence::new(kept))
+    sets.truncate(kept);
 }
 
 /// The names of the sets above these: of each one its parent, the parent of that, and so on.

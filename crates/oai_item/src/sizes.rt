@@ -6,7 +6,7 @@ use oai_names::{Prefix, Sequence, SetSpec};
 use thiserror::Error;
 
 /// The most bytes that the spelling of an item has.
-const MOST_BYTES: usize = 16_000;
+pub const MOST_ITEM_BYTES: usize = 16_000;
 
 /// The bytes of a count in the spelling of an item.
 const COUNT_BYTES: usize = 4;
@@ -21,7 +21,7 @@ fn plus(size: usize, more: usize) -> Result<usize, TooLarge>
     ensures { IsMeasure (size + more) result }
 {
     match size.checked_add(more) {
-        Some(sum) if sum <= MOST_BYTES => Ok(sum),
+        Some(sum) if sum <= MOST_ITEM_BYTES => Ok(sum),
         _ => Err(TooLarge),
     }
 }

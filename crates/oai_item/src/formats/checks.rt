@@ -1,6 +1,7 @@
 ghost use Rattle.std.specs.Prelude.{◌≡◌, IfOk};
 ghost use Rattle.std.specs.List.{list_all, list_any};
-ghost use Rattle.oai_item.specs.Declaring.{IsCheck, has_room};
+ghost use Rattle.oai_item.specs.Declaring.{has_room};
+ghost use Rattle.oai_item.specs.Workings.{IsCheck};
 ghost use Rattle.oai_item.specs.Rules.{are_names, are_uris, has_repeat, is_element_name, is_first_byte, is_name, is_name_byte, is_space, is_uri};
 
 use super::{Format, FormatFault, format_named};

@@ -1,8 +1,7 @@
 use Rattle.std.proofs.Common.{◌≡◌, ◌∙◌, ◌≤◌, ℕ, List, true, length, ap, subst, sym, w64, FitsSigned}
 use Rattle.std.proofs.lemmas.Bool.{false≢true}
 use Rattle.std.proofs.lemmas.Int.{to_z-of_z}
-use Rattle.oai_names.specs.Names.{is_identifier}
-use Rattle.oai_item.proofs.Grammars.{short_from}
+use Rattle.oai_names.specs.Names.{may_be_identifier}
 use Rattle.oai_item.proofs.Kept.{reduced_apart}
 use Rattle.oai_item.specs.Item.{are_prefixed, are_set_specs}
 use Rattle.oai_item.specs.Membership.{AreApart, reduced}
@@ -12,16 +11,15 @@ use Rattle.oai_item.proofs.items.Item.live.Goals as goal
 pub invariant_of-result : goal.invariant_of-result
 invariant_of-result c =
     let fits : FitsSigned w64 c.args.stamp = c.ranges.stamp in
-    let sets : c.in_ok-reduced.field-0 ≡ reduced c.args.sets = c.in_ok-reduced.ensures.kept ∙ ap reduced c.as_slice-2.ensures in
-    let IsIdentifier : List ℕ → Type 0 = λ text. (is_identifier text ≡ true) × (length text ≤ 512) in
-    let identifier = subst IsIdentifier c.drop.view_is c.drop.invariant in
+    let sets : c.in_ok-reduced.field-0 ≡ reduced c.args.sets = c.in_ok-reduced.ensures.kept in
+    let IsIdentifier : List ℕ → Type 0 = λ text. may_be_identifier text ≡ true in
     record {
-      identified = short_from is_identifier 512 c.args.identifier identifier.0 identifier.1;
+      identified = subst IsIdentifier c.drop.view_is c.drop.invariant;
       stamped = simp to_z-of_z c.requires.stamped;
       in_sets = ap are_set_specs (c.in_ok-reduced.ensures.kept) ∙ c.in_ok-reduced.ensures.names;
       apart = subst AreApart (sym sets) (reduced_apart c.args.sets);
       prefixed = ap are_prefixed (sym c.as_slice.ensures) ∙ c.see_prefixes.ensures;
       rising = c.requires.rising;
       carries = c.requires.carries;
-      emptied = λ deleted. absurd (false≢true (sym deleted));
+      deleted = λ deleted. absurd (false≢true (sym deleted));
     }

@@ -1,0 +1,28 @@
+use crate::records::Records;
+use oai_names::{Identifier, Sequence, SetSpec, Text};
+
+/// What a deposit line asks for.
+#[derive(Debug, Drop)]
+pub enum Change {
+    /// A new item, or a new state of an old one (OAI-PMH 2.0, section 2.3).
+    Deposit {
+        /// The unique identifier.
+        identifier: Identifier,
+        /// The setSpecs of the sets, as they were given.
+        sets: Sequence<SetSpec>,
+        /// The record under each metadataPrefix.
+        records: Records,
+    },
+    /// The deletion of an item (OAI-PMH 2.0, section 2.5.1).
+    Delete {
+        /// The unique identifier.
+        identifier: Identifier,
+    },
+    /// A new set (OAI-PMH 2.0, section 2.6).
+    AddSet {
+        /// The setSpec.
+        spec: SetSpec,
+        /// The setName: 1 to 512 bytes, of characters that an XML document may hold.
+        name: Text,
+    },
+}

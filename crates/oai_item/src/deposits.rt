@@ -1,0 +1,74 @@
+ghost use Rattle.std.specs.Prelude.{◌≡◌, ◌≢◌, [], true, IfOk};
+ghost use Rattle.std.specs.List.{list_all};
+ghost use Rattle.oai_item.specs.Item.{IsStamp, live_item};
+ghost use Rattle.oai_item.specs.Known.{has_format};
+ghost use Rattle.oai_item.specs.Membership.{reduced};
+
+use crate::copies::{copy_fields, copy_sets};
+use crate::fields::Field;
+use crate::formats::Formats;
+use crate::items::Item;
+use crate::records::Records;
+use oai_names::{Identifier, Prefix, Sequence, SetSpec, Text};
+use std::alloc::{AllocError, Global};
+
+impl Item {
+    /// The live item that is deposited with these parts, which are copied. The datestamp is in seconds
+    /// from 1970 on, of years 0000 to 9999; there is a record, and each is in one of the formats. Of the
+    /// sets those stay that say where the item is, as in `live`. The error is want of memory.
+    pub fn deposited(
+        alloc: Global,
+        formats: &Formats,
+        identifier: &Identifier,
+        stamp: i64,
+        sets: &[SetSpec],
+        records: &Records,
+    ) -> Result<Item, AllocError>
+        requires stamped { IsStamp stamp }
+        requires carries { records.now ≢ [] }
+        requires known { list_all (has_format formats.now) records.now ≡ true }
+        ensures { IfOk result (λ item. item ≡ live_item identifier.now stamp (reduced sets.now) records.now) }
+    {
+        Item::live(
+            alloc,
+            identifier.copy(alloc)?,
+            stamp,
+            copy_sets(alloc, sets)?,
+            typed_records(alloc, formats, records.as_slice())?,
+        )
+    }
+}
+
+/// The records under the prefixes of their formats.
+fn typed_records(
+    alloc: Global,
+    formats: &Formats,
+    records: &[(Text, Sequence<Field>)],
+) -> Result<Sequence<(Prefix, Sequence<Field>)>, AllocError>
+    requires { list_all (has_format formats.now) records.now ≡ true }
+    ensures { IfOk result (λ typed. typed ≡ records.now) }
+{
+    let mut typed = Vec::with_capacity(alloc, records.len())?;
+    for record in records {
+        typed.push(typed_record(alloc, formats, record)?)?;
+    }
+    Ok(Sequence::new(typed))
+}
+
+/// The record under the prefix of its format.
+fn typed_record(
+    alloc: Global,
+    formats: &Formats,
+    record: &(Text, Sequence<Field>),
+) -> Result<(Prefix, Sequence<Field>), AllocError>
+    requires { has_format formats.now record.now ≡ true }
+    ensures { IfOk result (λ typed. typed ≡ record.now) }
+{
+    let Some(format) = formats.find_named(record.0.as_str()) else {
+        unreachable!()
+    };
+    Ok((
+        format.prefix.copy(alloc)?,
+        copy_fields(alloc, record.1.as_slice())?,
+    ))
+}

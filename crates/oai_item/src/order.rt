@@ -1,0 +1,50 @@
+ghost use Rattle.std.specs.Prelude.{◌≡◌, ◌↔◌, ◌⊎◌, List, None, true};
+ghost use Rattle.std.specs.List.{Contains};
+ghost use Rattle.oai_item.specs.Item.{ItemState};
+ghost use Rattle.oai_item.specs.Items.{item_at, placed, with_item};
+ghost use Rattle.oai_item.specs.Order.{IsPlace, are_in_order, item_cmp, place_cmp};
+
+use crate::items::Item;
+use std::cmp::Ordering;
+
+impl Item {
+    /// How the item stands to another in the order of items: by datestamp, and where these are equal
+    /// by the bytes of the identifiers.
+    pub fn order(&self, other: &Item) -> Ordering
+        ensures { result ≡ item_cmp self.now other.now }
+    {
+        self.order_to(other.stamp(), other.identifier().as_str())
+    }
+
+    /// How the item stands in that order to this datestamp, in seconds from 1970 on, and identifier.
+    pub fn order_to(&self, stamp: i64, identifier: &str) -> Ordering
+        ensures { result ≡ place_cmp self.now stamp identifier.now }
+    {
+        match self.stamp().cmp(&stamp) {
+            Ordering::Equal => self.identifier().as_str().cmp(identifier),
+            unequal => unequal,
+        }
+    }
+}
+
+/// Where this datestamp, in seconds from 1970 on, and identifier are among the items, which are in
+/// their order: the place of the item that has them, or where it would stand. Of n items it looks at
+/// about log n.
+pub fn place_of(items: &[Item], stamp: i64, identifier: &str) -> Result<usize, usize>
+    requires { are_in_order items.now ≡ true }
+    ensures { IsPlace items.now stamp identifier.now result }
+{
+    items.binary_search_by(|item| item.order_to(stamp, identifier))
+}
+
+/// What putting an item among others, and taking one out, keeps: the members are the new item and the
+/// old ones, or the old ones without that one; and items that rise strictly by datestamp and
+/// identifier still do.
+pub fn order_law()
+    ensures members { (item : ItemState) (items : List ItemState) (other : ItemState)
+        → Contains (placed item items) other ↔ ((other ≡ item) ⊎ Contains items other) }
+    ensures placed { (item : ItemState) (items : List ItemState)
+        → are_in_order items ≡ true → item_at item.stamp item.identifier items ≡ None → are_in_order (placed item items) ≡ true }
+    ensures put { (item : ItemState) (items : List ItemState)
+        → are_in_order items ≡ true → are_in_order (with_item item items) ≡ true }
+{}

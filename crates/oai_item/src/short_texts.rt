@@ -1,0 +1,16 @@
+ghost use Rattle.std.specs.Prelude.{◌≡◌};
+ghost use Rattle.oai_item.specs.ShortTexts.{is_short_text};
+
+use oai_names::is_xml_text;
+
+/// The most bytes of a text for people to read: this repository's own limit.
+pub const MOST_SHORT_TEXT_BYTES: usize = 512;
+
+/// Whether the text has 1 to 512 bytes, of characters that an XML document may hold (XML 1.0,
+/// section 2.2). It takes no memory.
+#[tactic(auto, unfolding(crate::specs::ShortTexts::is_short_text))]
+pub fn is_short_text(text: &str) -> bool
+    ensures { result ≡ is_short_text text.now }
+{
+    !text.is_empty() && text.len() <= MOST_SHORT_TEXT_BYTES && is_xml_text(text)
+}
