@@ -1,0 +1,6 @@
+pub mod JsonLemmas
+pub mod LineLemmas
+pub mod ReaderLemmas
+pub mod ReadingLemmas
+pub mod RecordLemmas
+pub mod ShapeLemmas

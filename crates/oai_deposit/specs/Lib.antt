@@ -1,0 +1,5 @@
+pub mod Json
+pub mod Readings
+pub mod Lines
+pub mod Shapes
+pub mod Calls

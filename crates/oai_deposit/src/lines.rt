@@ -1,0 +1,198 @@
+ghost use Rattle.std.specs.Prelude.{◌≡◌, true, map};
+ghost use Rattle.serde_json.specs.View.{view};
+ghost use Rattle.oai_names.specs.Names.{may_be_identifier};
+ghost use Rattle.oai_names.specs.Sets.{may_be_set_spec};
+ghost use Rattle.oai_item.specs.ShortTexts.{is_short_text};
+ghost use Rattle.oai_item.specs.declared.refusals.LineRefusal.TheVariants.{BadIdentifier, BadSetSpec, BadText};
+ghost use Rattle.oai_deposit.specs.Calls.{Anywhere, GivesBy, asked_by, has_command_members};
+ghost use Rattle.oai_deposit.specs.Lines as lines;
+ghost use Rattle.oai_deposit.specs.Readings.{Gives, each_of, tested};
+ghost use Rattle.oai_deposit.specs.Shapes.{ShapeLaw};
+
+use crate::faults::LineFault;
+use crate::json::{has_members, member_of, text_of, texts_of};
+use crate::records::{have_xml_texts, records_of};
+use oai_item::{Change, LineRefusal, Records, is_short_text};
+use oai_names::{Identifier, NameFault, Sequence, SetSpec, Text};
+use serde_json::Value;
+use std::alloc::Global;
+
+/// Reads one line of a deposit, without its line end: a JSON object (RFC 8259) of exactly the
+/// members of a command. The errors, in this order: `BadJson`, `BadCommand`, `BadIdentifier`,
+/// `BadSetSpec`, `BadText`, each for the whole line before the next; and at any point `NoMemory`,
+/// but not for a line that is empty or not in UTF-8. Of two members of one name the last counts.
+/// Each text of the JSON value is copied at most once.
+#[tactic(auto, unfolding(crate::specs::Lines::line_of))]
+pub fn read_line(alloc: Global, line: &[u8]) -> Result<Change, LineFault>
+    ensures { Gives (lines.TakesMemory line.now) result (lines.line_of line.now) }
+{
+    let value = json_of(alloc, line)?;
+    read_value(alloc, &value)
+}
+
+/// The law of the shapes: a value has the shape of a command exactly where it is the JSON object
+/// that the command is written as, and is refused as no command exactly where it is none of these
+/// objects. The contract is the law; the call does nothing.
+pub fn shape_law()
+    ensures { ShapeLaw }
+{}
+
+/// The JSON text that the line is.
+#[tactic(auto, unfolding(crate::specs::Lines::json_of))]
+fn json_of(alloc: Global, line: &[u8]) -> Result<Value, LineFault>
+    ensures { GivesBy view (lines.TakesMemory line.now) result (lines.json_of line.now) }
+{
+    let Ok(text) = str::from_utf8(line) else {
+        return Err(LineFault::Refused(LineRefusal::BadJson));
+    };
+    match Value::from_str(alloc, text) {
+        Ok(value) => Ok(value),
+        Err(error) if error.is_memory() => Err(LineFault::NoMemory),
+        Err(_) => Err(LineFault::Refused(LineRefusal::BadJson)),
+    }
+}
+
+/// The change that the value asks for, of the shape that its members have.
+#[tactic(auto, unfolding(crate::specs::Lines::shape_of))]
+fn read_value(alloc: Global, value: &Value) -> Result<Change, LineFault>
+    ensures { Gives (has_command_members (view value.now) ≡ true) result
+        (asked_by (lines.shape_of (view value.now))) }
+{
+    if has_members(value, &["deposit", "sets", "records"]) {
+        deposit_of(alloc, value)
+    } else if has_members(value, &["delete"]) {
+        deletion_of(alloc, value)
+    } else if has_members(value, &["set", "name"]) {
+        new_set_of(alloc, value)
+    } else {
+        Err(LineFault::Refused(LineRefusal::BadCommand))
+    }
+}
+
+/// The deposit that an object of its members asks for. The whole shape is read before its texts are
+/// looked at.
+#[tactic(auto, unfolding(crate::specs::Lines::deposit_shape))]
+fn deposit_of(alloc: Global, value: &Value) -> Result<Change, LineFault>
+    ensures { Gives Anywhere result (asked_by (lines.deposit_shape (view value.now))) }
+{
+    let identifier = text_of(member_of(value, "deposit")?)?;
+    let sets = texts_of(alloc, member_of(value, "sets")?)?;
+    let records = records_of(alloc, member_of(value, "records")?)?;
+    deposit_from(alloc, identifier, sets.as_slice(), records)
+}
+
+/// The deposit of these texts.
+#[tactic(auto, unfolding(crate::specs::Lines::asked_change))]
+fn deposit_from(
+    alloc: Global,
+    identifier: &str,
+    sets: &[&str],
+    records: Records,
+) -> Result<Change, LineFault>
+    ensures { Gives (may_be_identifier identifier.now ≡ true) result
+        (lines.asked_change
+        (lines.deposits identifier.now (map (λ text. text.now) sets.now) records)) }
+{
+    let identifier = identifier_of(alloc, identifier)?;
+    let sets = set_specs_of(alloc, sets)?;
+    if !have_xml_texts(records.as_slice()) {
+        return Err(LineFault::Refused(LineRefusal::BadText));
+    }
+    Ok(Change::Deposit {
+        identifier,
+        sets,
+        records,
+    })
+}
+
+/// The deletion that an object of its member asks for.
+#[tactic(auto, unfolding(crate::specs::Lines::deletion_shape))]
+fn deletion_of(alloc: Global, value: &Value) -> Result<Change, LineFault>
+    ensures { Gives Anywhere result (asked_by (lines.deletion_shape (view value.now))) }
+{
+    let identifier = text_of(member_of(value, "delete")?)?;
+    deletion_from(alloc, identifier)
+}
+
+/// The deletion of the item of this identifier.
+#[tactic(auto, unfolding(crate::specs::Lines::asked_change))]
+fn deletion_from(alloc: Global, identifier: &str) -> Result<Change, LineFault>
+    ensures { Gives (may_be_identifier identifier.now ≡ true) result
+        (lines.asked_change (lines.deletes identifier.now)) }
+{
+    Ok(Change::Delete {
+        identifier: identifier_of(alloc, identifier)?,
+    })
+}
+
+/// The new set that an object of its members asks for.
+#[tactic(auto, unfolding(crate::specs::Lines::set_shape))]
+fn new_set_of(alloc: Global, value: &Value) -> Result<Change, LineFault>
+    ensures { Gives Anywhere result (asked_by (lines.set_shape (view value.now))) }
+{
+    let spec = text_of(member_of(value, "set")?)?;
+    let name = text_of(member_of(value, "name")?)?;
+    new_set_from(alloc, spec, name)
+}
+
+/// The new set of these texts.
+#[tactic(auto, unfolding(crate::specs::Lines::asked_change))]
+fn new_set_from(alloc: Global, spec: &str, name: &str) -> Result<Change, LineFault>
+    ensures { Gives (may_be_set_spec spec.now ≡ true) result
+        (lines.asked_change (lines.adds_set spec.now name.now)) }
+{
+    Ok(Change::AddSet {
+        spec: set_spec_of(alloc, spec)?,
+        name: set_name_of(alloc, name)?,
+    })
+}
+
+/// The identifier that the text is; `BadIdentifier` where it is none.
+fn identifier_of(alloc: Global, text: &str) -> Result<Identifier, LineFault>
+    ensures { Gives (may_be_identifier text.now ≡ true) result
+        (tested may_be_identifier BadIdentifier text.now) }
+{
+    match Identifier::read(alloc, text) {
+        Ok(identifier) => Ok(identifier),
+        Err(NameFault::NoMemory) => Err(LineFault::NoMemory),
+        Err(NameFault::Syntax) => Err(LineFault::Refused(LineRefusal::BadIdentifier)),
+        Err(NameFault::TooLong) => Err(LineFault::Refused(LineRefusal::BadIdentifier)),
+    }
+}
+
+/// The setSpec that each text is, in order; `BadSetSpec` at the first that is none.
+#[tactic(auto, using(crate::proofs::ReadingLemmas::starts))]
+fn set_specs_of(alloc: Global, texts: &[&str]) -> Result<Sequence<SetSpec>, LineFault>
+    ensures { Gives Anywhere result
+        (each_of (tested may_be_set_spec BadSetSpec) (map (λ text. text.now) texts.now)) }
+{
+    let mut specs = Vec::new(alloc);
+    for text in texts {
+        specs.push(set_spec_of(alloc, text)?)?;
+    }
+    Ok(Sequence::new(specs))
+}
+
+/// The setSpec that the text is; `BadSetSpec` where it is none.
+fn set_spec_of(alloc: Global, text: &str) -> Result<SetSpec, LineFault>
+    ensures { Gives (may_be_set_spec text.now ≡ true) result
+        (tested may_be_set_spec BadSetSpec text.now) }
+{
+    match SetSpec::read(alloc, text) {
+        Ok(spec) => Ok(spec),
+        Err(NameFault::NoMemory) => Err(LineFault::NoMemory),
+        Err(NameFault::Syntax) => Err(LineFault::Refused(LineRefusal::BadSetSpec)),
+        Err(NameFault::TooLong) => Err(LineFault::Refused(LineRefusal::BadSetSpec)),
+    }
+}
+
+/// The setName that the text is; `BadText` where it is none.
+fn set_name_of(alloc: Global, text: &str) -> Result<Text, LineFault>
+    ensures { Gives (is_short_text text.now ≡ true) result
+        (tested is_short_text BadText text.now) }
+{
+    if !is_short_text(text) {
+        return Err(LineFault::Refused(LineRefusal::BadText));
+    }
+    Ok(Text::new(alloc, text)?)
+}
