@@ -1,0 +1,9 @@
+-- the start tag, the records and the token, the end tag
+use Rattle.oai_answers.specs.Documents.{records_element}
+use Rattle.oai_answers.specs.Markup.{element}
+use Rattle.oai_answers.proofs.Appending.{◌⨾◌}
+use Rattle.oai_answers.proofs.lists.write_list_records.Goals as goal
+
+pub returns : goal.returns
+unfolding records_element element
+returns c = c.in_ok-start.ensures ⨾ (c.in_ok-write_records.ensures ⨾ c.in_ok-write_token.ensures) ⨾ c.in_ok-end.ensures

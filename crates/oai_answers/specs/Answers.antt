@@ -1,0 +1,100 @@
+-- What a document answers, as plain data. OAI-PMH 2.0, sections 2.5, 3.2, 3.5, 3.6 and 4.
+use Rattle.std.specs.Prelude.{ℕ, ℤ, Bool, true, List, Option, None, Some}
+use Rattle.std.specs.List.{filter}
+use Rattle.oai_time.specs.Stamp.{IsWritable}
+use Rattle.oai_time.specs.declared.granularity.Granularity.{Granularity}
+use Rattle.oai_item.specs.declared.formats.Format.{Format}
+use Rattle.oai_item.specs.Item.{ItemState, has_record}
+use Rattle.oai_answers.specs.declared.errors.ErrorCode.{ErrorCode}
+use Rattle.oai_answers.specs.declared.identify.DeletedRecord.{DeletedRecord}
+use Rattle.oai_answers.specs.declared.tokens.Extent.{Extent}
+
+-- what was asked, as the attributes of `request` repeat it: the arguments, decoded, as far as they were given (section 3.2)
+pub record Attributes : Type 0 where
+  pub verb : Option (List ℕ)
+  pub identifier : Option (List ℕ)
+  pub prefix : Option (List ℕ)
+  pub from : Option (List ℕ)
+  pub until : Option (List ℕ)
+  pub set : Option (List ℕ)
+  pub token : Option (List ℕ)
+
+-- nothing was asked, or nothing of it is told
+abbrev pub no_arguments : Attributes
+no_arguments = record { verb = None; identifier = None; prefix = None; from = None; until = None; set = None; token = None }
+
+-- what Identify tells of a repository beside its base URL: its name, the addresses of its administrators, the lower
+-- limit of its datestamps in seconds from 1970 on, what it keeps of deleted records, how fine its datestamps are (section 4.2)
+pub record Description : Type 0 where
+  pub name : List ℕ
+  pub addresses : List (List ℕ)
+  pub earliest : ℤ
+  pub deleted : DeletedRecord
+  pub granularity : Granularity
+
+-- an item in a format: its record there is told, with datestamps of that granularity (section 2.5)
+pub record Dissemination : Type 0 where
+  pub item : ItemState
+  pub granularity : Granularity
+  pub format : Format
+
+-- how a list goes on behind the part of it that is answered (section 3.5)
+pub data Continuation : Type 0 where
+  -- the list is whole: there is nothing behind it, and nothing before it
+  whole : Continuation
+  -- records remain: when the token expires in seconds from 1970 on, where the part stands in the list, and the token
+  remains : ℤ → Extent → List ℕ → Continuation
+  -- the part completes the list, and stands there in it
+  completes : Extent → Continuation
+
+-- a part of a list, or the whole: the items in their order, how fine the datestamps are, and how the list goes on
+pub record Page : Type 0 where
+  pub items : List ItemState
+  pub granularity : Granularity
+  pub continuation : Continuation
+
+-- the answer to a request: an error (section 3.6), or what the verb asks for (section 4)
+pub data Answer : Type 0 where
+  fails : ErrorCode → Answer
+  identifies : Description → Answer
+  lists_formats : List Format → Answer
+  lists_sets : List (List ℕ × List ℕ) → Answer
+  gives_record : Dissemination → Answer
+  lists_headers : Page → Answer
+  lists_records : Format → Page → Answer
+
+-- an answer, the clock at which it is given in seconds from 1970 on, the base URL, and what was asked (section 3.2)
+pub record Document : Type 0 where
+  pub date : ℤ
+  pub base : List ℕ
+  pub asked : Attributes
+  pub answer : Answer
+
+-- the format is listed: each is where no item is asked about, else those in which that item has a record (section 4.4)
+abbrev pub is_offered : Option ItemState → Format → Bool
+is_offered None format = true
+is_offered (Some item) format = has_record format.prefix item.formats
+
+-- the formats that are listed, in the order of the repository
+unfoldable pub offered : List Format → Option ItemState → List Format
+offered formats of = filter (is_offered of) formats
+
+-- the moment at which the token expires, if there is one, can be written as a date
+abbrev pub HasWritableEnd : Continuation → Type 0
+HasWritableEnd whole = Unit {0}
+HasWritableEnd (remains expires extent token) = IsWritable expires
+HasWritableEnd (completes extent) = Unit {0}
+
+-- so can the times of the answer
+abbrev pub HasWritableTimes : Answer → Type 0
+HasWritableTimes (fails code) = Unit {0}
+HasWritableTimes (identifies d) = IsWritable d.earliest
+HasWritableTimes (lists_formats formats) = Unit {0}
+HasWritableTimes (lists_sets sets) = Unit {0}
+HasWritableTimes (gives_record d) = Unit {0}
+HasWritableTimes (lists_headers page) = HasWritableEnd page.continuation
+HasWritableTimes (lists_records format page) = HasWritableEnd page.continuation
+
+-- and those of the document
+abbrev pub IsWritableDocument : Document → Type 0
+IsWritableDocument d = IsWritable d.date × HasWritableTimes d.answer

@@ -1,0 +1,5 @@
+pub mod Answers
+pub mod Appends
+pub mod Borrowed
+pub mod Documents
+pub mod Markup

@@ -1,0 +1,35 @@
+-- The markup of which documents are made: tags, elements and attributes. XML 1.0, sections 3 and 3.1.
+use Rattle.std.specs.Prelude.{ℕ, List, ◌++◌, codes}
+use Rattle.oai_names.specs.Escapes.{escaped_text, escaped_attribute}
+
+-- bytes that stand as they are
+unfoldable pub plain : List ℕ → List ℕ
+plain bytes = bytes
+
+-- STag ::= '<' Name '>', without attributes
+unfoldable pub start_tag : List ℕ → List ℕ
+start_tag name = plain (codes "<") ++ plain name ++ plain (codes ">")
+
+-- ETag ::= '</' Name '>'
+unfoldable pub end_tag : List ℕ → List ℕ
+end_tag name = plain (codes "</") ++ plain name ++ plain (codes ">")
+
+-- element ::= STag content ETag
+unfoldable pub element : List ℕ → List ℕ → List ℕ
+element name content = start_tag name ++ content ++ end_tag name
+
+-- an element with a text in it
+unfoldable pub text_element : List ℕ → List ℕ → List ℕ
+text_element name text = element name (escaped_text text)
+
+-- an attribute up to its value: the space before it, its name, the equals sign and the quote
+unfoldable pub attribute_start : List ℕ → List ℕ
+attribute_start name = plain (codes " ") ++ plain name ++ plain (codes "=\"")
+
+-- Attribute ::= Name Eq AttValue, the value being spelled already
+unfoldable pub spelled_attribute : List ℕ → List ℕ → List ℕ
+spelled_attribute name value = attribute_start name ++ value ++ plain (codes "\"")
+
+-- an attribute with a text as its value
+unfoldable pub attribute : List ℕ → List ℕ → List ℕ
+attribute name text = spelled_attribute name (escaped_attribute text)

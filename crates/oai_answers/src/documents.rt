@@ -1,0 +1,103 @@
+ghost use Rattle.std.specs.Prelude.{◌≡◌, ◌++◌, OnOk, OnErr};
+ghost use Rattle.oai_answers.specs.Answers.{HasWritableTimes, IsWritableDocument};
+ghost use Rattle.oai_answers.specs.Appends.{Appends};
+ghost use Rattle.oai_answers.specs.Borrowed.{answer_of, document_of};
+ghost use Rattle.oai_answers.specs.Documents.{answer_element, document};
+
+use crate::dates::second_element;
+use crate::errors::{ErrorCode, write_error};
+use crate::formats::{Offered, write_list_metadata_formats};
+use crate::head::write_head;
+use crate::identify::{Identity, write_identify};
+use crate::lists::{Listed, write_list_identifiers, write_list_records};
+use crate::markup::put;
+use crate::records::{Record, write_get_record};
+use crate::request::{Asked, write_request};
+use crate::sets::write_list_sets;
+use oai_item::Format;
+use oai_names::{SetSpec, Text};
+use std::alloc::{AllocError, Global};
+
+/// What a document answers: an error, or what the verb asks for.
+#[derive(Clone, Copy, Debug)]
+pub enum Body<'a> {
+    /// The request could not be met (OAI-PMH 2.0, section 3.6).
+    Error(ErrorCode),
+    /// The description of the repository (OAI-PMH 2.0, section 4.2).
+    Identify(Identity<'a>),
+    /// The metadata formats of the repository, or of an item (OAI-PMH 2.0, section 4.4).
+    ListMetadataFormats(Offered<'a>),
+    /// The sets of the repository, each its setSpec and its name (OAI-PMH 2.0, section 4.6).
+    ListSets(&'a [(SetSpec, Text)]),
+    /// One record (OAI-PMH 2.0, section 4.1).
+    GetRecord(Record<'a>),
+    /// The headers of a list of items (OAI-PMH 2.0, section 4.3).
+    ListIdentifiers(Listed<'a>),
+    /// The records of a list of items in that format (OAI-PMH 2.0, section 4.5).
+    ListRecords(&'a Format, Listed<'a>),
+}
+
+/// An answer with what a document tells beside it (OAI-PMH 2.0, section 3.2).
+#[derive(Clone, Copy, Debug)]
+pub struct Doc<'a> {
+    /// When the answer is given, in seconds from 1970 on.
+    pub date: i64,
+    /// The base URL of the repository.
+    pub base: &'a str,
+    /// The arguments of the request.
+    pub asked: Asked<'a>,
+    /// The answer.
+    pub body: Body<'a>,
+}
+
+/// Appends the XML document (OAI-PMH 2.0, section 3.2), in UTF-8. The date, the earliest datestamp
+/// of an answer to Identify and the moment at which a token expires are of the years 0000 to 9999.
+/// The error is want of memory; it leaves the buffer as it was.
+///
+/// It costs one pass over the texts of the document, and a search among the records of an item for
+/// each record, and for each format that is listed of an item. The document is written into a buffer
+/// of its own, which `out` takes over where it was empty; otherwise it is copied once.
+pub fn write_document(alloc: Global, doc: &Doc<'_>, out: &mut Vec<u8>) -> Result<(), AllocError>
+    requires { IsWritableDocument (document_of doc.now) }
+    ensures ok { OnOk result (out.new.items ≡ out.old.items ++ document (document_of doc.now)) }
+    ensures err { OnErr result (out.new.items ≡ out.old.items) }
+{
+    let mut document = Vec::new(alloc);
+    append(doc, &mut document)?;
+    if out.is_empty() {
+        *out = document;
+        return Ok(());
+    }
+    out.extend_from_slice(&document)
+}
+
+/// As `write_document`, but what was appended before memory was refused stays.
+#[tactic(auto, unfolding(crate::specs::Documents::document))]
+fn append(doc: &Doc<'_>, out: &mut Vec<u8>) -> Result<(), AllocError>
+    requires { IsWritableDocument (document_of doc.now) }
+    ensures { OnOk result (Appends out.old.items out.new.items (document (document_of doc.now))) }
+{
+    write_head(out)?;
+    second_element("responseDate", doc.date, out)?;
+    write_request(doc, out)?;
+    write_body(doc.base, &doc.body, out)?;
+    put("</OAI-PMH>\n", out)?;
+    Ok(())
+}
+
+/// Appends the answer itself.
+fn write_body(base: &str, body: &Body<'_>, out: &mut Vec<u8>) -> Result<(), AllocError>
+    requires { HasWritableTimes (answer_of body.now) }
+    ensures { OnOk result (Appends out.old.items out.new.items
+        (answer_element base.now (answer_of body.now))) }
+{
+    match body {
+        Body::Error(code) => write_error(*code, out),
+        Body::Identify(identity) => write_identify(base, identity, out),
+        Body::ListMetadataFormats(offered) => write_list_metadata_formats(offered, out),
+        Body::ListSets(sets) => write_list_sets(sets, out),
+        Body::GetRecord(record) => write_get_record(record, out),
+        Body::ListIdentifiers(list) => write_list_identifiers(list, out),
+        Body::ListRecords(format, list) => write_list_records(format, list, out),
+    }
+}

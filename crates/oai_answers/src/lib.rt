@@ -1,0 +1,28 @@
+//! The XML documents that answer the requests of OAI-PMH 2.0 (sections 3.2 and 4): an answer, and
+//! the bytes that spell it.
+#![tactic(auto)]
+
+mod dates;
+mod documents;
+mod errors;
+mod fields;
+mod formats;
+mod head;
+mod headers;
+mod identify;
+mod lists;
+mod markup;
+mod metadata;
+mod records;
+mod request;
+mod sets;
+mod tokens;
+
+pub use documents::{Body, Doc, write_document};
+pub use errors::ErrorCode;
+pub use formats::Offered;
+pub use identify::{DeletedRecord, Identity};
+pub use lists::Listed;
+pub use records::Record;
+pub use request::Asked;
+pub use tokens::{Extent, Remaining, Resumption};

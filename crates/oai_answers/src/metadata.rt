@@ -1,0 +1,139 @@
+ghost use Rattle.std.specs.Prelude.{OnOk, [], ◌++◌};
+ghost use Rattle.std.specs.List.{flat_map};
+ghost use Rattle.oai_answers.specs.Appends.{Appends};
+ghost use Rattle.oai_answers.specs.Documents.{declared_metadata, declared_start, dublin_core_metadata, dublin_core_start, field_element, metadata, schema_location};
+ghost use Rattle.oai_answers.specs.Markup.{end_tag, start_tag};
+
+use crate::markup::{attribute, end, put, put_text, put_value, start_attribute};
+use oai_item::{Field, Format};
+use std::alloc::AllocError;
+
+/// The start tag of unqualified Dublin Core, with its namespaces and its schema.
+const DUBLIN_CORE_START: &str =
+    "<oai_dc:dc xmlns:oai_dc=\"http://www.openarchives.org/OAI/2.0/oai_dc/\" xmlns:dc=\"http://purl.org/dc/elements/1.1/\" xmlns:xsi=\"http://www.w3.org/2001/XMLSchema-instance\" xsi:schemaLocation=\"http://www.openarchives.org/OAI/2.0/oai_dc/ http://www.openarchives.org/OAI/2.0/oai_dc.xsd\">";
+
+/// The namespace of the attributes that tell where a schema lies.
+const SCHEMA_INSTANCE: &str = "http://www.w3.org/2001/XMLSchema-instance";
+
+/// Appends the metadata in its format.
+#[tactic(auto, unfolding(crate::specs::Documents::metadata))]
+pub(crate) fn write_metadata(
+    format: &Format,
+    fields: &[Field],
+    out: &mut Vec<u8>,
+) -> Result<(), AllocError>
+    ensures { OnOk result (Appends out.old.items out.new.items (metadata format.now fields.now)) }
+{
+    if format.prefix.as_str() == "oai_dc" {
+        write_dublin_core(fields, out)
+    } else {
+        write_declared(format, fields, out)
+    }
+}
+
+/// Appends the metadata in unqualified Dublin Core (OAI-PMH 2.0, section 2.5; DCES 1.1).
+#[tactic(auto, unfolding(crate::specs::Documents::dublin_core_metadata))]
+fn write_dublin_core(fields: &[Field], out: &mut Vec<u8>) -> Result<(), AllocError>
+    ensures { OnOk result (Appends out.old.items out.new.items (dublin_core_metadata fields.now)) }
+{
+    write_dublin_core_start(out)?;
+    write_fields("dc:", fields, out)?;
+    end("oai_dc:dc", out)?;
+    Ok(())
+}
+
+/// Appends the start tag of unqualified Dublin Core.
+#[tactic(auto, unfolding(crate::specs::Documents::dublin_core_start))]
+fn write_dublin_core_start(out: &mut Vec<u8>) -> Result<(), AllocError>
+    ensures { OnOk result (Appends out.old.items out.new.items dublin_core_start) }
+{
+    out.extend_from_slice(DUBLIN_CORE_START.as_bytes())
+}
+
+/// Appends the metadata in a declared format.
+#[tactic(auto, unfolding(crate::specs::Documents::declared_metadata))]
+fn write_declared(format: &Format, fields: &[Field], out: &mut Vec<u8>) -> Result<(), AllocError>
+    ensures { OnOk result (Appends out.old.items out.new.items
+        (declared_metadata format.now fields.now)) }
+{
+    write_declared_start(format, out)?;
+    write_fields("", fields, out)?;
+    end(format.root.as_str(), out)?;
+    Ok(())
+}
+
+/// Appends the start tag of a declared format, with its namespace and its schema.
+#[tactic(auto, unfolding(crate::specs::Documents::declared_start))]
+fn write_declared_start(format: &Format, out: &mut Vec<u8>) -> Result<(), AllocError>
+    ensures { OnOk result (Appends out.old.items out.new.items (declared_start format.now)) }
+{
+    put("<", out)?;
+    put(format.root.as_str(), out)?;
+    attribute("xmlns", format.namespace.as_str(), out)?;
+    attribute("xmlns:xsi", SCHEMA_INSTANCE, out)?;
+    write_schema_location(format, out)?;
+    put(">", out)?;
+    Ok(())
+}
+
+/// Appends the attribute that tells where the schema of the format lies.
+#[tactic(auto, unfolding(crate::specs::Documents::schema_location, crate::specs::Markup::spelled_attribute))]
+fn write_schema_location(format: &Format, out: &mut Vec<u8>) -> Result<(), AllocError>
+    ensures { OnOk result (Appends out.old.items out.new.items (schema_location format.now)) }
+{
+    start_attribute("xsi:schemaLocation", out)?;
+    put_value(format.namespace.as_str(), out)?;
+    put(" ", out)?;
+    put_value(format.schema.as_str(), out)?;
+    put("\"", out)?;
+    Ok(())
+}
+
+/// Appends the fields, in order.
+fn write_fields(qualifier: &str, fields: &[Field], out: &mut Vec<u8>) -> Result<(), AllocError>
+    ensures { OnOk result (Appends out.old.items out.new.items
+        (flat_map (field_element qualifier.now) fields.now)) }
+{
+    for field in fields {
+        write_field(qualifier, field, out)?;
+    }
+    Ok(())
+}
+
+/// Appends the element of a field, its name qualified.
+#[tactic(auto, unfolding(crate::specs::Documents::field_element, crate::specs::Markup::text_element, crate::specs::Markup::element))]
+fn write_field(qualifier: &str, field: &Field, out: &mut Vec<u8>) -> Result<(), AllocError>
+    ensures { OnOk result (Appends out.old.items out.new.items
+        (field_element qualifier.now field.now)) }
+{
+    start_qualified(qualifier, field.name.as_str(), out)?;
+    put_text(field.text.as_str(), out)?;
+    end_qualified(qualifier, field.name.as_str(), out)?;
+    Ok(())
+}
+
+/// Appends the start tag of a qualified name.
+#[tactic(auto, unfolding(crate::specs::Markup::start_tag, crate::specs::Markup::plain))]
+fn start_qualified(qualifier: &str, name: &str, out: &mut Vec<u8>) -> Result<(), AllocError>
+    ensures { OnOk result (Appends out.old.items out.new.items
+        (start_tag (qualifier.now ++ name.now))) }
+{
+    put("<", out)?;
+    put(qualifier, out)?;
+    put(name, out)?;
+    put(">", out)?;
+    Ok(())
+}
+
+/// Appends the end tag of a qualified name.
+#[tactic(auto, unfolding(crate::specs::Markup::end_tag, crate::specs::Markup::plain))]
+fn end_qualified(qualifier: &str, name: &str, out: &mut Vec<u8>) -> Result<(), AllocError>
+    ensures { OnOk result (Appends out.old.items out.new.items
+        (end_tag (qualifier.now ++ name.now))) }
+{
+    put("</", out)?;
+    put(qualifier, out)?;
+    put(name, out)?;
+    put(">", out)?;
+    Ok(())
+}
