@@ -1,0 +1,65 @@
+-- The store of all versions of all repositories' items: lists of items under numbers. This repository's own view of OAI-PMH 2.0, sections
+-- 2.7 and 3.5: a list request is answered from the items as they stood.
+use Rattle.std.specs.Prelude.{◌≡◌, ◌≢◌, ◌⊎◌, ◌<◌, ℕ, Bool, true, false, ◌==◌, if◌then◌else◌, List, [], Option, None, Some, unwrap_or, Result, IfErr}
+use Rattle.oai_item.specs.Item.{ItemState}
+use Rattle.oai_item.specs.Items.{with_item, without_at}
+use Rattle.oai_item.specs.Order.{are_in_order}
+use Rattle.oai_item.specs.declared.faults.Fault.{Fault}
+use Rattle.oai_item.specs.declared.faults.Fault.TheVariants.{Device, Damaged, TooManyPages}
+use Rattle.oai_catalogue.specs.declared.versions.TheConstants.{MOST_FAILURES}
+
+-- ---- the lists
+
+-- a list of items under each number that is in use
+abbrev pub Lists : Type 0
+Lists = ℕ → Option (List ItemState)
+
+-- no number is in use
+abbrev pub no_lists : Lists
+no_lists v = None
+
+-- the same, with that list under the number
+abbrev pub with_list : ℕ → List ItemState → Lists → Lists
+with_list v items lists n = if n == v then Some items else lists n
+
+-- the same, without that number
+abbrev pub without_list : ℕ → Lists → Lists
+without_list v lists n = if n == v then None else lists n
+
+-- the list under that number, empty where it is not in use
+abbrev pub list_at : Lists → ℕ → List ItemState
+list_at lists v = unwrap_or (lists v) []
+
+-- each list rises strictly by datestamp and identifier
+abbrev pub AreRising : Lists → Type 0
+AreRising lists = (v : ℕ) → are_in_order (list_at lists v) ≡ true
+
+-- ---- the faults
+
+-- the device is named as the cause only where its count of failures rose, or stands at the last number that it can have
+abbrev pub IsCounted : {A : Type 0} → Result A Fault → ℕ → ℕ → Type 0
+IsCounted result old new = IfErr result (λ fault. fault ≡ Device → (old < new) ⊎ (old ≡ MOST_FAILURES))
+
+-- damage is found only over a device that is not honest
+abbrev pub IsHonest : {A : Type 0} → Result A Fault → Bool → Type 0
+IsHonest result honest = IfErr result (λ fault. fault ≡ Damaged → honest ≡ false)
+
+-- room is wanted only where the store may be out of it
+abbrev pub NeedsRoom : {A : Type 0} → Result A Fault → Type 0 → Type 0
+NeedsRoom result full = IfErr result (λ fault. fault ≡ TooManyPages → full)
+
+-- room is never wanted
+abbrev pub NeedsNoRoom : {A : Type 0} → Result A Fault → Type 0
+NeedsNoRoom result = IfErr result (λ fault. fault ≢ TooManyPages)
+
+-- ---- a change of one list
+
+-- the items without that one, by its datestamp and identifier, where one is given
+abbrev pub without_given : Option ItemState → List ItemState → List ItemState
+without_given None items = items
+without_given (Some gone) items = without_at gone.stamp gone.identifier items
+
+-- the items with that one, where one is given
+abbrev pub with_given : Option ItemState → List ItemState → List ItemState
+with_given None items = items
+with_given (Some new) items = with_item new items

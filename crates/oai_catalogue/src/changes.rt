@@ -1,0 +1,102 @@
+ghost use Rattle.std.specs.Prelude.{◌≡◌, ◌≢◌, ◌≤◌, None, length, IfOk, IfSome, IsSome, IsTrue, OnErr, OnOk};
+ghost use Rattle.std.specs.Option.{option_copied};
+ghost use Rattle.oai_item.specs.Encoding.{encoded};
+ghost use Rattle.oai_item.specs.declared.sizes.TheConstants.{MOST_ITEM_BYTES};
+ghost use Rattle.oai_catalogue.specs.Store.{AreRising, IsCounted, IsHonest, list_at, with_given, with_list, without_given, without_list};
+
+use crate::versions::Versions;
+use oai_item::{Fault, Item};
+
+/// Changes a version as a whole or not at all: under a number that was not in use it puts what `v`
+/// holds, without the item of the datestamp and identifier of `gone`, and with `new`, each where it is
+/// given, and lets `v` go. On a fault each list is as before, and no further number is in use. Any
+/// fault may come.
+pub fn change_item<V: Versions>(
+    store: &mut V,
+    v: u64,
+    gone: Option<&Item>,
+    new: Option<&Item>,
+) -> Result<u64, Fault>
+    requires stands { IsSome (V.lists store.old v) }
+    requires fits { IfSome (option_copied new) (λ item. length (encoded item) ≤ MOST_ITEM_BYTES) }
+    ensures unused { IfOk result (λ w. V.lists store.old w ≡ None) }
+    ensures ok { IfOk result (λ w. V.lists store.new ≡ with_list w (list_at (V.lists store.new) w) (without_list v (V.lists store.old))) }
+    ensures list { IfOk result (λ w. IsTrue (V.honest store.old)
+        → list_at (V.lists store.new) w ≡ with_given (option_copied new.entry) (without_given (option_copied gone.entry) (list_at (V.lists store.old) v))) }
+    ensures err { OnErr result (V.lists store.new ≡ V.lists store.old) }
+    ensures rising { OnOk result (AreRising (V.lists store.old) × AreRising (V.lists store.new)) }
+    ensures device { IsCounted result (V.failures store.old) (V.failures store.new) }
+    ensures damaged { IsHonest result (V.honest store.old) }
+    ensures count { V.failures store.old ≤ V.failures store.new }
+    ensures honesty { V.honest store.new ≡ V.honest store.old }
+{
+    let next = store.freeze(v)?;
+    match edit(store, next, gone, new) {
+        Ok(()) => {
+            store.release(v);
+            Ok(next)
+        }
+        Err(fault) => {
+            store.release(next);
+            Err(fault)
+        }
+    }
+}
+
+/// Takes the one item out of the list and puts the other in, each where it is given. On a fault the
+/// list may have lost the one; no other list has changed.
+fn edit<V: Versions>(
+    store: &mut V,
+    v: u64,
+    gone: Option<&Item>,
+    new: Option<&Item>,
+) -> Result<(), Fault>
+    requires stands { IsSome (V.lists store.old v) }
+    requires fits { IfSome (option_copied new) (λ item. length (encoded item) ≤ MOST_ITEM_BYTES) }
+    ensures others { V.lists store.new ≡ with_list v (list_at (V.lists store.new) v) (V.lists store.old) }
+    ensures list { OnOk result (IsTrue (V.honest store.old)
+        → list_at (V.lists store.new) v ≡ with_given (option_copied new.entry) (without_given (option_copied gone.entry) (list_at (V.lists store.old) v))) }
+    ensures device { IsCounted result (V.failures store.old) (V.failures store.new) }
+    ensures damaged { IsHonest result (V.honest store.old) }
+    ensures count { V.failures store.old ≤ V.failures store.new }
+    ensures honesty { V.honest store.new ≡ V.honest store.old }
+{
+    take_out(store, v, gone)?;
+    put_in(store, v, new)
+}
+
+/// Takes the item out of the list, where one is given.
+fn take_out<V: Versions>(store: &mut V, v: u64, gone: Option<&Item>) -> Result<(), Fault>
+    requires { IsSome (V.lists store.old v) }
+    ensures ok { V.lists store.new ≡ with_list v (list_at (V.lists store.new) v) (V.lists store.old) }
+    ensures list { OnOk result (IsTrue (V.honest store.old) → list_at (V.lists store.new) v ≡ without_given (option_copied gone.entry) (list_at (V.lists store.old) v)) }
+    ensures device { IsCounted result (V.failures store.old) (V.failures store.new) }
+    ensures damaged { IsHonest result (V.honest store.old) }
+    ensures count { V.failures store.old ≤ V.failures store.new }
+    ensures honesty { V.honest store.new ≡ V.honest store.old }
+{
+    match gone {
+        Some(item) => {
+            store.remove(v, item.stamp(), item.identifier())?;
+            Ok(())
+        }
+        None => Ok(()),
+    }
+}
+
+/// Puts the item into the list, where one is given.
+fn put_in<V: Versions>(store: &mut V, v: u64, new: Option<&Item>) -> Result<(), Fault>
+    requires stands { IsSome (V.lists store.old v) }
+    requires fits { IfSome (option_copied new) (λ item. length (encoded item) ≤ MOST_ITEM_BYTES) }
+    ensures ok { V.lists store.new ≡ with_list v (list_at (V.lists store.new) v) (V.lists store.old) }
+    ensures list { OnOk result (IsTrue (V.honest store.old) → list_at (V.lists store.new) v ≡ with_given (option_copied new.entry) (list_at (V.lists store.old) v)) }
+    ensures device { IsCounted result (V.failures store.old) (V.failures store.new) }
+    ensures damaged { IsHonest result (V.honest store.old) }
+    ensures count { V.failures store.old ≤ V.failures store.new }
+    ensures honesty { V.honest store.new ≡ V.honest store.old }
+{
+    match new {
+        Some(item) => store.put(v, item),
+        None => Ok(()),
+    }
+}

@@ -1,0 +1,177 @@
+ghost use Rattle.std.specs.Prelude.{◌≡◌, [], true, length, take, drop, is_some, IfOk, OnErr, OnOk};
+ghost use Rattle.std.specs.Option.{option_copied};
+ghost use Rattle.oai_item.specs.Items.{item_at, with_item, without_at};
+ghost use Rattle.oai_item.specs.Order.{are_in_order};
+ghost use Rattle.oai_item.specs.Selection.{selected};
+
+use crate::filters::Filter;
+use oai_item::{Item, place_of};
+use oai_names::Sequence;
+use std::alloc::{AllocError, Global};
+use std::marker::Model;
+
+/// Items in their order.
+#[derive(Debug, Drop)]
+pub(crate) struct Items {
+    items: Vec<Item>,
+}
+
+impl Model for Items {
+    ghost use Rattle.std.specs.Prelude.{◌≡◌, List, true};
+    ghost use Rattle.oai_item.specs.Item.{ItemState};
+    ghost use Rattle.oai_item.specs.Order.{are_in_order};
+
+    ghost Value = { List ItemState };
+
+    ghost view = { λ l. l.items.items };
+
+    ghost invariant = { λ l. are_in_order l.items.items ≡ true };
+}
+
+impl Items {
+    /// No items. It takes no memory.
+    pub(crate) fn new(alloc: Global) -> Items
+        ensures { result ≡ [] }
+    {
+        Items {
+            items: Vec::new(alloc),
+        }
+    }
+
+    /// Copies of the items. The error is want of memory.
+    pub(crate) fn copy(&self, alloc: Global) -> Result<Items, AllocError>
+        ensures copy { IfOk result (λ copy. copy ≡ self.now) }
+        ensures rising { are_in_order self.now ≡ true }
+    {
+        Ok(Items {
+            items: copies(alloc, self.items.as_slice())?,
+        })
+    }
+
+    /// Puts a copy of the item in, in place of the one of its datestamp and identifier where there is
+    /// one. The error is want of memory; the items are then as before.
+    pub(crate) fn put_copy(&mut self, alloc: Global, item: &Item) -> Result<(), AllocError>
+        ensures ok { OnOk result (self.new ≡ with_item item.now self.old) }
+        ensures err { OnErr result (self.new ≡ self.old) }
+        ensures rising { are_in_order self.new ≡ true }
+    {
+        self.items.try_reserve(1)?;
+        self.put(item.copy(alloc)?)
+    }
+
+    /// Puts the item in, in place of the one of its datestamp and identifier where there is one. The
+    /// error is want of memory; the items are then as before.
+    fn put(&mut self, item: Item) -> Result<(), AllocError>
+        ensures ok { OnOk result (self.new ≡ with_item item self.old) }
+        ensures err { OnErr result (self.new ≡ self.old) }
+        ensures rising { are_in_order self.new ≡ true }
+    {
+        match place_of(
+            self.items.as_slice(),
+            item.stamp(),
+            item.identifier().as_str(),
+        ) {
+            Ok(at) => self.items[at] = item,
+            Err(at) => self.items.insert(at, item)?,
+        }
+        Ok(())
+    }
+
+    /// Takes the item of that datestamp, in seconds from 1970 on, and identifier out, and answers
+    /// whether there was one.
+    pub(crate) fn remove(&mut self, stamp: i64, identifier: &str) -> bool
+        ensures found { result ≡ is_some (item_at stamp identifier.now self.old) }
+        ensures left { self.new ≡ without_at stamp identifier.now self.old }
+        ensures rising { are_in_order self.new ≡ true }
+    {
+        match place_of(self.items.as_slice(), stamp, identifier) {
+            Ok(at) => {
+                self.items.remove(at);
+                true
+            }
+            Err(_) => false,
+        }
+    }
+
+    /// The item of that datestamp, in seconds from 1970 on, and identifier.
+    pub(crate) fn find(&self, stamp: i64, identifier: &str) -> Option<&Item>
+        ensures found { option_copied result ≡ item_at stamp identifier.now self.now }
+        ensures rising { are_in_order self.now ≡ true }
+    {
+        match place_of(self.items.as_slice(), stamp, identifier) {
+            Ok(at) => Some(&self.items[at]),
+            Err(_) => None,
+        }
+    }
+
+    /// How many items are selected.
+    pub(crate) fn count(&self, filter: &Filter) -> usize
+        ensures number { result ≡ length (selected filter.now self.now) }
+        ensures rising { are_in_order self.now ≡ true }
+    {
+        count(self.items.as_slice(), filter)
+    }
+
+    /// Copies of the selected items after the first `skip`, at most `most` of them. The error is want
+    /// of memory.
+    pub(crate) fn part(
+        &self,
+        alloc: Global,
+        filter: &Filter,
+        skip: usize,
+        most: usize,
+    ) -> Result<Sequence<Item>, AllocError>
+        ensures part { IfOk result (λ part. part ≡ take most (drop skip (selected filter.now self.now))) }
+        ensures rising { are_in_order self.now ≡ true }
+    {
+        part(alloc, self.items.as_slice(), filter, skip, most)
+    }
+}
+
+/// Copies of the items.
+fn copies(alloc: Global, items: &[Item]) -> Result<Vec<Item>, AllocError>
+    ensures { IfOk result (λ copies. copies.items ≡ items.now) }
+{
+    let mut copies = Vec::with_capacity(alloc, items.len())?;
+    for item in items {
+        copies.push(item.copy(alloc)?)?;
+    }
+    Ok(copies)
+}
+
+/// How many of the items are selected.
+#[tactic(auto, unfolding(oai_item::specs::Selection::selected))]
+fn count(items: &[Item], filter: &Filter) -> usize
+    ensures { result ≡ length (selected filter.now items.now) }
+{
+    items.iter().filter(|item| filter.passes(item)).count()
+}
+
+/// Copies of the selected ones of the items after the first `skip`, at most `most` of them.
+fn part(
+    alloc: Global,
+    items: &[Item],
+    filter: &Filter,
+    skip: usize,
+    most: usize,
+) -> Result<Sequence<Item>, AllocError>
+    ensures { IfOk result (λ part. part ≡ take most (drop skip (selected filter.now items.now))) }
+{
+    let mut part = Vec::new(alloc);
+    let mut before = skip;
+    let mut left = most;
+    for item in items {
+        if left == 0 {
+            break;
+        }
+        if filter.passes(item) {
+            if before == 0 {
+                part.push(item.copy(alloc)?)?;
+                left -= 1;
+            } else {
+                before -= 1;
+            }
+        }
+    }
+    Ok(Sequence::new(part))
+}

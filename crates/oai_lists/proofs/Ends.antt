@@ -1,0 +1,298 @@
+-- Which lists have ended, and what is kept of the others.
+use Rattle.std.proofs.Common.{◌≡◌, ◌≢◌, ◌∙◌, ℕ, ℤ, suc, zero, ◌+◌, ◌<◌, ◌≤◌, ◌<ℤ◌, ◌≤ℤ◌, inl, inr, ◌⊎◌, Bool, true, false, not, ◌&&◌, cond, eqb, List, [], ◌∷◌, ◌++◌, Option, None, Some, Result, Ok, Err, map, length, take, drop, get_or, set, refl, sym, ap, subst, arith, add-one, drop-cons, length-append, unwrap_or, IsSome, is_some, append-nil}
+use Rattle.std.specs.Prelude.{filter, find, int_le, int_lt, nat_lt, nat_le, position}
+use Rattle.std.specs.Int.{int_min}
+use Rattle.std.specs.List.{All, Contains, HoldsAt, after_first, before_first, list_all, position_or_len, remove}
+use Rattle.std.proofs.lemmas.Bool.{false≢true, and_from, and_parts, cond-true, cond-false, cond_both, cases_Bool, eqb-false, eqb-true, le-leb, le-ltb, lt-leb, lt-ltb, ltb-false, ltb-true, not-true, not_from_false}
+use Rattle.std.proofs.lemmas.Int.{ints}
+use Rattle.std.proofs.lemmas.List.{drop-set, drop_all, get_or-take, get_or_default, length-take-le, map-append, take-append-drop, take-set, take_all}
+use Rattle.std.proofs.lemmas.List.Folds.{list_all-append, list_all-map}
+use Rattle.std.proofs.lemmas.List.Quantifiers.{position-Some}
+use Rattle.std.proofs.lemmas.List.Sums.{AllPass-from_list_all, list_all-from_AllPass, position_or_len_is}
+use Rattle.oai_lists.specs.Bounds.{IsHeld, IsPlaced, none_numbered}
+use Rattle.oai_lists.specs.OpenLists.{IsEarliest, IsOpening, IsTable, Table, answered, are_numbered, has_ended, is_before, is_numbered, is_open, list_numbered, open_fault, open_ones, renewed, renewed_one, with_list}
+use Rattle.oai_lists.specs.declared.lists.OpenFault.{OpenFault}
+use Rattle.oai_lists.specs.declared.lists.OpenFault.TheVariants.{Full, NumbersSpent, NoMemory}
+use Rattle.oai_lists.specs.declared.open_lists.OpenList.{OpenList}
+use Rattle.oai_lists.specs.declared.lists.TheConstants.{LAST_NUMBER}
+use Rattle.oai_lists.proofs.Tables.{all-weaker, cut, filter_all, find_none, find_past, list_numbered-none, numbered-append, numbered-join}
+
+-- ---- numbers of moments
+
+ended_not : (earliest now : ℤ) (list : OpenList) → now <ℤ earliest → int_le earliest list.end ≡ true → not (has_ended now list) ≡ true
+ended_not earliest now list early bound = let e : has_ended now list ≡ false = grind (arith, ints) in not_from_false _ e
+
+open_yet : (earliest now : ℤ) (list : OpenList) → now <ℤ earliest → int_le earliest list.end ≡ true → is_open now list ≡ true
+open_yet earliest now list early bound = grind (arith, ints)
+
+le_test : (a b : ℤ) → a ≤ℤ b → int_le a b ≡ true
+le_test a b h = grind (arith, ints)
+
+below : (b a c : ℤ) → int_lt b a ≡ true → int_le a c ≡ true → int_le b c ≡ true
+below b a c h g = grind (arith, ints)
+
+not_below : (a b : ℤ) → int_lt b a ≡ false → int_le a b ≡ true
+not_below a b h = grind (arith, ints)
+
+itself_le : (a : ℤ) → int_le a a ≡ true
+itself_le a = grind (arith, ints)
+
+min_left : (a b c : ℤ) → int_le a c ≡ true → int_le (int_min a b) c ≡ true
+min_left a b c h = cond_both (int_lt b a) b a (λ m. int_le m c ≡ true) (λ less. let l : int_lt b a ≡ true = less in below b a c l h) (λ _. h)
+
+min_right : (a b : ℤ) → int_le (int_min a b) b ≡ true
+min_right a b = cond_both (int_lt b a) b a (λ m. int_le m b ≡ true) (λ _. itself_le b) (λ least. not_below a b least)
+
+-- ---- which lists have ended
+
+pub none_ended : (earliest now : ℤ) (lists : List OpenList) → list_all (λ list. int_le earliest list.end) lists ≡ true → now <ℤ earliest → list_all (λ list. not (has_ended now list)) lists ≡ true
+none_ended earliest now lists bound early =
+    all-weaker (λ list. int_le earliest list.end) (λ list. not (has_ended now list)) (λ list h. ended_not earliest now list early h) lists bound
+
+pub all_open : (earliest now : ℤ) (lists : List OpenList) → list_all (λ list. int_le earliest list.end) lists ≡ true → now <ℤ earliest → open_ones now lists ≡ lists
+all_open earliest now lists bound early =
+    filter_all (is_open now) lists (all-weaker (λ list. int_le earliest list.end) (is_open now) (λ list h. open_yet earliest now list early h) lists bound)
+
+pub fewer_open : (now : ℤ) (lists : List OpenList) → length (open_ones now lists) ≤ length lists
+fewer_open now [] = omega arith
+fewer_open now (x ∷ lists) =
+    cond_both (is_open now x) (x ∷ open_ones now lists) (open_ones now lists) (λ ys. length ys ≤ length (x ∷ lists))
+    (λ _. omega (arith, fewer_open now lists)) (λ _. omega (arith, fewer_open now lists))
+
+pub not_full : (limit : ℕ) (now : ℤ) (lists : List OpenList) → length lists < limit → nat_le limit (length (open_ones now lists)) ≡ false
+not_full limit now lists few = lt-leb limit (length (open_ones now lists)) (omega (arith, fewer_open now lists))
+
+pub full : (limit : ℕ) (earliest now : ℤ) (lists : List OpenList) → list_all (λ list. int_le earliest list.end) lists ≡ true → now <ℤ earliest → limit ≤ length lists → nat_le limit (length (open_ones now lists)) ≡ true
+full limit earliest now lists bound early many = le-leb limit (length (open_ones now lists)) (omega (arith, ap length (all_open earliest now lists bound early)))
+
+-- ---- the first that passes
+
+past_all : (p : OpenList → Bool) (lists : List OpenList) → list_all (λ list. not (p list)) lists ≡ true → position_or_len p lists ≡ length lists
+past_all p [] h = refl
+past_all p (x ∷ lists) h =
+    position_or_len_is p (x ∷ lists) (length (x ∷ lists)) x (omega arith)
+    (λ k within. not-true _ (AllPass-from_list_all (λ list. not (p list)) (x ∷ lists) h k x within))
+    (λ past. absurd (omega arith))
+
+-- where none passes, all are kept
+pub none_left : (p : OpenList → Bool) (lists : List OpenList) → list_all (λ list. not (p list)) lists ≡ true → before_first p lists ++ after_first p lists ≡ lists
+none_left p lists h =
+    ap (λ n. take n lists ++ drop (n + 1) lists) (past_all p lists h)
+    ∙ ap (λ ys. ys ++ drop (length lists + 1) lists) (take_all (length lists) lists (omega arith))
+    ∙ ap (λ ys. lists ++ ys) (drop_all (length lists + 1) lists (omega arith))
+    ∙ append-nil lists
+
+-- where a place was found, it is the first
+pub first_place : (p : OpenList → Bool) (lists : List OpenList) (at : ℕ) → position p lists ≡ Some at → (at < length lists) × (position_or_len p lists ≡ at)
+first_place p lists at h =
+    elim (cases_Bool (nat_lt (position_or_len p lists) (length lists))) [
+      | inl within ↦
+          let e : position p lists ≡ Some (position_or_len p lists) = cond-true (nat_lt (position_or_len p lists) (length lists)) (Some (position_or_len p lists)) None within in
+          let same : position_or_len p lists ≡ at = cc in
+          (omega (arith, same, ltb-true (position_or_len p lists) (length lists) within), same)
+      | inr past ↦
+          let e : position p lists ≡ None = cond-false (nat_lt (position_or_len p lists) (length lists)) (Some (position_or_len p lists)) None past in
+          cc
+    ]
+
+front_fails : (p : OpenList → Bool) (lists : List OpenList) (at : ℕ) (d : OpenList) → at < length lists → ((k : ℕ) → k < at → p (get_or lists k d) ≡ false) → list_all (λ list. not (p list)) (take at lists) ≡ true
+front_fails p lists at d within h =
+    list_all-from_AllPass (λ list. not (p list)) (take at lists)
+    (λ k e below.
+    let inside : k < at = omega (arith, length-take-le at lists) in
+    ap (λ list. not (p list)) (get_or-take at lists k e inside ∙ get_or_default lists k e d (omega arith)) ∙ not_from_false _ (h k inside))
+
+pub found_first : (p : OpenList → Bool) (lists : List OpenList) (at : ℕ) (d : OpenList) → position p lists ≡ Some at → find p lists ≡ Some (get_or lists at d)
+found_first p lists at d h =
+    let place = position-Some p lists at d h in
+    let x : OpenList = get_or lists at d in
+    ap (find p) (cut lists at d place.0)
+    ∙ find_past p (take at lists) (x ∷ drop (at + 1) lists) (front_fails p lists at d place.0 place.2)
+    ∙ cond-true (p x) (Some x) (find p (drop (at + 1) lists)) place.1
+
+pub first_left : (p : OpenList → Bool) (lists : List OpenList) (at : ℕ) → position p lists ≡ Some at → remove lists at ≡ before_first p lists ++ after_first p lists
+first_left p lists at h =
+    let e : position_or_len p lists ≡ at = (first_place p lists at h).1 in
+    ap (λ n. take at lists ++ drop n lists) (sym (add-one at)) ∙ sym (ap (λ n. take n lists ++ drop (n + 1) lists) e)
+
+none_more : (p : OpenList → Bool) (x : OpenList) (lists : List OpenList) → position p (x ∷ lists) ≡ None → (p x ≡ false) × (position p lists ≡ None)
+none_more p x lists h =
+    let n : ℕ = position_or_len p lists in
+    elim (cases_Bool (p x)) [
+      | inl passes ↦
+          let here : position_or_len p (x ∷ lists) ≡ 0 = cond-false (not (p x)) (1 + n) 0 (ap not passes) in
+          let found : position p (x ∷ lists) ≡ Some 0 = ap (λ m. cond (nat_lt m (length (x ∷ lists))) (Some m) None) here ∙ cond-true (nat_lt 0 (length (x ∷ lists))) (Some 0) None (lt-ltb 0 (length (x ∷ lists)) (omega arith)) in
+          cc
+      | inr fails ↦
+          let later : position_or_len p (x ∷ lists) ≡ 1 + n = cond-true (not (p x)) (1 + n) 0 (ap not fails) in
+          elim (cases_Bool (nat_lt n (length lists))) [
+            | inl within ↦
+                let found : position p (x ∷ lists) ≡ Some (1 + n) = ap (λ m. cond (nat_lt m (length (x ∷ lists))) (Some m) None) later ∙ cond-true (nat_lt (1 + n) (length (x ∷ lists))) (Some (1 + n)) None (lt-ltb (1 + n) (length (x ∷ lists)) (omega (arith, ltb-true n (length lists) within))) in
+                cc
+            | inr past ↦ (fails, cond-false (nat_lt n (length lists)) (Some n) None past)
+          ]
+    ]
+
+pub none_passes : (p : OpenList → Bool) (lists : List OpenList) → position p lists ≡ None → list_all (λ list. not (p list)) lists ≡ true
+none_passes p [] h = refl
+none_passes p (x ∷ lists) h =
+    let parts = none_more p x lists h in
+    and_from (not (p x)) (list_all (λ list. not (p list)) lists) (not_from_false (p x) parts.0) (none_passes p lists parts.1)
+
+-- ---- the earliest end
+
+pub earliest_bounds : (lists : List OpenList) (end : Option ℤ) (d : ℤ) → IsEarliest lists end → list_all (λ list. int_le (unwrap_or end d) list.end) lists ≡ true
+earliest_bounds lists None d h = ap (list_all (λ list. int_le d list.end)) h
+earliest_bounds lists (Some end) d h = list_all-from_AllPass (λ list. int_le end list.end) lists (λ k e within. le_test end (get_or lists k e).end (h.1 k e within))
+
+-- ---- what a table keeps
+
+-- one more list, of the next number
+pub held_push : (table : Table) (earliest : ℤ) (list : OpenList) → IsHeld table earliest → list.number ≡ table.next → IsHeld (with_list table list) (int_min earliest list.end)
+held_push table earliest list held same = record {
+  numbers = record {
+    numbered = numbered-join table.lists (list ∷ []) held.numbers.numbered refl
+        (all-weaker (λ other. nat_lt other.number table.next) (λ other. list_all (is_before other) (list ∷ []))
+        (λ other low. and_from (is_before other list) true (lt-ltb other.number list.number (omega (arith, same, ltb-true other.number table.next low))) refl)
+        table.lists held.numbers.given);
+    given = list_all-append (λ other. nat_lt other.number (table.next + 1)) table.lists (list ∷ [])
+        ∙ and_from _ _
+        (all-weaker (λ other. nat_lt other.number table.next) (λ other. nat_lt other.number (table.next + 1)) (λ other low. lt-ltb other.number (table.next + 1) (omega (arith, ltb-true other.number table.next low))) table.lists held.numbers.given)
+        (and_from (nat_lt list.number (table.next + 1)) true (lt-ltb list.number (table.next + 1) (omega (arith, same))) refl);
+  };
+  bound = list_all-append (λ other. int_le (int_min earliest list.end) other.end) table.lists (list ∷ [])
+      ∙ and_from _ _
+      (all-weaker (λ other. int_le earliest other.end) (λ other. int_le (int_min earliest list.end) other.end) (λ other low. min_left earliest list.end other.end low) table.lists held.bound)
+      (and_from (int_le (int_min earliest list.end) list.end) true (min_right earliest list.end) refl);
+}
+
+-- one list less
+all-removed : (p : OpenList → Bool) (lists : List OpenList) (at : ℕ) (d : OpenList) → at < length lists → list_all p lists ≡ true → list_all p (remove lists at) ≡ true
+all-removed p lists at d within h =
+    let x : OpenList = get_or lists at d in
+    let whole : list_all p (take at lists ++ (x ∷ drop (at + 1) lists)) ≡ true = ap (list_all p) (sym (cut lists at d within)) ∙ h in
+    let parts = and_parts (list_all p (take at lists)) (list_all p (x ∷ drop (at + 1) lists)) (sym (list_all-append p (take at lists) (x ∷ drop (at + 1) lists)) ∙ whole) in
+    ap (λ n. list_all p (take at lists ++ drop n lists)) (sym (add-one at))
+    ∙ list_all-append p (take at lists) (drop (at + 1) lists)
+    ∙ and_from _ _ parts.0 (and_parts (p x) (list_all p (drop (at + 1) lists)) parts.1).1
+
+numbered-removed : (lists : List OpenList) (at : ℕ) (d : OpenList) → at < length lists → are_numbered lists ≡ true → are_numbered (remove lists at) ≡ true
+numbered-removed lists at d within h =
+    let x : OpenList = get_or lists at d in
+    let rest : List OpenList = drop (at + 1) lists in
+    let parts = numbered-append (take at lists) (x ∷ rest) (ap are_numbered (sym (cut lists at d within)) ∙ h) in
+    ap (λ n. are_numbered (take at lists ++ drop n lists)) (sym (add-one at))
+    ∙ numbered-join (take at lists) rest parts.0 (and_parts (list_all (is_before x) rest) (are_numbered rest) parts.1).1
+    (all-weaker (λ y. list_all (is_before y) (x ∷ rest)) (λ y. list_all (is_before y) rest) (λ y ahead. (and_parts (is_before y x) (list_all (is_before y) rest) ahead).1) (take at lists) parts.2)
+
+held_at : (table : Table) (earliest : ℤ) (at : ℕ) (d : OpenList) → at < length table.lists → IsHeld table earliest → IsHeld (record table { lists = remove table.lists at }) earliest
+held_at table earliest at d within held = record {
+  numbers = record { numbered = numbered-removed table.lists at d within held.numbers.numbered; given = all-removed (λ list. nat_lt list.number table.next) table.lists at d within held.numbers.given };
+  bound = all-removed (λ list. int_le earliest list.end) table.lists at d within held.bound;
+}
+
+pub held_removed : (limit next : ℕ) (lists : List OpenList) (earliest : ℤ) (at : ℕ) → at < length lists → IsHeld (record { limit = limit; next = next; lists = lists }) earliest → IsHeld (record { limit = limit; next = next; lists = remove lists at }) earliest
+held_removed limit next [] earliest at within held = absurd (omega arith)
+held_removed limit next (x ∷ lists) earliest at within held = held_at (record { limit = limit; next = next; lists = x ∷ lists }) earliest at x within held
+
+-- the same lists, one with another end
+renewed_number : (number : ℕ) (end : ℤ) (list : OpenList) → (renewed_one number end list).number ≡ list.number
+renewed_number number end list = cond_both (is_numbered number list) (record list { end = end }) list (λ x. x.number ≡ list.number) (λ _. refl) (λ _. refl)
+
+renewed_end : (number : ℕ) (end earliest : ℤ) (list : OpenList) → int_le earliest list.end ≡ true → int_le (int_min earliest end) (renewed_one number end list).end ≡ true
+renewed_end number end earliest list h =
+    cond_both (is_numbered number list) (record list { end = end }) list (λ x. int_le (int_min earliest end) x.end ≡ true) (λ _. min_right earliest end) (λ _. min_left earliest end list.end h)
+
+before_renewed : (number : ℕ) (end : ℤ) (x : OpenList) (lists : List OpenList) → list_all (is_before (renewed_one number end x)) (renewed number end lists) ≡ list_all (is_before x) lists
+before_renewed number end x [] = refl
+before_renewed number end x (y ∷ lists) =
+    let here : is_before (renewed_one number end x) (renewed_one number end y) ≡ is_before x y = ap (λ n. nat_lt n (renewed_one number end y).number) (renewed_number number end x) ∙ ap (nat_lt x.number) (renewed_number number end y) in
+    ap (λ b. b && list_all (is_before (renewed_one number end x)) (renewed number end lists)) here ∙ ap (λ b. is_before x y && b) (before_renewed number end x lists)
+
+numbered_renewed : (number : ℕ) (end : ℤ) (lists : List OpenList) → are_numbered (renewed number end lists) ≡ are_numbered lists
+numbered_renewed number end [] = refl
+numbered_renewed number end (x ∷ lists) =
+    ap (λ b. b && are_numbered (renewed number end lists)) (before_renewed number end x lists) ∙ ap (λ b. list_all (is_before x) lists && b) (numbered_renewed number end lists)
+
+given_renewed : (number next : ℕ) (end : ℤ) (lists : List OpenList) → list_all (λ list. nat_lt list.number next) (renewed number end lists) ≡ list_all (λ list. nat_lt list.number next) lists
+given_renewed number next end [] = refl
+given_renewed number next end (x ∷ lists) =
+    ap (λ n. nat_lt n next && list_all (λ list. nat_lt list.number next) (renewed number end lists)) (renewed_number number end x) ∙ ap (λ b. nat_lt x.number next && b) (given_renewed number next end lists)
+
+bound_renewed : (number : ℕ) (end earliest : ℤ) (lists : List OpenList) → list_all (λ list. int_le earliest list.end) lists ≡ true → list_all (λ list. int_le (int_min earliest end) list.end) (renewed number end lists) ≡ true
+bound_renewed number end earliest [] h = refl
+bound_renewed number end earliest (x ∷ lists) h =
+    let parts = and_parts (int_le earliest x.end) (list_all (λ list. int_le earliest list.end) lists) h in
+    and_from _ _ (renewed_end number end earliest x parts.0) (bound_renewed number end earliest lists parts.1)
+
+pub held_renewed : (limit next number : ℕ) (lists : List OpenList) (earliest end : ℤ) → IsHeld (record { limit = limit; next = next; lists = lists }) earliest → IsHeld (record { limit = limit; next = next; lists = renewed number end lists }) (int_min earliest end)
+held_renewed limit next number lists earliest end held = record {
+  numbers = record { numbered = numbered_renewed number end lists ∙ held.numbers.numbered; given = given_renewed number next end lists ∙ held.numbers.given };
+  bound = bound_renewed number end earliest lists held.bound;
+}
+
+unrenewed : (number : ℕ) (end : ℤ) (lists : List OpenList) → none_numbered number lists → renewed number end lists ≡ lists
+unrenewed number end [] h = refl
+unrenewed number end (x ∷ lists) h =
+    let parts = and_parts (not (is_numbered number x)) (list_all (λ list. not (is_numbered number list)) lists) h in
+    ap (λ y. y ∷ renewed number end lists) (cond-false (is_numbered number x) (record x { end = end }) x (not-true _ parts.0)) ∙ ap (λ ys. x ∷ ys) (unrenewed number end lists parts.1)
+
+set_cut : (lists : List OpenList) (at : ℕ) (list : OpenList) → at < length lists → set lists at list ≡ take at lists ++ (list ∷ drop (at + 1) lists)
+set_cut lists at list within = sym (take-append-drop at (set lists at list)) ∙ rw (take-set lists at list, drop-set lists at list within) refl
+
+-- the one list that is renewed
+pub renewed-placed : (number : ℕ) (end : ℤ) (lists : List OpenList) (at : ℕ) (d : OpenList) → IsPlaced number lists (Some at) → renewed number end lists ≡ set lists at (record (get_or lists at d) { end = end })
+renewed-placed number end lists at d placed =
+    let x : OpenList = get_or lists at d in
+    let rest : List OpenList = drop (at + 1) lists in
+    ap (renewed number end) (cut lists at d placed.0)
+    ∙ map-append (renewed_one number end) (take at lists) (x ∷ rest)
+    ∙ ap (λ ys. ys ++ renewed number end (x ∷ rest)) (unrenewed number end (take at lists) placed.2)
+    ∙ ap (λ y. take at lists ++ (y ∷ renewed number end rest)) (cond-true (is_numbered number x) (record x { end = end }) x (placed.1 d))
+    ∙ ap (λ ys. take at lists ++ (record x { end = end } ∷ ys)) (unrenewed number end rest placed.3)
+    ∙ sym (set_cut lists at (record x { end = end }) placed.0)
+
+-- ---- opening that is refused
+
+faults_of : (full spent : Bool) (fault : OpenFault) (next : ℕ) → Err fault ≡ answered (cond full (Some Full) (cond spent (Some NumbersSpent) None)) next → (fault ≡ Full) × (cond full (Some Full) (cond spent (Some NumbersSpent) None) ≡ Some Full) ⊎ (fault ≡ NumbersSpent) × (cond full (Some Full) (cond spent (Some NumbersSpent) None) ≡ Some NumbersSpent)
+faults_of true spent fault next h = inl (cc, refl)
+faults_of false true fault next h = inr (cc, refl)
+faults_of false false fault next h = cc
+
+pub opening_refused : (old : Table) (now : ℤ) (list : OpenList) (fault : OpenFault) → Err fault ≡ answered (open_fault old now) old.next → IsOpening old now list (Err fault) old
+unfolding open_fault
+opening_refused old now list fault h =
+    elim (faults_of (nat_le old.limit (length (open_ones now old.lists))) (eqb old.next LAST_NUMBER) fault old.next h) [
+      | inl full ↦ subst (λ (f : OpenFault). IsOpening old now list (Err f) old) (sym full.0) (full.1, refl)
+      | inr spent ↦ subst (λ (f : OpenFault). IsOpening old now list (Err f) old) (sym spent.0) (spent.1, refl)
+    ]
+
+-- opening that is not refused
+no_fault : (full spent : Bool) (number next : ℕ) → Ok number ≡ answered (cond full (Some Full) (cond spent (Some NumbersSpent) None)) next → (full ≡ false) × (spent ≡ false) × (number ≡ next)
+no_fault true spent number next h = cc
+no_fault false true number next h = cc
+no_fault false false number next h = (refl, refl, cc)
+
+pub opening_free : (old : Table) (now : ℤ) (number : ℕ) → Ok number ≡ answered (open_fault old now) old.next → (open_fault old now ≡ None) × (number ≡ old.next) × (old.next ≢ LAST_NUMBER)
+unfolding open_fault
+opening_free old now number h =
+    let free = no_fault (nat_le old.limit (length (open_ones now old.lists))) (eqb old.next LAST_NUMBER) number old.next h in
+    (rw (free.0, free.1) refl, free.2, eqb-false old.next LAST_NUMBER free.1)
+
+-- ---- tests of moments
+
+pub open_test : (now : ℤ) (list : OpenList) → now <ℤ list.end → is_open now list ≡ true
+open_test now list h = grind (arith, ints)
+
+pub closed_test : (now : ℤ) (list : OpenList) → list.end ≤ℤ now → is_open now list ≡ false
+closed_test now list h = grind (arith, ints)
+
+-- ---- a list that stands
+
+pub stands_not : (number : ℕ) (lists : List OpenList) → list_numbered number lists ≡ None → IsSome (list_numbered number lists) → ⊥
+stands_not number lists none stands = false≢true (sym (ap is_some none) ∙ stands)
+
+-- a list of lists that has a place has a list
+pub some_item : (lists : List OpenList) (at : ℕ) → at < length lists → (P : Type 0) → (OpenList → P) → P
+some_item [] at within P h = absurd (omega arith)
+some_item (x ∷ lists) at within P h = h x

@@ -1,0 +1,3 @@
+pub mod Tokens
+pub mod OpenLists
+pub mod Bounds

@@ -1,0 +1,98 @@
+-- The lists that a repository has begun to answer and that resumption tokens continue. OAI-PMH 2.0, section 3.5.
+use Rattle.std.specs.Prelude.{◌≡◌, ◌+◌, ◌<◌, ◌≤ℤ◌, ℕ, ℤ, int_le, int_lt, Bool, true, ◌&&◌, ◌==◌, nat_le, nat_lt, if◌then◌else◌, List, [], ◌∷◌, ◌++◌, length, map, Option, None, Some, MatchOption, filter, find, Result, Ok, Err}
+use Rattle.std.specs.List.{All, Contains, list_all}
+use Rattle.oai_names.specs.declared.list_verbs.ListVerb.{ListVerb}
+use Rattle.oai_item.specs.Selection.{Filter}
+use Rattle.oai_lists.specs.declared.open_lists.OpenList.{OpenList}
+use Rattle.oai_lists.specs.declared.lists.OpenFault.{OpenFault}
+use Rattle.oai_lists.specs.declared.lists.OpenFault.TheVariants.{Full, NumbersSpent, NoMemory}
+use Rattle.oai_lists.specs.declared.lists.TheConstants.{LAST_NUMBER}
+
+-- the lists that are held, in the order in which they were opened, how many may be open, and the number of the next
+pub record Table : Type 0 where
+  pub limit : ℕ
+  pub next : ℕ
+  pub lists : List OpenList
+
+-- the list is open: its end is above that moment, in seconds from 1970 on
+abbrev pub is_open : ℤ → OpenList → Bool
+is_open now list = int_lt now list.end
+
+-- the list has ended: its end is not above that moment
+abbrev pub has_ended : ℤ → OpenList → Bool
+has_ended now list = int_le list.end now
+
+-- those of the lists that are open
+abbrev pub open_ones : ℤ → List OpenList → List OpenList
+open_ones now lists = filter (is_open now) lists
+
+-- the list has that number
+abbrev pub is_numbered : ℕ → OpenList → Bool
+is_numbered number list = list.number == number
+
+-- the list of that number
+unfoldable pub list_numbered : ℕ → List OpenList → Option OpenList
+list_numbered number lists = find (is_numbered number) lists
+
+-- the list of that number, where it is open
+unfoldable pub open_numbered : ℕ → ℤ → List OpenList → Option OpenList
+open_numbered number now lists = find (λ list. is_numbered number list && is_open now list) lists
+
+-- ---- opening
+
+-- why no list may be opened at that moment: the first cause. The table is full, or no number is left
+unfoldable pub open_fault : Table → ℤ → Option OpenFault
+open_fault table now =
+    if nat_le table.limit (length (open_ones now table.lists)) then Some Full
+    else (if table.next == LAST_NUMBER then Some NumbersSpent
+    else None)
+
+-- the number that the next list gets, or why none may be opened
+abbrev pub answered : Option OpenFault → ℕ → Result ℕ OpenFault
+answered None next = Ok next
+answered (Some fault) next = Err fault
+
+-- the table with one more list, which has the next number
+abbrev pub with_list : Table → OpenList → Table
+with_list table list = record table { next = table.next + 1; lists = table.lists ++ list ∷ [] }
+
+-- what opening the list at that moment answers, and the table then: it is the last one, or the first cause that applies is told and the table
+-- is as it was. Memory may be refused where no cause applies
+abbrev pub IsOpening : Table → ℤ → OpenList → Result ℕ OpenFault → Table → Type 0
+IsOpening old now list (Ok number) new = (open_fault old now ≡ None) × (number ≡ old.next) × (new ≡ with_list old list)
+IsOpening old now list (Err Full) new = (open_fault old now ≡ Some Full) × (new ≡ old)
+IsOpening old now list (Err NumbersSpent) new = (open_fault old now ≡ Some NumbersSpent) × (new ≡ old)
+IsOpening old now list (Err NoMemory) new = (open_fault old now ≡ None) × (new ≡ old)
+
+-- ---- renewing
+
+-- the list with that end, where it has that number
+abbrev pub renewed_one : ℕ → ℤ → OpenList → OpenList
+renewed_one number end list = if is_numbered number list then record list { end = end } else list
+
+-- the lists, the one of that number with that end
+abbrev pub renewed : ℕ → ℤ → List OpenList → List OpenList
+renewed number end lists = map (renewed_one number end) lists
+
+-- ---- the earliest end
+
+-- it is the end of one of the lists, and not above that of any; there is none where there is no list
+abbrev pub IsEarliest : List OpenList → Option ℤ → Type 0
+IsEarliest lists end = MatchOption end (lists ≡ [])
+    (λ earliest. ((list : OpenList) × Contains lists list × (list.end ≡ earliest)) × All (λ list. earliest ≤ℤ list.end) lists)
+
+-- ---- what is true of each table
+
+-- the first list has a lower number than each of these
+abbrev pub is_before : OpenList → OpenList → Bool
+is_before a b = nat_lt a.number b.number
+
+-- the numbers rise strictly along the lists
+abbrev pub are_numbered : List OpenList → Bool
+are_numbered [] = true
+are_numbered (list ∷ lists) = list_all (is_before list) lists && are_numbered lists
+
+-- no number stands twice, and none is given again: they rise strictly, and the next is above them; it has 64 bits
+pub record IsTable (table : Table) : Type 0 where
+  pub numbered : are_numbered table.lists ≡ true
+  pub given : list_all (λ list. nat_lt list.number table.next) table.lists ≡ true

@@ -1,0 +1,11 @@
+//! The lists that a repository has begun to answer, and the resumption tokens that continue them
+//! (OAI-PMH 2.0, section 3.5).
+#![tactic(auto)]
+
+mod lists;
+mod open_lists;
+mod tokens;
+
+pub use lists::{LAST_NUMBER, Lists, OpenFault};
+pub use open_lists::OpenList;
+pub use tokens::Token;

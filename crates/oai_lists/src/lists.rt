@@ -1,0 +1,243 @@
+ghost use Rattle.std.specs.Prelude.{◌≡◌, ◌<◌, ◌++◌, [], get_or, vec_len, true, length, nat_le, position, IsSome, OnSome};
+ghost use Rattle.std.specs.List.{before_first, after_first, find, remove};
+ghost use Rattle.oai_lists.specs.declared.open_lists.OpenList.{OpenList as Opened};
+ghost use Rattle.std.specs.Option.{option_copied, option_map};
+ghost use Rattle.oai_lists.specs.Bounds.{IsPlaced};
+ghost use Rattle.oai_lists.specs.OpenLists.{IsEarliest, IsOpening, IsTable, answered, are_numbered, has_ended, list_numbered, open_fault, open_numbered, open_ones, renewed};
+
+use crate::open_lists::OpenList;
+use oai_catalogue::Filter;
+use oai_names::ListVerb;
+use std::alloc::Global;
+use std::marker::Model;
+use thiserror::Error;
+
+/// The number that no list gets.
+pub const LAST_NUMBER: u64 = 18_446_744_073_709_551_615;
+
+/// Why no list was opened, in the order in which the causes are looked for.
+#[derive(Clone, Copy, Debug, PartialEq, Eq, Error)]
+pub enum OpenFault {
+    /// As many lists are open as may be.
+    #[error("too many lists are open")]
+    Full,
+    /// No number is left.
+    #[error("no number is left for a list")]
+    NumbersSpent,
+    /// The list could not be stored.
+    #[error("out of memory")]
+    NoMemory,
+}
+
+/// The lists of a repository that are open, and some that have ended and are still to be dropped, in
+/// the order in which they were opened. Each has a number that no other has had.
+#[derive(Debug, Drop)]
+pub struct Lists {
+    limit: u64,
+    next: u64,
+    earliest: i64,
+    lists: Vec<OpenList>,
+}
+
+impl Model for Lists {
+    ghost use Rattle.oai_lists.specs.OpenLists.{Table};
+
+    ghost Value = { Table };
+
+    ghost use Rattle.oai_lists.specs.Bounds.{IsHeld};
+
+    ghost view = { λ l. record { limit = l.limit; next = l.next; lists = l.lists.items } };
+
+    ghost invariant = { λ l. IsHeld (record { limit = l.limit; next = l.next; lists = l.lists.items }) l.earliest };
+}
+
+impl Lists {
+    /// No list. As many as `limit` may be open at once, and the first gets the number `next`. It takes
+    /// no memory.
+    pub fn new(alloc: Global, limit: u64, next: u64) -> Lists
+        ensures { result ≡ record { limit = limit; next = next; lists = [] } }
+    {
+        Lists {
+            limit,
+            next,
+            earliest: i64::MAX,
+            lists: Vec::new(alloc),
+        }
+    }
+
+    /// The number that `open` would give at `now`, in seconds from 1970 on, or its refusal, want of
+    /// memory apart. It takes no memory. It looks at the lists only where as many are held as may be
+    /// open, and one of them may have ended.
+    #[tactic(auto, unfolding(crate::specs::OpenLists::open_fault))]
+    pub fn next(&self, now: i64) -> Result<u64, OpenFault>
+        ensures { result ≡ answered (open_fault self.now now) self.now.next }
+    {
+        if self.is_full(now) {
+            return Err(OpenFault::Full);
+        }
+        if self.next == LAST_NUMBER {
+            return Err(OpenFault::NumbersSpent);
+        }
+        Ok(self.next)
+    }
+
+    /// Opens a list at `now`, and gives its number, the next one. On an error the lists are as before;
+    /// the errors are those of `OpenFault`, the first that applies. It costs what `next` does, and a
+    /// place at the end.
+    pub fn open(
+        &mut self,
+        now: i64,
+        verb: ListVerb,
+        filter: Filter,
+        version: u64,
+        size: u64,
+        end: i64,
+    ) -> Result<u64, OpenFault>
+        ensures { IsOpening self.old now (record { number = self.old.next; verb = verb; filter = filter; version = version; size = size; end = end }) result self.new }
+    {
+        let number = match self.next(now) {
+            Ok(number) => number,
+            Err(fault) => return Err(fault),
+        };
+        let list = OpenList {
+            number,
+            verb,
+            filter,
+            version,
+            size,
+            end,
+        };
+        match self.lists.push(list) {
+            Ok(()) => {}
+            Err(_) => return Err(OpenFault::NoMemory),
+        }
+        self.next = number + 1;
+        self.earliest = self.earliest.min(end);
+        Ok(number)
+    }
+
+    /// The list of that number, where its end is above `now`. It takes no memory. Of n lists it looks
+    /// at about log n.
+    pub fn find(&self, number: u64, now: i64) -> Option<&OpenList>
+        ensures found { option_copied result ≡ open_numbered number now self.now.lists }
+        ensures held { OnSome result (IsSome (list_numbered number self.now.lists)) }
+        ensures valid { IsTable self.now }
+    {
+        match place_of(self.lists.as_slice(), number) {
+            Some(at) => {
+                let list = &self.lists[at];
+                if now < list.end { Some(list) } else { None }
+            }
+            None => None,
+        }
+    }
+
+    /// Sets the end of the list of that number. It takes no memory. Of n lists it looks at about log n.
+    pub fn renew(&mut self, number: u64, end: i64)
+        requires { IsSome (list_numbered number self.old.lists) }
+        ensures { self.new ≡ record self.old { lists = renewed number end self.old.lists } }
+    {
+        let Some(at) = place_of(self.lists.as_slice(), number) else {
+            unreachable!()
+        };
+        let list = &mut self.lists[at];
+        list.end = end;
+        self.earliest = self.earliest.min(end);
+    }
+
+    /// Drops the first list whose end is not above `now`, and gives its version, which is then to be
+    /// released; None where there is none. It takes no memory. It looks at the lists only where one of
+    /// them may have ended.
+    pub fn expire(&mut self, now: i64) -> Option<u64>
+        ensures version { result ≡ option_map (λ list. list.version) (find (has_ended now) self.old.lists) }
+        ensures left { self.new ≡ record self.old { lists = before_first (has_ended now) self.old.lists ++ after_first (has_ended now) self.old.lists } }
+    {
+        if now < self.earliest {
+            return None;
+        }
+        match ended_at(self.lists.as_slice(), now) {
+            Some(at) => Some(drop_at(&mut self.lists, at)),
+            None => {
+                self.earliest = earliest(self.lists.as_slice()).unwrap_or(i64::MAX);
+                None
+            }
+        }
+    }
+
+    /// The end of the list that ends first, or None where no list is held. It takes no memory. It
+    /// looks at each list.
+    pub fn earliest_end(&self) -> Option<i64>
+        ensures { IsEarliest self.now.lists result }
+    {
+        earliest(self.lists.as_slice())
+    }
+
+    /// How many lists are held, those counted that have ended and were not dropped.
+    pub fn len(&self) -> usize
+        ensures count { result ≡ length self.now.lists }
+        ensures valid { IsTable self.now }
+    {
+        self.lists.len()
+    }
+
+    /// Whether as many lists are open at `now` as may be.
+    fn is_full(&self, now: i64) -> bool
+        ensures { result ≡ nat_le self.now.limit (length (open_ones now self.now.lists)) }
+    {
+        let held = self.lists.len() as u64;
+        if held < self.limit {
+            return false;
+        }
+        if now < self.earliest {
+            return true;
+        }
+        self.limit <= open_among(self.lists.as_slice(), now)
+    }
+}
+
+/// The place of the list of that number, among lists whose numbers rise.
+fn place_of(lists: &[OpenList], number: u64) -> Option<usize>
+    requires { are_numbered lists.now ≡ true }
+    ensures { IsPlaced number lists.now result }
+{
+    match lists.binary_search_by_key(&number, |list| list.number) {
+        Ok(at) => Some(at),
+        Err(_) => None,
+    }
+}
+
+/// The place of the first list whose end is not above `now`.
+fn ended_at(lists: &[OpenList], now: i64) -> Option<usize>
+    ensures { result ≡ position (has_ended now) lists.now }
+{
+    lists.iter().position(|list| list.end <= now)
+}
+
+/// Drops the list at that place, and gives its version.
+fn drop_at(lists: &mut Vec<OpenList>, at: usize) -> u64
+    requires { at < vec_len lists.old }
+    ensures version { (list : Opened) → result ≡ (get_or lists.old.items at list).version }
+    ensures left { lists.new.items ≡ remove lists.old.items at }
+{
+    lists.remove(at).version
+}
+
+/// The end of the list that ends first.
+fn earliest(lists: &[OpenList]) -> Option<i64>
+    ensures { IsEarliest lists.now result }
+{
+    let mut earliest = lists.first()?;
+    for list in lists {
+        if list.end < earliest.end {
+            earliest = list;
+        }
+    }
+    Some(earliest.end)
+}
+
+/// How many of the lists have an end above `now`.
+fn open_among(lists: &[OpenList], now: i64) -> u64
+    ensures { result ≡ length (open_ones now lists.now) }
+{
+    lists.iter().filter(|list| now < list.end).count() as u64
+}
