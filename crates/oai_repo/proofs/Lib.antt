@@ -1,7 +1,7 @@
-pub mod Appending
-pub mod ChangeLemmas
+pub mod FoldLemmas
 pub mod ConfigLemmas
-pub mod JsonLemmas
-pub mod LineLemmas
-pub mod OrderLemmas
-pub mod ShapeLemmas
+pub mod ClockLemmas
+pub mod KeptLemmas
+pub mod ChangeLemmas
+pub mod StepLemmas
+pub mod SelectionLemmas

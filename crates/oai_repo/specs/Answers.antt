@@ -1,87 +1,123 @@
 -- What a request is answered. OAI-PMH 2.0, sections 3.2, 3.6 and 4.
-use Rattle.std.specs.Prelude.{ℕ, List, [], ◌∷◌, codes, find, Option, Some, None, if◌then◌else◌}
-use Rattle.std.specs.Str.{bytes_eq}
-use Rattle.oai_item.specs.Item.{ItemState, Metadata}
+use Rattle.std.specs.Prelude.{ℕ, ℤ, pos, neg_ℤ, Bool, true, false, ◌&&◌, List, [], ◌∷◌, codes, Option, Some, None, is_some, if◌then◌else◌}
+use Rattle.oai_names.specs.declared.list_verbs.ListVerb.{ListVerb}
+use Rattle.oai_names.specs.declared.list_verbs.ListVerb.TheVariants as list
+use Rattle.oai_time.specs.Bound.{lower_of, upper_of}
+use Rattle.oai_time.specs.declared.bound.Bound.{Bound}
 use Rattle.oai_item.specs.Formats.{format_named}
+use Rattle.oai_item.specs.Item.{ItemState, has_record}
+use Rattle.oai_item.specs.Items.{item_named}
+use Rattle.oai_item.specs.Selection.{Filter, selected}
 use Rattle.oai_item.specs.declared.formats.Format.{Format}
-use Rattle.oai_repo.specs.Configured.{Config}
-use Rattle.oai_repo.specs.State.{State, NamedSet, item_named}
-use Rattle.oai_args.specs.Asks.{Request, asks, bad_verb, bad_argument}
-use Rattle.oai_args.specs.Pairs.{decoded_pairs}
-use Rattle.oai_args.specs.Requests.{request_of}
+use Rattle.oai_args.specs.Asks.{AskOrError, asks, bad_verb, bad_argument}
+use Rattle.oai_args.specs.Bounds.{given_bound}
 use Rattle.oai_args.specs.Verbs.{name_of, verb_of_list}
 use Rattle.oai_args.specs.declared.requests.Ask.{Ask}
 use Rattle.oai_args.specs.declared.requests.Ask.TheVariants as ask
-use Rattle.oai_names.specs.declared.list_verbs.ListVerb.{ListVerb}
-use Rattle.oai_names.specs.declared.list_verbs.ListVerb.TheVariants as list
-use Rattle.oai_repo.specs.Documents.{Attributes, Description, Answer, fails, identifies, gives_record, lists_formats, lists_sets, offered, no_arguments, Document, document}
-use Rattle.oai_repo.specs.declared.documents.errors.ErrorCode.{ErrorCode}
-use Rattle.oai_repo.specs.declared.documents.errors.ErrorCode.TheVariants.{BadVerb, BadArgument, BadResumptionToken, CannotDisseminateFormat, IdDoesNotExist, NoMetadataFormats, NoSetHierarchy}
+use Rattle.oai_answers.specs.Answers.{Attributes, Description, Answer, fails, identifies, gives_record, lists_formats, lists_sets, lists_headers, lists_records, Page, whole, offered, no_arguments, Document}
+use Rattle.oai_answers.specs.declared.errors.ErrorCode.{ErrorCode}
+use Rattle.oai_answers.specs.declared.errors.ErrorCode.TheVariants.{BadVerb, BadArgument, BadResumptionToken, CannotDisseminateFormat, IdDoesNotExist, NoRecordsMatch, NoMetadataFormats, NoSetHierarchy}
+use Rattle.oai_repo.specs.Config.{Config}
+use Rattle.oai_repo.specs.State.{Holdings, NamedSet, State}
 
--- what Identify tells
+-- what Identify tells (section 4.2)
 abbrev pub description : Config → Description
 description config = record {
-  name = config.name;
+  name = config.repository_name;
   addresses = config.addresses;
   earliest = config.earliest;
   deleted = config.deleted;
   granularity = config.granularity;
 }
 
--- the record of an item in the format of that prefix
-unfoldable pub metadata_named : List ℕ → List Metadata → Option Metadata
-metadata_named prefix formats = find (λ metadata. bytes_eq metadata.0 prefix) formats
+-- an item in a format of the repository, in which it has a record
+abbrev pub disseminated : Config → ItemState → Option Format → Answer
+disseminated config item None = fails CannotDisseminateFormat
+disseminated config item (Some format) =
+    if has_record format.prefix item.formats then gives_record (record { item = item; granularity = config.granularity; format = format })
+    else fails CannotDisseminateFormat
 
--- an item in a format: the item has a record in it, and it is one of the repository's
-abbrev pub disseminated : Config → ItemState → Option Metadata → Option Format → Answer
-disseminated config item (Some metadata) (Some format) = gives_record (record {
-  item = item;
-  granularity = config.granularity;
-  format = format;
-  fields = metadata.1;
-})
-disseminated config item metadata format = fails CannotDisseminateFormat
-
--- GetRecord of an item, where there is one
+-- GetRecord (section 4.1): there is the item, the repository has the format, and the item has a record in it
 abbrev pub record_answer : Config → Option ItemState → List ℕ → Answer
 record_answer config None prefix = fails IdDoesNotExist
-record_answer config (Some item) prefix = disseminated config item (metadata_named prefix item.formats) (format_named prefix config.formats)
+record_answer config (Some item) prefix = disseminated config item (format_named prefix config.formats)
 
--- ListSets: the sets in order of addition, where there are any (section 4.6)
+-- ListSets (section 4.6): the sets in order of addition, where there are any
 abbrev pub sets_answer : List NamedSet → Answer
 sets_answer [] = fails NoSetHierarchy
 sets_answer (set ∷ sets) = lists_sets (set ∷ sets)
 
--- ListMetadataFormats of an item, where there is one: a deleted item has no formats (section 4.4)
+-- ListMetadataFormats of an item (section 4.4), where there is one: a deleted item has no formats
 abbrev pub item_formats_answer : Config → Option ItemState → Answer
 item_formats_answer config None = fails IdDoesNotExist
-item_formats_answer config (Some item) = if item.live then lists_formats (offered config.formats (Some item)) else fails NoMetadataFormats
+item_formats_answer config (Some item) =
+    if item.live then lists_formats (offered config.formats (Some item)) else fails NoMetadataFormats
 
 -- ListMetadataFormats: the formats of the repository, or those of them that the item has
 abbrev pub formats_answer : Config → List ItemState → Option (List ℕ) → Answer
 formats_answer config items None = lists_formats (offered config.formats None)
 formats_answer config items (Some identifier) = item_formats_answer config (item_named identifier items)
 
--- why no list goes on: a list of sets is never cut, so no resumptionToken continues it; the other lists are not answered
-abbrev pub resumption_fault : ListVerb → ErrorCode
-resumption_fault list.Sets = BadResumptionToken
-resumption_fault list.Identifiers = BadVerb
-resumption_fault list.Records = BadVerb
+-- the first second that a list request can ask for, and the last: those of its bounds, or of all datestamps (section 2.7.1)
+abbrev pub lower_given : Option Bound → ℤ
+lower_given None = neg_ℤ (pos 62_167_219_200)
+lower_given (Some bound) = lower_of bound
 
--- the answer to a request that is well-formed; ListIdentifiers and ListRecords are not answered
-abbrev pub answer_to_ask : Config → State → Ask → Answer
-answer_to_ask config state ask.Identify = identifies (description config)
-answer_to_ask config state (ask.Formats identifier) = formats_answer config state.items identifier
-answer_to_ask config state ask.Sets = sets_answer state.sets
-answer_to_ask config state (ask.Get identifier prefix) = record_answer config (item_named identifier state.items) prefix
-answer_to_ask config state (ask.List verb prefix from until set) = fails BadVerb
-answer_to_ask config state (ask.Resume verb token) = fails (resumption_fault verb)
+abbrev pub upper_given : Option Bound → ℤ
+upper_given None = pos 253_402_300_799
+upper_given (Some bound) = upper_of bound
+
+-- what a list request asks for
+abbrev pub filter_of : List ℕ → Option (List ℕ) → Option (List ℕ) → Option (List ℕ) → Filter
+filter_of prefix from until set = record {
+  prefix = prefix;
+  lower = lower_given (given_bound from);
+  upper = upper_given (given_bound until);
+  set = set;
+}
+
+-- these items as one page, with nothing behind it
+abbrev pub whole_page : Config → List ItemState → Page
+whole_page config items = record { items = items; granularity = config.granularity; continuation = whole }
+
+-- the items in the format, where there are any, as the verb lists them (sections 4.3 and 4.5). Lists of sets have a verb of their own
+abbrev pub listed : Config → ListVerb → Format → List ItemState → Answer
+listed config verb format [] = fails NoRecordsMatch
+listed config list.Identifiers format (item ∷ items) = lists_headers (whole_page config (item ∷ items))
+listed config list.Records format (item ∷ items) = lists_records format (whole_page config (item ∷ items))
+listed config list.Sets format (item ∷ items) = fails BadVerb
+
+-- the same, where the repository has the format
+abbrev pub listed_in : Config → ListVerb → Option Format → List ItemState → Answer
+listed_in config verb None items = fails CannotDisseminateFormat
+listed_in config verb (Some format) items = listed config verb format items
+
+-- there are no sets
+abbrev pub has_no_sets : List NamedSet → Bool
+has_no_sets [] = true
+has_no_sets (set ∷ sets) = false
+
+-- ListIdentifiers and ListRecords of these items, which were selected: a set is asked for only where there are sets
+abbrev pub list_answer : Config → List NamedSet → ListVerb → List ℕ → Option (List ℕ) → List ItemState → Answer
+list_answer config sets verb prefix set items =
+    if is_some set && has_no_sets sets then fails NoSetHierarchy
+    else listed_in config verb (format_named prefix config.formats) items
+
+-- the answer to a request that is well-formed. No list is cut, so no resumptionToken continues one (section 3.5)
+abbrev pub answer_to_ask : Config → Holdings → Ask → Answer
+answer_to_ask config holdings ask.Identify = identifies (description config)
+answer_to_ask config holdings (ask.Formats identifier) = formats_answer config holdings.items identifier
+answer_to_ask config holdings ask.Sets = sets_answer holdings.sets
+answer_to_ask config holdings (ask.Get identifier prefix) = record_answer config (item_named identifier holdings.items) prefix
+answer_to_ask config holdings (ask.List verb prefix from until set) =
+    list_answer config holdings.sets verb prefix set (selected (filter_of prefix from until set) holdings.items)
+answer_to_ask config holdings (ask.Resume verb token) = fails BadResumptionToken
 
 -- the answer to a request
-abbrev pub answer_to : Config → State → Request → Answer
-answer_to config state bad_verb = fails BadVerb
-answer_to config state bad_argument = fails BadArgument
-answer_to config state (asks ask) = answer_to_ask config state ask
+abbrev pub answer_to : Config → Holdings → AskOrError → Answer
+answer_to config holdings bad_verb = fails BadVerb
+answer_to config holdings bad_argument = fails BadArgument
+answer_to config holdings (asks ask) = answer_to_ask config holdings ask
 
 -- the verb alone
 abbrev pub asked_for : List ℕ → Attributes
@@ -96,21 +132,17 @@ arguments_of_ask (ask.Get identifier prefix) = record (asked_for (codes "GetReco
 arguments_of_ask (ask.List verb prefix from until set) = record (asked_for (name_of (verb_of_list verb))) { prefix = Some prefix; from = from; until = until; set = set }
 arguments_of_ask (ask.Resume verb token) = record (asked_for (name_of (verb_of_list verb))) { token = Some token }
 
--- the arguments of a request, as far as the document tells them
-abbrev pub arguments_of_request : Request → Attributes
+-- the arguments of a request, as far as the document tells them (section 3.2)
+abbrev pub arguments_of_request : AskOrError → Attributes
 arguments_of_request (asks ask) = arguments_of_ask ask
 arguments_of_request bad_verb = no_arguments
 arguments_of_request bad_argument = no_arguments
 
 -- the document that answers a request at the state's clock
-abbrev pub document_at : Config → State → Request → Document
+abbrev pub document_at : Config → State → AskOrError → Document
 document_at config state request = record {
   date = state.clock;
   base = config.base;
   asked = arguments_of_request request;
-  answer = answer_to config state request;
+  answer = answer_to config state.holdings request;
 }
-
--- its bytes, for the bytes of a query
-unfoldable pub page_at : Config → State → List ℕ → List ℕ
-page_at config state query = document (document_at config state (request_of config.granularity (decoded_pairs query)))

@@ -1,94 +1,76 @@
--- What is configured of a repository: what Identify tells of it (OAI-PMH 2.0, section 4.2), its formats, and its limits.
-use Rattle.std.specs.Prelude.{◌≡◌, ℕ, Bool, true, false, ◌&&◌, not, nat_le, List, [], ◌∷◌, ◌++◌, map, length, codes, Option, Some, None, is_none, if◌then◌else◌, Result, Ok, Err}
-use Rattle.oai_names.specs.Names.{is_prefix}
-use Rattle.oai_item.specs.Declaring.{declare_fault}
-use Rattle.oai_item.specs.Formats.{dublin_core}
+-- A repository as it is configured, and the rules of its configuration.
+use Rattle.std.specs.Prelude.{◌≡◌, ℕ, ℤ, pos, neg_ℤ, Bool, true, ◌==◌, ◌||◌, ◌&&◌, not, int_lt, List, length}
+use Rattle.std.specs.Char.{is_ascii_digit, is_ascii_lowercase}
+use Rattle.std.specs.List.{list_all}
+use Rattle.std.specs.Ordering.{int_eq}
+use Rattle.oai_names.specs.Characters.{is_between, is_xml_text}
+use Rattle.oai_time.specs.Stamp.{stamp_of}
+use Rattle.oai_time.specs.declared.granularity.Granularity.{Granularity}
+use Rattle.oai_item.specs.ShortTexts.{is_short_text}
 use Rattle.oai_item.specs.declared.formats.Format.{Format}
-use Rattle.oai_repo.specs.declared.config.FormatSettings.{FormatSettings}
-use Rattle.oai_repo.specs.declared.config.Settings.{Settings}
-use Rattle.oai_repo.specs.declared.config.ConfigFault.{ConfigFault}
-use Rattle.oai_repo.specs.declared.config.ConfigFault.TheVariants.{BadShape, BadName, BadFormat, BadDate, BadNumber, NoMemory}
-use Rattle.oai_repo.specs.Configured.{Config, is_described, is_repository_name, is_date, are_limits, is_short_text}
+use Rattle.oai_answers.specs.declared.identify.DeletedRecord.{DeletedRecord}
 
--- ---- the formats
+-- what Identify tells of a repository (OAI-PMH 2.0, section 4.2), the most that it holds, and its metadata formats
+pub record Config : Type 0 where
+  pub base : List ℕ
+  pub repository_name : List ℕ
+  pub addresses : List (List ℕ)
+  pub earliest : ℤ
+  pub deleted : DeletedRecord
+  pub granularity : Granularity
+  pub chunk : ℕ
+  pub lifetime : ℕ
+  pub lists : ℕ
+  pub items : ℕ
+  pub formats : List Format
 
--- the format that the settings describe
-abbrev pub format_of : FormatSettings → Format
-format_of s = record { prefix = s.prefix; schema = s.schema; namespace = s.namespace; root = s.root; fields = s.fields }
+-- a character of a repository's name: [a-z0-9-], this repository's own
+abbrev pub is_repository_byte : ℕ → Bool
+is_repository_byte b = is_ascii_lowercase b || is_ascii_digit b || b == 45
 
--- a text that may be a metadataPrefix
-abbrev pub may_be_prefix : List ℕ → Bool
-may_be_prefix text = is_prefix text && nat_le (length text) 64
+-- a repository's name in its base URL: 1 to 32 of these, this repository's own rule
+unfoldable pub is_repository_name : List ℕ → Bool
+is_repository_name name = is_between 1 32 (length name) && list_all is_repository_byte name
 
--- the described format may stand beside these
-abbrev pub may_stand : List Format → FormatSettings → Bool
-may_stand formats s = may_be_prefix s.prefix && is_none (declare_fault formats (format_of s))
+-- a name for people, and 1 to 16 addresses (OAI-PMH 2.0, section 4.2; the numbers are this repository's own)
+unfoldable pub is_described : List ℕ → List (List ℕ) → Bool
+is_described name addresses =
+    is_short_text name && is_between 1 16 (length addresses) && list_all is_short_text addresses
 
--- each described format may stand beside these and those described before it
-unfoldable pub may_all_stand : List Format → List FormatSettings → Bool
-may_all_stand formats [] = true
-may_all_stand formats (s ∷ settings) = may_stand formats s && may_all_stand (formats ++ format_of s ∷ []) settings
+-- a second of the years 0001 to 9998, this repository's own rule
+abbrev pub is_in_years : ℤ → Bool
+is_in_years seconds =
+    not (int_lt seconds (neg_ℤ (pos 62_135_596_800))) && not (int_lt (pos 253_370_764_799) seconds)
 
--- the formats of a repository: oai_dc, and the described ones
-abbrev pub formats_of : List FormatSettings → List Format
-formats_of settings = dublin_core ∷ map format_of settings
+-- a datestamp of the granularity (OAI-PMH 2.0, section 2.7.1), of these years
+unfoldable pub is_date : Granularity → ℤ → Bool
+is_date granularity seconds = is_in_years seconds && int_eq (stamp_of granularity seconds) seconds
 
--- ---- the configuration
+-- ---- the limits: their ranges are this repository's own
 
--- the configuration that these settings make
-abbrev pub config_of : Settings → Config
-config_of s = record {
-  base = s.base ++ codes "/oai/" ++ s.name;
-  name = s.repository_name;
-  addresses = s.addresses;
-  earliest = s.earliest;
-  deleted = s.deleted;
-  granularity = s.granularity;
-  chunk = s.chunk;
-  lifetime = s.lifetime;
-  lists = s.lists;
-  items = s.items;
-  formats = formats_of s.formats;
-}
+-- records a page
+abbrev pub is_chunk : ℕ → Bool
+is_chunk n = is_between 1 1_000 n
 
--- the base, the name for people and the addresses are of their lengths and their number, and of such characters
-abbrev pub has_shape : Settings → Bool
-has_shape s = is_short_text s.base && is_described s.repository_name s.addresses
+-- seconds that a list stays open: a year of 365 days
+abbrev pub is_lifetime : ℕ → Bool
+is_lifetime n = is_between 1 31_536_000 n
 
--- the first fault of the settings, in the order of the faults' numbers
-unfoldable pub config_fault : Settings → Option ConfigFault
-config_fault s =
-    if not (has_shape s) then Some BadShape
-    else (if not (is_repository_name s.name) then Some BadName
-    else (if not (may_all_stand (dublin_core ∷ []) s.formats) then Some BadFormat
-    else (if not (is_date s.granularity s.earliest) then Some BadDate
-    else (if not (are_limits s.chunk s.lifetime s.lists s.items) then Some BadNumber
-    else None))))
+-- lists that are open at once
+abbrev pub is_lists : ℕ → Bool
+is_lists n = is_between 1 10_000 n
 
--- what making a configuration of the settings answers; memory may be refused once shape and name are found good
-abbrev pub IsConfigured : Settings → Result Config ConfigFault → Type 0
-IsConfigured settings (Ok config) = (config_fault settings ≡ None) × (config ≡ config_of settings)
-IsConfigured settings (Err NoMemory) = (has_shape settings ≡ true) × (is_repository_name settings.name ≡ true)
-IsConfigured settings (Err fault) = config_fault settings ≡ Some fault
+-- items, deleted ones included
+abbrev pub is_items : ℕ → Bool
+is_items n = is_between 1 1_000_000 n
 
--- ---- the calls behind it: each answers its value, or that the format is a bad one, or that memory was refused
+-- each of the four is in its range
+unfoldable pub are_limits : ℕ → ℕ → ℕ → ℕ → Bool
+are_limits chunk lifetime lists items = is_chunk chunk && is_lifetime lifetime && is_lists lists && is_items items
 
-abbrev pub IsPrefixOf : List ℕ → Result (List ℕ) ConfigFault → Type 0
-IsPrefixOf text (Ok prefix) = (prefix ≡ text) × (may_be_prefix text ≡ true)
-IsPrefixOf text (Err NoMemory) = Unit {0}
-IsPrefixOf text (Err fault) = (fault ≡ BadFormat) × (may_be_prefix text ≡ false)
-
-abbrev pub IsFormatOf : FormatSettings → Result Format ConfigFault → Type 0
-IsFormatOf settings (Ok format) = (format ≡ format_of settings) × (may_be_prefix settings.prefix ≡ true)
-IsFormatOf settings (Err NoMemory) = Unit {0}
-IsFormatOf settings (Err fault) = (fault ≡ BadFormat) × (may_be_prefix settings.prefix ≡ false)
-
-abbrev pub IsDeclared : List Format → FormatSettings → Result (Unit {0}) ConfigFault → List Format → Type 0
-IsDeclared old settings (Ok _) new = (may_stand old settings ≡ true) × (new ≡ old ++ format_of settings ∷ [])
-IsDeclared old settings (Err NoMemory) new = Unit {0}
-IsDeclared old settings (Err fault) new = (fault ≡ BadFormat) × (may_stand old settings ≡ false)
-
-abbrev pub AreDeclared : List FormatSettings → Result (List Format) ConfigFault → Type 0
-AreDeclared settings (Ok formats) = (may_all_stand (dublin_core ∷ []) settings ≡ true) × (formats ≡ formats_of settings)
-AreDeclared settings (Err NoMemory) = Unit {0}
-AreDeclared settings (Err fault) = (fault ≡ BadFormat) × (may_all_stand (dublin_core ∷ []) settings ≡ false)
+-- the rules that a configuration keeps
+pub record IsConfig (config : Config) : Type 0 where
+  pub based : is_xml_text config.base ≡ true
+  pub described : is_described config.repository_name config.addresses ≡ true
+  pub dated : is_date config.granularity config.earliest ≡ true
+  pub limited : are_limits config.chunk config.lifetime config.lists config.items ≡ true

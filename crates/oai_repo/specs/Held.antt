@@ -1,27 +1,23 @@
 -- What a `Repo` holds, and the state that it stands for.
-use Rattle.std.specs.Prelude.{◌≡◌, ℤ, true, List}
-use Rattle.oai_time.specs.Stamp.{IsWritable}
-use Rattle.oai_item.specs.Item.{ItemState}
-use Rattle.oai_repo.specs.Configured.{Config}
-use Rattle.oai_repo.specs.State.{State, NamedSet, empty_state, are_in_order, are_apart}
+use Rattle.std.specs.Prelude.{◌≡◌, ℤ, true}
+use Rattle.oai_repo.specs.Config.{Config, is_in_years}
+use Rattle.oai_repo.specs.Kept.{AreKept}
+use Rattle.oai_repo.specs.State.{State, Holdings, empty_state}
 
--- the configuration, the clock, the items and the sets
+-- the configuration, the clock, and the items and sets
 pub record Held : Type 0 where
   pub config : Config
   pub clock : ℤ
-  pub items : List ItemState
-  pub sets : List NamedSet
+  pub holdings : Holdings
 
 -- the state that they stand for
 abbrev pub state_of : Held → State
-state_of held = record { clock = held.clock; items = held.items; sets = held.sets }
+state_of held = record { clock = held.clock; holdings = held.holdings }
 
--- what is true of each: the clock shows a second that a date can name, the items stand in their order, and no two have one
--- identifier
+-- what is true of each: the clock is of the years 0001 to 9998, and the items are as the repository keeps them
 pub record IsHeld (held : Held) : Type 0 where
-  pub dated : IsWritable held.clock
-  pub ordered : are_in_order held.items ≡ true
-  pub apart : are_apart held.items ≡ true
+  pub clocked : is_in_years held.clock ≡ true
+  pub kept : AreKept held.config held.holdings
 
 -- a repository as it begins
 pub record IsNew (held : Held) (config : Config) : Type 0 where

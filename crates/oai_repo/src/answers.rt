@@ -1,42 +1,37 @@
-ghost use Rattle.std.specs.Prelude.{◌≡◌, Some, IfOk};
+//! The second half of answering: what was found is told in a document.
+ghost use Rattle.std.specs.Prelude.{◌≡◌, IfOk};
 ghost use Rattle.std.specs.Option.{option_copied};
 ghost use Rattle.oai_time.specs.Stamp.{IsWritable};
-ghost use Rattle.oai_repo.specs.Answers as spec;
-ghost use Rattle.oai_repo.specs.Docs.{answer_of, attributes_of, description_of, document_of, state_in};
-ghost use Rattle.oai_args.specs.Verbs.{name_of, verb_of_list};
-ghost use Rattle.oai_repo.specs.Documents.{HasWritableTimes, IsWritableDocument, document, fails, lists_formats, no_arguments, offered};
 ghost use Rattle.oai_args.specs.Asks.{asks};
+ghost use Rattle.oai_args.specs.Pairs.{decoded_pairs};
+ghost use Rattle.oai_args.specs.Requests.{request_of};
+ghost use Rattle.oai_answers.specs.Answers.{HasWritableTimes, IsWritableDocument, fails, lists_formats, no_arguments, offered};
+ghost use Rattle.oai_answers.specs.Borrowed.{answer_of, description_of, document_of};
+ghost use Rattle.oai_answers.specs.Documents.{document};
+ghost use Rattle.oai_repo.specs.Answers as spec;
+ghost use Rattle.oai_repo.specs.Answers.{document_at};
+ghost use Rattle.oai_repo.specs.Found.{IsAbout, holdings_in, state_in};
 
-use crate::changes::item_named;
+use crate::arguments::arguments_of;
 use crate::config::RepoConfig;
-use crate::documents::{Asked, Body, Doc, ErrorCode, Identity, Offered, Record, write_document};
+use crate::lookups::{Question, look_up};
 use crate::refusals::Fault;
+use crate::snapshots::Snapshot;
+use oai_answers::{
+    Asked, Body, Doc, ErrorCode, Identity, Listed, Offered, Record, Resumption, write_document,
+};
 use oai_args::{ArgFault, Ask, read_request};
-use oai_item::{Field, Item};
-use oai_names::{ListVerb, Prefix, Sequence, SetSpec, Text};
+use oai_item::{Format, Item};
+use oai_names::{ListVerb, SetSpec, Text};
 use std::alloc::{AllocError, Global};
 
-/// A repository as a request finds it.
-#[derive(Clone, Copy)]
-pub(crate) struct Snapshot<'a> {
-    /// The configuration.
-    pub(crate) config: &'a RepoConfig,
-    /// The clock, in seconds from 1970 on.
-    pub(crate) clock: i64,
-    /// The items, in their order.
-    pub(crate) items: &'a [Item],
-    /// The sets, in order of addition.
-    pub(crate) sets: &'a [(SetSpec, Text)],
-}
-
 /// The page that answers the query.
-#[tactic(auto, unfolding(crate::specs::Answers::page_at))]
 pub(crate) fn page_at(alloc: Global, found: &Snapshot<'_>, query: &[u8]) -> Result<Vec<u8>, Fault>
     requires { IsWritable found.now.clock }
-    ensures { IfOk result (λ page. page.items ≡ spec.page_at found.now.config.now (state_in found.now) query.now) }
+    ensures { IfOk result (λ page. page.items ≡ document (document_at found.now.config.now (state_in found.now) (request_of found.now.config.now.granularity (decoded_pairs query.now)))) }
 {
     match read_request(alloc, query, found.config.granularity()) {
-        Ok(ask) => Ok(asked_page(alloc, found, &ask)?),
+        Ok(ask) => Ok(asked_page(alloc, found, ask)?),
         Err(ArgFault::BadVerb) => Ok(error_page(alloc, found, ErrorCode::BadVerb)?),
         Err(ArgFault::BadArgument) => Ok(error_page(alloc, found, ErrorCode::BadArgument)?),
         Err(ArgFault::NoMemory) => Err(Fault::NoMemory),
@@ -44,17 +39,32 @@ pub(crate) fn page_at(alloc: Global, found: &Snapshot<'_>, query: &[u8]) -> Resu
 }
 
 /// The page that answers a well-formed request.
-fn asked_page(alloc: Global, found: &Snapshot<'_>, ask: &Ask) -> Result<Vec<u8>, AllocError>
+fn asked_page(alloc: Global, found: &Snapshot<'_>, ask: Ask) -> Result<Vec<u8>, AllocError>
     requires { IsWritable found.now.clock }
-    ensures { IfOk result (λ page. page.items ≡ document (spec.document_at found.now.config.now (state_in found.now) (asks ask.now))) }
+    ensures { IfOk result (λ page. page.items ≡ document (document_at found.now.config.now (state_in found.now) (asks ask))) }
 {
+    let question = look_up(alloc, found.items, ask)?;
+    told_page(alloc, found, &question)
+}
+
+/// The page that answers a question.
+fn told_page<'q, 'r: 'q>(
+    alloc: Global,
+    found: &Snapshot<'r>,
+    question: &'q Question,
+) -> Result<Vec<u8>, AllocError>
+    requires writable { IsWritable found.now.clock }
+    requires asked { IsAbout found.now.items.now question.now }
+    ensures { IfOk result (λ page. page.items ≡ document (document_at found.now.config.now (state_in found.now) (asks question.now.ask))) }
+{
+    let found: Snapshot<'q> = *found;
     page_of(
         alloc,
         &Doc {
             date: found.clock,
             base: found.config.base(),
-            asked: arguments_of(ask),
-            body: answer_to(found, ask),
+            asked: arguments_of(&question.ask),
+            body: answer_to(&found, question),
         },
     )
 }
@@ -85,99 +95,79 @@ fn page_of(alloc: Global, doc: &Doc<'_>) -> Result<Vec<u8>, AllocError>
     Ok(page)
 }
 
-/// The arguments of a request, as a document tells them.
-fn arguments_of(ask: &Ask) -> Asked<'_>
-    ensures { attributes_of result ≡ spec.arguments_of_ask ask.now }
+/// What a question is answered.
+fn answer_to<'a>(found: &Snapshot<'a>, question: &'a Question) -> Body<'a>
+    requires { IsAbout found.now.items.now question.now }
+    ensures answer { answer_of result ≡ spec.answer_to_ask found.now.config.now (holdings_in found.now) question.now.ask }
+    ensures writable { HasWritableTimes (answer_of result) }
 {
-    match ask {
-        Ask::Identify => asked_for("Identify"),
-        Ask::Formats { identifier } => Asked {
-            identifier: text_in(identifier),
-            ..asked_for("ListMetadataFormats")
-        },
-        Ask::Sets => asked_for("ListSets"),
-        Ask::Get { identifier, prefix } => Asked {
-            identifier: Some(identifier.as_str()),
-            prefix: Some(prefix.as_str()),
-            ..asked_for("GetRecord")
-        },
+    let item = question.item.as_ref();
+    match &question.ask {
+        Ask::Identify => Body::Identify(identity(found.config)),
+        Ask::Formats { identifier: None } => formats_of(found.config, None),
+        Ask::Formats {
+            identifier: Some(_),
+        } => item_formats_answer(found.config, item),
+        Ask::Sets => sets_answer(found.sets),
+        Ask::Get { prefix, .. } => record_answer(found.config, item, prefix.as_str()),
         Ask::List {
             verb,
             prefix,
-            from,
-            until,
             set,
-        } => Asked {
-            prefix: Some(prefix.as_str()),
-            from: text_in(from),
-            until: text_in(until),
-            set: text_in(set),
-            ..asked_for(name_of(*verb))
-        },
-        Ask::Resume { verb, token } => Asked {
-            token: Some(token.as_str()),
-            ..asked_for(name_of(*verb))
-        },
+            ..
+        } => list_answer(
+            found,
+            *verb,
+            prefix.as_str(),
+            set,
+            question.items.as_slice(),
+        ),
+        Ask::Resume { .. } => Body::Error(ErrorCode::BadResumptionToken),
     }
 }
 
-/// The verb alone.
-fn asked_for(verb: &str) -> Asked<'_>
-    ensures { attributes_of result ≡ spec.asked_for verb.now }
-{
-    Asked {
-        verb: Some(verb),
-        ..Asked::nothing()
-    }
-}
-
-/// The name of the verb.
-fn name_of(verb: ListVerb) -> &'static str
-    ensures { result.now ≡ name_of (verb_of_list verb) }
-{
-    match verb {
-        ListVerb::Identifiers => "ListIdentifiers",
-        ListVerb::Records => "ListRecords",
-        ListVerb::Sets => "ListSets",
-    }
-}
-
-/// The text, where it was given.
-fn text_in(text: &Option<Text>) -> Option<&str>
-    ensures { option_copied result ≡ text.now }
-{
-    match text {
-        Some(text) => Some(text.as_str()),
-        None => None,
-    }
-}
-
-/// What a well-formed request is answered.
-fn answer_to<'a>(found: &Snapshot<'a>, ask: &Ask) -> Body<'a>
-    ensures answer { answer_of result ≡ spec.answer_to_ask found.now.config.now (state_in found.now) ask.now }
+/// What ListIdentifiers or ListRecords of these items, which were selected, is answered.
+fn list_answer<'a>(
+    found: &Snapshot<'a>,
+    verb: ListVerb,
+    prefix: &str,
+    set: &Option<Text>,
+    items: &'a [Item],
+) -> Body<'a>
+    ensures answer { answer_of result ≡ spec.list_answer found.now.config.now found.now.sets.now verb prefix.now set.now items.now }
     ensures writable { HasWritableTimes (answer_of result) }
 {
-    match ask {
-        Ask::Identify => Body::Identify(identity(found.config)),
-        Ask::Formats { identifier } => formats_answer(found, identifier),
-        Ask::Sets => sets_answer(found.sets),
-        Ask::Get { identifier, prefix } => match item_named(identifier.as_str(), found.items) {
-            Some(item) => record_answer(found.config, item, prefix.as_str()),
-            None => Body::Error(ErrorCode::IdDoesNotExist),
-        },
-        Ask::List { .. } => Body::Error(ErrorCode::BadVerb),
-        Ask::Resume { verb, .. } => Body::Error(resumption_fault(*verb)),
+    if set.is_some() && found.sets.is_empty() {
+        return Body::Error(ErrorCode::NoSetHierarchy);
+    }
+    match found.config.formats().find_named(prefix) {
+        Some(format) => listed(found.config, verb, format, items),
+        None => Body::Error(ErrorCode::CannotDisseminateFormat),
     }
 }
 
-/// Why no list goes on: a list of sets is never cut, and the others are not answered.
-fn resumption_fault(verb: ListVerb) -> ErrorCode
-    ensures { result ≡ spec.resumption_fault verb }
+/// The items in the format, as the verb lists them.
+fn listed<'a>(
+    config: &RepoConfig,
+    verb: ListVerb,
+    format: &'a Format,
+    items: &'a [Item],
+) -> Body<'a>
+    ensures answer { answer_of result ≡ spec.listed config.now verb format.now items.now }
+    ensures writable { HasWritableTimes (answer_of result) }
 {
+    if items.is_empty() {
+        return Body::Error(ErrorCode::NoRecordsMatch);
+    }
+    let page = Listed {
+        items,
+        granularity: config.granularity(),
+        resumption: Resumption::Whole,
+    };
     match verb {
-        ListVerb::Sets => ErrorCode::BadResumptionToken,
-        ListVerb::Identifiers => ErrorCode::BadVerb,
-        ListVerb::Records => ErrorCode::BadVerb,
+        ListVerb::Identifiers => Body::ListIdentifiers(page),
+        ListVerb::Records => Body::ListRecords(format, page),
+        ListVerb::Sets => Body::Error(ErrorCode::BadVerb),
     }
 }
 
@@ -193,30 +183,46 @@ fn sets_answer(sets: &[(SetSpec, Text)]) -> Body<'_>
     }
 }
 
-/// What ListMetadataFormats, of the repository or of an item, is answered.
-fn formats_answer<'a>(found: &Snapshot<'a>, identifier: &Option<Text>) -> Body<'a>
-    ensures answer { answer_of result ≡ spec.formats_answer found.now.config.now found.now.items.now identifier.now }
+/// What ListMetadataFormats of the item, if there is one, is answered.
+fn item_formats_answer<'a>(config: &'a RepoConfig, item: Option<&'a Item>) -> Body<'a>
+    ensures answer { answer_of result ≡ spec.item_formats_answer config.now (option_copied item.entry) }
     ensures writable { HasWritableTimes (answer_of result) }
 {
-    match identifier {
-        None => formats_of(found, None),
-        Some(identifier) => match item_named(identifier.as_str(), found.items) {
-            Some(item) if item.is_live() => formats_of(found, Some(item)),
-            Some(_) => Body::Error(ErrorCode::NoMetadataFormats),
-            None => Body::Error(ErrorCode::IdDoesNotExist),
-        },
+    match item {
+        Some(item) if item.is_live() => formats_of(config, Some(item)),
+        Some(_) => Body::Error(ErrorCode::NoMetadataFormats),
+        None => Body::Error(ErrorCode::IdDoesNotExist),
     }
 }
 
 /// The formats of the repository, or those of them that the item has.
-fn formats_of<'a>(found: &Snapshot<'a>, item: Option<&'a Item>) -> Body<'a>
-    ensures answer { answer_of result ≡ lists_formats (offered found.now.config.now.formats (option_copied item.entry)) }
+fn formats_of<'a>(config: &'a RepoConfig, item: Option<&'a Item>) -> Body<'a>
+    ensures answer { answer_of result ≡ lists_formats (offered config.now.formats (option_copied item.entry)) }
     ensures writable { HasWritableTimes (answer_of result) }
 {
     Body::ListMetadataFormats(Offered {
-        formats: found.config.formats().as_slice(),
+        formats: config.formats().as_slice(),
         of: item,
     })
+}
+
+/// What GetRecord of the item, if there is one, in the format of that prefix is answered.
+fn record_answer<'a>(config: &'a RepoConfig, item: Option<&'a Item>, prefix: &str) -> Body<'a>
+    ensures answer { answer_of result ≡ spec.record_answer config.now (option_copied item.entry) prefix.now }
+    ensures writable { HasWritableTimes (answer_of result) }
+{
+    let Some(item) = item else {
+        return Body::Error(ErrorCode::IdDoesNotExist);
+    };
+    match config.formats().find_named(prefix) {
+        Some(format) if item.has_record(format.prefix.as_str()) => Body::GetRecord(Record {
+            item,
+            granularity: config.granularity(),
+            format,
+        }),
+        Some(_) => Body::Error(ErrorCode::CannotDisseminateFormat),
+        None => Body::Error(ErrorCode::CannotDisseminateFormat),
+    }
 }
 
 /// What Identify tells.
@@ -225,42 +231,10 @@ fn identity(config: &RepoConfig) -> Identity<'_>
     ensures writable { IsWritable result.earliest }
 {
     Identity {
-        name: config.name(),
+        name: config.repository_name(),
         addresses: config.addresses(),
         earliest: config.earliest(),
         deleted: config.deleted(),
         granularity: config.granularity(),
     }
-}
-
-/// What GetRecord of the item in the format of that prefix is answered.
-fn record_answer<'a>(config: &'a RepoConfig, item: &'a Item, prefix: &str) -> Body<'a>
-    ensures answer { answer_of result ≡ spec.record_answer config.now (Some item.now) prefix.now }
-    ensures writable { HasWritableTimes (answer_of result) }
-{
-    let Some(metadata) = metadata_named(prefix, item.formats()) else {
-        return Body::Error(ErrorCode::CannotDisseminateFormat);
-    };
-    let Some(format) = config.formats().find_named(prefix) else {
-        return Body::Error(ErrorCode::CannotDisseminateFormat);
-    };
-    Body::GetRecord(Record {
-        item,
-        granularity: config.granularity(),
-        format,
-        fields: metadata.1.as_slice(),
-    })
-}
-
-/// The record in the format of that prefix.
-#[tactic(auto, unfolding(crate::specs::Answers::metadata_named))]
-fn metadata_named<'a>(
-    prefix: &str,
-    formats: &'a [(Prefix, Sequence<Field>)],
-) -> Option<&'a (Prefix, Sequence<Field>)>
-    ensures { option_copied result ≡ spec.metadata_named prefix.now formats.now }
-{
-    formats
-        .iter()
-        .find(|metadata| metadata.0.as_str() == prefix)
 }

@@ -2,19 +2,20 @@
 #![tactic(auto)]
 
 mod answers;
+mod arguments;
 mod changes;
 mod config;
-mod documents;
-mod lines;
-mod records;
+mod deletions;
+mod deposits;
+mod items;
+mod lookups;
 mod refusals;
 mod repo;
-#[cfg(test)]
-mod tests;
+mod selections;
+mod settings;
+mod snapshots;
 
-pub use config::{ConfigFault, FormatSettings, RepoConfig, Settings};
-pub use documents::DeletedRecord;
-pub use lines::{Change, Deposit, LineFault, LineRefusal, read_line, shape_law};
-pub use records::Records;
-pub use refusals::{ChangeRefusal, Fault, Refusal};
+pub use config::RepoConfig;
+pub use refusals::{Fault, Refusal};
 pub use repo::{Reply, Repo};
+pub use settings::{ConfigFault, FormatSettings, Settings};

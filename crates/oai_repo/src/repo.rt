@@ -1,18 +1,17 @@
 ghost use Rattle.std.specs.Prelude.{◌≡◌, true, IfOk};
 ghost use Rattle.oai_time.specs.Stamp.{IsWritable};
-ghost use Rattle.oai_repo.specs.Changes.{IsChanged};
+ghost use Rattle.oai_repo.specs.Calls.{IsAsked, IsChanged};
 ghost use Rattle.oai_repo.specs.Held.{IsHeld, IsNew, state_of};
 ghost use Rattle.oai_repo.specs.State.{moved};
-ghost use Rattle.oai_repo.specs.Step.{IsAsked};
 
-use crate::answers::{Snapshot, page_at};
+use crate::answers::page_at;
 use crate::changes::make;
 use crate::config::RepoConfig;
-use crate::lines::Change;
 use crate::refusals::{Fault, Refusal};
-use oai_item::Item;
+use crate::snapshots::Snapshot;
+use oai_item::{Change, Item};
 use oai_names::{Sequence, SetTree};
-use oai_time::Clock;
+use oai_time::{Clock, stamp};
 use std::alloc::Global;
 use std::marker::Model;
 
@@ -38,9 +37,11 @@ impl Model for Repo {
 
     ghost Value = { Held };
 
-    ghost view = { λ r. record { config = r.config; clock = r.clock; items = r.items.items; sets = r.sets } };
+    ghost use Rattle.oai_repo.specs.Inside.{held_in};
 
-    ghost invariant = { λ r. IsHeld (record { config = r.config; clock = r.clock; items = r.items.items; sets = r.sets }) };
+    ghost view = { held_in };
+
+    ghost invariant = { λ repo. IsHeld (held_in repo) };
 }
 
 impl Repo {
@@ -85,16 +86,17 @@ impl Repo {
     {
         let mut clock = self.clock;
         clock.tick(moment);
+        let stamp = stamp(self.config.granularity(), clock.now());
         let made = make(
             self.alloc,
             &self.config,
-            clock.now(),
+            stamp,
             &mut self.items,
             &mut self.sets,
             change,
         );
         match made {
-            Ok(stamp) => {
+            Ok(()) => {
                 self.clock = clock;
                 Ok(stamp)
             }
@@ -114,8 +116,10 @@ impl Repo {
         self.clock.tick(moment);
     }
 
-    /// The clock, in seconds from 1970 on, of the years 0000 to 9999. The items that stand at it are in
-    /// the order of their datestamps and identifiers, and no two have one identifier.
+    /// The clock, in seconds from 1970 on, of the years 0001 to 9998. The items that stand at it are as
+    /// a repository keeps them: in the order of their datestamps and identifiers, no two of one
+    /// identifier, no more than the configuration allows, each with a record in oai_dc, in formats and
+    /// sets of the repository, and of a length that can be stored.
     pub fn clock(&self) -> i64
         ensures clock { result ≡ (state_of self.now).clock }
         ensures kept { IsHeld self.now }

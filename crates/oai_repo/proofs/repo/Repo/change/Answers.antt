@@ -1,32 +1,55 @@
--- Each way out gives the case of the definition, over the fields that the repository is opened to.
-use Rattle.std.proofs.Common.{◌≡◌, ◌∙◌, ℤ, refl, ap, Ok, Err, arith, FitsSigned, w64, to_z, of_z}
-use Rattle.std.proofs.lemmas.Int.{to_z-of_z, ints}
+-- Each way out gives the case of the machine, over the fields that the repository is opened to.
+use Rattle.std.proofs.Common.{◌≡◌, ◌∙◌, ℤ, refl, ap, sym, Ok, Err, FitsSigned, w64, to_z, of_z}
+use Rattle.std.proofs.lemmas.Int.{to_z-of_z}
 use Rattle.oai_time.specs.Clock.{tick}
-use Rattle.oai_time.specs.Stamp.{IsWritable}
-use Rattle.oai_repo.specs.Changes.{IsMade}
+use Rattle.oai_repo.specs.Changes.{stamp_at}
+use Rattle.oai_repo.specs.Workings.{IsMade}
 use Rattle.oai_repo.specs.declared.refusals.Refusal.TheVariants as refusal
-use Rattle.oai_repo.proofs.ChangeLemmas.{standing, changes-Ok, changes-Refused}
+use Rattle.oai_repo.proofs.ClockLemmas.{in_years-tick}
+use Rattle.oai_repo.proofs.ChangeLemmas.{held, kept-made}
+use Rattle.oai_repo.proofs.StepLemmas.{step-made, step-refused}
 use Rattle.oai_repo.proofs.repo.Repo.change.Goals as goal
+
+pub invariant_of-self : goal.invariant_of-self
+invariant_of-self c =
+    let fits : FitsSigned w64 c.args.moment = c.ranges.moment in
+    let moved : c.tick.new.self ≡ tick c.self.inside.clock c.args.moment = simp to_z-of_z at c.tick.ensures.moved in
+    record {
+      clocked = rw moved (in_years-tick c.self.inside.clock c.args.moment c.self.invariant.clocked);
+      kept = kept-made _ _ _ _ _ _ c.make-made.ensures c.self.invariant.kept;
+    }
+
+pub invariant_of-self-in-Err-Refused : goal.invariant_of-self-in-Err-Refused
+invariant_of-self-in-Err-Refused c =
+    let fits : FitsSigned w64 c.args.moment = c.ranges.moment in
+    let moved : c.tick.new.self ≡ tick c.self.inside.clock c.args.moment = simp to_z-of_z at c.tick.ensures.moved in
+    record {
+      clocked = rw moved (in_years-tick c.self.inside.clock c.args.moment c.self.invariant.clocked);
+      kept = kept-made _ _ _ _ _ _ c.make-made.ensures c.self.invariant.kept;
+    }
 
 pub returns-in-Ok-clause-changed : goal.returns-in-Ok-clause-changed
 returns-in-Ok-clause-changed c =
     let fits : FitsSigned w64 c.args.moment = c.ranges.moment in
     let fits_now : FitsSigned w64 c.now.result = record { sfits = c.now.type_inv } in
-    let dated : IsWritable c.in-Ok.stamp = c.in-Ok.ensures.dated in
-    let fits_stamp : FitsSigned w64 c.in-Ok.stamp = omega (arith, ints) in
-    let held = c.self.inside in
-    let moved : c.now.result ≡ tick held.clock c.args.moment = c.now.ensures ∙ (simp to_z-of_z at c.tick.ensures.moved) in
-    let made : IsMade held.config (standing c.now.result held.items.items held.sets) c.args.change.now (Ok c.in-Ok.stamp) (standing c.now.result c.make-made.new.items.items c.make-made.new.sets) = simp to_z-of_z at c.in-Ok.ensures.made in
-    rw (← c.self.view_is, ← c.now.ensures) (simp to_z-of_z (changes-Ok _ _ _ _ _ _ _ _ _ _ moved made), refl)
+    let fits_stamp : FitsSigned w64 c.stamp-stamp.result = record { sfits = c.stamp-stamp.type_inv } in
+    let inside = c.self.inside in
+    let moved : c.tick.new.self ≡ tick inside.clock c.args.moment = simp to_z-of_z at c.tick.ensures.moved in
+    let dated : c.stamp-stamp.result ≡ stamp_at inside.config c.tick.new.self = rw (← c.now.ensures, ← c.granularity.ensures) (simp to_z-of_z at c.stamp-stamp.ensures.value) in
+    let made : IsMade inside.config c.stamp-stamp.result (held inside.items.items inside.sets) c.args.change.now (Ok tt) (held c.make-made.new.items.items c.make-made.new.sets) = simp to_z-of_z at c.in-Ok.ensures in
+    rw (← c.self.view_is) (simp to_z-of_z (step-made _ _ _ _ _ _ _ moved dated made), refl)
 
 pub returns-in-Err-Refused-clause-changed : goal.returns-in-Err-Refused-clause-changed
 returns-in-Err-Refused-clause-changed c =
     let fits : FitsSigned w64 c.args.moment = c.ranges.moment in
     let fits_now : FitsSigned w64 c.now.result = record { sfits = c.now.type_inv } in
-    let held = c.self.inside in
-    let moved : c.now.result ≡ tick held.clock c.args.moment = c.now.ensures ∙ (simp to_z-of_z at c.tick.ensures.moved) in
-    let at : ℤ = to_z w64 (of_z w64 c.now.result) in
-    let arrived : at ≡ tick held.clock c.args.moment = simp to_z-of_z moved in
+    let fits_stamp : FitsSigned w64 c.stamp-stamp.result = record { sfits = c.stamp-stamp.type_inv } in
+    let inside = c.self.inside in
+    let moved : c.tick.new.self ≡ tick inside.clock c.args.moment = simp to_z-of_z at c.tick.ensures.moved in
+    let dated : c.stamp-stamp.result ≡ stamp_at inside.config c.tick.new.self = rw (← c.now.ensures, ← c.granularity.ensures) (simp to_z-of_z at c.stamp-stamp.ensures.value) in
     let known = rw c.in-Err-Refused.is at c.in-Err-Refused.field-0-is in
     let refused : c.make-made.result ≡ Err (refusal.Refused c.in-Err-Refused.cause) = c.in-Err-Refused.is ∙ ap (λ r. Err r) known in
-    rw (← c.self.view_is, ← c.now.ensures) (changes-Refused held.config held.clock at c.now.result held.items.items c.make-made.new.items.items held.sets c.make-made.new.sets c.args.moment c.args.change.now c.in-Err-Refused.cause c.make-made.result arrived moved refused c.make-made.ensures.made, refl)
+    let made : IsMade inside.config c.stamp-stamp.result (held inside.items.items inside.sets) c.args.change.now (Err (refusal.Refused c.in-Err-Refused.cause)) (held c.make-made.new.items.items c.make-made.new.sets) =
+    rw refused at (simp to_z-of_z at c.make-made.ensures)
+    in
+    rw (← c.self.view_is) (step-refused _ _ _ _ _ _ _ _ moved dated made, refl)

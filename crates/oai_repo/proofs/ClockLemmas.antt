@@ -1,0 +1,21 @@
+-- The clock of a repository stays within the years that it begins in.
+use Rattle.std.proofs.Common.{◌≡◌, Bool, true, ◌&&◌, ℤ, pos, neg_ℤ, arith, cond}
+use Rattle.std.specs.Prelude.{int_lt, not}
+use Rattle.std.specs.Int.{int_max, int_min}
+use Rattle.std.proofs.lemmas.Bool.{and_parts}
+use Rattle.std.proofs.lemmas.Int.{ints}
+use Rattle.oai_time.specs.Clock.{tick}
+use Rattle.oai_time.specs.Stamp.{IsWritable, stamp_of}
+use Rattle.std.specs.Ordering.{int_eq}
+use Rattle.oai_repo.specs.Config.{Config, IsConfig, is_date, is_in_years}
+
+pub in_years-config : (config : Config) → IsConfig config → is_in_years config.earliest ≡ true
+unfolding is_date
+in_years-config config c =
+    (and_parts (is_in_years config.earliest) (int_eq (stamp_of config.granularity config.earliest) config.earliest) c.dated).0
+
+pub writable : (clock : ℤ) → is_in_years clock ≡ true → IsWritable clock
+writable clock h = grind (arith, ints)
+
+pub in_years-tick : (clock moment : ℤ) → is_in_years clock ≡ true → is_in_years (tick clock moment) ≡ true
+in_years-tick clock moment h = grind (arith, ints)

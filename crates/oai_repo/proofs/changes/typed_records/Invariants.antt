@@ -1,8 +1,0 @@
-use Rattle.std.proofs.Common.{◌≡◌, take, drop, true}
-use Rattle.std.specs.List.{list_all}
-use Rattle.oai_repo.specs.Changes.{has_format}
-use Rattle.oai_repo.proofs.changes.typed_records.Given as goal
-
--- the records so far, and what is required of the others
-abbrev pub invariant-loop-record : goal.invariant-loop-record
-invariant-loop-record l = (l.typed.items ≡ take l.record-index l.records) × (list_all (has_format l.formats) (drop l.record-index l.records) ≡ true)

@@ -1,8 +1,0 @@
-use Rattle.std.proofs.Common.{◌≡◌, ◌++◌, codes, take}
-use Rattle.std.specs.List.{flat_map}
-use Rattle.oai_repo.specs.Pieces.{text_element}
-use Rattle.oai_repo.proofs.documents.markup.set_specs.Given as goal
-
--- what was appended are the elements of the setSpecs so far
-abbrev pub invariant-loop-spec : goal.invariant-loop-spec
-invariant-loop-spec l = l.out.items ≡ l.fn.out.items ++ flat_map (text_element (codes "setSpec")) (take l.spec-index l.specs)

@@ -1,8 +1,0 @@
-use Rattle.std.proofs.Common.{◌≡◌, map, drop}
-use Rattle.serde_json.specs.View.{view}
-use Rattle.oai_repo.specs.Lines.{each_of, field_of}
-use Rattle.oai_repo.proofs.LineLemmas.{with_front}
-use Rattle.oai_repo.proofs.lines.fields_in.Given as goal
-
-abbrev pub invariant-loop-value : goal.invariant-loop-value
-invariant-loop-value l = with_front l.fields.items (each_of field_of (map view (drop l.value-index l.values))) ≡ each_of field_of (map view l.values)

@@ -1,9 +1,0 @@
-use Rattle.std.proofs.Common.{◌≡◌, map}
-use Rattle.oai_repo.specs.Lines.{each_of, record_of}
-use Rattle.oai_repo.proofs.JsonLemmas.{seen}
-use Rattle.oai_repo.proofs.LineLemmas.{with_front}
-use Rattle.oai_repo.proofs.lines.records_in.Given as goal
-
-abbrev pub invariant-loop-prefix : goal.invariant-loop-prefix
-invariant-loop-prefix l =
-    with_front l.records.items (each_of record_of (map seen l.prefix-iterator)) ≡ each_of record_of (map seen l.members.entries)

@@ -1,5 +1,0 @@
-use Rattle.oai_repo.proofs.LineLemmas.{records_of-Object}
-use Rattle.oai_repo.proofs.lines.records_of.Goals as goal
-
-pub returns-in-Object : goal.returns-in-Object
-returns-in-Object c = rw (c.in-Object.is, records_of-Object c.in-Object.members) c.records_in.ensures

@@ -1,0 +1,14 @@
+-- The page is that of the step, over the fields that the repository is opened to.
+use Rattle.std.proofs.Common.{◌≡◌, ◌∙◌, refl, sym, ap, FitsSigned, w64}
+use Rattle.std.proofs.lemmas.Int.{to_z-of_z}
+use Rattle.oai_time.specs.Clock.{tick}
+use Rattle.oai_repo.proofs.StepLemmas.{step-asked}
+use Rattle.oai_repo.proofs.repo.Repo.ask.Goals as goal
+
+pub returns : goal.returns
+returns c =
+    let fits : FitsSigned w64 c.args.moment = c.ranges.moment in
+    let fits_now : FitsSigned w64 c.now.result = record { sfits = c.now.type_inv } in
+    let moved : c.tick.new.self ≡ tick c.self.inside.clock c.args.moment = simp to_z-of_z at c.tick.ensures.moved in
+    let told = rw (c.deref.ensures.value, c.as_slice.ensures, c.now.ensures) at (simp to_z-of_z at c.in_ok-page.ensures) in
+    rw (← c.self.view_is) (step-asked _ _ _ _ _ _ moved (c.new.ensures ∙ told), refl)

@@ -1,0 +1,35 @@
+-- What a repository keeps true of its items, whatever is asked of it. OAI-PMH 2.0, sections 2.3 to 2.6, and this repository's
+-- own limits.
+use Rattle.std.specs.Prelude.{◌≡◌, ◌≤◌, Bool, true, ◌&&◌, not, nat_lt, List, length, codes}
+use Rattle.std.specs.List.{list_all}
+use Rattle.oai_names.specs.Sets.{has_set}
+use Rattle.oai_item.specs.Encoding.{encoded}
+use Rattle.oai_item.specs.Item.{ItemState, has_record}
+use Rattle.oai_item.specs.Items.{are_apart}
+use Rattle.oai_item.specs.Known.{has_format, has_known_fields}
+use Rattle.oai_item.specs.Order.{are_in_order}
+use Rattle.oai_item.specs.declared.sizes.TheConstants.{MOST_ITEM_BYTES}
+use Rattle.oai_repo.specs.Config.{Config}
+use Rattle.oai_repo.specs.State.{Holdings, NamedSet}
+
+-- its spelling has more than 16,000 bytes
+abbrev pub is_too_large : ItemState → Bool
+is_too_large item = nat_lt MOST_ITEM_BYTES (length (encoded item))
+
+-- an item as the repository keeps it: it has a record in unqualified Dublin Core (section 2.5), each of its records is in a format
+-- of the repository and has no field but that format's, each of its setSpecs is that of a set, and it can be stored
+abbrev pub is_well_kept : Config → List NamedSet → ItemState → Bool
+is_well_kept config sets item =
+    has_record (codes "oai_dc") item.formats
+    && list_all (has_format config.formats) item.formats
+    && list_all (has_known_fields config.formats) item.formats
+    && list_all (has_set sets) item.sets
+    && not (is_too_large item)
+
+-- the items stand in their order, no two have one identifier, there are no more than the configuration allows, and each is well
+-- kept
+pub record AreKept (config : Config) (holdings : Holdings) : Type 0 where
+  pub ordered : are_in_order holdings.items ≡ true
+  pub apart : are_apart holdings.items ≡ true
+  pub few : length holdings.items ≤ config.items
+  pub well : list_all (is_well_kept config holdings.sets) holdings.items ≡ true

@@ -1,0 +1,198 @@
+//! What is deposited: why it is refused, and the item that it makes.
+ghost use Rattle.std.specs.Prelude.{◌≡◌, Some, codes};
+ghost use Rattle.std.specs.List.{list_all};
+ghost use Rattle.std.specs.Option.{option_copied};
+ghost use Rattle.oai_names.specs.Names.{is_among};
+ghost use Rattle.oai_names.specs.Sets.{has_set};
+ghost use Rattle.oai_item.specs.Item.{IsStamp, Metadata, has_record, live_item, record_named};
+ghost use Rattle.oai_item.specs.Known.{are_fields_of, has_format, has_known_fields};
+ghost use Rattle.oai_item.specs.Membership.{reduced};
+ghost use Rattle.oai_repo.specs.Changes as spec;
+ghost use Rattle.oai_repo.specs.Workings.{IsDone};
+
+use crate::config::RepoConfig;
+use crate::items::{item_named, put};
+use crate::refusals::Refusal;
+use oai_item::{ChangeRefusal, Field, Format, Formats, Item, Records};
+use oai_names::{Identifier, Sequence, SetSpec, SetTree, Text};
+use std::alloc::Global;
+
+/// A record of a deposit: the text that names its format, and its fields.
+type Record = (Text, Sequence<Field>);
+
+/// What is deposited: the identifier, the setSpecs as they were given, and the records.
+#[derive(Clone, Copy)]
+pub(crate) struct Deposit<'a> {
+    pub(crate) identifier: &'a Identifier,
+    pub(crate) sets: &'a [SetSpec],
+    pub(crate) records: &'a Records,
+}
+
+/// Puts the item that is deposited among the others, or refuses it by the first cause.
+pub(crate) fn put_deposit(
+    alloc: Global,
+    config: &RepoConfig,
+    sets: &SetTree,
+    stamp: i64,
+    items: &mut Vec<Item>,
+    deposit: &Deposit<'_>,
+) -> Result<(), Refusal>
+    requires { IsStamp stamp }
+    ensures { let item = live_item deposit.now.identifier.now stamp (reduced deposit.now.sets.now) deposit.now.records.now in
+        IsDone (spec.deposit_refusal config.now sets.now deposit.now.sets.now deposit.now.records.now)
+        (spec.item_refusal config.now items.old.items item)
+        items.old.items (spec.with_new item items.old.items) result items.new.items }
+{
+    match deposit_refusal(config, sets, deposit.sets, deposit.records.as_slice()) {
+        Some(cause) => return Err(Refusal::Refused(cause)),
+        None => {}
+    }
+    let item = Item::deposited(
+        alloc,
+        config.formats(),
+        deposit.identifier,
+        stamp,
+        deposit.sets,
+        deposit.records,
+    )?;
+    match item_refusal(config, items, &item) {
+        Some(cause) => return Err(Refusal::Refused(cause)),
+        None => {}
+    }
+    put(items, item)?;
+    Ok(())
+}
+
+/// Why the deposit may not stand as it is: the first cause.
+#[tactic(auto, unfolding(crate::specs::Changes::deposit_refusal))]
+fn deposit_refusal(
+    config: &RepoConfig,
+    sets: &SetTree,
+    specs: &[SetSpec],
+    records: &[Record],
+) -> Option<ChangeRefusal>
+    ensures { result ≡ spec.deposit_refusal config.now sets.now specs.now records.now }
+{
+    if !have_sets(sets, specs) {
+        return Some(ChangeRefusal::UnknownSet);
+    }
+    if !have_formats(config.formats(), records) {
+        return Some(ChangeRefusal::UnknownFormat);
+    }
+    if !has_record(records, "oai_dc") {
+        return Some(ChangeRefusal::NoDc);
+    }
+    if !have_known_fields(config.formats(), records) {
+        return Some(ChangeRefusal::UnknownField);
+    }
+    None
+}
+
+/// Why the item may not stand among the others: the first cause.
+#[tactic(auto, unfolding(crate::specs::Changes::item_refusal))]
+fn item_refusal(config: &RepoConfig, items: &[Item], item: &Item) -> Option<ChangeRefusal>
+    ensures { result ≡ spec.item_refusal config.now items.now item.now }
+{
+    if drops_format(item_named(item.identifier().as_str(), items), item) {
+        return Some(ChangeRefusal::DropsFormat);
+    }
+    if item.encoded_len().is_err() {
+        return Some(ChangeRefusal::TooLarge);
+    }
+    if is_one_too_many(config, items, item.identifier()) {
+        return Some(ChangeRefusal::TooManyItems);
+    }
+    None
+}
+
+/// Whether each setSpec is that of a set.
+fn have_sets(tree: &SetTree, specs: &[SetSpec]) -> bool
+    ensures { result ≡ list_all (has_set tree.now) specs.now }
+{
+    specs.iter().all(|spec| tree.has(spec))
+}
+
+/// Whether the repository has the format of each record.
+fn have_formats(formats: &Formats, records: &[Record]) -> bool
+    ensures { result ≡ list_all (has_format formats.now) records.now }
+{
+    records
+        .iter()
+        .all(|record| formats.find_named(record.0.as_str()).is_some())
+}
+
+/// Whether there is a record of that prefix.
+fn has_record(records: &[Record], prefix: &str) -> bool
+    ensures { result ≡ has_record prefix.now records.now }
+{
+    record_named(records, prefix).is_some()
+}
+
+/// The record of that prefix.
+#[tactic(auto, unfolding(oai_item::specs::Item::record_named))]
+fn record_named<'a>(records: &'a [Record], prefix: &str) -> Option<&'a Record>
+    ensures { option_copied result ≡ record_named prefix.now records.now }
+{
+    records.iter().find(|record| record.0.as_str() == prefix)
+}
+
+/// Whether each field of each record is one of its format's.
+fn have_known_fields(formats: &Formats, records: &[Record]) -> bool
+    ensures { result ≡ list_all (has_known_fields formats.now) records.now }
+{
+    records
+        .iter()
+        .all(|record| has_known_fields(formats, record))
+}
+
+/// Whether each field of the record is one of its format's.
+fn has_known_fields(formats: &Formats, record: &Record) -> bool
+    ensures { result ≡ has_known_fields formats.now record.now }
+{
+    match formats.find_named(record.0.as_str()) {
+        Some(format) => are_fields_of(format, record.1.as_slice()),
+        None => true,
+    }
+}
+
+/// Whether each field is one of the format's.
+fn are_fields_of(format: &Format, fields: &[Field]) -> bool
+    ensures { result ≡ are_fields_of (Some format.now) fields.now }
+{
+    fields.iter().all(|field| is_among(format.fields.as_slice(), field.name.as_str()))
+}
+
+/// Whether the name is one of these.
+fn is_among(names: &[Text], name: &str) -> bool
+    ensures { result ≡ is_among names.now name.now }
+{
+    names.iter().any(|other| other.as_str() == name)
+}
+
+/// Whether the item that is replaced has a format in which the new one has no record.
+fn drops_format(replaced: Option<&Item>, item: &Item) -> bool
+    ensures { result ≡ spec.drops_format (option_copied replaced.entry) item.now.formats }
+{
+    match replaced {
+        Some(replaced) => !has_each_format(item, replaced),
+        None => false,
+    }
+}
+
+/// Whether the item has a record in each format of the other one.
+fn has_each_format(item: &Item, other: &Item) -> bool
+    ensures { result ≡ list_all (λ (metadata : Metadata). has_record metadata.0 item.now.formats) other.now.formats }
+{
+    other
+        .formats()
+        .iter()
+        .all(|format| item.has_record(format.0.as_str()))
+}
+
+/// Whether the identifier is a new one and no further item may stand.
+#[tactic(auto, unfolding(crate::specs::Changes::is_one_too_many))]
+fn is_one_too_many(config: &RepoConfig, items: &[Item], identifier: &Identifier) -> bool
+    ensures { result ≡ spec.is_one_too_many config.now items.now identifier.now }
+{
+    item_named(identifier.as_str(), items).is_none() && config.items() <= items.len() as u64
+}
