@@ -3,8 +3,9 @@
 use Rattle.std.specs.Prelude.{◌≡◌, ℕ, ℤ, List, [], ◌∷◌, ◌++◌, take, codes, Option, Some, None, if◌then◌else◌, ◌==◌, Bool}
 use Rattle.std.specs.List.{after_first}
 use Rattle.std.specs.Str.{bytes_eq}
+use Rattle.oai_deposit.specs.Lines.{line_of}
 use Rattle.oai_repo.specs.Held.{Held, state_of}
-use Rattle.oai_repo.specs.Step.{Command, request, line, step}
+use Rattle.oai_repo.specs.Machine.{Input, query, line, step}
 use Rattle.oaihost.specs.declared.exchange.Exchange.{Exchange}
 use Rattle.oaihost.specs.declared.exchange.Answer.{Answer}
 use Rattle.oaihost.specs.declared.exchange.Answer.TheVariants.{Performed, NoMemory}
@@ -25,27 +26,27 @@ query_of target = after_first is_question_mark target
 abbrev pub arguments_of : Exchange → List ℕ
 arguments_of exchange = if bytes_eq exchange.method.now (codes "POST") then exchange.body.now else query_of exchange.target.now
 
--- the command that the exchange is
-abbrev pub command_of : Exchange → Command
-command_of exchange = if is_deposit exchange.target.now then line exchange.body.now else request (arguments_of exchange)
+-- what the exchange hands to the repository: a deposit line as it is read, or the arguments of a request
+abbrev pub input_of : Exchange → Input
+input_of exchange = if is_deposit exchange.target.now then line (line_of exchange.body.now) else query (arguments_of exchange)
 
 -- the body of an answer: a document as it is, a line with its end
-abbrev pub body_of : Command → List ℕ → List ℕ
-body_of (request query) bytes = bytes
-body_of (line text) bytes = bytes ++ 10 ∷ []
+abbrev pub body_of : Input → List ℕ → List ℕ
+body_of (query arguments) bytes = bytes
+body_of (line read) bytes = bytes ++ 10 ∷ []
 
--- the command was performed: one step of the repository, whose bytes are the body
-abbrev pub IsPerformed : Held → ℤ → Command → List ℕ → Held → Type 0
-IsPerformed old moment command body new =
-    let done = step old.config (state_of old) moment command in
-    (body ≡ body_of command done.1) × (state_of new ≡ done.0) × (new.config ≡ old.config)
+-- the exchange was performed: one step of the repository, whose bytes are the body
+abbrev pub IsPerformed : Held → ℤ → Input → List ℕ → Held → Type 0
+IsPerformed old moment input body new =
+    let done = step old.config (state_of old) moment input in
+    (body ≡ body_of input done.0) × (state_of new ≡ done.1) × (new.config ≡ old.config)
 
 -- a deposit says how many of its lines were done
-abbrev pub lines_done : Command → Option ℕ
-lines_done (request query) = None
-lines_done (line text) = Some 0
+abbrev pub lines_done : Input → Option ℕ
+lines_done (query arguments) = None
+lines_done (line read) = Some 0
 
 -- the exchange was performed, or memory was refused and everything is as it was
-abbrev pub IsAnswered : Held → ℤ → Command → Answer → Held → Type 0
-IsAnswered old moment command (Performed body) new = IsPerformed old moment command body new
-IsAnswered old moment command (NoMemory done) new = (done ≡ lines_done command) × (new ≡ old)
+abbrev pub IsAnswered : Held → ℤ → Input → Answer → Held → Type 0
+IsAnswered old moment input (Performed body) new = IsPerformed old moment input body new
+IsAnswered old moment input (NoMemory done) new = (done ≡ lines_done input) × (new ≡ old)

@@ -1,3 +1,10 @@
+ghost use Rattle.std.specs.Prelude.{◌≡◌, ℕ, ◌+◌, ◌-◌, ◌^◌, ◌≤◌, min, true, [], ◌++◌, length, Err, OnOk};
+ghost use Rattle.std.specs.List.{count_by, position, position_or_len};
+ghost use Rattle.std.specs.Option.{option_map};
+ghost use Rattle.std.specs.Io.KnownBytes.{Appends};
+ghost use Rattle.oaihost.specs.Lines as spec;
+ghost use Rattle.oaihost.specs.declared.stop.Stop.TheVariants.{BadExchange};
+
 use crate::exchange::{Answer, Exchange, perform};
 use crate::stop::Stop;
 use oai_repo::Repo;
@@ -101,15 +108,24 @@ impl Lines {
         self.end(served, writer)
     }
 
-    fn begin(&mut self, piece: &[u8]) -> Result<(), Stop> {
+    /// Adds a piece to the line that has not ended.
+    fn begin(&mut self, piece: &[u8]) -> Result<(), Stop>
+        ensures line { OnOk result (self.new.begun.items ≡ self.old.begun.items ++ piece.now) }
+        ensures number { self.new.ended ≡ self.old.ended }
+    {
         if self.begun.extend_from_slice(piece).is_err() {
             return Err(Stop::NoMemory);
         }
         Ok(())
     }
 
-    /// Performs the line that has just ended.
-    fn end<W: Write>(&mut self, served: &mut Repo, writer: &mut W) -> Result<(), Stop> {
+    /// Performs the line that has just ended, and begins the next.
+    fn end<W: Write>(&mut self, served: &mut Repo, writer: &mut W) -> Result<(), Stop>
+        ensures number { self.new.ended ≡ min (self.old.ended + 1) (2 ^ 64 - 1) }
+        ensures next { OnOk result (self.new.begun.items ≡ []) }
+        ensures bad { spec.is_bad self.old.begun.items ≡ true → result ≡ Err (BadExchange self.new.ended) }
+        ensures good { (n : ℕ) → result ≡ Err (BadExchange n) → spec.is_bad self.old.begun.items ≡ true }
+    {
         self.ended = self.ended.saturating_add(1);
         if !self.begun.is_empty() {
             let Some((moment, exchange)) = read_exchange(&self.begun) else {
@@ -126,12 +142,17 @@ impl Lines {
 }
 
 /// Reads a line: three or four parts between single spaces, of which the last goes to the end.
-fn read_exchange(line: &[u8]) -> Option<(i64, Exchange<'_>)> {
-    let mut parts = line.splitn(4, |b| *b == b' ');
-    let moment = read_moment(parts.next()?)?;
-    let method = parts.next()?;
-    let target = parts.next()?;
-    let body = parts.next().unwrap_or(&[]);
+#[tactic(auto, unfolding(crate::specs::Lines::spelled))]
+fn read_exchange(line: &[u8]) -> Option<(i64, Exchange<'_>)>
+    ensures { option_map spec.spelled_by result ≡ spec.spelled line.now }
+{
+    if spaces(line) < 2 {
+        return None;
+    }
+    let (moment, rest) = cut(line);
+    let (method, rest) = cut(rest);
+    let (target, body) = cut(rest);
+    let moment = read_moment(moment)?;
     Some((
         moment,
         Exchange {
@@ -142,9 +163,49 @@ fn read_exchange(line: &[u8]) -> Option<(i64, Exchange<'_>)> {
     ))
 }
 
+/// How many spaces the text has.
+fn spaces(text: &[u8]) -> usize
+    ensures { result ≡ count_by spec.is_space text.now }
+{
+    text.iter().filter(|b| **b == b' ').count()
+}
+
+/// What stands before the first space, and what stands after it; all and nothing where none does.
+fn cut(text: &[u8]) -> (&[u8], &[u8])
+    ensures front { result.0.now ≡ spec.part text.now }
+    ensures back { result.1.now ≡ spec.rest text.now }
+{
+    let front = front_len(text);
+    if front < text.len() {
+        (&text[..front], &text[front + 1..])
+    } else {
+        (text, &[])
+    }
+}
+
+/// How many bytes stand before the first space.
+fn front_len(text: &[u8]) -> usize
+    ensures length { result ≡ position_or_len spec.is_space text.now }
+    ensures within { result ≤ length text.now }
+{
+    match first_space(text) {
+        Some(at) => at,
+        None => text.len(),
+    }
+}
+
+/// The place of the first space.
+fn first_space(text: &[u8]) -> Option<usize>
+    ensures { result ≡ position spec.is_space text.now }
+{
+    text.iter().position(|b| *b == b' ')
+}
+
 /// Reads a moment: decimal digits, after a minus where it is negative.
-fn read_moment(text: &[u8]) -> Option<i64> {
-    if text.first() == Some(&b'+') {
+fn read_moment(text: &[u8]) -> Option<i64>
+    ensures { result ≡ spec.moment_of text.now }
+{
+    if text.starts_with(b"+") {
         return None;
     }
     let Ok(text) = std::str::from_utf8(text) else {
@@ -154,13 +215,26 @@ fn read_moment(text: &[u8]) -> Option<i64> {
 }
 
 /// Writes an answer: its status with the numbers that it has, a line end, and its body.
-fn write_answer<W: Write>(answer: &Answer, writer: &mut W) -> io::Result<()> {
+#[tactic(auto, unfolding(crate::specs::Lines::shown))]
+pub(crate) fn write_answer<W: Write>(answer: &Answer, writer: &mut W) -> io::Result<()>
+    ensures { OnOk result (Appends (W.Write.contents writer.old) (W.Write.contents writer.new) (spec.shown answer.now)) }
+{
     match answer {
         Answer::Performed(body) => {
             writer.write_all(b"200\n")?;
             writer.write_all(body.as_slice())
         }
-        Answer::NoMemory { done: Some(done) } => writeln!(writer, "503 {WAIT} {done}"),
-        Answer::NoMemory { done: None } => writeln!(writer, "503 {WAIT}"),
+        Answer::NoMemory { done } => write_refused(*done, writer),
+    }
+}
+
+/// Writes that memory was refused, and the lines that were done.
+#[tactic(auto, unfolding(crate::specs::Lines::shown_refused))]
+fn write_refused<W: Write>(done: Option<u64>, writer: &mut W) -> io::Result<()>
+    ensures { OnOk result (Appends (W.Write.contents writer.old) (W.Write.contents writer.new) (spec.shown_refused done)) }
+{
+    match done {
+        Some(done) => writeln!(writer, "503 {WAIT} {done}"),
+        None => writeln!(writer, "503 {WAIT}"),
     }
 }

@@ -1,5 +1,6 @@
+use oai_answers::DeletedRecord;
 use oai_names::{Sequence, Text};
-use oai_repo::{ConfigFault, DeletedRecord, FormatSettings, RepoConfig, Settings};
+use oai_repo::{ConfigFault, FormatSettings, RepoConfig, Settings};
 use oai_time::Granularity;
 use std::alloc::{AllocError, Global};
 
@@ -22,13 +23,13 @@ fn archive_settings(alloc: Global) -> Result<Settings, AllocError> {
         name: Text::new(alloc, "a")?,
         repository_name: Text::new(alloc, "Archive A")?,
         addresses: Sequence::new(addresses),
-        earliest: 1_704_067_200,
+        earliest: Text::new(alloc, "2024-01-01T00:00:00Z")?,
         deleted: DeletedRecord::Persistent,
         granularity: Granularity::Second,
-        chunk: 2,
-        lifetime: 60,
-        lists: 1,
-        items: 1_000,
+        chunk: Some(2),
+        lifetime: Some(60),
+        lists: Some(1),
+        items: Some(1_000),
         formats: Sequence::new(formats),
     })
 }

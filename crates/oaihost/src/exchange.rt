@@ -1,13 +1,16 @@
 ghost use Rattle.std.specs.Prelude.{◌≡◌, ◌+◌, ◌≤◌, ◌++◌, [], ◌∷◌, length, vec_len, vec_capacity, codes, OnOk, OnErr, IfOk};
 ghost use Rattle.std.specs.List.{position_or_len};
 ghost use Rattle.oai_time.specs.Stamp.{IsWritable};
-ghost use Rattle.oai_repo.specs.Documents.{datestamp_text};
-ghost use Rattle.oai_repo.specs.Step.{line};
+ghost use Rattle.oai_time.specs.TimeTexts.{datestamp_text};
+ghost use Rattle.oai_deposit.specs.Lines.{line_of};
+ghost use Rattle.oai_repo.specs.Machine.{line};
 ghost use Rattle.oaihost.specs.Exchange as spec;
 
+use oai_deposit::{LineFault, read_line};
+use oai_item::{Change, LineRefusal};
 use oai_names::Sequence;
-use oai_repo::{Fault, LineFault, Refusal, Reply, Repo, read_line};
-use oai_time::{Granularity, write_day, write_second};
+use oai_repo::{Fault, Refusal, Reply, Repo};
+use oai_time::{Granularity, write_datestamp};
 use std::alloc::Global;
 
 /// The most bytes of the line that answers a deposit, its end included.
@@ -42,7 +45,7 @@ pub enum Answer {
 /// request of OAI-PMH (section 3.1.1 of OAI-PMH 2.0), with its arguments in the body of a POST and
 /// in the query of every other method.
 pub fn perform(alloc: Global, repo: &mut Repo, moment: i64, exchange: &Exchange<'_>) -> Answer
-    ensures { spec.IsAnswered repo.old moment (spec.command_of exchange.now) result repo.new }
+    ensures { spec.IsAnswered repo.old moment (spec.input_of exchange.now) result repo.new }
 {
     if is_deposit(exchange.target) {
         match deposit(alloc, repo, moment, exchange.body) {
@@ -103,23 +106,49 @@ fn path_len(target: &[u8]) -> usize
 /// Performs a deposit line and answers the line for it. Room for the answer is taken first, so a
 /// line that was performed is answered.
 fn deposit(alloc: Global, repo: &mut Repo, moment: i64, text: &[u8]) -> Result<Vec<u8>, Fault>
-    ensures ok { IfOk result (λ body. spec.IsPerformed repo.old moment (line text.now) body.items repo.new) }
+    ensures ok { IfOk result (λ body. spec.IsPerformed repo.old moment (line (line_of text.now)) body.items repo.new) }
     ensures err { OnErr result (repo.new ≡ repo.old) }
 {
-    let mut answer = Vec::with_capacity(alloc, MOST_LINE)?;
+    let answer = Vec::with_capacity(alloc, MOST_LINE)?;
     match read_line(alloc, text) {
-        Ok(change) => match repo.change(moment, &change) {
-            Ok(stamp) => put_stamp(repo.config().granularity(), stamp, &mut answer),
-            Err(Refusal::Refused(cause)) => put_line(cause.answer(), &mut answer),
-            Err(Refusal::Fault(fault)) => return Err(fault),
-        },
-        Err(LineFault::Refused(cause)) => {
-            repo.advance(moment);
-            put_line(cause.answer(), &mut answer);
-        }
-        Err(LineFault::NoMemory) => return Err(Fault::NoMemory),
+        Ok(change) => changed(repo, moment, &change, answer),
+        Err(LineFault::Refused(cause)) => Ok(refused(repo, moment, cause, answer)),
+        Err(LineFault::NoMemory) => Err(Fault::NoMemory),
+    }
+}
+
+/// Performs a change and answers the line for it, in the room that is there.
+#[tactic(auto, unfolding(oai_repo::specs::Machine::written))]
+fn changed(
+    repo: &mut Repo,
+    moment: i64,
+    change: &Change,
+    mut answer: Vec<u8>,
+) -> Result<Vec<u8>, Fault>
+    requires empty { answer.items ≡ [] }
+    requires room { 32 ≤ vec_capacity answer }
+    ensures ok { IfOk result (λ body. spec.IsPerformed repo.old moment (line (Ok change.now)) body.items repo.new) }
+    ensures err { OnErr result (repo.new ≡ repo.old) }
+{
+    match repo.change(moment, change) {
+        Ok(stamp) => put_stamp(repo.config().granularity(), stamp, &mut answer),
+        Err(Refusal::Refused(cause)) => put_line(cause.answer(), &mut answer),
+        Err(Refusal::Fault(fault)) => return Err(fault),
     }
     Ok(answer)
+}
+
+/// Moves the clock for a line that is refused as it stands and answers the line for it, in the room
+/// that is there.
+#[tactic(auto, unfolding(oai_repo::specs::Machine::written, oai_repo::specs::Machine::act))]
+fn refused(repo: &mut Repo, moment: i64, cause: LineRefusal, mut answer: Vec<u8>) -> Vec<u8>
+    requires empty { answer.items ≡ [] }
+    requires room { 32 ≤ vec_capacity answer }
+    ensures { spec.IsPerformed repo.old moment (line (Err cause)) result.items repo.new }
+{
+    repo.advance(moment);
+    put_line(cause.answer(), &mut answer);
+    answer
 }
 
 /// Writes `ok`, the datestamp and a line end.
@@ -129,10 +158,7 @@ fn put_stamp(granularity: Granularity, stamp: i64, out: &mut Vec<u8>)
     ensures { out.new.items ≡ out.old.items ++ (codes "ok " ++ datestamp_text granularity stamp) ++ 10 ∷ [] }
 {
     put(b"ok ", out);
-    match granularity {
-        Granularity::Day => put(&write_day(stamp), out),
-        Granularity::Second => put(&write_second(stamp), out),
-    }
+    put(write_datestamp(granularity, stamp).as_bytes(), out);
     put(b"\n", out);
 }
 

@@ -19,7 +19,6 @@ pub(super) fn with_bad_verbs() -> &'static str {
 1704067200 GET /oai/a
 1704067200 GET /oai/a?verb=identify
 1704067200 GET /oai/a?verb=Identify%00
-1704067200 GET /oai/a?verb=ListRecords&metadataPrefix=oai_dc
 1704067200 GET  "
 }
 

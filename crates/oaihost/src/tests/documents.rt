@@ -1,0 +1,568 @@
+//! Each document by its whole bytes.
+ghost use Rattle.std.specs.Prelude.{◌≡◌, ◌≢◌, IfOk, [], true};
+ghost use Rattle.oai_item.specs.Item.{IsStamp, are_rising};
+ghost use Rattle.oai_answers.specs.Answers.{HasWritableTimes, IsWritableDocument};
+ghost use Rattle.oai_answers.specs.Borrowed.{answer_of, document_of};
+
+mod expected;
+
+use oai_answers::{
+    Asked, Body, DeletedRecord, Doc, ErrorCode, Extent, Identity, Listed, Offered, Record,
+    Remaining, Resumption, write_document,
+};
+use oai_item::{Field, Format, Formats, Item};
+use oai_names::{Identifier, Prefix, Sequence, SetSpec, Text};
+use oai_time::Granularity;
+use std::alloc::Global;
+use std::process::Abort;
+use std::test::Fail;
+
+/// 2024-01-01T00:00:00Z.
+const DATE: i64 = 1_704_067_200;
+
+/// The base URL.
+const BASE: &str = "http://host.example/oai/a";
+
+/// Markup, and other characters that are written in more than one way.
+const MARKUP: &str = "&<>\"'\r\t\né𝄞";
+
+/// The document is spelled so.
+fn assert_document(rt: &impl Abort, alloc: Global, doc: &Doc<'_>, wanted: &str) -> Result<(), Fail>
+    requires { IsWritableDocument (document_of doc.now) }
+{
+    let mut written = Vec::new(alloc);
+    write_document(alloc, doc, &mut written)?;
+    let wanted = wanted.replace(alloc, '→', "\t")?;
+    assert_eq!(rt; written.as_slice(), wanted.as_bytes(), "{wanted}");
+    Ok(())
+}
+
+/// The answer to the arguments, at the date and the base URL, is spelled so.
+fn assert_answer(
+    rt: &impl Abort,
+    alloc: Global,
+    asked: Asked<'_>,
+    body: Body<'_>,
+    wanted: &str,
+) -> Result<(), Fail>
+    requires { HasWritableTimes (answer_of body) }
+{
+    let doc = Doc {
+        date: DATE,
+        base: BASE,
+        asked,
+        body,
+    };
+    assert_document(rt, alloc, &doc, wanted)
+}
+
+/// The answer, where markup stands in the base URL and in each argument, is spelled so.
+fn assert_escaped(rt: &impl Abort, alloc: Global, body: Body<'_>, wanted: &str) -> Result<(), Fail>
+    requires { HasWritableTimes (answer_of body) }
+{
+    let doc = Doc {
+        date: DATE,
+        base: MARKUP,
+        asked: all_of(MARKUP),
+        body,
+    };
+    assert_document(rt, alloc, &doc, wanted)
+}
+
+/// The verb alone.
+fn verb(name: &str) -> Asked<'_> {
+    Asked {
+        verb: Some(name),
+        ..Asked::nothing()
+    }
+}
+
+/// An item, or all, in the format of that prefix.
+fn in_format<'a>(name: &'a str, identifier: Option<&'a str>, prefix: &'a str) -> Asked<'a> {
+    Asked {
+        identifier,
+        prefix: Some(prefix),
+        ..verb(name)
+    }
+}
+
+/// All arguments, each of that text.
+fn all_of(text: &str) -> Asked<'_> {
+    Asked {
+        verb: Some(text),
+        identifier: Some(text),
+        prefix: Some(text),
+        from: Some(text),
+        until: Some(text),
+        set: Some(text),
+        token: Some(text),
+    }
+}
+
+/// The setSpecs.
+fn set_specs(alloc: Global, specs: &[&str]) -> Result<Sequence<SetSpec>, Fail> {
+    let mut sets = Vec::new(alloc);
+    for spec in specs {
+        sets.push(SetSpec::read(alloc, spec)?)?;
+    }
+    Ok(Sequence::new(sets))
+}
+
+/// The fields, each its name and its text.
+fn fields(alloc: Global, named: &[(&str, &str)]) -> Result<Sequence<Field>, Fail> {
+    let mut fields = Vec::new(alloc);
+    for (name, text) in named {
+        fields.push(Field {
+            name: Text::new(alloc, name)?,
+            text: Text::new(alloc, text)?,
+        })?;
+    }
+    Ok(Sequence::new(fields))
+}
+
+/// `oai:a:1`, in no sets, with these fields in oai_dc.
+fn dublin_core(alloc: Global, named: &[(&str, &str)]) -> Result<Item, Fail> {
+    let mut formats = Vec::new(alloc);
+    formats.push((Prefix::read(alloc, "oai_dc")?, fields(alloc, named)?))?;
+    let identifier = Identifier::read(alloc, "oai:a:1")?;
+    let sets = set_specs(alloc, &[])?;
+    Ok(Item::live(alloc, identifier, DATE, sets, Sequence::new(formats))?)
+}
+
+/// Records in jnl, with that volume, and in oai_dc, with a title.
+fn two_records(alloc: Global, volume: &str) -> Result<Sequence<(Prefix, Sequence<Field>)>, Fail>
+    ensures rising { IfOk result (λ formats. are_rising formats ≡ true) }
+    ensures carries { IfOk result (λ formats. formats ≢ []) }
+{
+    let journal = Prefix::read(alloc, "jnl")?;
+    let dublin_core = Prefix::read(alloc, "oai_dc")?;
+    let in_journal = fields(alloc, &[("volume", volume)])?;
+    let in_dublin_core = fields(alloc, &[("title", "T")])?;
+    let mut formats = Vec::new(alloc);
+    formats.push((journal, in_journal))?;
+    formats.push((dublin_core, in_dublin_core))?;
+    Ok(Sequence::new(formats))
+}
+
+/// An item of that identifier and datestamp, in these sets, with that volume in jnl and a
+/// title in oai_dc.
+fn in_journal(
+    alloc: Global,
+    identifier: &str,
+    stamp: i64,
+    specs: &[&str],
+    volume: &str,
+) -> Result<Item, Fail>
+    requires { IsStamp stamp }
+{
+    let identifier = Identifier::read(alloc, identifier)?;
+    let sets = set_specs(alloc, specs)?;
+    let formats = two_records(alloc, volume)?;
+    Ok(Item::live(alloc, identifier, stamp, sets, formats)?)
+}
+
+/// `oai:a:2`, deleted a second after the date, in two sets, with records in jnl and in oai_dc.
+fn deleted(alloc: Global) -> Result<Item, Fail> {
+    let item = in_journal(alloc, "oai:a:2", DATE, &["x:y", "z"], "7")?;
+    Ok(item.tombstone(alloc, DATE + 1)?)
+}
+
+/// A format of this prefix, with these texts.
+fn format(alloc: Global, prefix: &str, schema: &str, namespace: &str) -> Result<Format, Fail> {
+    let mut fields = Vec::new(alloc);
+    fields.push(Text::new(alloc, "volume")?)?;
+    Ok(Format {
+        prefix: Prefix::read(alloc, prefix)?,
+        schema: Text::new(alloc, schema)?,
+        namespace: Text::new(alloc, namespace)?,
+        root: Text::new(alloc, "article")?,
+        fields: Sequence::new(fields),
+    })
+}
+
+/// The format jnl.
+fn journal(alloc: Global) -> Result<Format, Fail> {
+    format(
+        alloc,
+        "jnl",
+        "http://host.example/jnl.xsd",
+        "http://host.example/jnl/",
+    )
+}
+
+/// Where a part stands in its list.
+fn at(cursor: u64, size: u64) -> Extent {
+    Extent { size, cursor }
+}
+
+#[test]
+fn identify(rt: HostRuntime) -> Result<(), Fail> {
+    let alloc = rt.alloc();
+    let addresses = [Text::new(alloc, "a@host.example")?];
+    let identity = Identity {
+        name: "Archive A",
+        addresses: &addresses,
+        earliest: DATE,
+        deleted: DeletedRecord::Persistent,
+        granularity: Granularity::Second,
+    };
+    let body = Body::Identify(identity);
+    assert_answer(&rt, alloc, verb("Identify"), body, expected::identify())
+}
+
+#[test]
+fn identify_of_days(rt: HostRuntime) -> Result<(), Fail> {
+    let alloc = rt.alloc();
+    let addresses = [
+        Text::new(alloc, "b@host.example")?,
+        Text::new(alloc, "c@host.example")?,
+    ];
+    let identity = Identity {
+        name: "Archive B",
+        addresses: &addresses,
+        earliest: DATE + 86_399,
+        deleted: DeletedRecord::No,
+        granularity: Granularity::Day,
+    };
+    let body = Body::Identify(identity);
+    assert_answer(
+        &rt,
+        alloc,
+        verb("Identify"),
+        body,
+        expected::identify_of_days(),
+    )
+}
+
+#[test]
+fn identify_transient(rt: HostRuntime) -> Result<(), Fail> {
+    let identity = Identity {
+        name: "",
+        addresses: &[],
+        earliest: -62_167_219_200,
+        deleted: DeletedRecord::Transient,
+        granularity: Granularity::Second,
+    };
+    let body = Body::Identify(identity);
+    assert_answer(
+        &rt,
+        rt.alloc(),
+        verb("Identify"),
+        body,
+        expected::identify_transient(),
+    )
+}
+
+/// All eight errors. All arguments were given; two of the errors tell none.
+#[test]
+fn errors(rt: HostRuntime) -> Result<(), Fail> {
+    let asked = Asked {
+        verb: Some("GetRecord"),
+        identifier: Some("i"),
+        prefix: Some("p"),
+        from: Some("f"),
+        until: Some("u"),
+        set: Some("s"),
+        token: Some("t"),
+    };
+    let all = [
+        (ErrorCode::BadVerb, expected::bad_verb()),
+        (ErrorCode::BadArgument, expected::bad_argument()),
+        (
+            ErrorCode::BadResumptionToken,
+            expected::bad_resumption_token(),
+        ),
+        (
+            ErrorCode::CannotDisseminateFormat,
+            expected::cannot_disseminate_format(),
+        ),
+        (ErrorCode::IdDoesNotExist, expected::id_does_not_exist()),
+        (ErrorCode::NoRecordsMatch, expected::no_records_match()),
+        (
+            ErrorCode::NoMetadataFormats,
+            expected::no_metadata_formats(),
+        ),
+        (ErrorCode::NoSetHierarchy, expected::no_set_hierarchy()),
+    ];
+    for (code, wanted) in all {
+        assert_answer(&rt, rt.alloc(), asked, Body::Error(code), wanted)?;
+    }
+    Ok(())
+}
+
+#[test]
+fn formats(rt: HostRuntime) -> Result<(), Fail> {
+    let alloc = rt.alloc();
+    let mut formats = Formats::dc(alloc)?;
+    formats.declare(journal(alloc)?)?;
+    let all = Offered {
+        formats: formats.as_slice(),
+        of: None,
+    };
+    let name = "ListMetadataFormats";
+    let body = Body::ListMetadataFormats(all);
+    assert_answer(&rt, alloc, verb(name), body, expected::all_formats())?;
+    let item = dublin_core(alloc, &[])?;
+    let some = Offered {
+        of: Some(&item),
+        ..all
+    };
+    let asked = Asked {
+        identifier: Some("oai:a:1"),
+        ..verb(name)
+    };
+    let body = Body::ListMetadataFormats(some);
+    assert_answer(&rt, alloc, asked, body, expected::formats_of_an_item())
+}
+
+#[test]
+fn sets(rt: HostRuntime) -> Result<(), Fail> {
+    let alloc = rt.alloc();
+    let sets = [
+        (SetSpec::read(alloc, "x")?, Text::new(alloc, "X & Y")?),
+        (SetSpec::read(alloc, "x:y")?, Text::new(alloc, "Y")?),
+    ];
+    let body = Body::ListSets(&sets);
+    assert_answer(&rt, alloc, verb("ListSets"), body, expected::sets())
+}
+
+#[test]
+fn first_record(rt: HostRuntime) -> Result<(), Fail> {
+    let alloc = rt.alloc();
+    let formats = Formats::dc(alloc)?;
+    let Some(format) = formats.get(0) else {
+        panic!(rt; "no format");
+    };
+    let item = dublin_core(alloc, &[("title", "A & B < \"C\" é")])?;
+    let body = Body::GetRecord(Record {
+        item: &item,
+        granularity: Granularity::Second,
+        format,
+    });
+    let asked = in_format("GetRecord", Some("oai:a:1"), "oai_dc");
+    assert_answer(&rt, alloc, asked, body, expected::first_record())
+}
+
+#[test]
+fn declared_record(rt: HostRuntime) -> Result<(), Fail> {
+    let alloc = rt.alloc();
+    let format = journal(alloc)?;
+    let item = in_journal(alloc, "oai:a:2", DATE, &["x:y", "z"], "7")?;
+    let body = Body::GetRecord(Record {
+        item: &item,
+        granularity: Granularity::Second,
+        format: &format,
+    });
+    let asked = in_format("GetRecord", Some("oai:a:2"), "jnl");
+    assert_answer(&rt, alloc, asked, body, expected::declared_record())
+}
+
+#[test]
+fn deleted_record(rt: HostRuntime) -> Result<(), Fail> {
+    let alloc = rt.alloc();
+    let format = journal(alloc)?;
+    let item = deleted(alloc)?;
+    let body = Body::GetRecord(Record {
+        item: &item,
+        granularity: Granularity::Second,
+        format: &format,
+    });
+    let asked = in_format("GetRecord", Some("oai:a:2"), "jnl");
+    assert_answer(&rt, alloc, asked, body, expected::deleted_record())
+}
+
+#[test]
+fn record_without_fields(rt: HostRuntime) -> Result<(), Fail> {
+    let alloc = rt.alloc();
+    let formats = Formats::dc(alloc)?;
+    let Some(format) = formats.get(0) else {
+        panic!(rt; "no format");
+    };
+    let item = dublin_core(alloc, &[])?;
+    let body = Body::GetRecord(Record {
+        item: &item,
+        granularity: Granularity::Day,
+        format,
+    });
+    let asked = in_format("GetRecord", Some("oai:a:1"), "oai_dc");
+    assert_answer(&rt, alloc, asked, body, expected::record_without_fields())
+}
+
+#[test]
+fn headers(rt: HostRuntime) -> Result<(), Fail> {
+    let alloc = rt.alloc();
+    let items = [
+        dublin_core(alloc, &[])?,
+        in_journal(alloc, "oai:a:2", DATE + 1, &["x:y", "z"], "7")?,
+    ];
+    let whole = Listed {
+        items: &items,
+        granularity: Granularity::Second,
+        resumption: Resumption::Whole,
+    };
+    let asked = in_format("ListIdentifiers", None, "oai_dc");
+    let body = Body::ListIdentifiers(whole);
+    assert_answer(&rt, alloc, asked, body, expected::headers())?;
+    let resumption = Resumption::More(Remaining {
+        expires: DATE + 61,
+        extent: at(0, 3),
+        token: "1.2",
+    });
+    let first = Listed {
+        resumption,
+        ..whole
+    };
+    let body = Body::ListIdentifiers(first);
+    assert_answer(&rt, alloc, asked, body, expected::headers_that_go_on())
+}
+
+#[test]
+fn last_headers(rt: HostRuntime) -> Result<(), Fail> {
+    let alloc = rt.alloc();
+    let items = [deleted(alloc)?];
+    let last = Listed {
+        items: &items,
+        granularity: Granularity::Second,
+        resumption: Resumption::Last(at(2, 3)),
+    };
+    let asked = Asked {
+        token: Some("1.2"),
+        ..verb("ListIdentifiers")
+    };
+    let body = Body::ListIdentifiers(last);
+    assert_answer(&rt, alloc, asked, body, expected::last_headers())
+}
+
+#[test]
+fn records(rt: HostRuntime) -> Result<(), Fail> {
+    let alloc = rt.alloc();
+    let formats = Formats::dc(alloc)?;
+    let Some(format) = formats.get(0) else {
+        panic!(rt; "no format");
+    };
+    let items = [
+        dublin_core(alloc, &[("title", "A & B < \"C\" é")])?,
+        deleted(alloc)?,
+    ];
+    let whole = Listed {
+        items: &items,
+        granularity: Granularity::Second,
+        resumption: Resumption::Whole,
+    };
+    let asked = in_format("ListRecords", None, "oai_dc");
+    let body = Body::ListRecords(format, whole);
+    assert_answer(&rt, alloc, asked, body, expected::records())
+}
+
+#[test]
+fn records_of_days(rt: HostRuntime) -> Result<(), Fail> {
+    let alloc = rt.alloc();
+    let format = journal(alloc)?;
+    let items = [in_journal(alloc, "oai:a:2", DATE, &["x:y", "z"], "7")?];
+    let resumption = Resumption::More(Remaining {
+        expires: DATE + 61,
+        extent: at(10, 18_446_744_073_709_551_615),
+        token: "1.2",
+    });
+    let part = Listed {
+        items: &items,
+        granularity: Granularity::Day,
+        resumption,
+    };
+    let asked = in_format("ListRecords", None, "jnl");
+    let body = Body::ListRecords(&format, part);
+    assert_answer(&rt, alloc, asked, body, expected::records_of_days())
+}
+
+#[test]
+fn last_records(rt: HostRuntime) -> Result<(), Fail> {
+    let alloc = rt.alloc();
+    let formats = Formats::dc(alloc)?;
+    let Some(format) = formats.get(0) else {
+        panic!(rt; "no format");
+    };
+    let items = [dublin_core(alloc, &[("title", "T"), ("creator", "C"), ("title", "")])?];
+    let last = Listed {
+        items: &items,
+        granularity: Granularity::Second,
+        resumption: Resumption::Last(at(100, 101)),
+    };
+    let asked = Asked {
+        token: Some("1.100"),
+        ..verb("ListRecords")
+    };
+    let body = Body::ListRecords(format, last);
+    assert_answer(&rt, alloc, asked, body, expected::last_records())
+}
+
+#[test]
+fn escaped_identify(rt: HostRuntime) -> Result<(), Fail> {
+    let alloc = rt.alloc();
+    let addresses = [Text::new(alloc, MARKUP)?];
+    let body = Body::Identify(Identity {
+        name: MARKUP,
+        addresses: &addresses,
+        earliest: DATE,
+        deleted: DeletedRecord::No,
+        granularity: Granularity::Day,
+    });
+    assert_escaped(&rt, alloc, body, expected::escaped_identify())
+}
+
+#[test]
+fn escaped_formats(rt: HostRuntime) -> Result<(), Fail> {
+    let alloc = rt.alloc();
+    let formats = [format(alloc, "a'b", MARKUP, MARKUP)?];
+    let body = Body::ListMetadataFormats(Offered {
+        formats: &formats,
+        of: None,
+    });
+    assert_escaped(&rt, alloc, body, expected::escaped_formats())
+}
+
+#[test]
+fn escaped_sets(rt: HostRuntime) -> Result<(), Fail> {
+    let alloc = rt.alloc();
+    let sets = [(SetSpec::read(alloc, "x'y")?, Text::new(alloc, MARKUP)?)];
+    let body = Body::ListSets(&sets);
+    assert_escaped(&rt, alloc, body, expected::escaped_sets())
+}
+
+/// Markup stands in the parts of a record, in its format and in a token.
+#[test]
+fn escaped_records(rt: HostRuntime) -> Result<(), Fail> {
+    let alloc = rt.alloc();
+    let format = format(alloc, "jnl", MARKUP, MARKUP)?;
+    let items = [in_journal(alloc, "a:&'1", DATE, &["x'y"], MARKUP)?];
+    let resumption = Resumption::More(Remaining {
+        expires: 253_402_300_799,
+        extent: at(0, 0),
+        token: MARKUP,
+    });
+    let part = Listed {
+        items: &items,
+        granularity: Granularity::Second,
+        resumption,
+    };
+    let body = Body::ListRecords(&format, part);
+    assert_escaped(&rt, alloc, body, expected::escaped_records())
+}
+
+/// What stood in the buffer stays in front of the document.
+#[test]
+fn front_of_the_buffer_stays(rt: HostRuntime) -> Result<(), Fail> {
+    let alloc = rt.alloc();
+    let doc = Doc {
+        date: DATE,
+        base: BASE,
+        asked: Asked::nothing(),
+        body: Body::Error(ErrorCode::BadVerb),
+    };
+    let mut written = Vec::new(alloc);
+    written.extend_from_slice(b"front")?;
+    write_document(alloc, &doc, &mut written)?;
+    let mut wanted = String::from_str(alloc, "front")?;
+    wanted.push_str(expected::bad_verb())?;
+    assert_eq!(rt; written.as_slice(), wanted.as_bytes());
+    Ok(())
+}

@@ -1,0 +1,340 @@
+//! How the input is cut into lines, whatever the pieces in which it comes, and what is written
+//! where it, the output or memory fails.
+use super::{asked, push_wanted, transcripts};
+use crate::ask::{ask_lines, write_answer};
+use crate::builtin;
+use crate::exchange::Answer;
+use crate::stop::Stop;
+use oai_repo::Repo;
+use std::alloc::{AllocError, Global};
+use std::io::{self, ErrorKind, Read, Write};
+use std::process::Abort;
+use std::test::Fail;
+
+/// A deposit, an empty line, a line that is no JSON, and a deposit that has no line end.
+fn script() -> &'static str {
+    r#"1704067200 POST /deposit/a {"deposit":"oai:a:1","sets":[],"records":{"oai_dc":[]}}
+
+1704067205 POST /deposit/ [
+1704067210 PUT /deposit/a {"deposit":"oai:a:2","sets":[],"records":{"oai_dc":[]}}"#
+}
+
+/// What it is answered.
+fn script_answer() -> &'static str {
+    "200
+ok 2024-01-01T00:00:00Z
+200
+refused 1 bad-json
+200
+ok 2024-01-01T00:00:10Z
+"
+}
+
+/// The answers to its first lines, where so many bytes of it have come.
+fn answer_to_front(bytes: usize) -> &'static str {
+    match bytes {
+        0..=82 => "",
+        83..=111 => "200\nok 2024-01-01T00:00:00Z\n",
+        _ => "200\nok 2024-01-01T00:00:00Z\n200\nrefused 1 bad-json\n",
+    }
+}
+
+/// Gives at most so many bytes at its first read, and at most so many at each later one.
+#[derive(Drop)]
+struct PiecesReader<'a> {
+    text: &'a [u8],
+    first: usize,
+    later: usize,
+}
+
+impl Read for PiecesReader<'_> {
+    fn read(&mut self, buffer: &mut [u8]) -> io::Result<usize> {
+        let most = self.first.min(self.text.len());
+        let mut piece = &self.text[..most];
+        let count = piece.read(buffer)?;
+        self.text = self.text.get(count..).unwrap_or(&[]);
+        self.first = self.later;
+        Ok(count)
+    }
+}
+
+/// What is written where the text comes in these pieces.
+fn asked_in_pieces(
+    alloc: Global,
+    text: &[u8],
+    first: usize,
+    later: usize,
+) -> Result<Vec<u8>, Fail> {
+    let mut served = Repo::new(alloc, builtin::archive(alloc)?)?;
+    let mut reader = PiecesReader { text, first, later };
+    let mut output = Vec::new(alloc);
+    ask_lines(alloc, &mut served, &mut reader, &mut output)?;
+    Ok(output)
+}
+
+/// In one read, in two that are cut at every place, and in many of each length.
+#[test]
+fn pieces(rt: HostRuntime) -> Result<(), Fail> {
+    let alloc = rt.alloc();
+    let wanted = script_answer().as_bytes();
+    assert_eq!(rt; asked(alloc, script())?.as_slice(), wanted);
+    let text = script().as_bytes();
+    for length in 1..=text.len() {
+        let in_two = asked_in_pieces(alloc, text, length, text.len())?;
+        assert_eq!(rt; in_two.as_slice(), wanted, "cut at {length}");
+        let in_many = asked_in_pieces(alloc, text, length, length)?;
+        assert_eq!(rt; in_many.as_slice(), wanted, "pieces of {length}");
+    }
+    Ok(())
+}
+
+/// The script after so many empty lines.
+fn script_after(alloc: Global, empty: usize) -> Result<Vec<u8>, AllocError> {
+    let mut text = Vec::new(alloc);
+    for _ in 0..empty {
+        text.push(b'\n')?;
+    }
+    text.extend_from_slice(script().as_bytes())?;
+    Ok(text)
+}
+
+/// Empty lines move the script over the end of a read of 65,536 bytes, place by place.
+#[test]
+fn lines_cross_the_buffer(rt: HostRuntime) -> Result<(), Fail> {
+    let alloc = rt.alloc();
+    for before in 0..=script().len() {
+        let text = script_after(alloc, 65_536 - before.min(65_536))?;
+        let output = asked_in_pieces(alloc, text.as_slice(), 65_536, 65_536)?;
+        assert_eq!(rt; output.as_slice(), script_answer().as_bytes(), "{before}");
+    }
+    Ok(())
+}
+
+/// A line of 140,022 bytes, which fills two reads and more, and a line after it.
+#[test]
+fn line_longer_than_the_buffer(rt: HostRuntime) -> Result<(), Fail> {
+    let alloc = rt.alloc();
+    let mut text = String::from_str(alloc, "1704067200 GET /oai/a?")?;
+    for _ in 0..140_000 {
+        text.push('x')?;
+    }
+    text.push('\n')?;
+    text.push_str(script())?;
+    let output = asked(alloc, text.as_str())?;
+    let mut wanted = String::from_str(alloc, "200\n")?;
+    push_wanted(transcripts::bad_verb(), &mut wanted)?;
+    wanted.push_str(script_answer())?;
+    assert_eq!(rt; output.as_slice(), wanted.as_bytes());
+    Ok(())
+}
+
+/// Why the program stops where the text comes in pieces of such a length.
+fn stop_in_pieces(
+    rt: &impl Abort,
+    alloc: Global,
+    text: &[u8],
+    length: usize,
+) -> Result<Stop, Fail> {
+    let mut served = Repo::new(alloc, builtin::archive(alloc)?)?;
+    let mut reader = PiecesReader {
+        text,
+        first: length,
+        later: length,
+    };
+    let mut output = Vec::new(alloc);
+    match ask_lines(alloc, &mut served, &mut reader, &mut output) {
+        Ok(()) => panic!(rt; "nothing stopped"),
+        Err(stop) => Ok(stop),
+    }
+}
+
+/// A bad line has its number, with a line end and without one, whatever the pieces.
+#[test]
+fn numbers_of_bad_lines(rt: HostRuntime) -> Result<(), Fail> {
+    let alloc = rt.alloc();
+    for (text, number) in [
+        ("x", 1),
+        ("x\n", 1),
+        ("\nx", 2),
+        ("\n\n1 GET\n", 3),
+        ("1 PUT /deposit/ [\n\n1 PUT /deposit/ [\n+1 GET /\n", 4),
+        ("1 PUT /deposit/ [\n1 PUT /deposit/ [\n1.0 GET /", 3),
+    ] {
+        for length in 1..=9 {
+            let stop = stop_in_pieces(&rt, alloc, text.as_bytes(), length)?;
+            assert_eq!(rt; stop, Stop::BadExchange(number), "{text}: {length}");
+        }
+    }
+    let mut text = script_after(alloc, 70_000)?;
+    text.extend_from_slice(b"\nx\n\n")?;
+    let stop = stop_in_pieces(&rt, alloc, text.as_slice(), 65_536)?;
+    assert_eq!(rt; stop, Stop::BadExchange(70_005));
+    Ok(())
+}
+
+/// What is said on standard error.
+#[test]
+fn what_is_said(rt: HostRuntime) -> Result<(), Fail> {
+    for (stop, text) in [
+        (Stop::BadExchange(1), "line 1: bad exchange"),
+        (Stop::BadExchange(10), "line 10: bad exchange"),
+        (Stop::InputFault, "input fault"),
+        (Stop::OutputFault, "output fault"),
+        (Stop::NoMemory, "out of memory"),
+    ] {
+        let said = format!(in rt.alloc(); "{stop}")?;
+        assert_eq!(rt; said.as_str(), text);
+    }
+    Ok(())
+}
+
+/// Where memory was refused.
+#[test]
+fn refused_answers(rt: HostRuntime) -> Result<(), Fail> {
+    let mut output = Vec::new(rt.alloc());
+    write_answer(&Answer::NoMemory { done: Some(0) }, &mut output)?;
+    write_answer(&Answer::NoMemory { done: None }, &mut output)?;
+    write_answer(&Answer::NoMemory { done: Some(12) }, &mut output)?;
+    assert_eq!(rt;
+        output.as_slice(),
+        b"503 60 0\n503 60\n503 60 12\n".as_slice()
+    );
+    Ok(())
+}
+
+/// Gives one byte a read, and fails at the read after so many.
+#[derive(Drop)]
+struct ByteReader<'a> {
+    text: &'a [u8],
+    reads: usize,
+}
+
+impl Read for ByteReader<'_> {
+    fn read(&mut self, buffer: &mut [u8]) -> io::Result<usize> {
+        if self.reads == 0 {
+            return Err(io::Error::from(ErrorKind::BrokenPipe));
+        }
+        self.reads -= 1;
+        let mut piece = match self.text {
+            [byte, ..] => std::slice::from_ref(byte),
+            [] => &[],
+        };
+        let count = piece.read(buffer)?;
+        self.text = self.text.get(count..).unwrap_or(&[]);
+        Ok(count)
+    }
+}
+
+/// What was answered before a read that fails stays written, and the line begun is not performed.
+#[test]
+fn each_read_fails(rt: HostRuntime) -> Result<(), Fail> {
+    let alloc = rt.alloc();
+    let text = script().as_bytes();
+    for reads in 0..=text.len() {
+        let mut served = Repo::new(alloc, builtin::archive(alloc)?)?;
+        let mut reader = ByteReader { text, reads };
+        let mut output = Vec::new(alloc);
+        let done = ask_lines(alloc, &mut served, &mut reader, &mut output);
+        assert_eq!(rt; done, Err(Stop::InputFault), "{reads}");
+        assert_eq!(rt;
+            output.as_slice(),
+            answer_to_front(reads).as_bytes(),
+            "{reads}"
+        );
+    }
+    Ok(())
+}
+
+/// Takes what so many calls write, and fails at the next, or at its flush.
+#[derive(Drop)]
+struct CountingWriter {
+    taken: Vec<u8>,
+    writes: usize,
+    flushes: bool,
+}
+
+impl Write for CountingWriter {
+    fn write(&mut self, bytes: &[u8]) -> io::Result<usize> {
+        if self.writes == 0 || self.taken.extend_from_slice(bytes).is_err() {
+            return Err(io::Error::from(ErrorKind::BrokenPipe));
+        }
+        self.writes -= 1;
+        Ok(bytes.len())
+    }
+
+    fn flush(&mut self) -> io::Result<()> {
+        if self.flushes {
+            Ok(())
+        } else {
+            Err(io::Error::from(ErrorKind::BrokenPipe))
+        }
+    }
+}
+
+/// What is written before a write that fails is the front of the answers; nothing is after it.
+#[test]
+fn each_write_fails(rt: HostRuntime) -> Result<(), Fail> {
+    let alloc = rt.alloc();
+    let wanted = script_answer().as_bytes();
+    for writes in 0..20 {
+        let mut served = Repo::new(alloc, builtin::archive(alloc)?)?;
+        let mut reader = script().as_bytes();
+        let mut writer = CountingWriter {
+            taken: Vec::new(alloc),
+            writes,
+            flushes: true,
+        };
+        let done = ask_lines(alloc, &mut served, &mut reader, &mut writer);
+        assert!(rt; wanted.starts_with(writer.taken.as_slice()), "{writes}");
+        let is_whole = writer.taken.len() == wanted.len();
+        assert_eq!(rt; done.is_ok(), is_whole, "{writes}");
+        assert!(rt; is_whole || done == Err(Stop::OutputFault), "{writes}");
+    }
+    Ok(())
+}
+
+/// A flush that fails is a fault of the output, though all was written.
+#[test]
+fn flush_fails(rt: HostRuntime) -> Result<(), Fail> {
+    let alloc = rt.alloc();
+    let mut served = Repo::new(alloc, builtin::archive(alloc)?)?;
+    let mut reader = script().as_bytes();
+    let mut writer = CountingWriter {
+        taken: Vec::new(alloc),
+        writes: 100,
+        flushes: false,
+    };
+    let done = ask_lines(alloc, &mut served, &mut reader, &mut writer);
+    assert_eq!(rt; done, Err(Stop::OutputFault));
+    assert_eq!(rt; writer.taken.as_slice(), script_answer().as_bytes());
+    Ok(())
+}
+
+/// So many empty lines, one a read, and then the end.
+#[derive(Drop)]
+struct EmptyLines(u64);
+
+impl Read for EmptyLines {
+    fn read(&mut self, buffer: &mut [u8]) -> io::Result<usize> {
+        if self.0 == 0 {
+            return Ok(0);
+        }
+        self.0 -= 1;
+        let mut line: &[u8] = b"\n";
+        line.read(buffer)
+    }
+}
+
+/// The end has to come at the read of number 1,000,000 at the latest.
+#[test]
+fn most_reads(rt: HostRuntime) -> Result<(), Fail> {
+    let alloc = rt.alloc();
+    for (lines, wanted) in [(999_999, Ok(())), (1_000_000, Err(Stop::InputFault))] {
+        let mut served = Repo::new(alloc, builtin::archive(alloc)?)?;
+        let mut output = Vec::new(alloc);
+        let done = ask_lines(alloc, &mut served, &mut EmptyLines(lines), &mut output);
+        assert_eq!(rt; done, wanted, "{lines}");
+        assert!(rt; output.is_empty());
+    }
+    Ok(())
+}

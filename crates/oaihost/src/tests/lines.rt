@@ -1,0 +1,216 @@
+use oai_deposit::{LineFault, read_line};
+use oai_item::{Change, LineRefusal};
+use std::alloc::{AllocError, Global};
+use std::test::Fail;
+
+/// What a line is answered that is read, or refused; want of memory fails the test.
+fn answer_to(alloc: Global, line: &[u8]) -> Result<&'static str, AllocError> {
+    match read_line(alloc, line) {
+        Ok(_) => Ok("read"),
+        Err(LineFault::NoMemory) => Err(AllocError),
+        Err(LineFault::Refused(refusal)) => Ok(refusal.answer()),
+    }
+}
+
+/// The text of so many bytes that begins with the front and goes on with `a`.
+fn long(alloc: Global, front: &str, bytes: usize) -> Result<String, AllocError> {
+    let mut text = String::from_str(alloc, front)?;
+    for _ in front.len()..bytes {
+        text.push('a')?;
+    }
+    Ok(text)
+}
+
+/// A deposit of that identifier into that set, of no records.
+fn deposit(alloc: Global, identifier: &str, set: &str) -> Result<String, AllocError> {
+    format!(in alloc; "{{\"deposit\":\"{identifier}\",\"sets\":[\"{set}\"],\"records\":{{}}}}")
+}
+
+/// A new set of that name.
+fn new_set(alloc: Global, spec: &str, name: &str) -> Result<String, AllocError> {
+    format!(in alloc; "{{\"set\":\"{spec}\",\"name\":\"{name}\"}}")
+}
+
+const DEPOSIT: &str =
+    r#"{"sets":["b","a"],"records":{"x":[],"oai_dc":[["title","Grüße"]]},"deposit":"oai:x:1"}"#;
+
+/// The sets are in the order of the line, the records in that of their prefixes.
+#[test]
+fn reads_a_deposit(rt: HostRuntime) -> Result<(), Fail> {
+    let change = read_line(rt.alloc(), DEPOSIT.as_bytes())?;
+    let Change::Deposit {
+        identifier,
+        sets,
+        records,
+    } = &change
+    else {
+        panic!(rt; "no deposit")
+    };
+    assert_eq!(rt; identifier.as_str(), "oai:x:1");
+    assert_eq!(rt; sets.as_slice().len(), 2);
+    assert_eq!(rt; sets.as_slice()[0].as_str(), "b");
+    assert_eq!(rt; sets.as_slice()[1].as_str(), "a");
+    assert_eq!(rt; records.as_slice().len(), 2);
+    let (prefix, fields) = &records.as_slice()[0];
+    assert_eq!(rt; prefix.as_str(), "oai_dc");
+    assert_eq!(rt; fields.as_slice().len(), 1);
+    assert_eq!(rt; fields.as_slice()[0].name.as_str(), "title");
+    assert_eq!(rt; fields.as_slice()[0].text.as_str(), "Grüße");
+    assert_eq!(rt; records.as_slice()[1].0.as_str(), "x");
+    Ok(())
+}
+
+#[test]
+fn reads_a_deletion(rt: HostRuntime) -> Result<(), Fail> {
+    let change = read_line(rt.alloc(), br#"{"delete":"oai:a:1"}"#)?;
+    let Change::Delete { identifier } = &change else {
+        panic!(rt; "no deletion")
+    };
+    assert_eq!(rt; identifier.as_str(), "oai:a:1");
+    Ok(())
+}
+
+#[test]
+fn reads_a_new_set(rt: HostRuntime) -> Result<(), Fail> {
+    let change = read_line(rt.alloc(), br#"{"set":"x:y","name":"X & Y"}"#)?;
+    let Change::AddSet { spec, name } = &change else {
+        panic!(rt; "no new set")
+    };
+    assert_eq!(rt; (spec.as_str(), name.as_str()), ("x:y", "X & Y"));
+    Ok(())
+}
+
+/// Of two members of one name the last counts, and once.
+#[test]
+fn last_member_of_a_name_counts(rt: HostRuntime) -> Result<(), Fail> {
+    let change = read_line(rt.alloc(), br#"{"set":1,"name":"X","set":"y"}"#)?;
+    let Change::AddSet { spec, name } = &change else {
+        panic!(rt; "no new set")
+    };
+    assert_eq!(rt; (spec.as_str(), name.as_str()), ("y", "X"));
+    Ok(())
+}
+
+/// Each of these lines is answered so: what is no JSON text in UTF-8 (RFC 8259) comes first, then
+/// what is of no shape as a whole, then the identifier, the setSpecs and the texts.
+#[test]
+fn refuses_by_the_first_cause(rt: HostRuntime) -> Result<(), Fail> {
+    for (line, want) in [
+        ("", "refused 1 bad-json"),
+        ("[", "refused 1 bad-json"),
+        ("\u{FEFF}{}", "refused 1 bad-json"),
+        ("1e999", "refused 1 bad-json"),
+        ("1e308", "refused 2 bad-command"),
+        ("[]", "refused 2 bad-command"),
+        ("{}", "refused 2 bad-command"),
+        (r#"{"delete":1}"#, "refused 2 bad-command"),
+        (r#"{"delete":"x"}"#, "refused 3 bad-identifier"),
+        (r#"{"delete":"oai:a:1"}"#, "read"),
+        (r#"{"delete":"oai:a:1","x":1}"#, "refused 2 bad-command"),
+        (r#"{"set":"x","name":"X","y":0}"#, "refused 2 bad-command"),
+        (r#"{"set":"x:","name":""}"#, "refused 4 bad-set-spec"),
+        (r#"{"set":"x","name":""}"#, "refused 5 bad-text"),
+        (r#"{"set":"x","name":"\u0001"}"#, "refused 5 bad-text"),
+        (
+            r#"{"deposit":1,"sets":[],"records":{}}"#,
+            "refused 2 bad-command",
+        ),
+        (
+            r#"{"deposit":"-","sets":[],"records":{"x":[["a"]]}}"#,
+            "refused 2 bad-command",
+        ),
+        (
+            r#"{"deposit":"-","sets":[],"records":{"x":[["a","b","c"]]}}"#,
+            "refused 2 bad-command",
+        ),
+        (
+            r#"{"deposit":"a:b","sets":[],"records":{},"x":0}"#,
+            "refused 2 bad-command",
+        ),
+        (
+            r#"{"deposit":"-","sets":["x:"],"records":{"x":[["a","\u0000"]]}}"#,
+            "refused 3 bad-identifier",
+        ),
+        (
+            r#"{"deposit":"a:b","sets":["x","x:"],"records":{"x":[["a","\u0000"]]}}"#,
+            "refused 4 bad-set-spec",
+        ),
+        (
+            r#"{"deposit":"a:b","sets":[],"records":{"x":[["a","\u0000"]]}}"#,
+            "refused 5 bad-text",
+        ),
+        (
+            r#"{"deposit":"a:b","sets":[],"records":{"\u0000":[["\u0000","b"]]}}"#,
+            "read",
+        ),
+    ] {
+        assert_eq!(rt; answer_to(rt.alloc(), line.as_bytes())?, want, "at {line}");
+    }
+    Ok(())
+}
+
+#[test]
+fn refuses_what_is_not_utf_8(rt: HostRuntime) -> Result<(), Fail> {
+    assert_eq!(rt; answer_to(rt.alloc(), &[0xFF])?, "refused 1 bad-json");
+    Ok(())
+}
+
+/// An array in an array, and so on, of that depth.
+fn nested(alloc: Global, depth: usize) -> Result<String, AllocError> {
+    let mut text = String::new(alloc);
+    for _ in 0..depth {
+        text.push('[')?;
+    }
+    for _ in 0..depth {
+        text.push(']')?;
+    }
+    Ok(text)
+}
+
+/// JSON of a depth of 127 is read, and is no command.
+#[test]
+fn refuses_deep_json(rt: HostRuntime) -> Result<(), Fail> {
+    let alloc = rt.alloc();
+    for (depth, want) in [(127, "refused 2 bad-command"), (128, "refused 1 bad-json")] {
+        let line = nested(alloc, depth)?;
+        assert_eq!(rt; answer_to(alloc, line.as_bytes())?, want, "depth {depth}");
+    }
+    Ok(())
+}
+
+/// An identifier has at most 512 bytes, a setSpec 256, a setName 512.
+#[test]
+fn refuses_long_texts(rt: HostRuntime) -> Result<(), Fail> {
+    let alloc = rt.alloc();
+    for (bytes, want) in [(512, "read"), (513, "refused 3 bad-identifier")] {
+        let line = deposit(alloc, long(alloc, "a:", bytes)?.as_str(), "x")?;
+        assert_eq!(rt; answer_to(alloc, line.as_bytes())?, want, "{bytes} bytes");
+    }
+    for (bytes, want) in [(256, "read"), (257, "refused 4 bad-set-spec")] {
+        let spec = long(alloc, "a", bytes)?;
+        let line = deposit(alloc, "a:b", spec.as_str())?;
+        assert_eq!(rt; answer_to(alloc, line.as_bytes())?, want, "{bytes} bytes");
+        let line = new_set(alloc, spec.as_str(), "X")?;
+        assert_eq!(rt; answer_to(alloc, line.as_bytes())?, want, "{bytes} bytes");
+    }
+    for (bytes, want) in [(512, "read"), (513, "refused 5 bad-text")] {
+        let line = new_set(alloc, "x", long(alloc, "a", bytes)?.as_str())?;
+        assert_eq!(rt; answer_to(alloc, line.as_bytes())?, want, "{bytes} bytes");
+    }
+    Ok(())
+}
+
+#[test]
+fn tells_why_a_line_was_not_read(rt: HostRuntime) -> Result<(), Fail> {
+    let alloc = rt.alloc();
+    for (fault, want) in [
+        (LineFault::NoMemory, "out of memory"),
+        (
+            LineFault::Refused(LineRefusal::BadJson),
+            "the line is refused: the line is not JSON",
+        ),
+    ] {
+        assert_eq!(rt; format!(in alloc; "{fault}")?.as_str(), want);
+    }
+    Ok(())
+}

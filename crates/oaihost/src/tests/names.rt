@@ -1,0 +1,306 @@
+use oai_names::{
+    Identifier, NameFault, Prefix, Sequence, SetFault, SetSpec, SetTree, Text, escape_attr,
+    escape_text, is_set_spec, is_xml_text, parent_of,
+};
+use std::alloc::{AllocError, Global};
+use std::process::Abort;
+use std::test::Fail;
+
+// `front`, and then so many letters.
+fn with_letters(alloc: Global, front: &str, letters: usize) -> Result<String, AllocError> {
+    let mut text = String::from_str(alloc, front)?;
+    for _ in 0..letters {
+        text.push('a')?;
+    }
+    Ok(text)
+}
+
+fn assert_read(rt: &impl Abort, read: Result<Prefix, NameFault>, text: &str) {
+    match read {
+        Ok(prefix) => assert_eq!(rt; prefix.as_str(), text),
+        Err(fault) => panic!(rt; "{text}: {fault}"),
+    }
+}
+
+fn assert_refused<T: Drop>(rt: &impl Abort, read: Result<T, NameFault>, fault: NameFault) {
+    match read {
+        Ok(_) => panic!(rt; "a name was read"),
+        Err(found) => assert_eq!(rt; found, fault),
+    }
+}
+
+#[test]
+fn prefixes_are_read(rt: HostRuntime) -> Result<(), Fail> {
+    let alloc = rt.alloc();
+    let most = with_letters(alloc, "", 64)?;
+    for text in ["oai_dc", "a-_.!~*'()Z9", most.as_str()] {
+        assert_read(&rt, Prefix::read(alloc, text), text);
+    }
+    Ok(())
+}
+
+#[test]
+fn bad_prefixes_are_refused(rt: HostRuntime) -> Result<(), Fail> {
+    let alloc = rt.alloc();
+    let spaces = "                                                                 ";
+    assert_eq!(rt; spaces.len(), 65);
+    for text in ["", "a b", "a:b", "é", "a/b", spaces] {
+        assert_refused(&rt, Prefix::read(alloc, text), NameFault::Syntax);
+    }
+    let long = with_letters(alloc, "", 65)?;
+    assert_refused(&rt, Prefix::read(alloc, long.as_str()), NameFault::TooLong);
+    Ok(())
+}
+
+#[test]
+fn identifiers_are_read(rt: HostRuntime) -> Result<(), Fail> {
+    let alloc = rt.alloc();
+    let most = with_letters(alloc, "oai:", 508)?;
+    for text in [
+        "oai:a:1",
+        "a+b-c.d:/?#[]@!$&'()*+,;=%",
+        "x::",
+        most.as_str(),
+    ] {
+        match Identifier::read(alloc, text) {
+            Ok(identifier) => assert_eq!(rt; identifier.as_str(), text),
+            Err(fault) => panic!(rt; "{text}: {fault}"),
+        }
+    }
+    Ok(())
+}
+
+#[test]
+fn bad_identifiers_are_refused(rt: HostRuntime) -> Result<(), Fail> {
+    let alloc = rt.alloc();
+    for text in [
+        "", "x", "oai:", "1a:b", ":b", "oai:a b", "oai:é", "o_i:a", "oai:a\"", "oai:<",
+    ] {
+        assert_refused(&rt, Identifier::read(alloc, text), NameFault::Syntax);
+    }
+    let long = with_letters(alloc, "oai:", 509)?;
+    assert_refused(
+        &rt,
+        Identifier::read(alloc, long.as_str()),
+        NameFault::TooLong,
+    );
+    Ok(())
+}
+
+#[test]
+fn copies_are_equal(rt: HostRuntime) -> Result<(), Fail> {
+    let alloc = rt.alloc();
+    let Ok(prefix) = Prefix::read(alloc, "oai_dc") else {
+        panic!(rt; "no prefix")
+    };
+    assert_eq!(rt; prefix.copy(alloc)?.as_str(), "oai_dc");
+    let Ok(identifier) = Identifier::read(alloc, "oai:a:1") else {
+        panic!(rt; "no identifier")
+    };
+    assert_eq!(rt; identifier.copy(alloc)?.as_str(), "oai:a:1");
+    assert_eq!(rt; Text::new(alloc, "é\n")?.copy(alloc)?.as_str(), "é\n");
+    Ok(())
+}
+
+#[test]
+fn texts_keep_their_strings(rt: HostRuntime) -> Result<(), Fail> {
+    let mut text = Text::from_string(String::from_str(rt.alloc(), "é\n")?);
+    assert_eq!(rt; text.as_str(), "é\n");
+    let mut string = text.into_string();
+    string.push('x')?;
+    text = Text::from_string(string);
+    assert_eq!(rt; text.as_str(), "é\nx");
+    Ok(())
+}
+
+#[test]
+fn faults_are_told(rt: HostRuntime) -> Result<(), Fail> {
+    for (fault, text) in [
+        (NameFault::Syntax, "the name is of illegal syntax"),
+        (NameFault::TooLong, "the name is too long"),
+        (NameFault::NoMemory, "out of memory"),
+    ] {
+        assert_eq!(rt; format!(in rt.alloc(); "{fault}")?.as_str(), text);
+    }
+    for (fault, text) in [
+        (SetFault::Exists, "the set exists"),
+        (SetFault::NoParent, "the set has no parent"),
+        (SetFault::TooMany, "there are too many sets"),
+        (SetFault::NoMemory, "out of memory"),
+    ] {
+        assert_eq!(rt; format!(in rt.alloc(); "{fault}")?.as_str(), text);
+    }
+    Ok(())
+}
+
+#[test]
+fn sequences_keep_their_values(rt: HostRuntime) -> Result<(), Fail> {
+    let sequence = Sequence::new(vec![in rt.alloc(); 3, 1, 2]?);
+    assert_eq!(rt; sequence.as_slice(), [3, 1, 2].as_slice());
+    assert_eq!(rt; sequence.into_vec().as_slice(), [3, 1, 2].as_slice());
+    Ok(())
+}
+
+#[test]
+fn characters_of_a_document(rt: HostRuntime) {
+    for text in [
+        "",
+        "\t\n\r ~",
+        "\u{7F}\u{85}",
+        "\u{D7FF}\u{E000}\u{FFFD}",
+        "\u{10000}\u{1FFFE}\u{10FFFF}",
+    ] {
+        assert!(rt; is_xml_text(text), "{text:?}");
+    }
+    for text in [
+        "\u{0}",
+        "a\u{1F}",
+        "\u{8}",
+        "\u{B}\t",
+        "\u{FFFE}",
+        "x\u{FFFF}",
+    ] {
+        assert!(rt; !is_xml_text(text), "{text:?}");
+    }
+}
+
+#[test]
+fn escapes(rt: HostRuntime) -> Result<(), Fail> {
+    let mut out = vec![in rt.alloc(); b'-']?;
+    escape_text("a<b\r\"", &mut out)?;
+    assert_eq!(rt; out.as_slice(), b"-a&lt;b&#13;\"".as_slice());
+    out.clear();
+    escape_attr("\"\t>", &mut out)?;
+    assert_eq!(rt; out.as_slice(), b"&quot;&#9;&gt;".as_slice());
+    out.clear();
+    escape_text("A & B > é'\t\n", &mut out)?;
+    assert_eq!(rt; out.as_slice(), "A &amp; B &gt; é'\t\n".as_bytes());
+    out.clear();
+    escape_attr("&<\n\r'", &mut out)?;
+    assert_eq!(rt; out.as_slice(), b"&amp;&lt;&#10;&#13;'".as_slice());
+    out.clear();
+    escape_text("long run, no escape", &mut out)?;
+    escape_attr("", &mut out)?;
+    escape_attr("<<a long run\"", &mut out)?;
+    assert_eq!(rt;
+        out.as_slice(),
+        b"long run, no escape&lt;&lt;a long run&quot;".as_slice()
+    );
+    Ok(())
+}
+
+fn set_spec(rt: &impl Abort, alloc: Global, text: &str) -> SetSpec {
+    match SetSpec::read(alloc, text) {
+        Ok(spec) => spec,
+        Err(fault) => panic!(rt; "{text}: {fault}"),
+    }
+}
+
+#[test]
+fn set_specs_are_read(rt: HostRuntime) -> Result<(), Fail> {
+    let alloc = rt.alloc();
+    let most = with_letters(alloc, "", 256)?;
+    for text in ["x", "x:y", "a-_.!~*'()Z9:b:c", most.as_str()] {
+        let spec = set_spec(&rt, alloc, text);
+        assert_eq!(rt; spec.as_str(), text);
+        assert_eq!(rt; spec.copy(alloc)?.as_str(), text);
+    }
+    Ok(())
+}
+
+#[test]
+fn bad_set_specs_are_refused(rt: HostRuntime) -> Result<(), Fail> {
+    let alloc = rt.alloc();
+    for text in ["", ":", "x::y", ":x", "x:", "x y", "é"] {
+        assert!(rt; !is_set_spec(text), "{text:?}");
+        assert_refused(&rt, SetSpec::read(alloc, text), NameFault::Syntax);
+    }
+    let long = with_letters(alloc, "", 257)?;
+    assert!(rt; is_set_spec(long.as_str()));
+    assert_refused(&rt, SetSpec::read(alloc, long.as_str()), NameFault::TooLong);
+    Ok(())
+}
+
+#[test]
+fn sets_cover(rt: HostRuntime) {
+    let alloc = rt.alloc();
+    for (set, spec, covered) in [
+        ("ab", "abc", false),
+        ("ab", "ab:c", true),
+        ("ab", "ab", true),
+        ("ab:c", "ab", false),
+        ("ab:c", "ab:c:d", true),
+        ("b", "ab:b", false),
+    ] {
+        let covers = set_spec(&rt, alloc, set).covers(&set_spec(&rt, alloc, spec));
+        assert_eq!(rt; covers, covered, "{set} and {spec}");
+    }
+}
+
+fn assert_shows(rt: &impl Abort, sets: &SetTree, i: usize, spec: &str, name: &str) {
+    match sets.get(i) {
+        Some((found_spec, found_name)) => {
+            assert_eq!(rt; found_spec.as_str(), spec);
+            assert_eq!(rt; found_name, name);
+        }
+        None => panic!(rt; "no set {i}"),
+    }
+}
+
+#[test]
+fn parents_of_sets(rt: HostRuntime) {
+    assert_eq!(rt; parent_of("a:b:c"), Some("a:b"));
+    assert_eq!(rt; parent_of("a"), None);
+}
+
+#[test]
+fn sets_are_added(rt: HostRuntime) {
+    let alloc = rt.alloc();
+    let mut sets = SetTree::new(alloc);
+    for (spec, name, answer) in [
+        ("x", "X", Ok(())),
+        ("x", "Again", Err(SetFault::Exists)),
+        ("q:r", "R", Err(SetFault::NoParent)),
+        ("x:y", "Y", Ok(())),
+        ("x:y:z", "", Ok(())),
+        ("x:z:z", "Z", Err(SetFault::NoParent)),
+    ] {
+        assert_eq!(rt;
+            sets.add(&set_spec(&rt, alloc, spec), name),
+            answer,
+            "{spec}"
+        );
+    }
+    assert_eq!(rt; sets.len(), 3);
+    assert_shows(&rt, &sets, 0, "x", "X");
+    assert_shows(&rt, &sets, 1, "x:y", "Y");
+    assert_shows(&rt, &sets, 2, "x:y:z", "");
+    assert!(rt; sets.get(3).is_none());
+    assert!(rt; sets.has(&set_spec(&rt, alloc, "x:y")));
+    assert!(rt; !sets.has(&set_spec(&rt, alloc, "y")));
+}
+
+#[test]
+fn sets_are_at_most_10000(rt: HostRuntime) -> Result<(), Fail> {
+    let alloc = rt.alloc();
+    let mut sets = SetTree::new(alloc);
+    for i in 0u32..10_000 {
+        let spec = set_spec(&rt, alloc, format!(in alloc; "{i}")?.as_str());
+        assert_eq!(rt; sets.add(&spec, "A set"), Ok(()), "{i}");
+    }
+    for (spec, fault) in [
+        ("777", SetFault::Exists),
+        ("x:y", SetFault::NoParent),
+        ("777:x", SetFault::TooMany),
+        ("x", SetFault::TooMany),
+    ] {
+        assert_eq!(rt;
+            sets.add(&set_spec(&rt, alloc, spec), "X"),
+            Err(fault),
+            "{spec}"
+        );
+    }
+    assert_eq!(rt; sets.len(), 10_000);
+    assert_shows(&rt, &sets, 9_999, "9999", "A set");
+    Ok(())
+}
