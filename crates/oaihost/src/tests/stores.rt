@@ -1,4 +1,4 @@
-ghost use Rattle.std.specs.Prelude.{◌≡◌, ◌≢◌, IsSome, IfOk, OnOk};
+ghost use Rattle.std.specs.Prelude.{◌≡◌, IsSome, IfOk, OnOk};
 
 use oai_catalogue::{FaultyVersions, Filter, PlainVersions, Versions, change_item};
 use oai_item::{Fault, Field, Item};
@@ -79,73 +79,61 @@ fn stored<V: Versions>(store: &mut V, first: &Item, second: &Item) -> Result<u64
     Ok(v)
 }
 
-// A frozen version beside the one that it is of.
-fn frozen<V: Versions>(store: &mut V, v: u64) -> Result<u64, Fail>
-    requires { IsSome (V.lists store.old v) }
-    ensures stands { OnOk result (IsSome (V.lists store.new v)) }
-    ensures frozen { IfOk result (λ w. IsSome (V.lists store.new w)) }
-    ensures apart { IfOk result (λ w. w ≢ v) }
-{
-    Ok(store.freeze(v)?)
-}
-
-// Takes the item out of the first of two versions.
-fn assert_removed<V: Versions>(
+// Whether an item of the first datestamp and of that identifier is found.
+fn assert_found<V: Versions>(
     rt: &impl Abort,
     store: &mut V,
     v: u64,
-    other: u64,
-    item: &Item,
+    identifier: &Identifier,
+    is_there: bool,
 ) -> Result<(), Fail>
-    requires stands { IsSome (V.lists store.old v) }
-    requires other { IsSome (V.lists store.old other) }
-    ensures stands { OnOk result (IsSome (V.lists store.new v)) }
-    ensures other { OnOk result (IsSome (V.lists store.new other)) }
+    requires { IsSome (V.lists store.old v) }
+    ensures { OnOk result (IsSome (V.lists store.new v)) }
 {
-    let removed = store.remove(v, item.stamp(), item.identifier())?;
-    assert!(rt; removed);
+    let found = store.find(v, STAMP, identifier)?;
+    assert_eq!(rt; found.is_some(), is_there);
     Ok(())
 }
 
-// Lets the first of two versions go.
-fn released<V: Versions>(store: &mut V, v: u64, other: u64)
-    requires stands { IsSome (V.lists store.old v) }
-    requires other { IsSome (V.lists store.old other) }
-    requires apart { other ≢ v }
-    ensures { IsSome (V.lists store.new other) }
+// How many items the part has.
+fn assert_part<V: Versions>(
+    rt: &impl Abort,
+    store: &mut V,
+    v: u64,
+    filter: &Filter,
+    skip: usize,
+    most: usize,
+    count: usize,
+) -> Result<(), Fail>
+    requires { IsSome (V.lists store.old v) }
+    ensures { OnOk result (IsSome (V.lists store.new v)) }
 {
-    store.release(v);
+    let items = store.part(v, filter, skip, most)?;
+    assert_eq!(rt; items.as_slice().len(), count);
+    Ok(())
 }
 
 #[test]
-fn a_frozen_version_stands_alone(rt: HostRuntime) -> Result<(), Fail> {
+fn items_are_found(rt: HostRuntime) -> Result<(), Fail> {
+    let alloc = rt.alloc();
+    let first = item(alloc, "oai:a:1", 0)?;
+    let second = item(alloc, "oai:a:2", 1)?;
+    let mut store = PlainVersions::new(alloc);
+    let v = stored(&mut store, &first, &second)?;
+    assert_found(&rt, &mut store, v, first.identifier(), true)?;
+    assert_found(&rt, &mut store, v, second.identifier(), false)
+}
+
+#[test]
+fn items_are_cut(rt: HostRuntime) -> Result<(), Fail> {
     let alloc = rt.alloc();
     let first = item(alloc, "oai:a:1", 0)?;
     let second = item(alloc, "oai:a:2", 1)?;
     let all = filter(alloc, 0, 9)?;
     let mut store = PlainVersions::new(alloc);
     let v = stored(&mut store, &first, &second)?;
-    let w = frozen(&mut store, v)?;
-    assert_removed(&rt, &mut store, v, w, &first)?;
-    assert_list(&rt, &mut store, v, &all, &["oai:a:2"])?;
-    assert_list(&rt, &mut store, w, &all, &["oai:a:1", "oai:a:2"])?;
-    released(&mut store, v, w);
-    assert_list(&rt, &mut store, w, &all, &["oai:a:1", "oai:a:2"])
-}
-
-#[test]
-fn items_are_found_and_cut(rt: HostRuntime) -> Result<(), Fail> {
-    let alloc = rt.alloc();
-    let first = item(alloc, "oai:a:1", 0)?;
-    let second = item(alloc, "oai:a:2", 1)?;
-    let all = filter(alloc, 0, 9)?;
-    let mut store = PlainVersions::new(alloc);
-    let v = stored(&mut store, &first, &second)?;
-    assert!(rt; store.find(v, STAMP, first.identifier())?.is_some());
-    assert!(rt; store.find(v, STAMP, second.identifier())?.is_none());
-    assert_eq!(rt; store.part(v, &all, 1, 9)?.as_slice().len(), 1);
-    assert_eq!(rt; store.part(v, &all, 0, 1)?.as_slice().len(), 1);
-    Ok(())
+    assert_part(&rt, &mut store, v, &all, 1, 9, 1)?;
+    assert_part(&rt, &mut store, v, &all, 0, 1, 1)
 }
 
 // The filter, and a copy of it, ask for the item, or not.
@@ -182,6 +170,21 @@ fn set_and_prefix_of_a_filter(rt: HostRuntime) -> Result<(), Fail> {
     assert_passes(&rt, alloc, asked(alloc, "jnl", "x")?, &deleted, false)
 }
 
+// The call fails for the device.
+fn assert_fails<V: Versions>(
+    rt: &impl Abort,
+    store: &mut V,
+    v: u64,
+    item: &Item,
+) -> Result<(), Fail>
+    requires { IsSome (V.lists store.old v) }
+    ensures { OnOk result (IsSome (V.lists store.new v)) }
+{
+    let failed = store.remove(v, item.stamp(), item.identifier());
+    assert_eq!(rt; failed, Err(Fault::Device));
+    Ok(())
+}
+
 #[test]
 fn one_call_fails(rt: HostRuntime) -> Result<(), Fail> {
     let alloc = rt.alloc();
@@ -190,9 +193,40 @@ fn one_call_fails(rt: HostRuntime) -> Result<(), Fail> {
     let all = filter(alloc, 0, 9)?;
     let mut store = FaultyVersions::new(PlainVersions::new(alloc), 4);
     let v = stored(&mut store, &first, &second)?;
-    let failed = store.remove(v, STAMP, first.identifier());
-    assert_eq!(rt; failed, Err(Fault::Device));
+    assert_fails(&rt, &mut store, v, &first)?;
     assert_list(&rt, &mut store, v, &all, &["oai:a:1", "oai:a:2"])
+}
+
+// A change fails for the device, and the list is as before.
+fn assert_no_change<V: Versions>(
+    rt: &impl Abort,
+    store: &mut V,
+    v: u64,
+    item: &Item,
+    filter: &Filter,
+) -> Result<(), Fail>
+    requires { IsSome (V.lists store.old v) }
+    ensures { OnOk result (IsSome (V.lists store.new v)) }
+{
+    match change_item(store, v, Some(item), None) {
+        Ok(_) => panic!(rt; "no failure"),
+        Err(fault) => assert_eq!(rt; fault, Fault::Device),
+    }
+    assert_list(rt, store, v, filter, &["oai:a:1", "oai:a:2"])
+}
+
+// A change takes the item out.
+fn assert_change<V: Versions>(
+    rt: &impl Abort,
+    store: &mut V,
+    v: u64,
+    item: &Item,
+    filter: &Filter,
+) -> Result<(), Fail>
+    requires { IsSome (V.lists store.old v) }
+{
+    let w = change_item(store, v, Some(item), None)?;
+    assert_list(rt, store, w, filter, &["oai:a:2"])
 }
 
 #[test]
@@ -204,11 +238,6 @@ fn a_change_is_whole_or_none(rt: HostRuntime) -> Result<(), Fail> {
     // the fifth call takes the item out of the frozen version
     let mut store = FaultyVersions::new(PlainVersions::new(alloc), 5);
     let v = stored(&mut store, &first, &second)?;
-    match change_item(&mut store, v, Some(&first), None) {
-        Ok(_) => panic!(rt; "no failure"),
-        Err(fault) => assert_eq!(rt; fault, Fault::Device),
-    }
-    assert_list(&rt, &mut store, v, &all, &["oai:a:1", "oai:a:2"])?;
-    let w = change_item(&mut store, v, Some(&first), None)?;
-    assert_list(&rt, &mut store, w, &all, &["oai:a:2"])
+    assert_no_change(&rt, &mut store, v, &first, &all)?;
+    assert_change(&rt, &mut store, v, &first, &all)
 }
