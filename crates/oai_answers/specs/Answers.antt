@@ -21,7 +21,15 @@ pub record Attributes : Type 0 where
 
 -- nothing was asked, or nothing of it is told
 abbrev pub no_arguments : Attributes
-no_arguments = record { verb = None; identifier = None; prefix = None; from = None; until = None; set = None; token = None }
+no_arguments = record {
+  verb = None;
+  identifier = None;
+  prefix = None;
+  from = None;
+  until = None;
+  set = None;
+  token = None;
+}
 
 -- what Identify tells of a repository beside its base URL: its name, the addresses of its administrators, the lower
 -- limit of its datestamps in seconds from 1970 on, what it keeps of deleted records, how fine its datestamps are (section 4.2)

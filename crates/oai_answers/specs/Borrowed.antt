@@ -53,7 +53,8 @@ page_of list = record {
 abbrev pub answer_of : Body → Answer
 answer_of (Error code) = fails code
 answer_of (Identify identity) = identifies (description_of identity)
-answer_of (ListMetadataFormats list) = lists_formats (offered list.formats.now (option_copied list.of))
+answer_of (ListMetadataFormats list) =
+    lists_formats (offered list.formats.now (option_copied list.of))
 answer_of (ListSets sets) = lists_sets sets.now
 answer_of (GetRecord r) = gives_record (dissemination_of r)
 answer_of (ListIdentifiers list) = lists_headers (page_of list)

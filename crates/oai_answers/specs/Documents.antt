@@ -77,7 +77,9 @@ message_of NoSetHierarchy = codes "The repository has no sets."
 
 unfoldable pub error_element : ErrorCode → List ℕ
 error_element code =
-    plain (codes "<error") ++ spelled_attribute (codes "code") (plain (code_of code)) ++ plain (codes ">")
+    plain (codes "<error")
+    ++ spelled_attribute (codes "code") (plain (code_of code))
+    ++ plain (codes ">")
     ++ plain (message_of code)
     ++ end_tag (codes "error")
 
@@ -118,7 +120,9 @@ formats_element formats = element (codes "ListMetadataFormats") (flat_map format
 
 -- a set, its setSpec and its setName
 unfoldable pub set_element : List ℕ × List ℕ → List ℕ
-set_element set = element (codes "set") (text_element (codes "setSpec") set.0 ++ text_element (codes "setName") set.1)
+set_element set =
+    element (codes "set")
+    (text_element (codes "setSpec") set.0 ++ text_element (codes "setName") set.1)
 
 unfoldable pub sets_element : List (List ℕ × List ℕ) → List ℕ
 sets_element sets = element (codes "ListSets") (flat_map set_element sets)
@@ -136,7 +140,9 @@ dublin_core_start = codes "<oai_dc:dc xmlns:oai_dc=\"http://www.openarchives.org
 -- unqualified Dublin Core
 unfoldable pub dublin_core_metadata : List Field → List ℕ
 dublin_core_metadata fields =
-    dublin_core_start ++ flat_map (field_element (codes "dc:")) fields ++ end_tag (codes "oai_dc:dc")
+    dublin_core_start
+    ++ flat_map (field_element (codes "dc:")) fields
+    ++ end_tag (codes "oai_dc:dc")
 
 -- where the schema of a namespace lies: the two, with a space between them
 unfoldable pub schema_location : Format → List ℕ
@@ -182,7 +188,9 @@ header_element granularity item =
 -- the part of a record behind its header, the fields of the item's record in the format: a deleted record has none
 unfoldable pub metadata_part : Format → ItemState → List ℕ
 metadata_part format item =
-    if item.live then element (codes "metadata") (metadata format (fields_in format.prefix item.formats)) else []
+    if item.live
+    then element (codes "metadata") (metadata format (fields_in format.prefix item.formats))
+    else []
 
 unfoldable pub record_element : Granularity → Format → ItemState → List ℕ
 record_element granularity format item =
@@ -209,7 +217,8 @@ token_element (remains expires extent token) =
     ++ extent_attributes extent
     ++ plain (codes ">") ++ escaped_text token ++ end_tag (codes "resumptionToken")
 token_element (completes extent) =
-    plain (codes "<resumptionToken") ++ extent_attributes extent ++ plain (codes ">") ++ end_tag (codes "resumptionToken")
+    plain (codes "<resumptionToken") ++ extent_attributes extent ++ plain (codes ">")
+    ++ end_tag (codes "resumptionToken")
 
 unfoldable pub identifiers_element : Page → List ℕ
 identifiers_element page = element (codes "ListIdentifiers")
@@ -217,7 +226,8 @@ identifiers_element page = element (codes "ListIdentifiers")
 
 unfoldable pub records_element : Format → Page → List ℕ
 records_element format page = element (codes "ListRecords")
-    (flat_map (record_element page.granularity format) page.items ++ token_element page.continuation)
+    (flat_map (record_element page.granularity format) page.items
+    ++ token_element page.continuation)
 
 -- The document. Section 3.2
 

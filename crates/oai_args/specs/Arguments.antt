@@ -25,7 +25,8 @@ key_of key.ResumptionToken = codes "resumptionToken"
 -- the keys that there are
 abbrev pub known_keys : List (List ℕ)
 known_keys =
-    codes "verb" ∷ key_of key.Identifier ∷ key_of key.MetadataPrefix ∷ key_of key.From ∷ key_of key.Until ∷ key_of key.Set ∷ key_of key.ResumptionToken ∷ []
+    codes "verb" ∷ key_of key.Identifier ∷ key_of key.MetadataPrefix ∷ key_of key.From
+    ∷ key_of key.Until ∷ key_of key.Set ∷ key_of key.ResumptionToken ∷ []
 
 -- ---- the table: what each argument is to each verb
 

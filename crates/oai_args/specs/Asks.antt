@@ -54,7 +54,8 @@ pub record IsGetRecord (pairs : List Pair) (identifier prefix : List ℕ) : Type
 
 -- ListIdentifiers or ListRecords (sections 4.3 and 4.5): metadataPrefix, from, until and set are of their syntax. ListSets has no
 -- metadataPrefix, so no pairs are these of it
-pub record IsList (granularity : Granularity) (verb : Verb) (pairs : List Pair) (prefix : List ℕ) (from until set : Option (List ℕ)) : Type 0 where
+pub record IsList (granularity : Granularity) (verb : Verb) (pairs : List Pair)
+    (prefix : List ℕ) (from until set : Option (List ℕ)) : Type 0 where
   pub asked : IsOf First verb pairs
   pub formatted : IsGiven MetadataPrefix pairs prefix
   pub starts : IsGivenAtMostOnce From pairs from
@@ -68,14 +69,18 @@ pub record IsList (granularity : Granularity) (verb : Verb) (pairs : List Pair) 
 -- ListMetadataFormats (section 4.4) and the resumptionToken of a list (section 3.5) are any texts
 abbrev pub IsAsk : Granularity → List Pair → Ask → Type 0
 IsAsk granularity pairs ask.Identify = IsOf First Identify pairs
-IsAsk granularity pairs (ask.Formats identifier) = IsOf First ListMetadataFormats pairs × IsGivenAtMostOnce Identifier pairs identifier
+IsAsk granularity pairs (ask.Formats identifier) =
+    IsOf First ListMetadataFormats pairs × IsGivenAtMostOnce Identifier pairs identifier
 IsAsk granularity pairs ask.Sets = IsOf First ListSets pairs
 IsAsk granularity pairs (ask.Get identifier prefix) = IsGetRecord pairs identifier prefix
-IsAsk granularity pairs (ask.List verb prefix from until set) = IsList granularity (verb_of_list verb) pairs prefix from until set
-IsAsk granularity pairs (ask.Resume verb token) = IsOf Next (verb_of_list verb) pairs × IsGiven ResumptionToken pairs token
+IsAsk granularity pairs (ask.List verb prefix from until set) =
+    IsList granularity (verb_of_list verb) pairs prefix from until set
+IsAsk granularity pairs (ask.Resume verb token) =
+    IsOf Next (verb_of_list verb) pairs × IsGiven ResumptionToken pairs token
 
 -- the pairs make this request; or no verb is named; or a verb is, and they make no request
 abbrev pub IsAskOrError : Granularity → List Pair → AskOrError → Type 0
 IsAskOrError granularity pairs (asks request) = IsAsk granularity pairs request
 IsAskOrError granularity pairs bad_verb = (verb : Verb) → ¬ NamesVerb pairs verb
-IsAskOrError granularity pairs bad_argument = (verb : Verb) × NamesVerb pairs verb × ((request : Ask) → ¬ IsAsk granularity pairs request)
+IsAskOrError granularity pairs bad_argument =
+    (verb : Verb) × NamesVerb pairs verb × ((request : Ask) → ¬ IsAsk granularity pairs request)

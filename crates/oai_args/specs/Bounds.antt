@@ -43,4 +43,5 @@ given_bound None = None
 -- granularity, and `from` is not after `until`
 unfoldable pub are_bounds : Granularity → Option (List ℕ) → Option (List ℕ) → Bool
 are_bounds granularity from until =
-    is_none_or_bound granularity from && is_none_or_bound granularity until && are_not_turned (given_bound from) (given_bound until)
+    is_none_or_bound granularity from && is_none_or_bound granularity until
+    && are_not_turned (given_bound from) (given_bound until)

@@ -25,7 +25,8 @@ decoded_pairs query = map decoded_pair (raw_pairs query)
 
 -- the values given to a key, in order
 unfoldable pub values_of : List ℕ → List Pair → List (List ℕ)
-values_of key pairs = map (λ (pair : Pair). pair.1) (filter (λ (pair : Pair). bytes_eq pair.0 key) pairs)
+values_of key pairs =
+    map (λ (pair : Pair). pair.1) (filter (λ (pair : Pair). bytes_eq pair.0 key) pairs)
 
 -- every key is one of these
 unfoldable pub has_only_keys : List (List ℕ) → List Pair → Bool

@@ -42,8 +42,12 @@ list_of_verb _ = None
 -- each argument suits its role
 unfoldable pub suit : Part → Verb → Arguments → Bool
 suit part verb given =
-    given.are_keys_known && suits part (role_of verb key.Identifier) given.identifier && suits part (role_of verb key.MetadataPrefix) given.prefix
-    && suits part (role_of verb key.From) given.from && suits part (role_of verb key.Until) given.until && suits part (role_of verb key.Set) given.set
+    given.are_keys_known
+    && suits part (role_of verb key.Identifier) given.identifier
+    && suits part (role_of verb key.MetadataPrefix) given.prefix
+    && suits part (role_of verb key.From) given.from
+    && suits part (role_of verb key.Until) given.until
+    && suits part (role_of verb key.Set) given.set
     && suits part (role_of verb key.ResumptionToken) given.token
 
 unfoldable pub get_record_of : Arguments → Option Ask
@@ -55,7 +59,9 @@ get_record_of given = do
 unfoldable pub first_list_of : Granularity → ListVerb → Arguments → Option Ask
 first_list_of granularity verb given = do
   prefix ← once given.prefix
-  provided (is_prefix prefix && is_none_or_set_spec (once given.set) && are_bounds granularity (once given.from) (once given.until)) (ask.List verb prefix (once given.from) (once given.until) (once given.set))
+  provided (is_prefix prefix && is_none_or_set_spec (once given.set)
+      && are_bounds granularity (once given.from) (once given.until))
+      (ask.List verb prefix (once given.from) (once given.until) (once given.set))
 
 -- the first request that arguments make which suit the verb
 unfoldable pub first_of : Granularity → Verb → Arguments → Option Ask
@@ -76,7 +82,8 @@ next_of verb given = do
 -- the request of that verb; where a resumptionToken is given, for the next part of its list
 unfoldable pub form_of : Granularity → Verb → Arguments → Option Ask
 form_of granularity verb given =
-    if is_never given.token then (if suit First verb given then first_of granularity verb given else None)
+    if is_never given.token
+    then (if suit First verb given then first_of granularity verb given else None)
     else (if suit Next verb given then next_of verb given else None)
 
 -- a request, or a badArgument
@@ -87,7 +94,8 @@ asked_or_bad None = bad_argument
 -- the request of that verb; with none, it is a badVerb, whatever else is given
 abbrev pub asked_of_verb : Granularity → Option Verb → Arguments → AskOrError
 asked_of_verb granularity None given = bad_verb
-asked_of_verb granularity (Some verb) given = if given.are_values_xml then asked_or_bad (form_of granularity verb given) else bad_argument
+asked_of_verb granularity (Some verb) given =
+    if given.are_values_xml then asked_or_bad (form_of granularity verb given) else bad_argument
 
 -- the verb that is asked for
 unfoldable pub asked_verb : Arguments → Option Verb

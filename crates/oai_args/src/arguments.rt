@@ -60,7 +60,8 @@ impl Arguments {
     /// Takes one more pair.
     #[tactic(auto, unfolding(crate::specs::Steps::arguments_with, crate::specs::Steps::given_with, crate::specs::Pairs::values_of, crate::specs::Pairs::has_only_keys, crate::specs::Pairs::has_xml_values))]
     fn add(&mut self, alloc: Global, key: &str, value: &str) -> Result<(), AllocError>
-        ensures { IfOk result (λ _. self.new ≡ arguments_with self.old ((key.now, value.now) ∷ [])) }
+        ensures { IfOk result
+            (λ _. self.new ≡ arguments_with self.old ((key.now, value.now) ∷ [])) }
     {
         self.are_values_xml = self.are_values_xml && is_xml_text(value);
         match key {

@@ -35,7 +35,8 @@ fn is_none_or_bound(granularity: Granularity, argument: &Option<Text>) -> bool
 
 /// Whether the arguments are not two bounds, or the first is not after the second.
 fn are_not_turned(from: &Option<Text>, until: &Option<Text>) -> bool
-    ensures { result ≡ spec.are_not_turned (spec.given_bound from.now) (spec.given_bound until.now) }
+    ensures { result
+        ≡ spec.are_not_turned (spec.given_bound from.now) (spec.given_bound until.now) }
 {
     match (given_bound(from), given_bound(until)) {
         (Some(from), Some(until)) => is_not_after(from, until),

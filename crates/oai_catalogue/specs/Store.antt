@@ -1,6 +1,6 @@
 -- The store of all versions of all repositories' items: lists of items under numbers. This repository's own view of OAI-PMH 2.0, sections
 -- 2.7 and 3.5: a list request is answered from the items as they stood.
-use Rattle.std.specs.Prelude.{◌≡◌, ◌≢◌, ◌⊎◌, ◌<◌, ℕ, Bool, true, false, ◌==◌, if◌then◌else◌, List, [], Option, None, Some, unwrap_or, Result, IfErr}
+use Rattle.std.specs.Prelude.{◌≡◌, ◌≢◌, ◌⊎◌, ◌<◌, ◌≤◌, ℕ, Bool, true, false, ◌==◌, if◌then◌else◌, List, [], Option, None, Some, unwrap_or, Result, IfErr}
 use Rattle.oai_item.specs.Item.{ItemState}
 use Rattle.oai_item.specs.Items.{with_item, without_at}
 use Rattle.oai_item.specs.Order.{are_in_order}
@@ -30,19 +30,26 @@ without_list v lists n = if n == v then None else lists n
 abbrev pub list_at : Lists → ℕ → List ItemState
 list_at lists v = unwrap_or (lists v) []
 
+-- no list is another than it was but the one under that number
+abbrev pub ChangesOnly : ℕ → Lists → Lists → Type 0
+ChangesOnly v old new = new ≡ with_list v (list_at new v) old
+
 -- each list rises strictly by datestamp and identifier
 abbrev pub AreRising : Lists → Type 0
 AreRising lists = (v : ℕ) → are_in_order (list_at lists v) ≡ true
 
 -- ---- the faults
 
--- the device is named as the cause only where its count of failures rose, or stands at the last number that it can have
-abbrev pub IsCounted : {A : Type 0} → Result A Fault → ℕ → ℕ → Type 0
-IsCounted result old new = IfErr result (λ fault. fault ≡ Device → (old < new) ⊎ (old ≡ MOST_FAILURES))
+-- the count of the device's failures never falls; and the device is named as the cause only where it rose, or stands at the last
+-- number that it can have
+pub record IsCounted {A : Type 0} (result : Result A Fault) (old new : ℕ) : Type 0 where
+  pub count : old ≤ new
+  pub device : IfErr result (λ fault. fault ≡ Device → (old < new) ⊎ (old ≡ MOST_FAILURES))
 
--- damage is found only over a device that is not honest
-abbrev pub IsHonest : {A : Type 0} → Result A Fault → Bool → Type 0
-IsHonest result honest = IfErr result (λ fault. fault ≡ Damaged → honest ≡ false)
+-- the device is as honest as before; and damage is found only over one that is not
+pub record IsHonest {A : Type 0} (result : Result A Fault) (old new : Bool) : Type 0 where
+  pub same : new ≡ old
+  pub damaged : IfErr result (λ fault. fault ≡ Damaged → old ≡ false)
 
 -- room is wanted only where the store may be out of it
 abbrev pub NeedsRoom : {A : Type 0} → Result A Fault → Type 0 → Type 0
@@ -63,3 +70,7 @@ without_given (Some gone) items = without_at gone.stamp gone.identifier items
 abbrev pub with_given : Option ItemState → List ItemState → List ItemState
 with_given None items = items
 with_given (Some new) items = with_item new items
+
+-- the items without the one and with the other, each where it is given
+abbrev pub with_change : Option ItemState → Option ItemState → List ItemState → List ItemState
+with_change gone new items = with_given new (without_given gone items)

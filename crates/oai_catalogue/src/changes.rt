@@ -2,7 +2,7 @@ ghost use Rattle.std.specs.Prelude.{◌≡◌, ◌≢◌, ◌≤◌, None, lengt
 ghost use Rattle.std.specs.Option.{option_copied};
 ghost use Rattle.oai_item.specs.Encoding.{encoded};
 ghost use Rattle.oai_item.specs.declared.sizes.TheConstants.{MOST_ITEM_BYTES};
-ghost use Rattle.oai_catalogue.specs.Store.{AreRising, IsCounted, IsHonest, list_at, with_given, with_list, without_given, without_list};
+ghost use Rattle.oai_catalogue.specs.Store.{AreRising, ChangesOnly, IsCounted, IsHonest, list_at, with_change, with_given, without_given, without_list};
 
 use crate::versions::Versions;
 use oai_item::{Fault, Item};
@@ -20,15 +20,15 @@ pub fn change_item<V: Versions>(
     requires stands { IsSome (V.lists store.old v) }
     requires fits { IfSome (option_copied new) (λ item. length (encoded item) ≤ MOST_ITEM_BYTES) }
     ensures unused { IfOk result (λ w. V.lists store.old w ≡ None) }
-    ensures ok { IfOk result (λ w. V.lists store.new ≡ with_list w (list_at (V.lists store.new) w) (without_list v (V.lists store.old))) }
-    ensures list { IfOk result (λ w. IsTrue (V.honest store.old)
-        → list_at (V.lists store.new) w ≡ with_given (option_copied new.entry) (without_given (option_copied gone.entry) (list_at (V.lists store.old) v))) }
+    ensures ok { IfOk result
+        (λ w. ChangesOnly w (without_list v (V.lists store.old)) (V.lists store.new)) }
+    ensures list { IfOk result (λ w. IsTrue (V.honest store.old) → list_at (V.lists store.new) w
+        ≡ with_change (option_copied gone.entry) (option_copied new.entry)
+        (list_at (V.lists store.old) v)) }
     ensures err { OnErr result (V.lists store.new ≡ V.lists store.old) }
     ensures rising { OnOk result (AreRising (V.lists store.old) × AreRising (V.lists store.new)) }
     ensures device { IsCounted result (V.failures store.old) (V.failures store.new) }
-    ensures damaged { IsHonest result (V.honest store.old) }
-    ensures count { V.failures store.old ≤ V.failures store.new }
-    ensures honesty { V.honest store.new ≡ V.honest store.old }
+    ensures honesty { IsHonest result (V.honest store.old) (V.honest store.new) }
 {
     let next = store.freeze(v)?;
     match edit(store, next, gone, new) {
@@ -53,13 +53,12 @@ fn edit<V: Versions>(
 ) -> Result<(), Fault>
     requires stands { IsSome (V.lists store.old v) }
     requires fits { IfSome (option_copied new) (λ item. length (encoded item) ≤ MOST_ITEM_BYTES) }
-    ensures others { V.lists store.new ≡ with_list v (list_at (V.lists store.new) v) (V.lists store.old) }
-    ensures list { OnOk result (IsTrue (V.honest store.old)
-        → list_at (V.lists store.new) v ≡ with_given (option_copied new.entry) (without_given (option_copied gone.entry) (list_at (V.lists store.old) v))) }
+    ensures others { ChangesOnly v (V.lists store.old) (V.lists store.new) }
+    ensures list { OnOk result (IsTrue (V.honest store.old) → list_at (V.lists store.new) v
+        ≡ with_change (option_copied gone.entry) (option_copied new.entry)
+        (list_at (V.lists store.old) v)) }
     ensures device { IsCounted result (V.failures store.old) (V.failures store.new) }
-    ensures damaged { IsHonest result (V.honest store.old) }
-    ensures count { V.failures store.old ≤ V.failures store.new }
-    ensures honesty { V.honest store.new ≡ V.honest store.old }
+    ensures honesty { IsHonest result (V.honest store.old) (V.honest store.new) }
 {
     take_out(store, v, gone)?;
     put_in(store, v, new)
@@ -68,12 +67,11 @@ fn edit<V: Versions>(
 /// Takes the item out of the list, where one is given.
 fn take_out<V: Versions>(store: &mut V, v: u64, gone: Option<&Item>) -> Result<(), Fault>
     requires { IsSome (V.lists store.old v) }
-    ensures ok { V.lists store.new ≡ with_list v (list_at (V.lists store.new) v) (V.lists store.old) }
-    ensures list { OnOk result (IsTrue (V.honest store.old) → list_at (V.lists store.new) v ≡ without_given (option_copied gone.entry) (list_at (V.lists store.old) v)) }
+    ensures ok { ChangesOnly v (V.lists store.old) (V.lists store.new) }
+    ensures list { OnOk result (IsTrue (V.honest store.old) → list_at (V.lists store.new) v
+        ≡ without_given (option_copied gone.entry) (list_at (V.lists store.old) v)) }
     ensures device { IsCounted result (V.failures store.old) (V.failures store.new) }
-    ensures damaged { IsHonest result (V.honest store.old) }
-    ensures count { V.failures store.old ≤ V.failures store.new }
-    ensures honesty { V.honest store.new ≡ V.honest store.old }
+    ensures honesty { IsHonest result (V.honest store.old) (V.honest store.new) }
 {
     match gone {
         Some(item) => {
@@ -88,12 +86,11 @@ fn take_out<V: Versions>(store: &mut V, v: u64, gone: Option<&Item>) -> Result<(
 fn put_in<V: Versions>(store: &mut V, v: u64, new: Option<&Item>) -> Result<(), Fault>
     requires stands { IsSome (V.lists store.old v) }
     requires fits { IfSome (option_copied new) (λ item. length (encoded item) ≤ MOST_ITEM_BYTES) }
-    ensures ok { V.lists store.new ≡ with_list v (list_at (V.lists store.new) v) (V.lists store.old) }
-    ensures list { OnOk result (IsTrue (V.honest store.old) → list_at (V.lists store.new) v ≡ with_given (option_copied new.entry) (list_at (V.lists store.old) v)) }
+    ensures ok { ChangesOnly v (V.lists store.old) (V.lists store.new) }
+    ensures list { OnOk result (IsTrue (V.honest store.old) → list_at (V.lists store.new) v
+        ≡ with_given (option_copied new.entry) (list_at (V.lists store.old) v)) }
     ensures device { IsCounted result (V.failures store.old) (V.failures store.new) }
-    ensures damaged { IsHonest result (V.honest store.old) }
-    ensures count { V.failures store.old ≤ V.failures store.new }
-    ensures honesty { V.honest store.new ≡ V.honest store.old }
+    ensures honesty { IsHonest result (V.honest store.old) (V.honest store.new) }
 {
     match new {
         Some(item) => store.put(v, item),

@@ -90,7 +90,8 @@ impl<V: Versions + Drop> FaultyVersions<V> {
     fn turn(&mut self) -> Result<(), Fault>
         ensures inner { self.new.inner ≡ self.old.inner }
         ensures turn { IsTurn self.old.left result self.new.left }
-        ensures failed { self.new.failed ≡ (if is_ok result then self.old.failed else min (self.old.failed + 1) MOST_FAILURES) }
+        ensures failed { self.new.failed
+            ≡ (if is_ok result then self.old.failed else min (self.old.failed + 1) MOST_FAILURES) }
     {
         if self.left == 1 {
             self.left = 0;

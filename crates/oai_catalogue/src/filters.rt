@@ -24,7 +24,8 @@ impl Model for Filter {
 
     ghost Value = { Asked };
 
-    ghost view = { λ f. record { prefix = f.prefix; lower = f.lower; upper = f.upper; set = f.set } };
+    ghost view = { λ f.
+        record { prefix = f.prefix; lower = f.lower; upper = f.upper; set = f.set } };
 }
 
 impl Filter {

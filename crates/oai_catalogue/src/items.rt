@@ -121,7 +121,8 @@ impl Items {
         skip: usize,
         most: usize,
     ) -> Result<Sequence<Item>, AllocError>
-        ensures part { IfOk result (λ part. part ≡ take most (drop skip (selected filter.now self.now))) }
+        ensures part { IfOk result
+            (λ part. part ≡ take most (drop skip (selected filter.now self.now))) }
         ensures rising { are_in_order self.now ≡ true }
     {
         part(alloc, self.items.as_slice(), filter, skip, most)

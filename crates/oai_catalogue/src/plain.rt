@@ -119,9 +119,11 @@ impl PlainVersions {
     fn add(&mut self, items: Items) -> Result<u64, Fault>
         requires { are_in_order items ≡ true }
         ensures unused { IfOk result (λ v. lists_of self.old.versions v ≡ None) }
-        ensures ok { IfOk result (λ v. lists_of self.new.versions ≡ with_list v items (lists_of self.old.versions)) }
+        ensures ok { IfOk result
+            (λ v. lists_of self.new.versions ≡ with_list v items (lists_of self.old.versions)) }
         ensures err { OnErr result (lists_of self.new.versions ≡ lists_of self.old.versions) }
-        ensures fault { IfErr result (λ f. (f ≡ fault.NoMemory) ⊎ ((f ≡ fault.TooManyPages) × (self.old.next ≡ LAST_VERSION))) }
+        ensures fault { IfErr result (λ f. (f ≡ fault.NoMemory)
+            ⊎ ((f ≡ fault.TooManyPages) × (self.old.next ≡ LAST_VERSION))) }
     {
         let v = self.next;
         if v == LAST_VERSION {

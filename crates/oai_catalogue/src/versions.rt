@@ -4,7 +4,7 @@ ghost use Rattle.oai_item.specs.Item.{ItemState};
 ghost use Rattle.oai_item.specs.Items.{item_at, with_item, without_at};
 ghost use Rattle.oai_item.specs.Selection.{selected};
 ghost use Rattle.oai_item.specs.declared.sizes.TheConstants.{MOST_ITEM_BYTES};
-ghost use Rattle.oai_catalogue.specs.Store.{AreRising, IsCounted, IsHonest, NeedsNoRoom, NeedsRoom, list_at, with_list, without_list};
+ghost use Rattle.oai_catalogue.specs.Store.{AreRising, ChangesOnly, IsCounted, IsHonest, NeedsNoRoom, NeedsRoom, list_at, with_list, without_list};
 
 use crate::filters::Filter;
 use oai_item::{Fault, Item};
@@ -42,77 +42,71 @@ pub trait Versions {
         ensures rising { OnOk result (AreRising (lists self.old) × AreRising (lists self.new)) }
         ensures room { NeedsRoom result (is_full self.old) }
         ensures device { IsCounted result (failures self.old) (failures self.new) }
-        ensures damaged { IsHonest result (honest self.old) }
-        ensures count { failures self.old ≤ failures self.new }
-        ensures honesty { honest self.new ≡ honest self.old };
+        ensures honesty { IsHonest result (honest self.old) (honest self.new) };
 
     /// A number that was not in use, for what `v` holds now. Any fault may come.
     fn freeze(&mut self, v: u64) -> Result<u64, Fault>
         requires { IsSome (lists self.old v) }
         ensures unused { IfOk result (λ w. lists self.old w ≡ None) }
-        ensures ok { IfOk result (λ w. lists self.new ≡ with_list w (list_at (lists self.old) v) (lists self.old)) }
+        ensures ok { IfOk result
+            (λ w. lists self.new ≡ with_list w (list_at (lists self.old) v) (lists self.old)) }
         ensures err { OnErr result (lists self.new ≡ lists self.old) }
         ensures rising { OnOk result (AreRising (lists self.old) × AreRising (lists self.new)) }
         ensures room { NeedsRoom result (is_full self.old) }
         ensures device { IsCounted result (failures self.old) (failures self.new) }
-        ensures damaged { IsHonest result (honest self.old) }
-        ensures count { failures self.old ≤ failures self.new }
-        ensures honesty { honest self.new ≡ honest self.old };
+        ensures honesty { IsHonest result (honest self.old) (honest self.new) };
 
     /// Puts the item into the list, in place of the one of its datestamp and identifier where there is
     /// one. Its spelling has at most 16,000 bytes. Any fault may come.
     fn put(&mut self, v: u64, item: &Item) -> Result<(), Fault>
         requires stands { IsSome (lists self.old v) }
         requires fits { length (encoded item.now) ≤ MOST_ITEM_BYTES }
-        ensures ok { OnOk result (lists self.new ≡ with_list v (list_at (lists self.new) v) (lists self.old)) }
-        ensures list { OnOk result (IsTrue (honest self.old) → list_at (lists self.new) v ≡ with_item item.now (list_at (lists self.old) v)) }
+        ensures ok { OnOk result (ChangesOnly v (lists self.old) (lists self.new)) }
+        ensures list { OnOk result (IsTrue (honest self.old)
+            → list_at (lists self.new) v ≡ with_item item.now (list_at (lists self.old) v)) }
         ensures err { OnErr result (lists self.new ≡ lists self.old) }
         ensures rising { OnOk result (AreRising (lists self.old) × AreRising (lists self.new)) }
         ensures room { NeedsRoom result (is_full self.old) }
         ensures device { IsCounted result (failures self.old) (failures self.new) }
-        ensures damaged { IsHonest result (honest self.old) }
-        ensures count { failures self.old ≤ failures self.new }
-        ensures honesty { honest self.new ≡ honest self.old };
+        ensures honesty { IsHonest result (honest self.old) (honest self.new) };
 
     /// Takes the item of that datestamp, in seconds from 1970 on, and identifier out of the list, and
     /// answers whether there was one. Any fault may come.
     fn remove(&mut self, v: u64, stamp: i64, identifier: &Identifier) -> Result<bool, Fault>
         requires { IsSome (lists self.old v) }
-        ensures found { IfOk result (λ found. IsTrue (honest self.old) → found ≡ is_some (item_at stamp identifier.now (list_at (lists self.old) v))) }
-        ensures ok { OnOk result (lists self.new ≡ with_list v (list_at (lists self.new) v) (lists self.old)) }
-        ensures list { OnOk result (IsTrue (honest self.old) → list_at (lists self.new) v ≡ without_at stamp identifier.now (list_at (lists self.old) v)) }
+        ensures found { IfOk result (λ found. IsTrue (honest self.old)
+            → found ≡ is_some (item_at stamp identifier.now (list_at (lists self.old) v))) }
+        ensures ok { OnOk result (ChangesOnly v (lists self.old) (lists self.new)) }
+        ensures list { OnOk result (IsTrue (honest self.old) → list_at (lists self.new) v
+            ≡ without_at stamp identifier.now (list_at (lists self.old) v)) }
         ensures err { OnErr result (lists self.new ≡ lists self.old) }
         ensures rising { OnOk result (AreRising (lists self.old) × AreRising (lists self.new)) }
         ensures room { NeedsRoom result (is_full self.old) }
         ensures device { IsCounted result (failures self.old) (failures self.new) }
-        ensures damaged { IsHonest result (honest self.old) }
-        ensures count { failures self.old ≤ failures self.new }
-        ensures honesty { honest self.new ≡ honest self.old };
+        ensures honesty { IsHonest result (honest self.old) (honest self.new) };
 
     /// The item of that datestamp, in seconds from 1970 on, and identifier, or None. Any fault but
     /// `TooManyPages` may come.
     fn find(&mut self, v: u64, stamp: i64, identifier: &Identifier) -> Result<Option<Item>, Fault>
         requires { IsSome (lists self.old v) }
-        ensures found { IfOk result (λ item. IsTrue (honest self.old) → item ≡ item_at stamp identifier.now (list_at (lists self.old) v)) }
+        ensures found { IfOk result (λ item. IsTrue (honest self.old)
+            → item ≡ item_at stamp identifier.now (list_at (lists self.old) v)) }
         ensures same { lists self.new ≡ lists self.old }
         ensures rising { OnOk result (AreRising (lists self.old)) }
         ensures room { NeedsNoRoom result }
         ensures device { IsCounted result (failures self.old) (failures self.new) }
-        ensures damaged { IsHonest result (honest self.old) }
-        ensures count { failures self.old ≤ failures self.new }
-        ensures honesty { honest self.new ≡ honest self.old };
+        ensures honesty { IsHonest result (honest self.old) (honest self.new) };
 
     /// How many items are selected. Any fault but `TooManyPages` may come.
     fn count(&mut self, v: u64, filter: &Filter) -> Result<usize, Fault>
         requires { IsSome (lists self.old v) }
-        ensures number { IfOk result (λ n. IsTrue (honest self.old) → n ≡ length (selected filter.now (list_at (lists self.old) v))) }
+        ensures number { IfOk result (λ n. IsTrue (honest self.old)
+            → n ≡ length (selected filter.now (list_at (lists self.old) v))) }
         ensures same { lists self.new ≡ lists self.old }
         ensures rising { OnOk result (AreRising (lists self.old)) }
         ensures room { NeedsNoRoom result }
         ensures device { IsCounted result (failures self.old) (failures self.new) }
-        ensures damaged { IsHonest result (honest self.old) }
-        ensures count { failures self.old ≤ failures self.new }
-        ensures honesty { honest self.new ≡ honest self.old };
+        ensures honesty { IsHonest result (honest self.old) (honest self.new) };
 
     /// Of the selected items, in their order, those after the first `skip`, at most `most` of them.
     /// Any fault but `TooManyPages` may come.
@@ -124,14 +118,13 @@ pub trait Versions {
         most: usize,
     ) -> Result<Sequence<Item>, Fault>
         requires { IsSome (lists self.old v) }
-        ensures part { IfOk result (λ items. IsTrue (honest self.old) → items ≡ take most (drop skip (selected filter.now (list_at (lists self.old) v)))) }
+        ensures part { IfOk result (λ items. IsTrue (honest self.old)
+            → items ≡ take most (drop skip (selected filter.now (list_at (lists self.old) v)))) }
         ensures same { lists self.new ≡ lists self.old }
         ensures rising { OnOk result (AreRising (lists self.old)) }
         ensures room { NeedsNoRoom result }
         ensures device { IsCounted result (failures self.old) (failures self.new) }
-        ensures damaged { IsHonest result (honest self.old) }
-        ensures count { failures self.old ≤ failures self.new }
-        ensures honesty { honest self.new ≡ honest self.old };
+        ensures honesty { IsHonest result (honest self.old) (honest self.new) };
 
     /// Lets the list go; its number is in use no more. It takes no memory and cannot fail.
     fn release(&mut self, v: u64)

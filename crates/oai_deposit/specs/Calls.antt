@@ -15,7 +15,8 @@ Answers view (Ok x) reading = reading ≡ Ok (view x)
 Answers view (Err refusal) reading = reading ≡ Err refusal
 
 -- `Gives` of an answer that is seen by the view
-abbrev pub GivesBy : {A B : Type 0} → (A → B) → Type 0 → Result A LineFault → Result B LineRefusal → Type 0
+abbrev pub GivesBy : {A B : Type 0} → (A → B) → Type 0
+    → Result A LineFault → Result B LineRefusal → Type 0
 GivesBy view condition (Ok x) reading = reading ≡ Ok (view x)
 GivesBy view condition (Err (Refused refusal)) reading = reading ≡ Err refusal
 GivesBy view condition (Err NoMemory) reading = condition
@@ -26,7 +27,8 @@ Anywhere = Unit {0}
 
 -- an object of exactly the members of some command
 abbrev pub has_command_members : Data → Bool
-has_command_members d = has_members deposit_members d || has_members deletion_members d || has_members set_members d
+has_command_members d =
+    has_members deposit_members d || has_members deletion_members d || has_members set_members d
 
 -- the change that what was read as a shape asks for
 abbrev pub asked_by : Result Shape LineRefusal → Result Change LineRefusal

@@ -131,7 +131,8 @@ shape_of d =
 
 -- each text of each field may stand in an XML document (XML 1.0, section 2.2)
 unfoldable pub have_xml_texts : List Metadata → Bool
-have_xml_texts records = list_all (λ metadata. list_all (λ field. is_xml_text field.text) metadata.1) records
+have_xml_texts records =
+    list_all (λ metadata. list_all (λ field. is_xml_text field.text) metadata.1) records
 
 -- the change that a command asks for: its identifier, each of its setSpecs, and the texts of its fields or its setName are tested,
 -- in this order

@@ -6,12 +6,14 @@ use Rattle.oai_deposit.specs.declared.faults.LineFault.TheVariants.{NoMemory, Re
 
 -- a reading after a reading: the first refusal stays
 infixl 10 ◌>>=◌
-abbrev pub ◌>>=◌ : {A B : Type 0} → Result A LineRefusal → (A → Result B LineRefusal) → Result B LineRefusal
+abbrev pub ◌>>=◌ : {A B : Type 0} → Result A LineRefusal
+    → (A → Result B LineRefusal) → Result B LineRefusal
 (Ok x) >>= f = f x
 (Err refusal) >>= f = Err refusal
 
 -- a reading of each of a list, in order
-abbrev pub each_of : {A B : Type 0} → (A → Result B LineRefusal) → List A → Result (List B) LineRefusal
+abbrev pub each_of : {A B : Type 0} → (A → Result B LineRefusal) → List A
+    → Result (List B) LineRefusal
 each_of read [] = Ok []
 each_of read (x ∷ xs) = do
   y ← read x

@@ -26,7 +26,8 @@ abbrev pub written_records : List Metadata → Data
 written_records records = object_of (map written_record records)
 
 -- {"deposit":ID,"sets":[SPEC,..],"records":{PREFIX:[[NAME,TEXT],..],..}}, its members in any order
-pub record IsDeposit (identifier : List ℕ) (specs : List (List ℕ)) (metadata : List Metadata) (d : Data) : Type 0 where
+pub record IsDeposit (identifier : List ℕ) (specs : List (List ℕ))
+    (metadata : List Metadata) (d : Data) : Type 0 where
   pub deposit : get (codes "deposit") d ≡ Some (string identifier)
   pub sets : get (codes "sets") d ≡ Some (written_texts specs)
   pub records : get (codes "records") d ≡ Some (written_records metadata)

@@ -22,15 +22,13 @@ declare_fault formats format =
 
 -- what is seen of the format without memory: its prefix is new, and its names and its URIs keep the rules
 abbrev pub HasGoodTexts : List Format → Format → Type 0
-HasGoodTexts formats format = (is_some (format_named format.prefix formats) ≡ false) × (are_names format ≡ true) × (are_uris format ≡ true)
+HasGoodTexts formats format =
+    (is_some (format_named format.prefix formats) ≡ false)
+    × (are_names format ≡ true) × (are_uris format ≡ true)
 
 -- what declaring the format answers, from the formats before to those after: it stands at the end, or nothing changed.
 -- Memory may be refused once its texts are good
 abbrev pub IsDeclaring : List Format → Format → Result (Unit {0}) FormatFault → List Format → Type 0
 IsDeclaring old format (Ok _) new = (declare_fault old format ≡ None) × (new ≡ old ++ format ∷ [])
-IsDeclaring old format (Err Duplicate) new = (declare_fault old format ≡ Some Duplicate) × (new ≡ old)
-IsDeclaring old format (Err BadName) new = (declare_fault old format ≡ Some BadName) × (new ≡ old)
-IsDeclaring old format (Err BadUri) new = (declare_fault old format ≡ Some BadUri) × (new ≡ old)
-IsDeclaring old format (Err FieldTwice) new = (declare_fault old format ≡ Some FieldTwice) × (new ≡ old)
-IsDeclaring old format (Err TooMany) new = (declare_fault old format ≡ Some TooMany) × (new ≡ old)
 IsDeclaring old format (Err NoMemory) new = HasGoodTexts old format × (new ≡ old)
+IsDeclaring old format (Err fault) new = (declare_fault old format ≡ Some fault) × (new ≡ old)

@@ -13,7 +13,10 @@ dublin_core = record {
   schema = codes "http://www.openarchives.org/OAI/2.0/oai_dc.xsd";
   namespace = codes "http://www.openarchives.org/OAI/2.0/oai_dc/";
   root = codes "oai_dc:dc";
-  fields = codes "title" ∷ codes "creator" ∷ codes "subject" ∷ codes "description" ∷ codes "publisher" ∷ codes "contributor" ∷ codes "date" ∷ codes "type" ∷ codes "format" ∷ codes "identifier" ∷ codes "source" ∷ codes "language" ∷ codes "relation" ∷ codes "coverage" ∷ codes "rights" ∷ [];
+  fields = codes "title" ∷ codes "creator" ∷ codes "subject" ∷ codes "description"
+      ∷ codes "publisher" ∷ codes "contributor" ∷ codes "date" ∷ codes "type" ∷ codes "format"
+      ∷ codes "identifier" ∷ codes "source" ∷ codes "language" ∷ codes "relation"
+      ∷ codes "coverage" ∷ codes "rights" ∷ [];
 }
 
 -- the format of that prefix

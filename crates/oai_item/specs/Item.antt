@@ -38,7 +38,13 @@ IsStamp stamp = (negsuc 62167219199 ≤ℤ stamp) × (stamp ≤ℤ pos 253402300
 
 -- a live item of these parts
 abbrev pub live_item : List ℕ → ℤ → List (List ℕ) → List Metadata → ItemState
-live_item identifier stamp sets formats = record { identifier = identifier; stamp = stamp; live = true; sets = sets; formats = formats }
+live_item identifier stamp sets formats = record {
+  identifier = identifier;
+  stamp = stamp;
+  live = true;
+  sets = sets;
+  formats = formats;
+}
 
 -- the record of that prefix, without its fields
 abbrev pub emptied : Metadata → Metadata
@@ -46,7 +52,8 @@ emptied format = (format.0, [])
 
 -- the deleted item that is left of an item: the same sets and prefixes, no fields, and the datestamp of its deletion
 abbrev pub tombstone_of : ℤ → ItemState → ItemState
-tombstone_of stamp item = record { identifier = item.identifier; stamp = stamp; live = false; sets = item.sets; formats = map emptied item.formats }
+tombstone_of stamp item =
+    record item { stamp = stamp; live = false; formats = map emptied item.formats }
 
 -- the record of that metadataPrefix
 unfoldable pub record_named : List ℕ → List Metadata → Option Metadata

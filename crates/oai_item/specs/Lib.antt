@@ -1,5 +1,6 @@
 pub mod Membership
 pub mod Item
+pub mod Inside
 pub mod Order
 pub mod Items
 pub mod Selection

@@ -23,4 +23,5 @@ reduced sets = filter (λ s. not (list_any (is_above s) sets)) (distinct sets)
 
 -- of two setSpecs at different places neither covers the other
 abbrev pub AreApart : List (List ℕ) → Type 0
-AreApart sets = (i j : ℕ) (s t : List ℕ) → slice_get sets i ≡ Some s → slice_get sets j ≡ Some t → i ≢ j → covers s t ≡ false
+AreApart sets = (i j : ℕ) (s t : List ℕ)
+    → slice_get sets i ≡ Some s → slice_get sets j ≡ Some t → i ≢ j → covers s t ≡ false

@@ -10,7 +10,8 @@ use Rattle.oai_item.specs.Item.{ItemState}
 
 -- how an item stands to that datestamp and that identifier
 abbrev pub place_cmp : ItemState → ℤ → List ℕ → Ordering
-place_cmp item stamp identifier = ordering_then (int_cmp item.stamp stamp) (slice_cmp nat_cmp item.identifier identifier)
+place_cmp item stamp identifier =
+    ordering_then (int_cmp item.stamp stamp) (slice_cmp nat_cmp item.identifier identifier)
 
 -- the order of two items
 abbrev pub item_cmp : ItemState → ItemState → Ordering
@@ -26,7 +27,8 @@ are_in_order [] = true
 are_in_order (item ∷ items) = list_all (precedes item) items && are_in_order items
 
 -- the first items all stand before that datestamp and identifier, the others all behind
-pub record AreAround (stamp : ℤ) (identifier : List ℕ) (before behind : List ItemState) : Type 0 where
+pub record AreAround (stamp : ℤ) (identifier : List ℕ)
+    (before behind : List ItemState) : Type 0 where
   pub below : list_all (λ item. is_lt (place_cmp item stamp identifier)) before ≡ true
   pub above : list_all (λ item. is_gt (place_cmp item stamp identifier)) behind ≡ true
 

@@ -36,7 +36,9 @@ is_space b = b == 32 || b == 9 || b == 10 || b == 13
 
 -- what may stand for a URI in a document: 1 to 512 bytes, of characters that a document may hold, and no white space
 unfoldable pub is_uri : List ℕ → Bool
-is_uri text = nat_lt 0 (length text) && nat_le (length text) 512 && is_xml_text text && not (list_any is_space text)
+is_uri text =
+    nat_lt 0 (length text) && nat_le (length text) 512
+    && is_xml_text text && not (list_any is_space text)
 
 -- the schema and the namespace are such
 abbrev pub are_uris : Format → Bool
@@ -54,4 +56,5 @@ has_fields format = nat_lt 0 (length format.fields) && nat_le (length format.fie
 -- a format of these rules, as each that is declared: the names and the URIs are such, it has 1 to 256 fields, and none stands
 -- twice
 unfoldable pub is_allowed : Format → Bool
-is_allowed format = are_names format && are_uris format && has_fields format && not (has_repeat format.fields)
+is_allowed format =
+    are_names format && are_uris format && has_fields format && not (has_repeat format.fields)

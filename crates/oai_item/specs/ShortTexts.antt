@@ -5,4 +5,5 @@ use Rattle.oai_item.specs.declared.short_texts.TheConstants.{MOST_SHORT_TEXT_BYT
 
 -- a text of 1 to 512 bytes, of characters that a document may hold (XML 1.0, section 2.2)
 unfoldable pub is_short_text : List ℕ → Bool
-is_short_text text = nat_lt 0 (length text) && nat_le (length text) MOST_SHORT_TEXT_BYTES && is_xml_text text
+is_short_text text =
+    nat_lt 0 (length text) && nat_le (length text) MOST_SHORT_TEXT_BYTES && is_xml_text text

@@ -17,7 +17,8 @@ holds texts text = contains_by (λ k. slice_cmp nat_cmp text k.now) texts
 abbrev pub flagged : {X : Type 0} → List Bool → List X → List X
 flagged [] elements = []
 flagged (stays ∷ flags) [] = []
-flagged (stays ∷ flags) (element ∷ elements) = cond stays (element ∷ flagged flags elements) (flagged flags elements)
+flagged (stays ∷ flags) (element ∷ elements) =
+    cond stays (element ∷ flagged flags elements) (flagged flags elements)
 
 -- what a test of a format answers; memory may be refused once its texts are good
 abbrev pub IsCheck : List Format → Format → Result (Unit {0}) FormatFault → Type 0

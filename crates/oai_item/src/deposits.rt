@@ -27,7 +27,8 @@ impl Item {
         requires stamped { IsStamp stamp }
         requires carries { records.now ≢ [] }
         requires known { list_all (has_format formats.now) records.now ≡ true }
-        ensures { IfOk result (λ item. item ≡ live_item identifier.now stamp (reduced sets.now) records.now) }
+        ensures { IfOk result
+            (λ item. item ≡ live_item identifier.now stamp (reduced sets.now) records.now) }
     {
         Item::live(
             alloc,
@@ -49,8 +50,8 @@ fn typed_records(
     ensures { IfOk result (λ typed. typed ≡ records.now) }
 {
     let mut typed = Vec::with_capacity(alloc, records.len())?;
-    for record in records {
-        typed.push(typed_record(alloc, formats, record)?)?;
+    for deposited in records {
+        typed.push(typed_record(alloc, formats, deposited)?)?;
     }
     Ok(Sequence::new(typed))
 }
@@ -59,16 +60,16 @@ fn typed_records(
 fn typed_record(
     alloc: Global,
     formats: &Formats,
-    record: &(Text, Sequence<Field>),
+    deposited: &(Text, Sequence<Field>),
 ) -> Result<(Prefix, Sequence<Field>), AllocError>
-    requires { has_format formats.now record.now ≡ true }
-    ensures { IfOk result (λ typed. typed ≡ record.now) }
+    requires { has_format formats.now deposited.now ≡ true }
+    ensures { IfOk result (λ typed. typed ≡ deposited.now) }
 {
-    let Some(format) = formats.find_named(record.0.as_str()) else {
+    let Some(format) = formats.find_named(deposited.0.as_str()) else {
         unreachable!()
     };
     Ok((
         format.prefix.copy(alloc)?,
-        copy_fields(alloc, record.1.as_slice())?,
+        copy_fields(alloc, deposited.1.as_slice())?,
     ))
 }

@@ -32,9 +32,11 @@ impl Model for Item {
 
     ghost Value = { ItemState };
 
-    ghost view = { λ i. record { identifier = i.identifier; stamp = i.stamp; live = i.live; sets = i.sets; formats = i.formats } };
+    ghost use Rattle.oai_item.specs.Inside.{item_in};
 
-    ghost invariant = { λ i. IsItem (record { identifier = i.identifier; stamp = i.stamp; live = i.live; sets = i.sets; formats = i.formats }) };
+    ghost view = { item_in };
+
+    ghost invariant = { λ item. IsItem (item_in item) };
 }
 
 impl Item {
@@ -143,7 +145,8 @@ impl Item {
     /// The fields of the record of that prefix, or None where the item has no such record. It takes
     /// no memory.
     pub fn fields_in(&self, prefix: &str) -> Option<&[Field]>
-        ensures { option_copied result ≡ option_map (λ r. r.1) (record_named prefix.now self.now.formats) }
+        ensures { option_copied result
+            ≡ option_map (λ r. r.1) (record_named prefix.now self.now.formats) }
     {
         match record_named(prefix, self.formats.as_slice()) {
             Some((_, fields)) => Some(fields.as_slice()),
@@ -196,6 +199,7 @@ pub fn is_in(set: &SetSpec, sets: &[SetSpec]) -> bool
 /// 2.6), and of two setSpecs that stay at different places neither covers the other.
 #[tactic(auto, using(crate::proofs::Kept::reduced_apart, crate::proofs::SetLaws::same_sets))]
 pub fn set_law()
-    ensures membership { (s : List ℕ) (sets : List (List ℕ)) → is_in s (reduced sets) ≡ is_in s sets }
+    ensures membership { (s : List ℕ) (sets : List (List ℕ))
+        → is_in s (reduced sets) ≡ is_in s sets }
     ensures apart { (sets : List (List ℕ)) → AreApart (reduced sets) }
 {}

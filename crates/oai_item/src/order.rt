@@ -44,7 +44,8 @@ pub fn order_law()
     ensures members { (item : ItemState) (items : List ItemState) (other : ItemState)
         → Contains (placed item items) other ↔ ((other ≡ item) ⊎ Contains items other) }
     ensures placed { (item : ItemState) (items : List ItemState)
-        → are_in_order items ≡ true → item_at item.stamp item.identifier items ≡ None → are_in_order (placed item items) ≡ true }
+        → are_in_order items ≡ true → item_at item.stamp item.identifier items ≡ None
+        → are_in_order (placed item items) ≡ true }
     ensures put { (item : ItemState) (items : List ItemState)
         → are_in_order items ≡ true → are_in_order (with_item item items) ≡ true }
 {}

@@ -1,6 +1,6 @@
 -- The text of a number has no full stop, so that a token is cut in one place.
 use Rattle.std.proofs.Common.{◌≡◌, ◌≢◌, ◌∙◌, ℕ, ◌+◌, ◌<◌, ◌^◌, ◌%◌, ◌/◌, ◌≤◌, Bool, true, false, not, eqb, decimal, List, [], ◌∷◌, ◌++◌, length, get_or, Option, Some, None, IfSome, refl, sym, ap, arith}
-use Rattle.oai_lists.specs.Tokens.{IsToken, token_text}
+use Rattle.oai_lists.specs.Tokens.{AreNumbers, IsToken, token_text}
 use Rattle.oai_lists.specs.declared.tokens.Token.{Token}
 use Rattle.std.specs.List.{list_all}
 use Rattle.std.proofs.lemmas.Bool.{and_from, both_ways, eq-eqb, ne_eqb, not-true, not_from_false}
@@ -28,7 +28,7 @@ no_stop_at n small i within same =
 
 -- two numbers with a full stop between them are a token
 pub found_token : (text list cursor : List ℕ) (read : Option Token) → text ≡ list ++ 46 ∷ cursor
-    → IfSome read (λ token. (token.list < 2 ^ 64) × (token.cursor < 2 ^ 64) × (list ≡ decimal token.list) × (cursor ≡ decimal token.cursor)) → IfSome read (λ token. IsToken text token)
+    → IfSome read (λ token. AreNumbers list cursor token) → IfSome read (λ token. IsToken text token)
 unfolding token_text
 found_token text list cursor None cut h = tt
 found_token text list cursor (Some token) cut h = record { list = h.0; cursor = h.1; spelled = cut ∙ ap (λ ys. ys ++ 46 ∷ cursor) h.2 ∙ ap (λ ys. decimal token.list ++ 46 ∷ ys) h.3 }

@@ -1,3 +1,4 @@
 pub mod Tokens
 pub mod OpenLists
 pub mod Bounds
+pub mod Inside

@@ -1,6 +1,6 @@
 -- The lists that a repository has begun to answer and that resumption tokens continue. OAI-PMH 2.0, section 3.5.
 use Rattle.std.specs.Prelude.{◌≡◌, ◌+◌, ◌<◌, ◌≤ℤ◌, ℕ, ℤ, int_le, int_lt, Bool, true, ◌&&◌, ◌==◌, nat_le, nat_lt, if◌then◌else◌, List, [], ◌∷◌, ◌++◌, length, map, Option, None, Some, MatchOption, filter, find, Result, Ok, Err}
-use Rattle.std.specs.List.{All, Contains, list_all}
+use Rattle.std.specs.List.{All, Contains, after_first, before_first, list_all}
 use Rattle.oai_names.specs.declared.list_verbs.ListVerb.{ListVerb}
 use Rattle.oai_item.specs.Selection.{Filter}
 use Rattle.oai_lists.specs.declared.open_lists.OpenList.{OpenList}
@@ -25,6 +25,10 @@ has_ended now list = int_le list.end now
 -- those of the lists that are open
 abbrev pub open_ones : ℤ → List OpenList → List OpenList
 open_ones now lists = filter (is_open now) lists
+
+-- the lists but the first that has ended
+abbrev pub without_ended : ℤ → List OpenList → List OpenList
+without_ended now lists = before_first (has_ended now) lists ++ after_first (has_ended now) lists
 
 -- the list has that number
 abbrev pub is_numbered : ℕ → OpenList → Bool
@@ -56,13 +60,24 @@ answered (Some fault) next = Err fault
 abbrev pub with_list : Table → OpenList → Table
 with_list table list = record table { next = table.next + 1; lists = table.lists ++ list ∷ [] }
 
+-- the list of these parts, with the next number
+abbrev pub next_list : Table → ListVerb → Filter → ℕ → ℕ → ℤ → OpenList
+next_list table verb filter version size end = record {
+  number = table.next;
+  verb = verb;
+  filter = filter;
+  version = version;
+  size = size;
+  end = end;
+}
+
 -- what opening the list at that moment answers, and the table then: it is the last one, or the first cause that applies is told and the table
 -- is as it was. Memory may be refused where no cause applies
 abbrev pub IsOpening : Table → ℤ → OpenList → Result ℕ OpenFault → Table → Type 0
-IsOpening old now list (Ok number) new = (open_fault old now ≡ None) × (number ≡ old.next) × (new ≡ with_list old list)
-IsOpening old now list (Err Full) new = (open_fault old now ≡ Some Full) × (new ≡ old)
-IsOpening old now list (Err NumbersSpent) new = (open_fault old now ≡ Some NumbersSpent) × (new ≡ old)
+IsOpening old now list (Ok number) new =
+    (open_fault old now ≡ None) × (number ≡ old.next) × (new ≡ with_list old list)
 IsOpening old now list (Err NoMemory) new = (open_fault old now ≡ None) × (new ≡ old)
+IsOpening old now list (Err fault) new = (open_fault old now ≡ Some fault) × (new ≡ old)
 
 -- ---- renewing
 
@@ -79,7 +94,8 @@ renewed number end lists = map (renewed_one number end) lists
 -- it is the end of one of the lists, and not above that of any; there is none where there is no list
 abbrev pub IsEarliest : List OpenList → Option ℤ → Type 0
 IsEarliest lists end = MatchOption end (lists ≡ [])
-    (λ earliest. ((list : OpenList) × Contains lists list × (list.end ≡ earliest)) × All (λ list. earliest ≤ℤ list.end) lists)
+    (λ earliest. ((list : OpenList) × Contains lists list × (list.end ≡ earliest))
+    × All (λ list. earliest ≤ℤ list.end) lists)
 
 -- ---- what is true of each table
 

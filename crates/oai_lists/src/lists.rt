@@ -1,9 +1,9 @@
-ghost use Rattle.std.specs.Prelude.{◌≡◌, ◌<◌, ◌++◌, [], get_or, vec_len, true, length, nat_le, position, IsSome, OnSome};
-ghost use Rattle.std.specs.List.{before_first, after_first, find, remove};
+ghost use Rattle.std.specs.Prelude.{◌≡◌, ◌<◌, [], get_or, vec_len, true, length, nat_le, position, IsSome, OnSome};
+ghost use Rattle.std.specs.List.{find, remove};
 ghost use Rattle.oai_lists.specs.declared.open_lists.OpenList.{OpenList as Opened};
 ghost use Rattle.std.specs.Option.{option_copied, option_map};
 ghost use Rattle.oai_lists.specs.Bounds.{IsPlaced};
-ghost use Rattle.oai_lists.specs.OpenLists.{IsEarliest, IsOpening, IsTable, answered, are_numbered, has_ended, list_numbered, open_fault, open_numbered, open_ones, renewed};
+ghost use Rattle.oai_lists.specs.OpenLists.{IsEarliest, IsOpening, IsTable, answered, are_numbered, has_ended, list_numbered, next_list, open_fault, open_numbered, open_ones, renewed, without_ended};
 
 use crate::open_lists::OpenList;
 use oai_catalogue::Filter;
@@ -45,10 +45,11 @@ impl Model for Lists {
     ghost Value = { Table };
 
     ghost use Rattle.oai_lists.specs.Bounds.{IsHeld};
+    ghost use Rattle.oai_lists.specs.Inside.{table_in};
 
-    ghost view = { λ l. record { limit = l.limit; next = l.next; lists = l.lists.items } };
+    ghost view = { table_in };
 
-    ghost invariant = { λ l. IsHeld (record { limit = l.limit; next = l.next; lists = l.lists.items }) l.earliest };
+    ghost invariant = { λ lists. IsHeld (table_in lists) lists.earliest };
 }
 
 impl Lists {
@@ -93,7 +94,8 @@ impl Lists {
         size: u64,
         end: i64,
     ) -> Result<u64, OpenFault>
-        ensures { IsOpening self.old now (record { number = self.old.next; verb = verb; filter = filter; version = version; size = size; end = end }) result self.new }
+        ensures { let list = next_list self.old verb filter version size end in
+            IsOpening self.old now list result self.new }
     {
         let number = match self.next(now) {
             Ok(number) => number,
@@ -149,8 +151,9 @@ impl Lists {
     /// released; None where there is none. It takes no memory. It looks at the lists only where one of
     /// them may have ended.
     pub fn expire(&mut self, now: i64) -> Option<u64>
-        ensures version { result ≡ option_map (λ list. list.version) (find (has_ended now) self.old.lists) }
-        ensures left { self.new ≡ record self.old { lists = before_first (has_ended now) self.old.lists ++ after_first (has_ended now) self.old.lists } }
+        ensures version { result
+            ≡ option_map (λ list. list.version) (find (has_ended now) self.old.lists) }
+        ensures left { self.new ≡ record self.old { lists = without_ended now self.old.lists } }
     {
         if now < self.earliest {
             return None;

@@ -1,7 +1,7 @@
 ghost use Rattle.std.specs.Prelude.{◌≡◌, ◌<◌, ◌^◌, ◌++◌, ℕ, Some, decimal, IfOk, IfSome, OnOk};
 ghost use Rattle.std.specs.Str.{bytes_eq};
 ghost use Rattle.oai_lists.specs.declared.tokens.Token.{Token as TokenData};
-ghost use Rattle.oai_lists.specs.Tokens.{IsToken, token_text};
+ghost use Rattle.oai_lists.specs.Tokens.{AreNumbers, IsToken, token_text};
 
 use itoa::Buffer;
 use oai_names::Sequence;
@@ -44,8 +44,9 @@ impl Token {
 
 /// The token of the two numbers that are spelled so.
 fn read_numbers(list: &str, cursor: &str) -> Option<Token>
-    ensures found { IfSome result (λ token. (token.list < 2 ^ 64) × (token.cursor < 2 ^ 64) × (list.now ≡ decimal token.list) × (cursor.now ≡ decimal token.cursor)) }
-    ensures only { (token : TokenData) → token.list < 2 ^ 64 → token.cursor < 2 ^ 64 → list.now ≡ decimal token.list → cursor.now ≡ decimal token.cursor → result ≡ Some token }
+    ensures found { IfSome result (λ token. AreNumbers list.now cursor.now token) }
+    ensures only { (token : TokenData)
+        → AreNumbers list.now cursor.now token → result ≡ Some token }
 {
     match (read_number(list), read_number(cursor)) {
         (Some(list), Some(cursor)) => Some(Token { list, cursor }),

@@ -10,7 +10,8 @@ is_between low high n = nat_le low n && nat_le n high
 -- Char ::= #x9 | #xA | #xD | [#x20-#xD7FF] | [#xE000-#xFFFD] | [#x10000-#x10FFFF]
 abbrev pub is_xml_char : ℕ → Bool
 is_xml_char c =
-    c == 0x9 || c == 0xA || c == 0xD || is_between 0x20 0xD7FF c || is_between 0xE000 0xFFFD c || is_between 0x10000 0x10FFFF c
+    c == 0x9 || c == 0xA || c == 0xD
+    || is_between 0x20 0xD7FF c || is_between 0xE000 0xFFFD c || is_between 0x10000 0x10FFFF c
 
 -- each character of the text may stand in a document
 unfoldable pub is_xml_text : List ℕ → Bool

@@ -42,19 +42,30 @@ has_parent sets spec = is_none_or_has sets (parent_of spec)
 
 -- the sets of a repository in order of addition: the setSpecs are distinct, each set's parent stands before it, and there are not too many
 pub record IsSetTree (sets : List (List ℕ × List ℕ)) : Type 0 where
-  pub distinct : (i : ℕ) (set : List ℕ × List ℕ) → slice_get sets i ≡ Some set → has_set (take i sets) set.0 ≡ false
-  pub parents : (i : ℕ) (set : List ℕ × List ℕ) → slice_get sets i ≡ Some set → has_parent (take i sets) set.0 ≡ true
+  pub distinct : (i : ℕ) (set : List ℕ × List ℕ)
+      → slice_get sets i ≡ Some set → has_set (take i sets) set.0 ≡ false
+  pub parents : (i : ℕ) (set : List ℕ × List ℕ)
+      → slice_get sets i ≡ Some set → has_parent (take i sets) set.0 ≡ true
   pub few : length sets ≤ MOST_SETS
 
 -- the law of the hierarchy: where a set's last part follows another setSpec and a colon, a set of that setSpec stands before it
 abbrev pub HasParentsBefore : List (List ℕ × List ℕ) → Type 0
 HasParentsBefore sets = (i : ℕ) (parent last name : List ℕ)
-    → slice_get sets i ≡ Some (parent ++ 58 ∷ last, name) → list_any is_colon last ≡ false → has_set (take i sets) parent ≡ true
+    → slice_get sets i ≡ Some (parent ++ 58 ∷ last, name)
+    → list_any is_colon last ≡ false → has_set (take i sets) parent ≡ true
 
 -- what adding a set answers, and the sets then: it is the last one, or the first cause that applies is told and they are as they were
-abbrev pub IsAdding : List (List ℕ × List ℕ) → List ℕ → List ℕ → Result (Unit {0}) SetFault → List (List ℕ × List ℕ) → Type 0
-IsAdding old spec name (Ok _) new = (has_set old spec ≡ false) × (has_parent old spec ≡ true) × (length old < MOST_SETS) × (new ≡ old ++ (spec, name) ∷ [])
+abbrev pub IsAdding : List (List ℕ × List ℕ) → List ℕ → List ℕ
+    → Result (Unit {0}) SetFault → List (List ℕ × List ℕ) → Type 0
+IsAdding old spec name (Ok _) new =
+    (has_set old spec ≡ false) × (has_parent old spec ≡ true) × (length old < MOST_SETS)
+    × (new ≡ old ++ (spec, name) ∷ [])
 IsAdding old spec name (Err Exists) new = (has_set old spec ≡ true) × (new ≡ old)
-IsAdding old spec name (Err NoParent) new = (has_set old spec ≡ false) × (has_parent old spec ≡ false) × (new ≡ old)
-IsAdding old spec name (Err TooMany) new = (has_set old spec ≡ false) × (has_parent old spec ≡ true) × (MOST_SETS ≤ length old) × (new ≡ old)
-IsAdding old spec name (Err NoMemory) new = (has_set old spec ≡ false) × (has_parent old spec ≡ true) × (length old < MOST_SETS) × (new ≡ old)
+IsAdding old spec name (Err NoParent) new =
+    (has_set old spec ≡ false) × (has_parent old spec ≡ false) × (new ≡ old)
+IsAdding old spec name (Err TooMany) new =
+    (has_set old spec ≡ false) × (has_parent old spec ≡ true) × (MOST_SETS ≤ length old)
+    × (new ≡ old)
+IsAdding old spec name (Err NoMemory) new =
+    (has_set old spec ≡ false) × (has_parent old spec ≡ true) × (length old < MOST_SETS)
+    × (new ≡ old)

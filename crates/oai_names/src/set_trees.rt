@@ -50,7 +50,8 @@ impl Model for SetTree {
 
     ghost view = { λ t. t.sets.items };
 
-    ghost invariant = { λ t. IsSetTree t.sets.items × ((spec : List ℕ) → contains_text t.specs spec ≡ has_set t.sets.items spec) };
+    ghost invariant = { λ t. IsSetTree t.sets.items
+        × ((spec : List ℕ) → contains_text t.specs spec ≡ has_set t.sets.items spec) };
 }
 
 impl SetTree {
@@ -144,7 +145,8 @@ impl SetTree {
         requires apart { has_set self.old spec.now ≡ false }
         requires parent { has_parent self.old spec.now ≡ true }
         requires room { length self.old < MOST_SETS }
-        ensures { MatchResult result (λ _. self.new ≡ self.old ++ (spec.now, name.now) ∷ []) (λ _. self.new ≡ self.old) }
+        ensures { MatchResult result
+            (λ _. self.new ≡ self.old ++ (spec.now, name.now) ∷ []) (λ _. self.new ≡ self.old) }
     {
         let alloc = *self.sets.allocator();
         let set = (spec.copy(alloc)?, Text::new(alloc, name)?);

@@ -47,8 +47,10 @@ is_no_finer_than (OneSecond second) Day = false
 
 -- the law of the calendar: the date of each year from 0000 to 9999, month from 1 to 12, and day up to the month's last is the text of a day
 abbrev pub HasEachDate : Type 0
-HasEachDate = (year month day : ℕ) → year < 10_000 → IsInRange 1 12 month → IsInRange 1 (days_in_month (pos year) month) day
-    → (midnight : ℤ) × IsBound (date_text (record { year = year; month = month; day = day })) (WholeDay midnight)
+HasEachDate = (year month day : ℕ)
+    → year < 10_000 → IsInRange 1 12 month → IsInRange 1 (days_in_month (pos year) month) day
+    → (midnight : ℤ)
+    × IsBound (date_text (record { year = year; month = month; day = day })) (WholeDay midnight)
 
 -- ---- the same as a function
 
@@ -76,4 +78,5 @@ second_of text = last_below (λ n. bytes_eq text (second_text (second_of_era n))
 -- the bound that the text stands for, of all that there are
 unfoldable pub bound_of : List ℕ → Option Bound
 bound_of text =
-    option_or (option_map (λ n. WholeDay (midnight_of n)) (day_of text)) (option_map (λ n. OneSecond (second_of_era n)) (second_of text))
+    option_or (option_map (λ n. WholeDay (midnight_of n)) (day_of text))
+    (option_map (λ n. OneSecond (second_of_era n)) (second_of text))

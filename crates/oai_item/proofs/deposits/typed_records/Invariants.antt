@@ -4,5 +4,5 @@ use Rattle.oai_item.specs.Known.{has_format}
 use Rattle.oai_item.proofs.deposits.typed_records.Given as goal
 
 -- the records so far, and what is required of the others
-abbrev pub invariant-loop-record : goal.invariant-loop-record
-invariant-loop-record l = (l.typed.items ≡ take l.record-index l.records) × (list_all (has_format l.formats) (drop l.record-index l.records) ≡ true)
+abbrev pub invariant-loop-deposited : goal.invariant-loop-deposited
+invariant-loop-deposited l = (l.typed.items ≡ take l.deposited-index l.records) × (list_all (has_format l.formats) (drop l.deposited-index l.records) ≡ true)

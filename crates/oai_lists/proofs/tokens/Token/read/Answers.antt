@@ -17,7 +17,7 @@ unfolding token_text
 returns-in-Some-clause-only c = λ token is.
     let parts = split_after 46 c.args.text.now (decimal token.list) (decimal token.cursor) c.split_once.result c.split_once.ensures.cases (omega arith) is.spelled (no_stop_at token.list is.list) in
     let here = rw c.in-Some.is at parts in
-    c.read_numbers.ensures.only token is.list is.cursor here.0 here.1
+    c.read_numbers.ensures.only token (is.list, is.cursor, here.0, here.1)
 
 pub returns-in-None-clause-only : goal.returns-in-None-clause-only
 unfolding token_text
