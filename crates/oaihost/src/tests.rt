@@ -2,11 +2,8 @@
 mod documents;
 mod edge;
 mod harvests;
-mod items;
-mod open_lists;
 mod repository;
 mod settings;
-mod stores;
 mod transcripts;
 
 use crate::ask::ask_lines;
