@@ -2,8 +2,6 @@
 mod documents;
 mod edge;
 mod harvests;
-mod repository;
-mod settings;
 mod transcripts;
 
 use crate::ask::ask_lines;
