@@ -1,16 +1,7 @@
 //! The worked exchanges, with the bytes that they are answered, and a reader and a writer that fail.
-mod arguments;
 mod documents;
 mod edge;
 mod harvests;
-mod items;
-mod lines;
-mod names;
-mod open_lists;
-mod repository;
-mod settings;
-mod stores;
-mod times;
 mod transcripts;
 
 use crate::ask::ask_lines;

@@ -1,3 +1,4 @@
+//! Names and their grammars, characters and escapes, and the sets of a repository.
 use oai_names::{
     Identifier, NameFault, Prefix, Sequence, SetFault, SetSpec, SetTree, Text, escape_attr,
     escape_text, is_set_spec, is_xml_text, parent_of,
@@ -6,7 +7,7 @@ use std::alloc::{AllocError, Global};
 use std::process::Abort;
 use std::test::Fail;
 
-// `front`, and then so many letters.
+/// `front`, and then so many letters.
 fn with_letters(alloc: Global, front: &str, letters: usize) -> Result<String, AllocError> {
     let mut text = String::from_str(alloc, front)?;
     for _ in 0..letters {
@@ -87,17 +88,23 @@ fn bad_identifiers_are_refused(rt: HostRuntime) -> Result<(), Fail> {
     Ok(())
 }
 
+fn assert_prefix_is_copied(rt: &impl Abort, alloc: Global, text: &str) -> Result<(), Fail> {
+    let prefix = Prefix::read(alloc, text)?;
+    assert_eq!(rt; prefix.copy(alloc)?.as_str(), text);
+    Ok(())
+}
+
+fn assert_identifier_is_copied(rt: &impl Abort, alloc: Global, text: &str) -> Result<(), Fail> {
+    let identifier = Identifier::read(alloc, text)?;
+    assert_eq!(rt; identifier.copy(alloc)?.as_str(), text);
+    Ok(())
+}
+
 #[test]
 fn copies_are_equal(rt: HostRuntime) -> Result<(), Fail> {
     let alloc = rt.alloc();
-    let Ok(prefix) = Prefix::read(alloc, "oai_dc") else {
-        panic!(rt; "no prefix")
-    };
-    assert_eq!(rt; prefix.copy(alloc)?.as_str(), "oai_dc");
-    let Ok(identifier) = Identifier::read(alloc, "oai:a:1") else {
-        panic!(rt; "no identifier")
-    };
-    assert_eq!(rt; identifier.copy(alloc)?.as_str(), "oai:a:1");
+    assert_prefix_is_copied(&rt, alloc, "oai_dc")?;
+    assert_identifier_is_copied(&rt, alloc, "oai:a:1")?;
     assert_eq!(rt; Text::new(alloc, "é\n")?.copy(alloc)?.as_str(), "é\n");
     Ok(())
 }
@@ -113,22 +120,41 @@ fn texts_keep_their_strings(rt: HostRuntime) -> Result<(), Fail> {
     Ok(())
 }
 
+fn text_of_name_fault(fault: NameFault) -> &'static str {
+    match fault {
+        NameFault::Syntax => "the name is of illegal syntax",
+        NameFault::TooLong => "the name is too long",
+        NameFault::NoMemory => "out of memory",
+    }
+}
+
+fn text_of_set_fault(fault: SetFault) -> &'static str {
+    match fault {
+        SetFault::Exists => "the set exists",
+        SetFault::NoParent => "the set has no parent",
+        SetFault::TooMany => "there are too many sets",
+        SetFault::NoMemory => "out of memory",
+    }
+}
+
 #[test]
 fn faults_are_told(rt: HostRuntime) -> Result<(), Fail> {
-    for (fault, text) in [
-        (NameFault::Syntax, "the name is of illegal syntax"),
-        (NameFault::TooLong, "the name is too long"),
-        (NameFault::NoMemory, "out of memory"),
-    ] {
-        assert_eq!(rt; format!(in rt.alloc(); "{fault}")?.as_str(), text);
+    for fault in [NameFault::Syntax, NameFault::TooLong, NameFault::NoMemory] {
+        assert_eq!(rt;
+            format!(in rt.alloc(); "{fault}")?.as_str(),
+            text_of_name_fault(fault)
+        );
     }
-    for (fault, text) in [
-        (SetFault::Exists, "the set exists"),
-        (SetFault::NoParent, "the set has no parent"),
-        (SetFault::TooMany, "there are too many sets"),
-        (SetFault::NoMemory, "out of memory"),
+    for fault in [
+        SetFault::Exists,
+        SetFault::NoParent,
+        SetFault::TooMany,
+        SetFault::NoMemory,
     ] {
-        assert_eq!(rt; format!(in rt.alloc(); "{fault}")?.as_str(), text);
+        assert_eq!(rt;
+            format!(in rt.alloc(); "{fault}")?.as_str(),
+            text_of_set_fault(fault)
+        );
     }
     Ok(())
 }
@@ -164,29 +190,32 @@ fn characters_of_a_document(rt: HostRuntime) {
     }
 }
 
+/// Behind a byte that stood there, the text is written so as text.
+fn assert_text(rt: &impl Abort, alloc: Global, text: &str, wanted: &str) -> Result<(), Fail> {
+    let mut out = vec![in alloc; b'-']?;
+    escape_text(text, &mut out)?;
+    assert_eq!(rt; out.as_slice(), wanted.as_bytes());
+    Ok(())
+}
+
+/// Behind a byte that stood there, the text is written so in an attribute.
+fn assert_attr(rt: &impl Abort, alloc: Global, text: &str, wanted: &str) -> Result<(), Fail> {
+    let mut out = vec![in alloc; b'-']?;
+    escape_attr(text, &mut out)?;
+    assert_eq!(rt; out.as_slice(), wanted.as_bytes());
+    Ok(())
+}
+
 #[test]
 fn escapes(rt: HostRuntime) -> Result<(), Fail> {
-    let mut out = vec![in rt.alloc(); b'-']?;
-    escape_text("a<b\r\"", &mut out)?;
-    assert_eq!(rt; out.as_slice(), b"-a&lt;b&#13;\"".as_slice());
-    out.clear();
-    escape_attr("\"\t>", &mut out)?;
-    assert_eq!(rt; out.as_slice(), b"&quot;&#9;&gt;".as_slice());
-    out.clear();
-    escape_text("A & B > é'\t\n", &mut out)?;
-    assert_eq!(rt; out.as_slice(), "A &amp; B &gt; é'\t\n".as_bytes());
-    out.clear();
-    escape_attr("&<\n\r'", &mut out)?;
-    assert_eq!(rt; out.as_slice(), b"&amp;&lt;&#10;&#13;'".as_slice());
-    out.clear();
-    escape_text("long run, no escape", &mut out)?;
-    escape_attr("", &mut out)?;
-    escape_attr("<<a long run\"", &mut out)?;
-    assert_eq!(rt;
-        out.as_slice(),
-        b"long run, no escape&lt;&lt;a long run&quot;".as_slice()
-    );
-    Ok(())
+    let alloc = rt.alloc();
+    assert_text(&rt, alloc, "a<b\r\"", "-a&lt;b&#13;\"")?;
+    assert_attr(&rt, alloc, "\"\t>", "-&quot;&#9;&gt;")?;
+    assert_text(&rt, alloc, "A & B > é'\t\n", "-A &amp; B &gt; é'\t\n")?;
+    assert_attr(&rt, alloc, "&<\n\r'", "-&amp;&lt;&#10;&#13;'")?;
+    assert_text(&rt, alloc, "long run, no escape", "-long run, no escape")?;
+    assert_attr(&rt, alloc, "", "-")?;
+    assert_attr(&rt, alloc, "<<a long run\"", "-&lt;&lt;a long run&quot;")
 }
 
 fn set_spec(rt: &impl Abort, alloc: Global, text: &str) -> SetSpec {

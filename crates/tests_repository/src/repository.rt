@@ -1,34 +1,34 @@
-//! A repository of days: its clock, and the most items that it holds.
+//! A repository of days: its clock, the most items that it holds, and what it keeps of deleted ones.
+use crate::archives::{Told, archive_b, settings_of};
 use oai_answers::DeletedRecord;
 use oai_deposit::{LineFault, read_line};
-use oai_names::{Sequence, Text};
-use oai_repo::{Refusal, Reply, Repo, RepoConfig, Settings};
-use oai_time::Granularity;
+use oai_repo::{Refusal, Reply, Repo, RepoConfig};
 use std::alloc::{AllocError, Global};
+use std::process::Abort;
 use std::test::Fail;
 
-/// Archive B: days, nothing kept of deleted records, two items.
-fn settings_of_b(alloc: Global) -> Result<Settings, AllocError> {
-    let mut addresses = Vec::new(alloc);
-    addresses.push(Text::new(alloc, "b@host.example")?)?;
-    Ok(Settings {
-        base: Text::new(alloc, "http://host.example")?,
-        name: Text::new(alloc, "b")?,
-        repository_name: Text::new(alloc, "Archive B")?,
-        addresses: Sequence::new(addresses),
-        earliest: Text::new(alloc, "2024-01-01")?,
-        deleted: DeletedRecord::No,
-        granularity: Granularity::Day,
-        chunk: Some(2),
-        lifetime: Some(60),
-        lists: Some(1),
+const MIDNIGHT: i64 = 1_704_067_200;
+
+/// A repository of at most two items, which keeps that of deleted ones.
+fn repository(alloc: Global, deleted: DeletedRecord) -> Result<Repo, Fail> {
+    let told = Told {
+        deleted,
         items: Some(2),
-        formats: Sequence::new(Vec::new(alloc)),
-    })
+        ..archive_b()
+    };
+    Ok(Repo::new(alloc, RepoConfig::new(alloc, settings_of(alloc, told)?)?)?)
 }
 
+/// Archive B.
 fn repository_b(alloc: Global) -> Result<Repo, Fail> {
-    Ok(Repo::new(alloc, RepoConfig::new(alloc, settings_of_b(alloc)?)?)?)
+    repository(alloc, DeletedRecord::No)
+}
+
+/// The repository answers the query with these bytes, at the first midnight of 2024.
+fn assert_page(rt: &impl Abort, repo: &mut Repo, query: &[u8], wanted: &str) -> Result<(), Fail> {
+    let Reply::Page(page) = repo.ask(MIDNIGHT, query)?;
+    assert_eq!(rt; page.as_slice(), wanted.as_bytes());
+    Ok(())
 }
 
 fn identify_of_b() -> &'static str {
@@ -42,9 +42,7 @@ fn bad_argument_at_b() -> &'static str {
 #[test]
 fn identify(rt: HostRuntime) -> Result<(), Fail> {
     let mut repo = repository_b(rt.alloc())?;
-    let Reply::Page(page) = repo.ask(1_704_067_200, b"verb=Identify")?;
-    assert_eq!(rt; page.as_slice(), identify_of_b().as_bytes());
-    Ok(())
+    assert_page(&rt, &mut repo, b"verb=Identify", identify_of_b())
 }
 
 /// A bound of seconds is finer than the days of the repository.
@@ -52,9 +50,7 @@ fn identify(rt: HostRuntime) -> Result<(), Fail> {
 fn too_fine_a_bound(rt: HostRuntime) -> Result<(), Fail> {
     let mut repo = repository_b(rt.alloc())?;
     let query = b"verb=ListIdentifiers&metadataPrefix=oai_dc&from=2024-01-01T00:00:00Z";
-    let Reply::Page(page) = repo.ask(1_704_067_200, query)?;
-    assert_eq!(rt; page.as_slice(), bad_argument_at_b().as_bytes());
-    Ok(())
+    assert_page(&rt, &mut repo, query, bad_argument_at_b())
 }
 
 #[test]
@@ -94,28 +90,40 @@ fn deposit_of(number: u8) -> &'static str {
     }
 }
 
+/// A line, the moment at which it comes, and what it is answered.
+type Answered<'a> = (i64, &'a str, Result<i64, &'a str>);
+
+/// The lines are answered so, one after the other.
+fn assert_deposits(
+    rt: &impl Abort,
+    alloc: Global,
+    repo: &mut Repo,
+    lines: &[Answered<'_>],
+) -> Result<(), Fail> {
+    for (moment, line, wanted) in lines {
+        let answer = deposited(alloc, repo, *moment, line)?;
+        assert_eq!(rt; answer, *wanted, "{line}");
+    }
+    Ok(())
+}
+
 #[test]
 fn third_item_of_two(rt: HostRuntime) -> Result<(), Fail> {
-    let alloc = rt.alloc();
-    let mut repo = repository_b(alloc)?;
-    let midnight = 1_704_067_200;
     let next = 1_704_153_600;
-    let second = deposited(alloc, &mut repo, midnight + 5, deposit_of(2))?;
-    assert_eq!(rt; second, Ok(midnight));
-    let first = deposited(alloc, &mut repo, midnight + 6, deposit_of(1))?;
-    assert_eq!(rt; first, Ok(midnight));
-    let third = deposited(alloc, &mut repo, next, deposit_of(3))?;
-    assert_eq!(rt; third, Err("refused 12 too-many-items"));
-    let again = deposited(alloc, &mut repo, next, deposit_of(2))?;
-    assert_eq!(rt; again, Ok(next));
+    let lines = [
+        (MIDNIGHT + 5, deposit_of(2), Ok(MIDNIGHT)),
+        (MIDNIGHT + 6, deposit_of(1), Ok(MIDNIGHT)),
+        (next, deposit_of(3), Err("refused 12 too-many-items")),
+        (next, deposit_of(2), Ok(next)),
+    ];
+    let mut repo = repository_b(rt.alloc())?;
+    assert_deposits(&rt, rt.alloc(), &mut repo, &lines)?;
     assert_eq!(rt; repo.clock(), next);
     Ok(())
 }
 
-/// What the repository answers a request at the moment.
-fn page(repo: &mut Repo, moment: i64, query: &[u8]) -> Result<Sequence<u8>, Fail> {
-    let Reply::Page(page) = repo.ask(moment, query)?;
-    Ok(page)
+fn deletion() -> &'static str {
+    r#"{"delete":"oai:b:1"}"#
 }
 
 fn no_such_item_at_b() -> &'static str {
@@ -127,34 +135,25 @@ fn no_such_item_at_b() -> &'static str {
 fn deletion_without_trace(rt: HostRuntime) -> Result<(), Fail> {
     let alloc = rt.alloc();
     let mut repo = repository_b(alloc)?;
-    let midnight = 1_704_067_200;
-    let deletion = r#"{"delete":"oai:b:1"}"#;
-    let first = deposited(alloc, &mut repo, midnight, deposit_of(1))?;
-    assert_eq!(rt; first, Ok(midnight));
-    let deleted = deposited(alloc, &mut repo, midnight, deletion)?;
-    assert_eq!(rt; deleted, Ok(midnight));
+    let lines = [
+        (MIDNIGHT, deposit_of(1), Ok(MIDNIGHT)),
+        (MIDNIGHT, deletion(), Ok(MIDNIGHT)),
+    ];
+    assert_deposits(&rt, alloc, &mut repo, &lines)?;
     let query = b"verb=GetRecord&identifier=oai:b:1&metadataPrefix=oai_dc";
-    let page = page(&mut repo, midnight, query)?;
-    assert_eq!(rt; page.as_slice(), no_such_item_at_b().as_bytes());
-    let again = deposited(alloc, &mut repo, midnight, deletion)?;
-    assert_eq!(rt; again, Err("refused 13 no-such-item"));
-    Ok(())
+    assert_page(&rt, &mut repo, query, no_such_item_at_b())?;
+    let again = [(MIDNIGHT, deletion(), Err("refused 13 no-such-item"))];
+    assert_deposits(&rt, alloc, &mut repo, &again)
 }
 
 /// A repository that may forget deleted records keeps them all the same, until they are purged.
 #[test]
 fn deletion_with_a_trace(rt: HostRuntime) -> Result<(), Fail> {
-    let alloc = rt.alloc();
-    let mut settings = settings_of_b(alloc)?;
-    settings.deleted = DeletedRecord::Transient;
-    let mut repo = Repo::new(alloc, RepoConfig::new(alloc, settings)?)?;
-    let midnight = 1_704_067_200;
-    let deletion = r#"{"delete":"oai:b:1"}"#;
-    let first = deposited(alloc, &mut repo, midnight, deposit_of(1))?;
-    assert_eq!(rt; first, Ok(midnight));
-    let deleted = deposited(alloc, &mut repo, midnight, deletion)?;
-    assert_eq!(rt; deleted, Ok(midnight));
-    let again = deposited(alloc, &mut repo, midnight, deletion)?;
-    assert_eq!(rt; again, Err("refused 14 already-deleted"));
-    Ok(())
+    let mut repo = repository(rt.alloc(), DeletedRecord::Transient)?;
+    let lines = [
+        (MIDNIGHT, deposit_of(1), Ok(MIDNIGHT)),
+        (MIDNIGHT, deletion(), Ok(MIDNIGHT)),
+        (MIDNIGHT, deletion(), Err("refused 14 already-deleted")),
+    ];
+    assert_deposits(&rt, rt.alloc(), &mut repo, &lines)
 }

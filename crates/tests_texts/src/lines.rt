@@ -1,6 +1,8 @@
+//! What deposit lines are read as, and which are refused.
 use oai_deposit::{LineFault, read_line};
 use oai_item::{Change, LineRefusal};
 use std::alloc::{AllocError, Global};
+use std::process::Abort;
 use std::test::Fail;
 
 /// What a line is answered that is read, or refused; want of memory fails the test.
@@ -10,6 +12,12 @@ fn answer_to(alloc: Global, line: &[u8]) -> Result<&'static str, AllocError> {
         Err(LineFault::NoMemory) => Err(AllocError),
         Err(LineFault::Refused(refusal)) => Ok(refusal.answer()),
     }
+}
+
+/// The line is answered so.
+fn assert_answer(rt: &impl Abort, alloc: Global, line: &str, want: &str) -> Result<(), Fail> {
+    assert_eq!(rt; answer_to(alloc, line.as_bytes())?, want, "at {line}");
+    Ok(())
 }
 
 /// The text of so many bytes that begins with the front and goes on with `a`.
@@ -31,13 +39,14 @@ fn new_set(alloc: Global, spec: &str, name: &str) -> Result<String, AllocError> 
     format!(in alloc; "{{\"set\":\"{spec}\",\"name\":\"{name}\"}}")
 }
 
-const DEPOSIT: &str =
-    r#"{"sets":["b","a"],"records":{"x":[],"oai_dc":[["title","Grüße"]]},"deposit":"oai:x:1"}"#;
+fn a_deposit() -> &'static str {
+    r#"{"sets":["b","a"],"records":{"x":[],"oai_dc":[["title","Grüße"]]},"deposit":"oai:x:1"}"#
+}
 
 /// The sets are in the order of the line, the records in that of their prefixes.
 #[test]
 fn reads_a_deposit(rt: HostRuntime) -> Result<(), Fail> {
-    let change = read_line(rt.alloc(), DEPOSIT.as_bytes())?;
+    let change = read_line(rt.alloc(), a_deposit().as_bytes())?;
     let Change::Deposit {
         identifier,
         sets,
@@ -91,62 +100,42 @@ fn last_member_of_a_name_counts(rt: HostRuntime) -> Result<(), Fail> {
     Ok(())
 }
 
-/// Each of these lines is answered so: what is no JSON text in UTF-8 (RFC 8259) comes first, then
-/// what is of no shape as a whole, then the identifier, the setSpecs and the texts.
+/// Lines and, behind ` => `, what each is answered: what is no JSON text in UTF-8 (RFC 8259) comes
+/// first, then what is of no shape as a whole, then the identifier, the setSpecs and the texts.
+fn lines_and_answers() -> &'static str {
+    r#" => refused 1 bad-json
+[ => refused 1 bad-json
+1e999 => refused 1 bad-json
+1e308 => refused 2 bad-command
+[] => refused 2 bad-command
+{} => refused 2 bad-command
+{"delete":1} => refused 2 bad-command
+{"delete":"x"} => refused 3 bad-identifier
+{"delete":"oai:a:1"} => read
+{"delete":"oai:a:1","x":1} => refused 2 bad-command
+{"set":"x","name":"X","y":0} => refused 2 bad-command
+{"set":"x:","name":""} => refused 4 bad-set-spec
+{"set":"x","name":""} => refused 5 bad-text
+{"set":"x","name":"\u0001"} => refused 5 bad-text
+{"deposit":1,"sets":[],"records":{}} => refused 2 bad-command
+{"deposit":"-","sets":[],"records":{"x":[["a"]]}} => refused 2 bad-command
+{"deposit":"-","sets":[],"records":{"x":[["a","b","c"]]}} => refused 2 bad-command
+{"deposit":"a:b","sets":[],"records":{},"x":0} => refused 2 bad-command
+{"deposit":"-","sets":["x:"],"records":{"x":[["a","\u0000"]]}} => refused 3 bad-identifier
+{"deposit":"a:b","sets":["x","x:"],"records":{"x":[["a","\u0000"]]}} => refused 4 bad-set-spec
+{"deposit":"a:b","sets":[],"records":{"x":[["a","\u0000"]]}} => refused 5 bad-text
+{"deposit":"a:b","sets":[],"records":{"\u0000":[["\u0000","b"]]}} => read"#
+}
+
 #[test]
 fn refuses_by_the_first_cause(rt: HostRuntime) -> Result<(), Fail> {
-    for (line, want) in [
-        ("", "refused 1 bad-json"),
-        ("[", "refused 1 bad-json"),
-        ("\u{FEFF}{}", "refused 1 bad-json"),
-        ("1e999", "refused 1 bad-json"),
-        ("1e308", "refused 2 bad-command"),
-        ("[]", "refused 2 bad-command"),
-        ("{}", "refused 2 bad-command"),
-        (r#"{"delete":1}"#, "refused 2 bad-command"),
-        (r#"{"delete":"x"}"#, "refused 3 bad-identifier"),
-        (r#"{"delete":"oai:a:1"}"#, "read"),
-        (r#"{"delete":"oai:a:1","x":1}"#, "refused 2 bad-command"),
-        (r#"{"set":"x","name":"X","y":0}"#, "refused 2 bad-command"),
-        (r#"{"set":"x:","name":""}"#, "refused 4 bad-set-spec"),
-        (r#"{"set":"x","name":""}"#, "refused 5 bad-text"),
-        (r#"{"set":"x","name":"\u0001"}"#, "refused 5 bad-text"),
-        (
-            r#"{"deposit":1,"sets":[],"records":{}}"#,
-            "refused 2 bad-command",
-        ),
-        (
-            r#"{"deposit":"-","sets":[],"records":{"x":[["a"]]}}"#,
-            "refused 2 bad-command",
-        ),
-        (
-            r#"{"deposit":"-","sets":[],"records":{"x":[["a","b","c"]]}}"#,
-            "refused 2 bad-command",
-        ),
-        (
-            r#"{"deposit":"a:b","sets":[],"records":{},"x":0}"#,
-            "refused 2 bad-command",
-        ),
-        (
-            r#"{"deposit":"-","sets":["x:"],"records":{"x":[["a","\u0000"]]}}"#,
-            "refused 3 bad-identifier",
-        ),
-        (
-            r#"{"deposit":"a:b","sets":["x","x:"],"records":{"x":[["a","\u0000"]]}}"#,
-            "refused 4 bad-set-spec",
-        ),
-        (
-            r#"{"deposit":"a:b","sets":[],"records":{"x":[["a","\u0000"]]}}"#,
-            "refused 5 bad-text",
-        ),
-        (
-            r#"{"deposit":"a:b","sets":[],"records":{"\u0000":[["\u0000","b"]]}}"#,
-            "read",
-        ),
-    ] {
-        assert_eq!(rt; answer_to(rt.alloc(), line.as_bytes())?, want, "at {line}");
+    for row in lines_and_answers().lines() {
+        match row.split_once(" => ") {
+            Some((line, want)) => assert_answer(&rt, rt.alloc(), line, want)?,
+            None => panic!(rt; "no answer in {row}"),
+        }
     }
-    Ok(())
+    assert_answer(&rt, rt.alloc(), "\u{FEFF}{}", "refused 1 bad-json")
 }
 
 #[test]
@@ -172,32 +161,44 @@ fn nested(alloc: Global, depth: usize) -> Result<String, AllocError> {
 fn refuses_deep_json(rt: HostRuntime) -> Result<(), Fail> {
     let alloc = rt.alloc();
     for (depth, want) in [(127, "refused 2 bad-command"), (128, "refused 1 bad-json")] {
-        let line = nested(alloc, depth)?;
-        assert_eq!(rt; answer_to(alloc, line.as_bytes())?, want, "depth {depth}");
+        assert_answer(&rt, alloc, nested(alloc, depth)?.as_str(), want)?;
     }
     Ok(())
+}
+
+/// A deposit of an identifier of so many bytes is answered so.
+fn assert_identifier(rt: &impl Abort, alloc: Global, bytes: usize, want: &str) -> Result<(), Fail> {
+    let identifier = long(alloc, "a:", bytes)?;
+    let line = deposit(alloc, identifier.as_str(), "x")?;
+    assert_answer(rt, alloc, line.as_str(), want)
+}
+
+/// A deposit into a set of a setSpec of so many bytes is answered so, and a new set of that setSpec.
+fn assert_set_spec(rt: &impl Abort, alloc: Global, bytes: usize, want: &str) -> Result<(), Fail> {
+    let spec = long(alloc, "a", bytes)?;
+    let line = deposit(alloc, "a:b", spec.as_str())?;
+    assert_answer(rt, alloc, line.as_str(), want)?;
+    let line = new_set(alloc, spec.as_str(), "X")?;
+    assert_answer(rt, alloc, line.as_str(), want)
+}
+
+/// A new set of a name of so many bytes is answered so.
+fn assert_name(rt: &impl Abort, alloc: Global, bytes: usize, want: &str) -> Result<(), Fail> {
+    let name = long(alloc, "a", bytes)?;
+    let line = new_set(alloc, "x", name.as_str())?;
+    assert_answer(rt, alloc, line.as_str(), want)
 }
 
 /// An identifier has at most 512 bytes, a setSpec 256, a setName 512.
 #[test]
 fn refuses_long_texts(rt: HostRuntime) -> Result<(), Fail> {
     let alloc = rt.alloc();
-    for (bytes, want) in [(512, "read"), (513, "refused 3 bad-identifier")] {
-        let line = deposit(alloc, long(alloc, "a:", bytes)?.as_str(), "x")?;
-        assert_eq!(rt; answer_to(alloc, line.as_bytes())?, want, "{bytes} bytes");
-    }
-    for (bytes, want) in [(256, "read"), (257, "refused 4 bad-set-spec")] {
-        let spec = long(alloc, "a", bytes)?;
-        let line = deposit(alloc, "a:b", spec.as_str())?;
-        assert_eq!(rt; answer_to(alloc, line.as_bytes())?, want, "{bytes} bytes");
-        let line = new_set(alloc, spec.as_str(), "X")?;
-        assert_eq!(rt; answer_to(alloc, line.as_bytes())?, want, "{bytes} bytes");
-    }
-    for (bytes, want) in [(512, "read"), (513, "refused 5 bad-text")] {
-        let line = new_set(alloc, "x", long(alloc, "a", bytes)?.as_str())?;
-        assert_eq!(rt; answer_to(alloc, line.as_bytes())?, want, "{bytes} bytes");
-    }
-    Ok(())
+    assert_identifier(&rt, alloc, 512, "read")?;
+    assert_identifier(&rt, alloc, 513, "refused 3 bad-identifier")?;
+    assert_set_spec(&rt, alloc, 256, "read")?;
+    assert_set_spec(&rt, alloc, 257, "refused 4 bad-set-spec")?;
+    assert_name(&rt, alloc, 512, "read")?;
+    assert_name(&rt, alloc, 513, "refused 5 bad-text")
 }
 
 #[test]

@@ -1,0 +1,179 @@
+//! Items: their parts, copies, what is left of a deleted one, their length when stored, and their
+//! order.
+ghost use Rattle.std.specs.Prelude.{◌≡◌, true};
+ghost use Rattle.oai_item.specs.Order.{are_in_order};
+
+use crate::samples::{STAMP, item, letters, title_field};
+use oai_item::{Fault, Item, TooLarge, is_in, order_law, place_of, selection_law, set_law};
+use oai_names::SetSpec;
+use std::alloc::Global;
+use std::cmp::Ordering;
+use std::process::Abort;
+use std::test::Fail;
+
+/// `oai:a:1` in these sets, with this title.
+fn titled(alloc: Global, specs: &[&str], title: &str) -> Result<Item, Fail> {
+    item(alloc, "oai:a:1", 0, specs, title)
+}
+
+/// An item in these sets with this title is of that length.
+fn assert_length(
+    rt: &impl Abort,
+    alloc: Global,
+    specs: &[&str],
+    title: &str,
+    answer: Result<usize, TooLarge>,
+) -> Result<(), Fail> {
+    let item = titled(alloc, specs, title)?;
+    assert_eq!(rt; item.encoded_len(), answer);
+    Ok(())
+}
+
+/// Of the given sets an item keeps those.
+fn assert_kept(rt: &impl Abort, alloc: Global, given: &[&str], kept: &[&str]) -> Result<(), Fail> {
+    let item = titled(alloc, given, "T")?;
+    assert_eq!(rt; item.sets().len(), kept.len());
+    for (set, spec) in item.sets().iter().zip(kept) {
+        assert_eq!(rt; set.as_str(), *spec);
+    }
+    Ok(())
+}
+
+#[test]
+fn item_is_its_parts(rt: HostRuntime) -> Result<(), Fail> {
+    let alloc = rt.alloc();
+    let item = titled(alloc, &["x"], "T")?;
+    assert_eq!(rt; item.identifier().as_str(), "oai:a:1");
+    assert_eq!(rt; item.stamp(), 1_704_067_200);
+    assert!(rt; item.is_live());
+    assert_eq!(rt; item.sets().len(), 1);
+    assert_eq!(rt; item.formats().len(), 1);
+    Ok(())
+}
+
+#[test]
+fn field_is_copied(rt: HostRuntime) -> Result<(), Fail> {
+    let alloc = rt.alloc();
+    let field = title_field(alloc, "T")?;
+    let copy = field.copy(alloc)?;
+    assert_eq!(rt; (copy.name.as_str(), copy.text.as_str()), ("title", "T"));
+    Ok(())
+}
+
+#[test]
+fn sets_are_reduced(rt: HostRuntime) -> Result<(), Fail> {
+    let alloc = rt.alloc();
+    assert_kept(&rt, alloc, &["b", "a", "b"], &["b", "a"])?;
+    assert_kept(&rt, alloc, &["x", "x:y"], &["x:y"])?;
+    assert_kept(&rt, alloc, &["xy", "x"], &["xy", "x"])?;
+    assert_kept(&rt, alloc, &["a:b:c", "a", "a:b"], &["a:b:c"])?;
+    set_law();
+    Ok(())
+}
+
+#[test]
+fn bytes_of_an_item(rt: HostRuntime) -> Result<(), Fail> {
+    let alloc = rt.alloc();
+    assert_length(&rt, alloc, &[], "T", Ok(56))?;
+    assert_length(&rt, alloc, &["x:y"], "T", Ok(63))?;
+    let most = letters(alloc, 15_945)?;
+    assert_length(&rt, alloc, &[], most.as_str(), Ok(16_000))?;
+    let long = letters(alloc, 15_946)?;
+    assert_length(&rt, alloc, &[], long.as_str(), Err(TooLarge))
+}
+
+/// The item is `oai:a:1`, live and in one set, with the title `T`.
+fn assert_copy(rt: &impl Abort, copy: &Item) {
+    assert_eq!(rt; copy.identifier().as_str(), "oai:a:1");
+    assert_eq!(rt; (copy.stamp(), copy.is_live()), (STAMP, true));
+    assert_eq!(rt; copy.sets().len(), 1);
+    assert_eq!(rt; copy.encoded_len(), Ok(63));
+    match copy.fields_in("oai_dc") {
+        Some([field]) => assert_eq!(rt; field.text.as_str(), "T"),
+        _ => panic!(rt; "not one field"),
+    }
+}
+
+/// The item is `oai:a:1`, deleted a second later and in one set, with nothing in oai_dc.
+fn assert_tombstone(rt: &impl Abort, deleted: &Item) {
+    assert_eq!(rt; deleted.identifier().as_str(), "oai:a:1");
+    assert_eq!(rt; (deleted.stamp(), deleted.is_live()), (STAMP + 1, false));
+    assert_eq!(rt; deleted.sets().len(), 1);
+    assert_eq!(rt; deleted.formats().len(), 1);
+    match deleted.fields_in("oai_dc") {
+        Some(fields) => assert_eq!(rt; fields.len(), 0),
+        None => panic!(rt; "no oai_dc"),
+    }
+    assert!(rt; deleted.fields_in("jnl").is_none());
+    assert!(rt; deleted.has_record("oai_dc") && !deleted.has_record("jnl"));
+}
+
+#[test]
+fn copy_and_tombstone_of_an_item(rt: HostRuntime) -> Result<(), Fail> {
+    let alloc = rt.alloc();
+    let item = titled(alloc, &["x:y"], "T")?;
+    assert_copy(&rt, &item.copy(alloc)?);
+    assert_tombstone(&rt, &item.tombstone(alloc, STAMP + 1)?);
+    Ok(())
+}
+
+/// The places of items among the item and its tombstone, a second later.
+fn assert_places(rt: &impl Abort, items: &[Item])
+    requires { are_in_order items.now ≡ true }
+{
+    assert_eq!(rt; place_of(items, STAMP + 1, "oai:a:1"), Ok(1));
+    assert_eq!(rt; place_of(items, STAMP + 1, "oai:a:0"), Err(1));
+    assert_eq!(rt; place_of(items, STAMP + 2, "oai:a:1"), Err(2));
+}
+
+#[test]
+fn items_in_order(rt: HostRuntime) -> Result<(), Fail> {
+    let alloc = rt.alloc();
+    let item = titled(alloc, &["x:y"], "T")?;
+    let later = item.tombstone(alloc, STAMP + 1)?;
+    assert_eq!(rt; item.order(&later), Ordering::Less);
+    assert_eq!(rt; item.order_to(STAMP, "oai:a:0"), Ordering::Greater);
+    let mut items = Vec::new(alloc);
+    items.push(item)?;
+    items.push(later)?;
+    assert_places(&rt, items.as_slice());
+    order_law();
+    selection_law();
+    Ok(())
+}
+
+#[test]
+fn item_is_in_the_set_above_its_own(rt: HostRuntime) -> Result<(), Fail> {
+    let set = SetSpec::read(rt.alloc(), "x")?;
+    let item = titled(rt.alloc(), &["x:y"], "T")?;
+    assert!(rt; is_in(&set, item.sets()));
+    Ok(())
+}
+
+fn text_of(fault: Fault) -> &'static str {
+    match fault {
+        Fault::NoMemory => "out of memory",
+        Fault::Device => "the device failed",
+        Fault::Damaged => "the stored items are damaged",
+        Fault::TooManyPages => "there are too many pages",
+    }
+}
+
+#[test]
+fn texts_of_faults(rt: HostRuntime) -> Result<(), Fail> {
+    let alloc = rt.alloc();
+    for fault in [
+        Fault::NoMemory,
+        Fault::Device,
+        Fault::Damaged,
+        Fault::TooManyPages,
+    ] {
+        assert_eq!(rt; format!(in alloc; "{fault}")?.as_str(), text_of(fault));
+    }
+    let large = format!(in alloc; "{TooLarge}")?;
+    assert_eq!(rt;
+        large.as_str(),
+        "the encoded item has more than 16,000 bytes"
+    );
+    Ok(())
+}

@@ -1,0 +1,160 @@
+//! The texts of resumption tokens, and the table of the lists that are open.
+use oai_catalogue::Filter;
+use oai_lists::{LAST_NUMBER, Lists, OpenFault, Token};
+use oai_names::{ListVerb, Prefix};
+use std::alloc::Global;
+use std::process::Abort;
+use std::test::Fail;
+
+/// A list of that version and end is opened at `now`, or not.
+fn assert_opened(
+    rt: &impl Abort,
+    alloc: Global,
+    lists: &mut Lists,
+    now: i64,
+    end: i64,
+    version: u64,
+    answer: Result<u64, OpenFault>,
+) -> Result<(), Fail> {
+    let filter = Filter::new(Prefix::read(alloc, "oai_dc")?, 0, 9, None);
+    let opened = lists.open(now, ListVerb::Records, filter, version, 3, end);
+    assert_eq!(rt; opened, answer);
+    Ok(())
+}
+
+fn assert_token(rt: &impl Abort, alloc: Global, text: &str, token: Token) -> Result<(), Fail> {
+    assert_eq!(rt; Token::read(text), Some(token));
+    assert_eq!(rt; token.write(alloc)?.as_slice(), text.as_bytes());
+    Ok(())
+}
+
+#[test]
+fn texts_of_tokens(rt: HostRuntime) -> Result<(), Fail> {
+    let alloc = rt.alloc();
+    assert_token(&rt, alloc, "1.2", Token { list: 1, cursor: 2 })?;
+    assert_token(&rt, alloc, "0.0", Token { list: 0, cursor: 0 })?;
+    let last = Token {
+        list: 18_446_744_073_709_551_615,
+        cursor: 18_446_744_073_709_551_614,
+    };
+    assert_token(
+        &rt,
+        alloc,
+        "18446744073709551615.18446744073709551614",
+        last,
+    )
+}
+
+/// The first is empty.
+fn no_tokens() -> &'static str {
+    "
+01.2
+1.02
+1
+1.
+.2
+.
++1.2
+1.-2
+ 1.2
+1.2.3
+1,2
+x
+18446744073709551616.0
+0.18446744073709551616"
+}
+
+#[test]
+fn texts_that_are_no_tokens(rt: HostRuntime) -> Result<(), Fail> {
+    for text in no_tokens().lines() {
+        assert!(rt; Token::read(text).is_none(), "{text}");
+    }
+    Ok(())
+}
+
+/// The first list of a table of one is open to its end, which may be moved, and then drops.
+fn assert_one_list(rt: &impl Abort, alloc: Global, lists: &mut Lists) -> Result<(), Fail> {
+    assert_eq!(rt; lists.earliest_end(), None);
+    assert_eq!(rt; lists.next(0), Ok(1));
+    assert_opened(rt, alloc, lists, 0, 60, 7, Ok(1))?;
+    assert_eq!(rt; lists.next(59), Err(OpenFault::Full));
+    assert_opened(rt, alloc, lists, 59, 119, 8, Err(OpenFault::Full))?;
+    assert_eq!(rt; lists.expire(59), None);
+    assert!(rt; lists.find(1, 60).is_none());
+    assert!(rt; lists.find(2, 0).is_none());
+    match lists.find(1, 59) {
+        Some(list) => assert_eq!(rt; (list.version, list.size, list.end), (7, 3, 60)),
+        None => panic!(rt; "no list"),
+    }
+    lists.renew(1, 61);
+    assert_eq!(rt; lists.expire(60), None);
+    assert_eq!(rt; (lists.earliest_end(), lists.len()), (Some(61), 1));
+    assert_eq!(rt; lists.next(61), Ok(2));
+    assert_eq!(rt; lists.expire(61), Some(7));
+    assert_eq!(rt; lists.expire(61), None);
+    assert_opened(rt, alloc, lists, 61, 121, 9, Ok(2))
+}
+
+#[test]
+fn a_table_of_one_list(rt: HostRuntime) -> Result<(), Fail> {
+    let mut lists = Lists::new(rt.alloc(), 1, 1);
+    assert_one_list(&rt, rt.alloc(), &mut lists)
+}
+
+#[test]
+fn the_last_number(rt: HostRuntime) -> Result<(), Fail> {
+    let alloc = rt.alloc();
+    let spent = Err(OpenFault::NumbersSpent);
+    let mut lists = Lists::new(alloc, 1, LAST_NUMBER);
+    assert_eq!(rt; lists.next(0), spent);
+    assert_opened(&rt, alloc, &mut lists, 0, 60, 1, spent)
+}
+
+#[test]
+fn the_number_before_the_last(rt: HostRuntime) -> Result<(), Fail> {
+    let alloc = rt.alloc();
+    let last = 18_446_744_073_709_551_614;
+    let mut lists = Lists::new(alloc, 2, last);
+    assert_opened(&rt, alloc, &mut lists, 0, 60, 1, Ok(last))?;
+    let spent = Err(OpenFault::NumbersSpent);
+    assert_opened(&rt, alloc, &mut lists, 0, 60, 2, spent)
+}
+
+/// Lists that end at 60, 70 and 50 are dropped where they ended, in the order of their numbers.
+fn assert_three_lists(rt: &impl Abort, alloc: Global, lists: &mut Lists) -> Result<(), Fail> {
+    assert_opened(rt, alloc, lists, 0, 60, 11, Ok(1))?;
+    assert_opened(rt, alloc, lists, 0, 70, 12, Ok(2))?;
+    assert_opened(rt, alloc, lists, 0, 50, 13, Ok(3))?;
+    assert_eq!(rt; lists.earliest_end(), Some(50));
+    assert_eq!(rt; lists.expire(60), Some(11));
+    assert_eq!(rt; lists.expire(60), Some(13));
+    assert_eq!(rt; (lists.expire(60), lists.len()), (None, 1));
+    assert!(rt; lists.find(2, 69).is_some());
+    Ok(())
+}
+
+#[test]
+fn lists_that_ended_are_dropped_one_by_one(rt: HostRuntime) -> Result<(), Fail> {
+    let mut lists = Lists::new(rt.alloc(), 3, 1);
+    assert_three_lists(&rt, rt.alloc(), &mut lists)
+}
+
+fn text_of(fault: OpenFault) -> &'static str {
+    match fault {
+        OpenFault::Full => "too many lists are open",
+        OpenFault::NumbersSpent => "no number is left for a list",
+        OpenFault::NoMemory => "out of memory",
+    }
+}
+
+#[test]
+fn texts_of_faults(rt: HostRuntime) -> Result<(), Fail> {
+    for fault in [
+        OpenFault::Full,
+        OpenFault::NumbersSpent,
+        OpenFault::NoMemory,
+    ] {
+        assert_eq!(rt; format!(in rt.alloc(); "{fault}")?.as_str(), text_of(fault));
+    }
+    Ok(())
+}

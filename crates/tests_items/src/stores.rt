@@ -1,0 +1,326 @@
+//! Stores of versions: what they find and cut, what a filter asks for, a call that fails, a change as a
+//! whole, and a version that was frozen. The helpers speak of any store: a test that names its type
+//! loses what the next call requires.
+ghost use Rattle.std.specs.Prelude.{◌≡◌, IsSome, IfOk, OnOk};
+
+use crate::samples::{STAMP, item};
+use oai_catalogue::{FaultyVersions, Filter, PlainVersions, Versions, change_item};
+use oai_item::{Fault, Item};
+use oai_names::{Identifier, Prefix, SetSpec};
+use std::alloc::Global;
+use std::process::Abort;
+use std::test::Fail;
+
+/// `oai:a:1` of the first datestamp, `oai:a:2` of a second later, and so on, in the set `x:y`.
+fn numbered(alloc: Global, number: u8) -> Result<Item, Fail> {
+    let identifier = match number {
+        1 => "oai:a:1",
+        2 => "oai:a:2",
+        _ => "oai:a:3",
+    };
+    item(alloc, identifier, number.saturating_sub(1), &["x:y"], "T")
+}
+
+/// What asks for the datestamps from so many to so many seconds later, in oai_dc.
+fn filter(alloc: Global, from: u8, until: u8) -> Result<Filter, Fail> {
+    Ok(Filter::new(
+        Prefix::read(alloc, "oai_dc")?,
+        STAMP + i64::from(from),
+        STAMP + i64::from(until),
+        None,
+    ))
+}
+
+/// What asks for a set and a prefix.
+fn asked(alloc: Global, prefix: &str, set: &str) -> Result<Filter, Fail> {
+    let set = SetSpec::read(alloc, set)?;
+    Ok(Filter::new(Prefix::read(alloc, prefix)?, STAMP, STAMP, Some(set)))
+}
+
+/// The filter selects items of these identifiers.
+fn assert_selected<V: Versions>(
+    rt: &impl Abort,
+    store: &mut V,
+    v: u64,
+    filter: &Filter,
+    identifiers: &[&str],
+) -> Result<(), Fail>
+    requires { IsSome (V.lists store.old v) }
+    ensures { V.lists store.new ≡ V.lists store.old }
+{
+    let part = store.part(v, filter, 0, 9)?;
+    assert_eq!(rt; part.as_slice().len(), identifiers.len());
+    for (item, identifier) in part.as_slice().iter().zip(identifiers) {
+        assert_eq!(rt; item.identifier().as_str(), *identifier);
+    }
+    assert_eq!(rt; store.count(v, filter), Ok(identifiers.len()));
+    Ok(())
+}
+
+/// The list is of items of these identifiers.
+fn assert_list<V: Versions>(
+    rt: &impl Abort,
+    alloc: Global,
+    store: &mut V,
+    v: u64,
+    identifiers: &[&str],
+) -> Result<(), Fail>
+    requires { IsSome (V.lists store.old v) }
+    ensures { V.lists store.new ≡ V.lists store.old }
+{
+    let all = filter(alloc, 0, 9)?;
+    assert_selected(rt, store, v, &all, identifiers)
+}
+
+/// Puts the item of that number into the list.
+fn put<V: Versions>(alloc: Global, store: &mut V, v: u64, number: u8) -> Result<(), Fail>
+    requires { IsSome (V.lists store.old v) }
+    ensures { OnOk result (IsSome (V.lists store.new v)) }
+{
+    let item = numbered(alloc, number)?;
+    item.encoded_len()?;
+    store.put(v, &item)?;
+    Ok(())
+}
+
+/// A list of two items.
+fn stored<V: Versions>(alloc: Global, store: &mut V) -> Result<u64, Fail>
+    ensures { IfOk result (λ v. IsSome (V.lists store.new v)) }
+{
+    let v = store.fresh()?;
+    put(alloc, store, v, 2)?;
+    put(alloc, store, v, 1)?;
+    Ok(v)
+}
+
+/// Whether an item of the first datestamp and of that identifier is found.
+fn assert_found<V: Versions>(
+    rt: &impl Abort,
+    alloc: Global,
+    store: &mut V,
+    v: u64,
+    identifier: &str,
+    is_there: bool,
+) -> Result<(), Fail>
+    requires { IsSome (V.lists store.old v) }
+    ensures { OnOk result (IsSome (V.lists store.new v)) }
+{
+    let identifier = Identifier::read(alloc, identifier)?;
+    let found = store.find(v, STAMP, &identifier)?;
+    assert_eq!(rt; found.is_some(), is_there);
+    Ok(())
+}
+
+#[test]
+fn items_are_found(rt: HostRuntime) -> Result<(), Fail> {
+    let alloc = rt.alloc();
+    let mut store = PlainVersions::new(alloc);
+    let v = stored(alloc, &mut store)?;
+    assert_found(&rt, alloc, &mut store, v, "oai:a:1", true)?;
+    assert_found(&rt, alloc, &mut store, v, "oai:a:2", false)
+}
+
+/// How many items the part has.
+fn assert_part<V: Versions>(
+    rt: &impl Abort,
+    alloc: Global,
+    store: &mut V,
+    v: u64,
+    skip: usize,
+    most: usize,
+    count: usize,
+) -> Result<(), Fail>
+    requires { IsSome (V.lists store.old v) }
+    ensures { OnOk result (IsSome (V.lists store.new v)) }
+{
+    let all = filter(alloc, 0, 9)?;
+    let items = store.part(v, &all, skip, most)?;
+    assert_eq!(rt; items.as_slice().len(), count);
+    Ok(())
+}
+
+#[test]
+fn items_are_cut(rt: HostRuntime) -> Result<(), Fail> {
+    let alloc = rt.alloc();
+    let mut store = PlainVersions::new(alloc);
+    let v = stored(alloc, &mut store)?;
+    assert_part(&rt, alloc, &mut store, v, 1, 9, 1)?;
+    assert_part(&rt, alloc, &mut store, v, 0, 1, 1)
+}
+
+/// The filter, and a copy of it, ask for the item, or not.
+fn assert_passes(
+    rt: &impl Abort,
+    alloc: Global,
+    filter: Filter,
+    item: &Item,
+    passes: bool,
+) -> Result<(), Fail> {
+    let copy = filter.copy(alloc)?;
+    assert_eq!(rt; filter.passes(item), passes);
+    assert_eq!(rt; copy.passes(item), passes);
+    Ok(())
+}
+
+#[test]
+fn bounds_of_a_filter(rt: HostRuntime) -> Result<(), Fail> {
+    let alloc = rt.alloc();
+    let item = item(alloc, "oai:a:1", 5, &["x:y"], "T")?;
+    assert_passes(&rt, alloc, filter(alloc, 5, 5)?, &item, true)?;
+    assert_passes(&rt, alloc, filter(alloc, 0, 4)?, &item, false)?;
+    assert_passes(&rt, alloc, filter(alloc, 6, 9)?, &item, false)
+}
+
+/// Whether the item is asked for by its first datestamp, that prefix and that set.
+fn assert_asked(
+    rt: &impl Abort,
+    alloc: Global,
+    item: &Item,
+    prefix: &str,
+    set: &str,
+    is_asked: bool,
+) -> Result<(), Fail> {
+    assert_passes(rt, alloc, asked(alloc, prefix, set)?, item, is_asked)
+}
+
+#[test]
+fn set_and_prefix_of_a_filter(rt: HostRuntime) -> Result<(), Fail> {
+    let alloc = rt.alloc();
+    let deleted = item(alloc, "oai:a:1", 5, &["x:y"], "T")?.tombstone(alloc, STAMP)?;
+    for (prefix, set, is_asked) in [
+        ("oai_dc", "x", true),
+        ("oai_dc", "x:y", true),
+        ("oai_dc", "x:z", false),
+        ("jnl", "x", false),
+    ] {
+        assert_asked(&rt, alloc, &deleted, prefix, set, is_asked)?;
+    }
+    Ok(())
+}
+
+/// Taking the first item out fails for the device.
+fn assert_fails<V: Versions>(
+    rt: &impl Abort,
+    alloc: Global,
+    store: &mut V,
+    v: u64,
+) -> Result<(), Fail>
+    requires { IsSome (V.lists store.old v) }
+    ensures { OnOk result (IsSome (V.lists store.new v)) }
+{
+    let first = Identifier::read(alloc, "oai:a:1")?;
+    let failed = store.remove(v, STAMP, &first);
+    assert_eq!(rt; failed, Err(Fault::Device));
+    Ok(())
+}
+
+#[test]
+fn one_call_fails(rt: HostRuntime) -> Result<(), Fail> {
+    let alloc = rt.alloc();
+    let mut store = FaultyVersions::new(PlainVersions::new(alloc), 4);
+    let v = stored(alloc, &mut store)?;
+    assert_fails(&rt, alloc, &mut store, v)?;
+    assert_list(&rt, alloc, &mut store, v, &["oai:a:1", "oai:a:2"])
+}
+
+/// A change fails for the device, and the list is as before.
+fn assert_no_change<V: Versions>(
+    rt: &impl Abort,
+    alloc: Global,
+    store: &mut V,
+    v: u64,
+) -> Result<(), Fail>
+    requires { IsSome (V.lists store.old v) }
+    ensures { OnOk result (IsSome (V.lists store.new v)) }
+{
+    let first = numbered(alloc, 1)?;
+    match change_item(store, v, Some(&first), None) {
+        Ok(_) => panic!(rt; "no failure"),
+        Err(fault) => assert_eq!(rt; fault, Fault::Device),
+    }
+    assert_list(rt, alloc, store, v, &["oai:a:1", "oai:a:2"])
+}
+
+/// A change takes the first item out.
+fn assert_change<V: Versions>(
+    rt: &impl Abort,
+    alloc: Global,
+    store: &mut V,
+    v: u64,
+) -> Result<(), Fail>
+    requires { IsSome (V.lists store.old v) }
+{
+    let first = numbered(alloc, 1)?;
+    let w = change_item(store, v, Some(&first), None)?;
+    assert_list(rt, alloc, store, w, &["oai:a:2"])
+}
+
+#[test]
+fn a_change_is_whole_or_none(rt: HostRuntime) -> Result<(), Fail> {
+    let alloc = rt.alloc();
+    // the fifth call takes the item out of the frozen version
+    let mut store = FaultyVersions::new(PlainVersions::new(alloc), 5);
+    let v = stored(alloc, &mut store)?;
+    assert_no_change(&rt, alloc, &mut store, v)?;
+    assert_change(&rt, alloc, &mut store, v)
+}
+
+/// Another number for what the list holds.
+fn frozen<V: Versions>(store: &mut V, v: u64) -> Result<u64, Fail>
+    requires { IsSome (V.lists store.old v) }
+    ensures own { OnOk result (IsSome (V.lists store.new v)) }
+    ensures frozen { IfOk result (λ w. IsSome (V.lists store.new w)) }
+{
+    Ok(store.freeze(v)?)
+}
+
+/// Takes the first item out of the list of `v` and puts a third one in; the list of `w` stands.
+fn exchange<V: Versions>(alloc: Global, store: &mut V, v: u64, w: u64) -> Result<(), Fail>
+    requires own { IsSome (V.lists store.old v) }
+    requires other { IsSome (V.lists store.old w) }
+    ensures own { OnOk result (IsSome (V.lists store.new v)) }
+    ensures other { OnOk result (IsSome (V.lists store.new w)) }
+{
+    let first = numbered(alloc, 1)?;
+    let third = numbered(alloc, 3)?;
+    third.encoded_len()?;
+    store.remove(v, first.stamp(), first.identifier())?;
+    store.put(v, &third)?;
+    Ok(())
+}
+
+/// The two lists have numbers of their own, and that of `w` stands once that of `v` is let go.
+fn release<V: Versions>(rt: &impl Abort, store: &mut V, v: u64, w: u64)
+    requires own { IsSome (V.lists store.old v) }
+    requires other { IsSome (V.lists store.old w) }
+    ensures { IsSome (V.lists store.new w) }
+{
+    assert!(rt; v != w);
+    store.release(v);
+}
+
+/// A list of two items is frozen and then changed: each version holds its own items, and the frozen
+/// one still does once the other is let go.
+fn assert_frozen<V: Versions>(
+    rt: &impl Abort,
+    alloc: Global,
+    store: &mut V,
+    v: u64,
+) -> Result<(), Fail>
+    requires { IsSome (V.lists store.old v) }
+{
+    let w = frozen(store, v)?;
+    exchange(alloc, store, v, w)?;
+    assert_list(rt, alloc, store, w, &["oai:a:1", "oai:a:2"])?;
+    assert_list(rt, alloc, store, v, &["oai:a:2", "oai:a:3"])?;
+    release(rt, store, v, w);
+    assert_list(rt, alloc, store, w, &["oai:a:1", "oai:a:2"])
+}
+
+#[test]
+fn a_frozen_version_stands_alone(rt: HostRuntime) -> Result<(), Fail> {
+    let alloc = rt.alloc();
+    let mut store = PlainVersions::new(alloc);
+    let v = stored(alloc, &mut store)?;
+    assert_frozen(&rt, alloc, &mut store, v)
+}

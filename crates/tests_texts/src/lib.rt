@@ -1,0 +1,13 @@
+//! Tests of what is read and written as text: names, characters, escapes and sets (`oai_names`), times
+//! (`oai_time`), the arguments of requests (`oai_args`) and deposit lines (`oai_deposit`). It holds
+//! nothing else.
+#![tactic(auto)]
+
+#[cfg(test)]
+mod arguments;
+#[cfg(test)]
+mod lines;
+#[cfg(test)]
+mod names;
+#[cfg(test)]
+mod times;
