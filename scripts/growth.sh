@@ -1,7 +1,8 @@
 #!/usr/bin/env bash
 # Measures how the time of the program grows: adding sets (up to the 10,000 that a repository may have), listing them, and
-# depositing items (up to the 1,000 of the built-in repository), each time with twice as many lines as before. It prints seconds;
-# it judges nothing, and stands beside the gate.
+# depositing items (up to the 1,000 of the built-in repository), and depositing the last of them again as often, each time at a later
+# datestamp; each time with twice as many lines as before. A store of plain lists copies all items for each new datestamp of one; what
+# the repository does beside it does not grow. It prints seconds; it judges nothing, and stands beside the gate.
 # Usage: scripts/growth.sh
 set -u
 cd "$(dirname "$0")/.." || exit 2
@@ -24,6 +25,10 @@ items() {
     awk -v n="$1" 'BEGIN { for (i = 0; i < n; i++) printf "1704067200 POST /deposit/a {\"deposit\":\"oai:a:%d\",\"sets\":[],\"records\":{\"oai_dc\":[]}}\n", i }'
 }
 
+again() {
+    awk -v n="$1" 'BEGIN { for (i = 1; i <= n; i++) printf "%d POST /deposit/a {\"deposit\":\"oai:a:%d\",\"sets\":[],\"records\":{\"oai_dc\":[]}}\n", 1704067200 + i, n - 1 }'
+}
+
 for n in 1250 2500 5000 10000; do
     sets "$n" >"$lines"
     echo "adding $n sets: $(seconds) s"
@@ -35,4 +40,8 @@ done
 for n in 125 250 500 1000; do
     items "$n" >"$lines"
     echo "depositing $n items: $(seconds) s"
+done
+for n in 125 250 500 1000; do
+    { items "$n"; again "$n"; } >"$lines"
+    echo "depositing $n items and the last of them $n times more: $(seconds) s"
 done

@@ -1,6 +1,7 @@
 #!/usr/bin/env bash
 # Shows, by a parser that is not this repository's own, that documents are well-formed XML: those that the tests want
-# (crates/oaihost/src/tests/documents/expected.rt), and those of an example (examples/first-steps.expected). It stands beside the gate.
+# (crates/tests_documents/src/documents/expected.rt), and those of an example (examples/first-steps.expected). It stands beside the
+# gate.
 # A document begins with its XML declaration and ends with the end tag of its root. The parser is xmllint, of the Debian package
 # libxml2-utils (apt-get install libxml2-utils). It also tells of a namespace that is no URI, as a test has one; that is no fault of
 # form.
@@ -14,7 +15,7 @@ fi
 folder=$(mktemp -d)
 trap 'rm -rf "$folder"' EXIT
 if (($# == 0)); then
-    set -- crates/oaihost/src/tests/documents/expected.rt examples/first-steps.expected
+    set -- crates/tests_documents/src/documents/expected.rt examples/first-steps.expected
 fi
 
 # Writes each document of the file into a file of its own. In the source of a test `→` stands for a tab.

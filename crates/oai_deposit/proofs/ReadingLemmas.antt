@@ -2,7 +2,10 @@
 use Rattle.std.proofs.Common.{◌≡◌, List, [], ◌∷◌, ◌++◌, Result, Ok, Err, refl, sym, ap, ◌∙◌, append_assoc}
 use Rattle.std.proofs.lemmas.List.{append-nil}
 use Rattle.oai_item.specs.declared.refusals.LineRefusal.{LineRefusal}
-use Rattle.oai_deposit.specs.Readings.{◌>>=◌, each_of}
+use Rattle.oai_deposit.specs.declared.faults.LineFault.{LineFault}
+use Rattle.oai_deposit.specs.declared.faults.LineFault.TheVariants.{NoMemory, Refused}
+use Rattle.oai_deposit.specs.Calls.{Anywhere}
+use Rattle.oai_deposit.specs.Readings.{◌>>=◌, each_of, Gives}
 
 abbrev pub done : {A : Type 0} → A → Result A LineRefusal
 done x = Ok x
@@ -39,3 +42,10 @@ pub is_done : {A B : Type 0} (f : A → Result B LineRefusal) (done : List B) (x
     → xs ≡ [] → with_front done (each_of f xs) ≡ total → total ≡ Ok done
 is_done f done xs total none so_far =
     sym so_far ∙ ap (λ zs. with_front done (each_of f zs)) none ∙ ap (λ ys. Ok ys) (append-nil done)
+
+-- memory was refused where the condition is true, if it was
+pub where_true : {A : Type 0} {Condition : Type 0} (r : Result A LineFault) (reading : Result A LineRefusal)
+    → Condition → Gives Anywhere r reading → Gives Condition r reading
+where_true (Ok x) reading condition gives = gives
+where_true (Err (Refused refusal)) reading condition gives = gives
+where_true (Err NoMemory) reading condition gives = condition

@@ -1,5 +1,5 @@
 -- The records of a line: lists and objects as calls see them, and why the prefixes rise.
-use Rattle.std.proofs.Common.{◌≡◌, ℕ, true, Some, List, [], ◌∷◌, map, String, Global, BTreeMap, string_bytes, Less, Ok, refl, sym, ap, ◌∙◌}
+use Rattle.std.proofs.Common.{◌≡◌, ℕ, true, Some, is_some, List, [], ◌∷◌, map, String, Global, BTreeMap, string_bytes, Less, Ok, refl, sym, ap, ◌∙◌}
 use Rattle.std.specs.List.Sorted.{IsStrictlySortedBy}
 use Rattle.std.specs.Map.{keys_of}
 use Rattle.std.specs.Option.{ok_or, option_map}
@@ -7,7 +7,7 @@ use Rattle.std.specs.String.{string_cmp}
 use Rattle.std.specs.Ordering.{nat_cmp, is_lt}
 use Rattle.std.specs.Cmp.Lexicographic.{slice_cmp}
 use Rattle.serde_json.specs.Data.{Data}
-use Rattle.serde_json.specs.Find.{as_array}
+use Rattle.serde_json.specs.Find.{as_array, as_object}
 use Rattle.serde_json.specs.View.{view, items_view}
 use Rattle.serde_json.specs.declared.value.Value.{Value, Object}
 use Rattle.serde_json.proofs.Views.{view-Object}
@@ -27,6 +27,9 @@ elements_of-Ok d vs is = ap (λ o. ok_or (option_map elements_in o) BadCommand) 
 pub records_of-Object : (m : BTreeMap (String Global) Value) → records_of (view (Object m)) ≡ each_of record_of (map seen m.entries)
 unfolding records_of
 records_of-Object m = ap records_of (view-Object m) ∙ ap (each_of record_of) (members_in-members_view m.entries)
+
+pub is_object : (m : BTreeMap (String Global) Value) → is_some (as_object (view (Object m))) ≡ true
+is_object m = ap (λ d. is_some (as_object d)) (view-Object m)
 
 pub record_of-Ok : (m : List ℕ × Data) (fields : List Field) → field_list_of m.1 ≡ Ok fields → record_of m ≡ Ok (m.0, fields)
 unfolding record_of

@@ -1,4 +1,4 @@
-ghost use Rattle.std.specs.Prelude.{◌≡◌, is_some, map};
+ghost use Rattle.std.specs.Prelude.{◌≡◌, true, is_ok, is_some, map};
 ghost use Rattle.std.specs.List.{list_all};
 ghost use Rattle.serde_json.specs.Find.{get};
 ghost use Rattle.serde_json.specs.View.{view};
@@ -80,7 +80,8 @@ pub(crate) fn text_of(value: &Value) -> Result<&str, LineRefusal>
 /// The texts of an array of strings; `BadCommand` at any other value.
 #[tactic(auto, unfolding(crate::specs::Lines::texts_of))]
 pub(crate) fn texts_of(alloc: Global, value: &Value) -> Result<Vec<&str>, LineFault>
-    ensures { GivesBy (λ texts. map (λ text. text.now) texts.items) Anywhere result
+    ensures { GivesBy (λ texts. map (λ text. text.now) texts.items)
+        (is_ok (lines.elements_of (view value.now)) ≡ true) result
         (lines.texts_of (view value.now)) }
 {
     texts_in(alloc, elements_of(value)?)

@@ -1,4 +1,4 @@
-ghost use Rattle.std.specs.Prelude.{◌≡◌, true, map};
+ghost use Rattle.std.specs.Prelude.{◌≡◌, true, map, is_ok};
 ghost use Rattle.serde_json.specs.View.{view};
 ghost use Rattle.oai_names.specs.Names.{may_be_identifier};
 ghost use Rattle.oai_names.specs.Sets.{may_be_set_spec};
@@ -108,7 +108,8 @@ fn deposit_from(
 /// The deletion that an object of its member asks for.
 #[tactic(auto, unfolding(crate::specs::Lines::deletion_shape))]
 fn deletion_of(alloc: Global, value: &Value) -> Result<Change, LineFault>
-    ensures { Gives Anywhere result (asked_by (lines.deletion_shape (view value.now))) }
+    ensures { Gives (is_ok (lines.deletion_shape (view value.now)) ≡ true) result
+        (asked_by (lines.deletion_shape (view value.now))) }
 {
     let identifier = text_of(member_of(value, "delete")?)?;
     deletion_from(alloc, identifier)
@@ -128,7 +129,8 @@ fn deletion_from(alloc: Global, identifier: &str) -> Result<Change, LineFault>
 /// The new set that an object of its members asks for.
 #[tactic(auto, unfolding(crate::specs::Lines::set_shape))]
 fn new_set_of(alloc: Global, value: &Value) -> Result<Change, LineFault>
-    ensures { Gives Anywhere result (asked_by (lines.set_shape (view value.now))) }
+    ensures { Gives (is_ok (lines.set_shape (view value.now)) ≡ true) result
+        (asked_by (lines.set_shape (view value.now))) }
 {
     let spec = text_of(member_of(value, "set")?)?;
     let name = text_of(member_of(value, "name")?)?;

@@ -1,5 +1,6 @@
-ghost use Rattle.std.specs.Prelude.{◌≡◌, map, string_bytes};
+ghost use Rattle.std.specs.Prelude.{◌≡◌, true, map, is_ok, is_some, string_bytes};
 ghost use Rattle.std.specs.List.{list_all};
+ghost use Rattle.serde_json.specs.Find.{as_object};
 ghost use Rattle.serde_json.specs.View.{view};
 ghost use Rattle.oai_names.specs.Characters.{is_xml_text};
 ghost use Rattle.oai_deposit.specs.Calls.{Anywhere};
@@ -18,7 +19,8 @@ use std::collections::BTreeMap;
 /// copied once.
 #[tactic(auto, unfolding(crate::specs::Lines::records_of))]
 pub(crate) fn records_of(alloc: Global, value: &Value) -> Result<Records, LineFault>
-    ensures { Gives Anywhere result (lines.records_of (view value.now)) }
+    ensures { Gives (is_some (as_object (view value.now)) ≡ true) result
+        (lines.records_of (view value.now)) }
 {
     match value {
         Value::Object(members) => records_in(alloc, members),
@@ -43,7 +45,8 @@ fn records_in(alloc: Global, members: &BTreeMap<String, Value>) -> Result<Record
 /// The fields of an array of them; `BadCommand` at any other value.
 #[tactic(auto, unfolding(crate::specs::Lines::field_list_of))]
 fn field_list_of(alloc: Global, value: &Value) -> Result<Sequence<Field>, LineFault>
-    ensures { Gives Anywhere result (lines.field_list_of (view value.now)) }
+    ensures { Gives (is_ok (lines.elements_of (view value.now)) ≡ true) result
+        (lines.field_list_of (view value.now)) }
 {
     fields_in(alloc, elements_of(value)?)
 }
@@ -63,7 +66,8 @@ fn fields_in(alloc: Global, values: &[Value]) -> Result<Sequence<Field>, LineFau
 /// The field that `[NAME,TEXT]` is; `BadCommand` at any other value.
 #[tactic(auto, unfolding(crate::specs::Lines::field_of))]
 fn field_of(alloc: Global, value: &Value) -> Result<Field, LineFault>
-    ensures { Gives Anywhere result (lines.field_of (view value.now)) }
+    ensures { Gives (is_ok (lines.field_of (view value.now)) ≡ true) result
+        (lines.field_of (view value.now)) }
 {
     pair_of(alloc, elements_of(value)?)
 }
@@ -71,7 +75,8 @@ fn field_of(alloc: Global, value: &Value) -> Result<Field, LineFault>
 /// The field of two strings; `BadCommand` at any other values.
 #[tactic(auto, unfolding(crate::specs::Lines::pair_of))]
 fn pair_of(alloc: Global, values: &[Value]) -> Result<Field, LineFault>
-    ensures { Gives Anywhere result (lines.pair_of (map view values.now)) }
+    ensures { Gives (is_ok (lines.pair_of (map view values.now)) ≡ true) result
+        (lines.pair_of (map view values.now)) }
 {
     match values {
         [name, text] => field_from(alloc, text_of(name)?, text_of(text)?),

@@ -12,3 +12,4 @@ pub mod Members
 pub mod OrderLemmas
 pub mod Selecting
 pub mod Around
+pub mod Named

@@ -26,4 +26,4 @@ pub use records::Records;
 pub use refusals::{ChangeRefusal, LineRefusal};
 pub use selections::selection_law;
 pub use short_texts::{MOST_SHORT_TEXT_BYTES, is_short_text};
-pub use sizes::{MOST_ITEM_BYTES, TooLarge};
+pub use sizes::{MOST_ITEM_BYTES, TooLarge, limit_law};

@@ -1,7 +1,8 @@
-ghost use Rattle.std.specs.Prelude.{◌+◌, length};
+ghost use Rattle.std.specs.Prelude.{◌≡◌, ◌+◌, length};
 ghost use Rattle.oai_item.specs.Encoding.{IsMeasure, encoded_field, encoded_list, encoded_record, encoded_text};
 
 use crate::fields::Field;
+use crate::short_texts::MOST_SHORT_TEXT_BYTES;
 use oai_names::{Prefix, Sequence, SetSpec};
 use thiserror::Error;
 
@@ -15,6 +16,12 @@ const COUNT_BYTES: usize = 4;
 #[derive(Clone, Copy, Debug, PartialEq, Eq, Error)]
 #[error("the encoded item has more than 16,000 bytes")]
 pub struct TooLarge;
+
+/// The limits in numbers, since definitions read them by their names. It does nothing at run time.
+pub fn limit_law()
+    ensures item { MOST_ITEM_BYTES ≡ 16_000 }
+    ensures short_text { MOST_SHORT_TEXT_BYTES ≡ 512 }
+{}
 
 /// The sum, where it is at most 16,000.
 fn plus(size: usize, more: usize) -> Result<usize, TooLarge>

@@ -1,3 +1,4 @@
 pub mod Covering
 pub mod Parents
+pub mod Ancestors
 pub mod Additions

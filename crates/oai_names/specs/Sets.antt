@@ -54,6 +54,10 @@ HasParentsBefore sets = (i : ℕ) (parent last name : List ℕ)
     → slice_get sets i ≡ Some (parent ++ 58 ∷ last, name)
     → list_any is_colon last ≡ false → has_set (take i sets) parent ≡ true
 
+-- and above it: where a set lies in another one, that one is a set too
+abbrev pub HasSetsAbove : List (List ℕ × List ℕ) → Type 0
+HasSetsAbove sets = (above spec : List ℕ) → has_set sets spec ≡ true → Covers above spec → has_set sets above ≡ true
+
 -- what adding a set answers, and the sets then: it is the last one, or the first cause that applies is told and they are as they were
 abbrev pub IsAdding : List (List ℕ × List ℕ) → List ℕ → List ℕ
     → Result (Unit {0}) SetFault → List (List ℕ × List ℕ) → Type 0

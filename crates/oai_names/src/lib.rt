@@ -16,7 +16,9 @@ mod texts;
 
 pub use escapes::{escape_attr, escape_text};
 pub use identifiers::Identifier;
-pub use limits::{MOST_IDENTIFIER_BYTES, MOST_PREFIX_BYTES, MOST_SET_SPEC_BYTES, MOST_SETS};
+pub use limits::{
+    MOST_IDENTIFIER_BYTES, MOST_PREFIX_BYTES, MOST_SET_SPEC_BYTES, MOST_SETS, limit_law,
+};
 pub use list_verbs::ListVerb;
 pub use prefixes::{Prefix, is_prefix};
 pub use readings::NameFault;

@@ -1,5 +1,7 @@
 //! How much a repository holds: limits of this repository's own, since OAI-PMH sets none.
 
+ghost use Rattle.std.specs.Prelude.{◌≡◌};
+
 /// The most bytes of a metadataPrefix.
 pub const MOST_PREFIX_BYTES: usize = 64;
 
@@ -11,3 +13,11 @@ pub const MOST_IDENTIFIER_BYTES: usize = 512;
 
 /// The most sets of a repository.
 pub const MOST_SETS: usize = 10_000;
+
+/// The limits in numbers, since definitions read them by their names. It does nothing at run time.
+pub fn limit_law()
+    ensures prefix { MOST_PREFIX_BYTES ≡ 64 }
+    ensures set_spec { MOST_SET_SPEC_BYTES ≡ 256 }
+    ensures identifier { MOST_IDENTIFIER_BYTES ≡ 512 }
+    ensures sets { MOST_SETS ≡ 10_000 }
+{}

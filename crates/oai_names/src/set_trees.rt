@@ -1,7 +1,8 @@
-ghost use Rattle.std.specs.Prelude.{◌≡◌, ◌<◌, ◌≤◌, ◌++◌, [], ◌∷◌, true, false, length, MatchResult};
+ghost use Rattle.std.specs.Prelude.{◌≡◌, ◌<◌, ◌≤◌, ◌++◌, [], ◌∷◌, true, false, find, if◌then◌else◌, None, Some, length, MatchResult};
 ghost use Rattle.std.specs.List.{slice_get};
 ghost use Rattle.std.specs.Option.{option_copied, option_map};
-ghost use Rattle.oai_names.specs.Sets.{HasParentsBefore, IsAdding, IsSetTree, has_parent, has_set, parent_of};
+ghost use Rattle.std.specs.Str.{bytes_eq};
+ghost use Rattle.oai_names.specs.Sets.{HasParentsBefore, HasSetsAbove, IsAdding, IsSetTree, has_parent, has_set, parent_of};
 
 use crate::limits::MOST_SETS;
 use crate::set_specs::SetSpec;
@@ -95,6 +96,20 @@ impl SetTree {
         self.has_text(spec.as_str())
     }
 
+    /// The setSpec of the set of that setSpec, where it is there. A set that is not there has none that
+    /// lies in it. The time is that of a search in the index, and where the set is there, of a look
+    /// along the list.
+    pub fn find(&self, spec: &str) -> Option<&SetSpec>
+        ensures found { option_copied result ≡ (if has_set self.now spec.now then Some spec.now else None) }
+        ensures above { HasSetsAbove self.now }
+    {
+        let sets = self.sets.as_slice();
+        if !self.has_text(spec) {
+            return None;
+        }
+        spec_among(sets, spec)
+    }
+
     /// The setSpec and the name of the set that was added after `i` others; `None` where there are
     /// no more than `i` sets. The parent of a set of two or more parts stands before it.
     #[tactic(auto, using(crate::proofs::Parents::parents_stand_before))]
@@ -156,6 +171,23 @@ impl SetTree {
         self.sets.push(set)?;
         Ok(())
     }
+}
+
+/// The setSpec of the set of that setSpec, where it is among these.
+fn spec_among<'a>(sets: &'a [(SetSpec, Text)], spec: &str) -> Option<&'a SetSpec>
+    ensures { option_copied result ≡ (if has_set sets.now spec.now then Some spec.now else None) }
+{
+    match set_among(sets, spec) {
+        Some((found, _)) => Some(found),
+        None => None,
+    }
+}
+
+/// The set of that setSpec, where it is among these.
+fn set_among<'a>(sets: &'a [(SetSpec, Text)], spec: &str) -> Option<&'a (SetSpec, Text)>
+    ensures { option_copied result ≡ find (λ set. bytes_eq spec.now set.0) sets.now }
+{
+    sets.iter().find(|set| spec == set.0.as_str())
 }
 
 /// The setSpec of the set right above this one in the hierarchy, everything before the last colon;

@@ -1,5 +1,5 @@
 -- A change that is made, refused or fails in a part of what is held, as the definition of changes says it.
-use Rattle.std.proofs.Common.{◌≡◌, ◌≢◌, Bool, true, false, not, ℕ, List, [], ◌∷◌, ◌++◌, Option, Some, None, is_some, Result, Ok, Err, ℤ, refl, sym, ap, ◌∙◌, codes}
+use Rattle.std.proofs.Common.{◌≡◌, ◌≢◌, Bool, true, false, not, ℕ, List, [], ◌∷◌, ◌++◌, length, Option, Some, None, is_some, Result, Ok, Err, ℤ, refl, sym, ap, ◌∙◌, codes}
 use Rattle.std.specs.Prelude.{find}
 use Rattle.std.specs.Option.{option_or}
 use Rattle.oai_item.specs.Item.{ItemState, Metadata, has_record, record_named, live_item}
@@ -10,7 +10,7 @@ use Rattle.oai_item.specs.declared.changes.Change.{Change}
 use Rattle.oai_item.specs.declared.changes.Change.TheVariants as change
 use Rattle.oai_item.specs.declared.refusals.ChangeRefusal.{ChangeRefusal}
 use Rattle.oai_repo.specs.Calls.{early_refusal}
-use Rattle.oai_repo.specs.Changes.{refusal_of, after_deletion, deletion_refusal, deposit_refusal, item_refusal, set_refusal, changed, stamp_at, with_new}
+use Rattle.oai_repo.specs.Changes.{refusal_of, after_deletion, dead_refusal, missing_refusal, deposit_refusal, item_refusal, set_refusal, changed, stamp_at, with_new}
 use Rattle.oai_repo.specs.Config.{Config}
 use Rattle.oai_repo.specs.Kept.{AreKept}
 use Rattle.oai_repo.specs.Machine.{act, act_on_change, accepted, changing, refused}
@@ -39,7 +39,7 @@ held items sets = record { items = items; sets = sets }
 -- a deposit, made or not
 pub deposit_done : (config : Config) (stamp : ℤ) (items new : List ItemState) (sets : List NamedSet)
     (identifier : List ℕ) (specs : List (List ℕ)) (records : List Metadata) (r : Result (Unit {0}) Refusal)
-    → IsDone (deposit_refusal config sets specs records) (item_refusal config items (live_item identifier stamp (reduced specs) records))
+    → IsDone (deposit_refusal config sets specs records) (item_refusal config (item_named identifier items) (length items) (live_item identifier stamp (reduced specs) records))
     items (with_new (live_item identifier stamp (reduced specs) records) items) r new
     → IsMade config stamp (held items sets) (change.Deposit identifier specs records) r (held new sets)
 unfolding refusal_of changed
@@ -52,13 +52,11 @@ deposit_done config stamp items new sets identifier specs records (Err (refusal.
 
 -- a deletion, made or not
 pub deletion_done : (config : Config) (stamp : ℤ) (items new : List ItemState) (sets : List NamedSet) (identifier : List ℕ) (r : Result (Unit {0}) Refusal)
-    → IsDone (deletion_refusal (item_named identifier items)) None items (after_deletion config.deleted stamp identifier items) r new
+    → IsDone (missing_refusal (item_named identifier items)) (dead_refusal (item_named identifier items)) items (after_deletion config.deleted stamp identifier items) r new
     → IsMade config stamp (held items sets) (change.Delete identifier) r (held new sets)
 unfolding refusal_of changed
-deletion_done config stamp items new sets identifier (Ok _) done =
-    (no_later (deletion_refusal (item_named identifier items)) ∙ done.0, ap (λ (xs : List ItemState). held xs sets) done.1)
-deletion_done config stamp items new sets identifier (Err (refusal.Refused cause)) done =
-    (no_later (deletion_refusal (item_named identifier items)) ∙ done.0, ap (λ (xs : List ItemState). held xs sets) done.1)
+deletion_done config stamp items new sets identifier (Ok _) done = (done.0, ap (λ (xs : List ItemState). held xs sets) done.1)
+deletion_done config stamp items new sets identifier (Err (refusal.Refused cause)) done = (done.0, ap (λ (xs : List ItemState). held xs sets) done.1)
 deletion_done config stamp items new sets identifier (Err (refusal.Fault fault)) done =
     (done.0, ap (λ (xs : List ItemState). held xs sets) done.1)
 

@@ -1,5 +1,5 @@
 -- What a repository keeps true of its items stays true under each change that is not refused.
-use Rattle.std.proofs.Common.{◌≡◌, ◌<◌, ◌≤◌, ◌+◌, ℕ, ℤ, suc, Bool, true, false, not, ◌&&◌, ◌||◌, cond, List, [], ◌∷◌, ◌++◌, length, length-append, map, codes, Option, None, Some, is_some, is_none, refl, sym, ap, ◌∙◌, arith}
+use Rattle.std.proofs.Common.{◌≡◌, ◌<◌, ◌≤◌, ◌+◌, ℕ, ℤ, suc, Bool, true, false, not, ◌&&◌, ◌||◌, cond, List, [], ◌∷◌, ◌++◌, length, length-append, map, codes, Option, None, Some, is_some, is_none, Result, Ok, Err, is_err, refl, sym, ap, ◌∙◌, arith}
 use Rattle.std.specs.Prelude.{filter, find, nat_lt, nat_le}
 use Rattle.std.specs.List.{flat_map, list_all, list_any}
 use Rattle.std.specs.Option.{option_or}
@@ -15,7 +15,7 @@ use Rattle.oai_item.specs.Item.{ItemState, Metadata, emptied, has_record, live_i
 use Rattle.oai_item.specs.Items.{is_named, item_named, without, placed}
 use Rattle.oai_item.specs.Order.{precedes}
 use Rattle.oai_item.specs.Formats.{format_named}
-use Rattle.oai_item.specs.Encoding.{encoded, encoded_field, encoded_record}
+use Rattle.oai_item.specs.Encoding.{IsMeasure, encoded, encoded_field, encoded_record}
 use Rattle.oai_item.specs.Known.{are_fields_of, has_format, has_known_fields}
 use Rattle.oai_item.specs.Membership.{reduced, distinct, is_above}
 use Rattle.oai_item.specs.declared.changes.Change.{Change}
@@ -24,8 +24,10 @@ use Rattle.oai_item.specs.declared.fields.Field.{Field}
 use Rattle.oai_item.specs.declared.formats.Format.{Format}
 use Rattle.oai_item.specs.declared.refusals.ChangeRefusal.{ChangeRefusal}
 use Rattle.oai_item.specs.declared.sizes.TheConstants.{MOST_ITEM_BYTES}
+use Rattle.oai_item.specs.declared.sizes.TooLarge.{TooLarge as LengthFault}
 use Rattle.oai_item.specs.declared.refusals.ChangeRefusal.TheVariants.{UnknownSet, UnknownFormat, NoDc, UnknownField, DropsFormat, TooLarge, TooManyItems}
 use Rattle.oai_item.proofs.Lengths.{length-encoded, length-encoded_list, length-encoded_record}
+use Rattle.oai_item.proofs.Named.{found_name, of_found}
 use Rattle.oai_item.proofs.OrderLemmas.{all-weaker, all-filter, all-placed, placed-cons, placed-nil, in_order-changed, apart-changed, in_order-filter, apart-filter}
 use Rattle.oai_repo.specs.Changes.{after_deletion, with_tombstone, deposit_refusal, item_refusal, set_refusal, refusal_of, changed, drops_format, is_one_too_many, with_new}
 use Rattle.oai_answers.specs.declared.identify.DeletedRecord.{DeletedRecord}
@@ -78,16 +80,16 @@ stands config sets specs records h =
     }
 
 -- and what the later ones say
-pub record Fits (config : Config) (items : List ItemState) (item : ItemState) : Type 0 where
+pub record Fits (config : Config) (replaced : Option ItemState) (count : ℕ) (item : ItemState) : Type 0 where
   pub small : is_too_large item ≡ false
-  pub room : is_one_too_many config items item.identifier ≡ false
+  pub room : is_one_too_many config replaced count ≡ false
 
-pub fits : (config : Config) (items : List ItemState) (item : ItemState) → item_refusal config items item ≡ None → Fits config items item
+pub fits : (config : Config) (replaced : Option ItemState) (count : ℕ) (item : ItemState) → item_refusal config replaced count item ≡ None → Fits config replaced count item
 unfolding item_refusal
-fits config items item h =
-    let after_drops = passed (drops_format (item_named item.identifier items) item.formats) DropsFormat _ h in
+fits config replaced count item h =
+    let after_drops = passed (drops_format replaced item.formats) DropsFormat _ h in
     let after_size = passed (is_too_large item) TooLarge _ after_drops.1 in
-    let after_room = passed (is_one_too_many config items item.identifier) TooManyItems _ after_size.1 in
+    let after_room = passed (is_one_too_many config replaced count) TooManyItems _ after_size.1 in
     record { small = after_size.0; room = after_room.0 }
 
 -- ---- the sets of an item
@@ -151,7 +153,7 @@ room : (items left most : ℕ) (missing : Bool) → (missing && nat_le most item
 room items left most true full few fewer' within = grind (arith, nat_tests)
 room items left most false full few fewer' within = let less = fewer' refl in omega arith
 
-few-new : (config : Config) (items : List ItemState) (item : ItemState) → is_one_too_many config items item.identifier ≡ false
+few-new : (config : Config) (items : List ItemState) (item : ItemState) → is_one_too_many config (item_named item.identifier items) (length items) ≡ false
     → length items ≤ config.items → length (with_new item items) ≤ config.items
 unfolding is_one_too_many
 few-new config items item full within =
@@ -169,7 +171,7 @@ unfolding without
 well-without p identifier items h = all-filter p (λ item. not (is_named identifier item)) items h
 
 deposited : (config : Config) (holdings : Holdings) (identifier : List ℕ) (stamp : ℤ) (specs : List (List ℕ)) (records : List Metadata)
-    → Stands config holdings.sets specs records → Fits config holdings.items (live_item identifier stamp (reduced specs) records) → AreKept config holdings
+    → Stands config holdings.sets specs records → Fits config (item_named identifier holdings.items) (length holdings.items) (live_item identifier stamp (reduced specs) records) → AreKept config holdings
     → AreKept config (record holdings { items = with_new (live_item identifier stamp (reduced specs) records) holdings.items })
 deposited config holdings identifier stamp specs records s f kept =
     let item : ItemState = live_item identifier stamp (reduced specs) records in
@@ -184,31 +186,6 @@ deposited config holdings identifier stamp specs records s f kept =
     }
 
 -- ---- a deletion
-
--- what is found has the identifier that was looked for
-named : (identifier : List ℕ) (items : List ItemState) (item : ItemState) → item_named identifier items ≡ Some item → item.identifier ≡ identifier
-unfolding item_named
-named identifier [] item h = cc
-named identifier (x ∷ items) item h = by_test (bytes_eq x.identifier identifier) ((bytes_eq-Decides x.identifier identifier).0) h (named identifier items item)
-  where
-    by_test : (b : Bool) → (b ≡ true → x.identifier ≡ identifier) → cond b (Some x) (find (is_named identifier) items) ≡ Some item
-        → (find (is_named identifier) items ≡ Some item → item.identifier ≡ identifier) → item.identifier ≡ identifier
-    by_test true same found later = let e : x ≡ item = cc in ap (λ (i : ItemState). i.identifier) (sym e) ∙ same refl
-    by_test false same found later = later found
-
--- and what is true of all is true of it
-of_found : (p : ItemState → Bool) (identifier : List ℕ) (items : List ItemState) (item : ItemState) → item_named identifier items ≡ Some item
-    → list_all p items ≡ true → p item ≡ true
-unfolding item_named
-of_found p identifier [] item h all = cc
-of_found p identifier (x ∷ items) item h all =
-    let parts = and_parts (p x) (list_all p items) all in
-    by_test (bytes_eq x.identifier identifier) h parts.0 (λ later. of_found p identifier items item later parts.1)
-  where
-    by_test : (b : Bool) → cond b (Some x) (find (is_named identifier) items) ≡ Some item → p x ≡ true
-        → (find (is_named identifier) items ≡ Some item → p item ≡ true) → p item ≡ true
-    by_test true found here later = let e : x ≡ item = cc in ap p (sym e) ∙ here
-    by_test false found here later = later found
 
 emptied-record : (prefix : List ℕ) (formats : List Metadata) → has_record prefix (map emptied formats) ≡ has_record prefix formats
 unfolding record_named
@@ -239,7 +216,7 @@ shorter (format ∷ formats) =
     let some = length-encoded_list encoded_field format.1 in
     omega (arith, shorter formats, length-append (encoded_record (emptied format)) (flat_map encoded_record (map emptied formats)), length-append (encoded_record format) (flat_map encoded_record formats))
 
-smaller : (stamp : ℤ) (item : ItemState) → length (encoded (tombstone_of stamp item)) ≤ length (encoded item)
+pub smaller : (stamp : ℤ) (item : ItemState) → length (encoded (tombstone_of stamp item)) ≤ length (encoded item)
 smaller stamp item =
     omega (
       arith,
@@ -249,6 +226,20 @@ smaller stamp item =
       length-encoded_list encoded_record item.formats,
       length-encoded_list encoded_record (map emptied item.formats),
     )
+
+too_long : (n : ℕ) (r : Result ℕ LengthFault) → IsMeasure n r → is_err r ≡ true → MOST_ITEM_BYTES < n
+too_long n (Ok m) h e = cc
+too_long n (Err m) h e = h
+
+is_small : (n most : ℕ) → not (nat_lt most n) ≡ true → n ≤ most
+is_small n most h = grind (arith, nat_tests)
+
+-- what is left of an item that can be stored can be stored
+pub tombstone_fits : (stamp : ℤ) (item left : ItemState) (r : Result ℕ LengthFault) → left ≡ tombstone_of stamp item → not (is_too_large item) ≡ true
+    → IsMeasure (length (encoded left)) r → is_err r ≡ true → ⊥
+tombstone_fits stamp item left r is small measure err =
+    let size : length (encoded left) ≡ length (encoded (tombstone_of stamp item)) = ap (λ (i : ItemState). length (encoded i)) is in
+    omega (arith, too_long (length (encoded left)) r measure err, is_small (length (encoded item)) MOST_ITEM_BYTES small, smaller stamp item, size)
 
 still_small : (a b most : ℕ) → a ≤ b → not (nat_lt most b) ≡ true → not (nat_lt most a) ≡ true
 still_small a b most h small = grind (arith, nat_tests)
@@ -291,7 +282,7 @@ buried : (config : Config) (holdings : Holdings) (identifier : List ℕ) (stamp 
     → AreKept config holdings → AreKept config (record holdings { items = with_tombstone stamp found holdings.items })
 buried config holdings identifier stamp None is kept = kept
 buried config holdings identifier stamp (Some item) is kept =
-    let there : is_none (item_named item.identifier holdings.items) ≡ false = ap (λ (id : List ℕ). is_none (item_named id holdings.items)) (named identifier holdings.items item is) ∙ ap is_none is in
+    let there : is_none (item_named item.identifier holdings.items) ≡ false = ap (λ (id : List ℕ). is_none (item_named id holdings.items)) (found_name identifier holdings.items item is) ∙ ap is_none is in
     replaced config holdings (tombstone_of stamp item) there
     (well-tombstone config holdings.sets stamp item (of_found (is_well_kept config holdings.sets) identifier holdings.items item is kept.well)) kept
 
@@ -336,8 +327,8 @@ pub kept-changed : (config : Config) (stamp : ℤ) (holdings : Holdings) (asked 
 unfolding refusal_of changed
 kept-changed config stamp holdings (change.Deposit identifier sets records) none kept =
     let item : ItemState = live_item identifier stamp (reduced sets) records in
-    let causes = no_cause (deposit_refusal config holdings.sets sets records) (item_refusal config holdings.items item) none in
-    deposited config holdings identifier stamp sets records (stands config holdings.sets sets records causes.0) (fits config holdings.items item causes.1) kept
+    let causes = no_cause (deposit_refusal config holdings.sets sets records) (item_refusal config (item_named identifier holdings.items) (length holdings.items) item) none in
+    deposited config holdings identifier stamp sets records (stands config holdings.sets sets records causes.0) (fits config (item_named identifier holdings.items) (length holdings.items) item causes.1) kept
 kept-changed config stamp holdings (change.Delete identifier) none kept = deleted config holdings identifier stamp config.deleted kept
 kept-changed config stamp holdings (change.AddSet spec name) none kept = set_added config holdings (spec, name) kept
 

@@ -5,3 +5,4 @@ pub mod KeptLemmas
 pub mod ChangeLemmas
 pub mod StepLemmas
 pub mod SelectionLemmas
+pub mod ShelfLemmas

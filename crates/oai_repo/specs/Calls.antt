@@ -4,34 +4,48 @@ use Rattle.oai_item.specs.Items.{item_named}
 use Rattle.oai_item.specs.Refusals.{in_repository}
 use Rattle.oai_item.specs.declared.changes.Change.{Change}
 use Rattle.oai_item.specs.declared.changes.Change.TheVariants as change
+use Rattle.oai_item.specs.declared.faults.Fault.{Fault}
 use Rattle.oai_item.specs.declared.refusals.ChangeRefusal.{ChangeRefusal}
-use Rattle.oai_repo.specs.Changes.{deletion_refusal, deposit_refusal, set_refusal}
+use Rattle.oai_catalogue.specs.Store.{Lists}
+use Rattle.oai_time.specs.Clock.{tick}
+use Rattle.oai_repo.specs.Changes.{deposit_refusal, missing_refusal, set_refusal}
 use Rattle.oai_repo.specs.Config.{Config}
-use Rattle.oai_repo.specs.Held.{Held, state_of}
+use Rattle.oai_repo.specs.Held.{Held, holdings_of, state_of}
 use Rattle.oai_repo.specs.Machine.{act_at, accepted, changing, query, refused, step}
 use Rattle.oai_repo.specs.State.{Holdings}
-use Rattle.oai_repo.specs.declared.refusals.Fault.{Fault}
 use Rattle.oai_repo.specs.declared.refusals.Refusal.{Refusal}
 use Rattle.oai_repo.specs.declared.refusals.Refusal.TheVariants as refusal
 use Rattle.oai_repo.specs.declared.repo.Reply.{Reply}
 use Rattle.oai_repo.specs.declared.repo.Reply.TheVariants.{Page}
 
--- a request was performed: it is a step, and the configuration is kept; or it is a fault, and everything is as it was
-abbrev pub IsAsked : Held → ℤ → List ℕ → Result Reply Fault → Held → Type 0
-IsAsked old moment bytes (Ok (Page page)) new = (step old.config (state_of old) moment (query bytes) ≡ (page, state_of new)) × (new.config ≡ old.config)
-IsAsked old moment bytes (Err fault) new = new ≡ old
+-- ---- what is answered, over an honest store
 
--- the causes among these that are looked for before any memory is taken
+-- a request was performed: it is a step
+abbrev pub IsAsked : Held → Lists → ℤ → List ℕ → Reply → Held → Lists → Type 0
+IsAsked old before moment bytes (Page page) new after = step old.config (state_of old before) moment (query bytes) ≡ (page, state_of new after)
+
+-- the causes among these that are looked for before any memory is taken and anything is read
 abbrev pub early_refusal : Config → Holdings → Change → Option ChangeRefusal
 early_refusal config holdings (change.Deposit identifier sets records) = deposit_refusal config holdings.sets sets records
-early_refusal config holdings (change.Delete identifier) = deletion_refusal (item_named identifier holdings.items)
+early_refusal config holdings (change.Delete identifier) = missing_refusal (item_named identifier holdings.items)
 early_refusal config holdings (change.AddSet spec name) = set_refusal holdings.sets spec
 
--- a change was made or refused: it is what the machine does, and the configuration is kept; or it is a fault, where no early
--- cause refuses the change, and everything is as it was
-abbrev pub IsChanged : Held → ℤ → Change → Result ℤ Refusal → Held → Type 0
-IsChanged old moment change (Ok stamp) new =
-    (act_at old.config (state_of old) moment (changing change) ≡ (accepted stamp, state_of new)) × (new.config ≡ old.config)
-IsChanged old moment change (Err (refusal.Refused cause)) new =
-    (act_at old.config (state_of old) moment (changing change) ≡ (refused (in_repository cause), state_of new)) × (new.config ≡ old.config)
-IsChanged old moment change (Err (refusal.Fault fault)) new = (early_refusal old.config old.holdings change ≡ None) × (new ≡ old)
+-- a change was made or refused: it is what the machine does; or it is a fault, where no early cause refuses the change
+abbrev pub IsChanged : Held → Lists → ℤ → Change → Result ℤ Refusal → Held → Lists → Type 0
+IsChanged old before moment change (Ok stamp) new after = act_at old.config (state_of old before) moment (changing change) ≡ (accepted stamp, state_of new after)
+IsChanged old before moment change (Err (refusal.Refused cause)) new after =
+    act_at old.config (state_of old before) moment (changing change) ≡ (refused (in_repository cause), state_of new after)
+IsChanged old before moment change (Err (refusal.Fault fault)) new after = early_refusal old.config (holdings_of old.shelf old.sets before) change ≡ None
+
+-- ---- what is left, over any store
+
+-- the fault of a call that may also refuse
+abbrev pub fault_in : {A : Type 0} → Result A Refusal → Result (Unit {0}) Fault
+fault_in (Ok _) = Ok tt
+fault_in (Err (refusal.Refused cause)) = Ok tt
+fault_in (Err (refusal.Fault fault)) = Err fault
+
+-- a call that failed has left the repository and all lists as they were; any other has moved the clock, and kept the configuration
+abbrev pub IsLeft : {A : Type 0} → Result A Fault → ℤ → Held → Lists → Held → Lists → Type 0
+IsLeft (Ok _) moment old before new after = (new.clock ≡ tick old.clock moment) × (new.config ≡ old.config)
+IsLeft (Err fault) moment old before new after = (new ≡ old) × (after ≡ before)

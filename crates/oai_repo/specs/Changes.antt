@@ -36,16 +36,16 @@ abbrev pub drops_format : Option ItemState → List Metadata → Bool
 drops_format None records = false
 drops_format (Some item) records = not (list_all (λ (metadata : Metadata). has_record metadata.0 records) item.formats)
 
--- its identifier is a new one, where no further item may stand
-unfoldable pub is_one_too_many : Config → List ItemState → List ℕ → Bool
-is_one_too_many config items identifier = is_none (item_named identifier items) && nat_le config.items (length items)
+-- it replaces none, where no further item may stand beside so many
+unfoldable pub is_one_too_many : Config → Option ItemState → ℕ → Bool
+is_one_too_many config replaced count = is_none replaced && nat_le config.items count
 
--- why the item may not stand among these: the first cause
-unfoldable pub item_refusal : Config → List ItemState → ItemState → Option ChangeRefusal
-item_refusal config items item =
-    if drops_format (item_named item.identifier items) item.formats then Some DropsFormat
+-- why the item may not stand in place of the one of its identifier, if there is one, among so many: the first cause
+unfoldable pub item_refusal : Config → Option ItemState → ℕ → ItemState → Option ChangeRefusal
+item_refusal config replaced count item =
+    if drops_format replaced item.formats then Some DropsFormat
     else (if is_too_large item then Some TooLarge
-    else (if is_one_too_many config items item.identifier then Some TooManyItems
+    else (if is_one_too_many config replaced count then Some TooManyItems
     else None))
 
 -- the item in place of the one of its identifier, if there is one
@@ -54,10 +54,15 @@ with_new item items = placed item (without item.identifier items)
 
 -- ---- a deletion
 
--- why the item may not be deleted: there is none, or it is deleted
-abbrev pub deletion_refusal : Option ItemState → Option ChangeRefusal
-deletion_refusal None = Some NoSuchItem
-deletion_refusal (Some item) = if item.live then None else Some AlreadyDeleted
+-- there is no item to be deleted
+abbrev pub missing_refusal : Option ItemState → Option ChangeRefusal
+missing_refusal None = Some NoSuchItem
+missing_refusal (Some item) = None
+
+-- it is deleted
+abbrev pub dead_refusal : Option ItemState → Option ChangeRefusal
+dead_refusal None = None
+dead_refusal (Some item) = if item.live then None else Some AlreadyDeleted
 
 -- the items with what is left of that one, if there is one, in its place
 abbrev pub with_tombstone : ℤ → Option ItemState → List ItemState → List ItemState
@@ -92,8 +97,9 @@ stamp_at config clock = stamp_of config.granularity clock
 unfoldable pub refusal_of : Config → ℤ → Holdings → Change → Option ChangeRefusal
 refusal_of config stamp holdings (change.Deposit identifier sets records) = option_or
     (deposit_refusal config holdings.sets sets records)
-    (item_refusal config holdings.items (live_item identifier stamp (reduced sets) records))
-refusal_of config stamp holdings (change.Delete identifier) = deletion_refusal (item_named identifier holdings.items)
+    (item_refusal config (item_named identifier holdings.items) (length holdings.items) (live_item identifier stamp (reduced sets) records))
+refusal_of config stamp holdings (change.Delete identifier) =
+    let found = item_named identifier holdings.items in option_or (missing_refusal found) (dead_refusal found)
 refusal_of config stamp holdings (change.AddSet spec name) = set_refusal holdings.sets spec
 
 -- what is held after a change with that datestamp that is not refused: the items without that identifier, and the new one; or what

@@ -4,6 +4,7 @@ pub mod Settings
 pub mod SettingsWork
 pub mod State
 pub mod Kept
+pub mod Notes
 pub mod Held
 pub mod Changes
 pub mod Answers

@@ -1,5 +1,5 @@
 //! The second half of answering: what was found is told in a document.
-ghost use Rattle.std.specs.Prelude.{◌≡◌, IfOk};
+ghost use Rattle.std.specs.Prelude.{◌≡◌, ◌≤◌, IfOk, IsSome, IsTrue};
 ghost use Rattle.std.specs.Option.{option_copied};
 ghost use Rattle.oai_time.specs.Stamp.{IsWritable};
 ghost use Rattle.oai_args.specs.Asks.{asks};
@@ -8,30 +8,42 @@ ghost use Rattle.oai_args.specs.Requests.{request_of};
 ghost use Rattle.oai_answers.specs.Answers.{HasWritableTimes, IsWritableDocument, fails, lists_formats, no_arguments, offered};
 ghost use Rattle.oai_answers.specs.Borrowed.{answer_of, description_of, document_of};
 ghost use Rattle.oai_answers.specs.Documents.{document};
+ghost use Rattle.oai_catalogue.specs.Store.{IsCounted, IsHonest};
 ghost use Rattle.oai_repo.specs.Answers as spec;
 ghost use Rattle.oai_repo.specs.Answers.{document_at};
-ghost use Rattle.oai_repo.specs.Found.{IsAbout, holdings_in, state_in};
+ghost use Rattle.oai_repo.specs.Found.{IsFound, answer_found, document_found, state_in};
 
 use crate::arguments::arguments_of;
 use crate::config::RepoConfig;
 use crate::lookups::{Question, look_up};
-use crate::refusals::Fault;
 use crate::snapshots::Snapshot;
 use oai_answers::{
     Asked, Body, Doc, ErrorCode, Identity, Listed, Offered, Record, Resumption, write_document,
 };
 use oai_args::{ArgFault, Ask, read_request};
-use oai_item::{Format, Item};
+use oai_catalogue::Versions;
+use oai_item::{Fault, Format, Item};
 use oai_names::{ListVerb, SetSpec, Text};
 use std::alloc::{AllocError, Global};
 
-/// The page that answers the query.
-pub(crate) fn page_at(alloc: Global, found: &Snapshot<'_>, query: &[u8]) -> Result<Vec<u8>, Fault>
-    requires { IsWritable found.now.clock }
-    ensures { IfOk result (λ page. page.items ≡ document (document_at found.now.config.now (state_in found.now) (request_of found.now.config.now.granularity (decoded_pairs query.now)))) }
+/// The page that answers the query. Any fault but `TooManyPages` may come.
+pub(crate) fn page_at<V: Versions>(
+    alloc: Global,
+    found: &Snapshot<'_>,
+    store: &mut V,
+    query: &[u8],
+) -> Result<Vec<u8>, Fault>
+    requires writable { IsWritable found.now.clock }
+    requires stands { IsSome (V.lists store.old found.now.shelf.now.version) }
+    requires held { IsTrue (V.honest store.old) → IsFound found.now (V.lists store.old) }
+    ensures page { IfOk result (λ page. IsTrue (V.honest store.old) → page.items
+        ≡ document (document_at found.now.config.now (state_in found.now (V.lists store.old)) (request_of found.now.config.now.granularity (decoded_pairs query.now)))) }
+    ensures same { V.lists store.new ≡ V.lists store.old }
+    ensures device { IsCounted result (V.failures store.old) (V.failures store.new) }
+    ensures honesty { IsHonest result (V.honest store.old) (V.honest store.new) }
 {
     match read_request(alloc, query, found.config.granularity()) {
-        Ok(ask) => Ok(asked_page(alloc, found, ask)?),
+        Ok(ask) => asked_page(alloc, found, store, ask),
         Err(ArgFault::BadVerb) => Ok(error_page(alloc, found, ErrorCode::BadVerb)?),
         Err(ArgFault::BadArgument) => Ok(error_page(alloc, found, ErrorCode::BadArgument)?),
         Err(ArgFault::NoMemory) => Err(Fault::NoMemory),
@@ -39,12 +51,22 @@ pub(crate) fn page_at(alloc: Global, found: &Snapshot<'_>, query: &[u8]) -> Resu
 }
 
 /// The page that answers a well-formed request.
-fn asked_page(alloc: Global, found: &Snapshot<'_>, ask: Ask) -> Result<Vec<u8>, AllocError>
-    requires { IsWritable found.now.clock }
-    ensures { IfOk result (λ page. page.items ≡ document (document_at found.now.config.now (state_in found.now) (asks ask))) }
+fn asked_page<V: Versions>(
+    alloc: Global,
+    found: &Snapshot<'_>,
+    store: &mut V,
+    ask: Ask,
+) -> Result<Vec<u8>, Fault>
+    requires writable { IsWritable found.now.clock }
+    requires stands { IsSome (V.lists store.old found.now.shelf.now.version) }
+    requires held { IsTrue (V.honest store.old) → IsFound found.now (V.lists store.old) }
+    ensures page { IfOk result (λ page. IsTrue (V.honest store.old) → page.items ≡ document (document_at found.now.config.now (state_in found.now (V.lists store.old)) (asks ask))) }
+    ensures same { V.lists store.new ≡ V.lists store.old }
+    ensures device { IsCounted result (V.failures store.old) (V.failures store.new) }
+    ensures honesty { IsHonest result (V.honest store.old) (V.honest store.new) }
 {
-    let question = look_up(alloc, found.items, ask)?;
-    told_page(alloc, found, &question)
+    let question = look_up(alloc, found, store, ask)?;
+    Ok(told_page(alloc, found, &question)?)
 }
 
 /// The page that answers a question.
@@ -53,9 +75,8 @@ fn told_page<'q, 'r: 'q>(
     found: &Snapshot<'r>,
     question: &'q Question,
 ) -> Result<Vec<u8>, AllocError>
-    requires writable { IsWritable found.now.clock }
-    requires asked { IsAbout found.now.items.now question.now }
-    ensures { IfOk result (λ page. page.items ≡ document (document_at found.now.config.now (state_in found.now) (asks question.now.ask))) }
+    requires { IsWritable found.now.clock }
+    ensures { IfOk result (λ page. page.items ≡ document (document_found found.now.config.now found.now.clock found.now.sets.now question.now)) }
 {
     let found: Snapshot<'q> = *found;
     page_of(
@@ -97,8 +118,7 @@ fn page_of(alloc: Global, doc: &Doc<'_>) -> Result<Vec<u8>, AllocError>
 
 /// What a question is answered.
 fn answer_to<'a>(found: &Snapshot<'a>, question: &'a Question) -> Body<'a>
-    requires { IsAbout found.now.items.now question.now }
-    ensures answer { answer_of result ≡ spec.answer_to_ask found.now.config.now (holdings_in found.now) question.now.ask }
+    ensures answer { answer_of result ≡ answer_found found.now.config.now found.now.sets.now question.now.ask question.now.item question.now.items }
     ensures writable { HasWritableTimes (answer_of result) }
 {
     let item = question.item.as_ref();
@@ -108,7 +128,7 @@ fn answer_to<'a>(found: &Snapshot<'a>, question: &'a Question) -> Body<'a>
         Ask::Formats {
             identifier: Some(_),
         } => item_formats_answer(found.config, item),
-        Ask::Sets => sets_answer(found.sets),
+        Ask::Sets => sets_answer(found.sets.as_slice()),
         Ask::Get { prefix, .. } => record_answer(found.config, item, prefix.as_str()),
         Ask::List {
             verb,
@@ -137,7 +157,7 @@ fn list_answer<'a>(
     ensures answer { answer_of result ≡ spec.list_answer found.now.config.now found.now.sets.now verb prefix.now set.now items.now }
     ensures writable { HasWritableTimes (answer_of result) }
 {
-    if set.is_some() && found.sets.is_empty() {
+    if set.is_some() && found.sets.as_slice().is_empty() {
         return Body::Error(ErrorCode::NoSetHierarchy);
     }
     match found.config.formats().find_named(prefix) {

@@ -1,50 +1,84 @@
 //! What a deletion makes of a repository's items, or why it is refused.
-ghost use Rattle.std.specs.Prelude.{None};
-ghost use Rattle.oai_item.specs.Item.{IsStamp};
+ghost use Rattle.std.specs.Prelude.{◌≡◌, ◌≤◌, true, not, Some, IsSome, IsTrue, OnErr, OnOk};
+ghost use Rattle.std.specs.List.{list_all};
+ghost use Rattle.oai_item.specs.Item.{IsStamp, tombstone_of};
 ghost use Rattle.oai_item.specs.Items.{item_named};
-ghost use Rattle.oai_repo.specs.Changes.{after_deletion, deletion_refusal};
-ghost use Rattle.oai_repo.specs.Workings.{IsDone};
+ghost use Rattle.oai_catalogue.specs.Store.{IsCounted, IsHonest};
+ghost use Rattle.oai_repo.specs.Calls.{fault_in};
+ghost use Rattle.oai_repo.specs.Changes.{after_deletion, dead_refusal, missing_refusal, with_new};
+ghost use Rattle.oai_repo.specs.Held.{AreNoted, items_on};
+ghost use Rattle.oai_repo.specs.Kept.{is_too_large};
+ghost use Rattle.oai_repo.specs.Workings.{IsDone, IsMoved};
 
-use crate::items::{item_named, put, remove};
 use crate::refusals::Refusal;
+use crate::shelves::Shelf;
 use oai_answers::DeletedRecord;
-use oai_item::{ChangeRefusal, Item};
+use oai_catalogue::Versions;
+use oai_item::{ChangeRefusal, Fault, Item};
 use oai_names::Identifier;
 use std::alloc::Global;
 
 /// Deletes the item of that identifier: it goes where nothing is kept of deleted records, and stays
 /// as a deleted one of that datestamp elsewhere (OAI-PMH 2.0, section 2.5.1). Or refuses it by the
 /// first cause.
-pub(crate) fn delete(
+pub(crate) fn delete<V: Versions>(
     alloc: Global,
     policy: DeletedRecord,
     stamp: i64,
-    items: &mut Vec<Item>,
+    store: &mut V,
+    shelf: &mut Shelf,
     identifier: &Identifier,
 ) -> Result<(), Refusal>
-    requires { IsStamp stamp }
-    ensures { IsDone (deletion_refusal (item_named identifier.now items.old.items)) None items.old.items (after_deletion policy stamp identifier.now items.old.items) result items.new.items }
+    requires stamped { IsStamp stamp }
+    requires stands { IsSome (V.lists store.old shelf.old.version) }
+    requires agrees { IsTrue (V.honest store.old) → AreNoted shelf.old.notes (items_on shelf.old (V.lists store.old)) }
+    requires small { IsTrue (V.honest store.old) → list_all (λ item. not (is_too_large item)) (items_on shelf.old (V.lists store.old)) ≡ true }
+    ensures done { IsTrue (V.honest store.old) → (let items = items_on shelf.old (V.lists store.old) in let found = item_named identifier.now items in
+        IsDone (missing_refusal found) (dead_refusal found) items (after_deletion policy stamp identifier.now items) result (items_on shelf.new (V.lists store.new))) }
+    ensures agrees { IsTrue (V.honest store.old) → AreNoted shelf.new.notes (items_on shelf.new (V.lists store.new)) }
+    ensures moved { IsMoved shelf.old.version (V.lists store.old) shelf.new.version (V.lists store.new) }
+    ensures err { OnErr result (shelf.new ≡ shelf.old) }
+    ensures err_lists { OnErr result (V.lists store.new ≡ V.lists store.old) }
+    ensures device { IsCounted (fault_in result) (V.failures store.old) (V.failures store.new) }
+    ensures honesty { IsHonest (fault_in result) (V.honest store.old) (V.honest store.new) }
 {
-    let Some(item) = item_named(identifier.as_str(), items) else {
+    let Some(item) = shelf.find(alloc, store, identifier.as_str())? else {
         return Err(Refusal::Refused(ChangeRefusal::NoSuchItem));
     };
     if !item.is_live() {
         return Err(Refusal::Refused(ChangeRefusal::AlreadyDeleted));
     }
     match policy {
-        DeletedRecord::No => {
-            remove(items, identifier.as_str());
-            Ok(())
-        }
-        DeletedRecord::Transient => {
-            let left = item.tombstone(alloc, stamp)?;
-            put(items, left)?;
-            Ok(())
-        }
-        DeletedRecord::Persistent => {
-            let left = item.tombstone(alloc, stamp)?;
-            put(items, left)?;
-            Ok(())
-        }
+        DeletedRecord::No => Ok(shelf.remove(store, &item)?),
+        DeletedRecord::Transient => Ok(bury(alloc, stamp, store, shelf, &item)?),
+        DeletedRecord::Persistent => Ok(bury(alloc, stamp, store, shelf, &item)?),
     }
+}
+
+/// Puts what is left of the item in its place.
+fn bury<V: Versions>(
+    alloc: Global,
+    stamp: i64,
+    store: &mut V,
+    shelf: &mut Shelf,
+    item: &Item,
+) -> Result<(), Fault>
+    requires stamped { IsStamp stamp }
+    requires stands { IsSome (V.lists store.old shelf.old.version) }
+    requires agrees { IsTrue (V.honest store.old) → AreNoted shelf.old.notes (items_on shelf.old (V.lists store.old)) }
+    requires small { IsTrue (V.honest store.old) → not (is_too_large item.now) ≡ true }
+    requires there { IsTrue (V.honest store.old) → item_named item.now.identifier (items_on shelf.old (V.lists store.old)) ≡ Some item.now }
+    ensures list { OnOk result (IsTrue (V.honest store.old) → items_on shelf.new (V.lists store.new) ≡ with_new (tombstone_of stamp item.now) (items_on shelf.old (V.lists store.old))) }
+    ensures agrees { OnOk result (IsTrue (V.honest store.old) → AreNoted shelf.new.notes (items_on shelf.new (V.lists store.new))) }
+    ensures moved { IsMoved shelf.old.version (V.lists store.old) shelf.new.version (V.lists store.new) }
+    ensures err { OnErr result (shelf.new ≡ shelf.old) }
+    ensures err_lists { OnErr result (V.lists store.new ≡ V.lists store.old) }
+    ensures device { IsCounted result (V.failures store.old) (V.failures store.new) }
+    ensures honesty { IsHonest result (V.honest store.old) (V.honest store.new) }
+{
+    let left = item.tombstone(alloc, stamp)?;
+    if left.encoded_len().is_err() {
+        return Err(Fault::Damaged);
+    }
+    shelf.put(alloc, store, Some(item), &left)
 }

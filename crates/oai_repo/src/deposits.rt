@@ -1,18 +1,25 @@
 //! What is deposited: why it is refused, and the item that it makes.
-ghost use Rattle.std.specs.Prelude.{◌≡◌, Some, codes};
+ghost use Rattle.std.specs.Prelude.{◌≡◌, ◌≤◌, None, Some, codes, length, IsSome, IsTrue, OnErr};
 ghost use Rattle.std.specs.List.{list_all};
 ghost use Rattle.std.specs.Option.{option_copied};
 ghost use Rattle.oai_names.specs.Names.{is_among};
 ghost use Rattle.oai_names.specs.Sets.{has_set};
+ghost use Rattle.oai_item.specs.Encoding.{encoded};
+ghost use Rattle.oai_item.specs.Items.{item_named};
+ghost use Rattle.oai_item.specs.declared.sizes.TheConstants.{MOST_ITEM_BYTES};
+ghost use Rattle.oai_catalogue.specs.Store.{IsCounted, IsHonest};
 ghost use Rattle.oai_item.specs.Item.{IsStamp, Metadata, has_record, live_item, record_named};
 ghost use Rattle.oai_item.specs.Known.{are_fields_of, has_format, has_known_fields};
 ghost use Rattle.oai_item.specs.Membership.{reduced};
+ghost use Rattle.oai_repo.specs.Calls.{fault_in};
 ghost use Rattle.oai_repo.specs.Changes as spec;
-ghost use Rattle.oai_repo.specs.Workings.{IsDone};
+ghost use Rattle.oai_repo.specs.Held.{AreNoted, items_on};
+ghost use Rattle.oai_repo.specs.Workings.{IsDone, IsMoved};
 
 use crate::config::RepoConfig;
-use crate::items::{item_named, put};
 use crate::refusals::Refusal;
+use crate::shelves::Shelf;
+use oai_catalogue::Versions;
 use oai_item::{ChangeRefusal, Field, Format, Formats, Item, Records};
 use oai_names::{Identifier, Sequence, SetSpec, SetTree, Text};
 use std::alloc::Global;
@@ -29,19 +36,29 @@ pub(crate) struct Deposit<'a> {
 }
 
 /// Puts the item that is deposited among the others, or refuses it by the first cause.
-pub(crate) fn put_deposit(
+pub(crate) fn put_deposit<V: Versions>(
     alloc: Global,
     config: &RepoConfig,
     sets: &SetTree,
     stamp: i64,
-    items: &mut Vec<Item>,
+    store: &mut V,
+    shelf: &mut Shelf,
     deposit: &Deposit<'_>,
 ) -> Result<(), Refusal>
-    requires { IsStamp stamp }
-    ensures { let item = live_item deposit.now.identifier.now stamp (reduced deposit.now.sets.now) deposit.now.records.now in
+    requires stamped { IsStamp stamp }
+    requires stands { IsSome (V.lists store.old shelf.old.version) }
+    requires agrees { IsTrue (V.honest store.old) → AreNoted shelf.old.notes (items_on shelf.old (V.lists store.old)) }
+    ensures done { IsTrue (V.honest store.old) → (let items = items_on shelf.old (V.lists store.old) in
+        let item = live_item deposit.now.identifier.now stamp (reduced deposit.now.sets.now) deposit.now.records.now in
         IsDone (spec.deposit_refusal config.now sets.now deposit.now.sets.now deposit.now.records.now)
-        (spec.item_refusal config.now items.old.items item)
-        items.old.items (spec.with_new item items.old.items) result items.new.items }
+        (spec.item_refusal config.now (item_named item.identifier items) (length items) item)
+        items (spec.with_new item items) result (items_on shelf.new (V.lists store.new))) }
+    ensures agrees { IsTrue (V.honest store.old) → AreNoted shelf.new.notes (items_on shelf.new (V.lists store.new)) }
+    ensures moved { IsMoved shelf.old.version (V.lists store.old) shelf.new.version (V.lists store.new) }
+    ensures err { OnErr result (shelf.new ≡ shelf.old) }
+    ensures err_lists { OnErr result (V.lists store.new ≡ V.lists store.old) }
+    ensures device { IsCounted (fault_in result) (V.failures store.old) (V.failures store.new) }
+    ensures honesty { IsHonest (fault_in result) (V.honest store.old) (V.honest store.new) }
 {
     match deposit_refusal(config, sets, deposit.sets, deposit.records.as_slice()) {
         Some(cause) => return Err(Refusal::Refused(cause)),
@@ -55,12 +72,34 @@ pub(crate) fn put_deposit(
         deposit.sets,
         deposit.records,
     )?;
-    match item_refusal(config, items, &item) {
-        Some(cause) => return Err(Refusal::Refused(cause)),
-        None => {}
+    put_item(alloc, config, store, shelf, &item)
+}
+
+/// Puts the item among the others, or refuses it by the first cause.
+fn put_item<V: Versions>(
+    alloc: Global,
+    config: &RepoConfig,
+    store: &mut V,
+    shelf: &mut Shelf,
+    item: &Item,
+) -> Result<(), Refusal>
+    requires stands { IsSome (V.lists store.old shelf.old.version) }
+    requires agrees { IsTrue (V.honest store.old) → AreNoted shelf.old.notes (items_on shelf.old (V.lists store.old)) }
+    ensures done { IsTrue (V.honest store.old) → (let items = items_on shelf.old (V.lists store.old) in
+        IsDone None (spec.item_refusal config.now (item_named item.now.identifier items) (length items) item.now)
+        items (spec.with_new item.now items) result (items_on shelf.new (V.lists store.new))) }
+    ensures agrees { IsTrue (V.honest store.old) → AreNoted shelf.new.notes (items_on shelf.new (V.lists store.new)) }
+    ensures moved { IsMoved shelf.old.version (V.lists store.old) shelf.new.version (V.lists store.new) }
+    ensures err { OnErr result (shelf.new ≡ shelf.old) }
+    ensures err_lists { OnErr result (V.lists store.new ≡ V.lists store.old) }
+    ensures device { IsCounted (fault_in result) (V.failures store.old) (V.failures store.new) }
+    ensures honesty { IsHonest (fault_in result) (V.honest store.old) (V.honest store.new) }
+{
+    let replaced = shelf.find(alloc, store, item.identifier().as_str())?;
+    match item_refusal(config, replaced.as_ref(), shelf.len(), item) {
+        Some(cause) => Err(Refusal::Refused(cause)),
+        None => Ok(shelf.put(alloc, store, replaced.as_ref(), item)?),
     }
-    put(items, item)?;
-    Ok(())
 }
 
 /// Why the deposit may not stand as it is: the first cause.
@@ -88,18 +127,24 @@ fn deposit_refusal(
     None
 }
 
-/// Why the item may not stand among the others: the first cause.
+/// Why the item may not stand in place of that one, if there is one, among so many: the first cause.
 #[tactic(auto, unfolding(crate::specs::Changes::item_refusal))]
-fn item_refusal(config: &RepoConfig, items: &[Item], item: &Item) -> Option<ChangeRefusal>
-    ensures { result ≡ spec.item_refusal config.now items.now item.now }
+fn item_refusal(
+    config: &RepoConfig,
+    replaced: Option<&Item>,
+    count: u64,
+    item: &Item,
+) -> Option<ChangeRefusal>
+    ensures cause { result ≡ spec.item_refusal config.now (option_copied replaced.entry) count item.now }
+    ensures fits { result ≡ None → length (encoded item.now) ≤ MOST_ITEM_BYTES }
 {
-    if drops_format(item_named(item.identifier().as_str(), items), item) {
+    if drops_format(replaced, item) {
         return Some(ChangeRefusal::DropsFormat);
     }
     if item.encoded_len().is_err() {
         return Some(ChangeRefusal::TooLarge);
     }
-    if is_one_too_many(config, items, item.identifier()) {
+    if is_one_too_many(config, replaced, count) {
         return Some(ChangeRefusal::TooManyItems);
     }
     None
@@ -189,10 +234,10 @@ fn has_each_format(item: &Item, other: &Item) -> bool
         .all(|format| item.has_record(format.0.as_str()))
 }
 
-/// Whether the identifier is a new one and no further item may stand.
+/// Whether none is replaced and no further item may stand beside so many.
 #[tactic(auto, unfolding(crate::specs::Changes::is_one_too_many))]
-fn is_one_too_many(config: &RepoConfig, items: &[Item], identifier: &Identifier) -> bool
-    ensures { result ≡ spec.is_one_too_many config.now items.now identifier.now }
+fn is_one_too_many(config: &RepoConfig, replaced: Option<&Item>, count: u64) -> bool
+    ensures { result ≡ spec.is_one_too_many config.now (option_copied replaced.entry) count }
 {
-    item_named(identifier.as_str(), items).is_none() && config.items() <= items.len() as u64
+    replaced.is_none() && config.items() <= count
 }

@@ -7,15 +7,15 @@ mod changes;
 mod config;
 mod deletions;
 mod deposits;
-mod items;
 mod lookups;
 mod refusals;
 mod repo;
 mod selections;
 mod settings;
+mod shelves;
 mod snapshots;
 
 pub use config::RepoConfig;
-pub use refusals::{Fault, Refusal};
+pub use refusals::Refusal;
 pub use repo::{Reply, Repo};
 pub use settings::{ConfigFault, FormatSettings, Settings};

@@ -1,17 +1,19 @@
 //! Selective harvesting (OAI-PMH 2.0, section 2.7): the items that a list request selects.
-ghost use Rattle.std.specs.Prelude.{◌≡◌, IfOk};
-ghost use Rattle.std.specs.Option.{option_copied};
-ghost use Rattle.oai_item.specs.Membership.{is_in};
-ghost use Rattle.oai_item.specs.Selection.{is_in_given, passes, selected};
+ghost use Rattle.std.specs.Prelude.{◌≡◌, ◌≤◌, IfOk, IsSome, IsTrue};
+ghost use Rattle.oai_item.specs.Selection.{selected};
 ghost use Rattle.oai_args.specs.Bounds.{given_bound};
+ghost use Rattle.oai_catalogue.specs.Store.{IsCounted, IsHonest, list_at};
 ghost use Rattle.oai_repo.specs.Answers as spec;
-ghost use Rattle.oai_repo.specs.Found.{filter_in};
+ghost use Rattle.oai_repo.specs.Found.{IsFound};
+ghost use Rattle.oai_repo.specs.Held.{items_on};
 
+use crate::snapshots::Snapshot;
 use oai_args::given_bound;
-use oai_item::Item;
-use oai_names::{SetSpec, Text};
+use oai_catalogue::{Filter, Versions};
+use oai_item::{Fault, Item};
+use oai_names::{Prefix, Sequence, Text};
 use oai_time::{lower, upper};
-use std::alloc::{AllocError, Global};
+use std::alloc::Global;
 
 /// The first second of the years 0000 to 9999.
 const FIRST_SECOND: i64 = -62_167_219_200;
@@ -19,64 +21,56 @@ const FIRST_SECOND: i64 = -62_167_219_200;
 /// The last second of these years.
 const LAST_SECOND: i64 = 253_402_300_799;
 
-/// What is wanted of a list: items with a record of the prefix, of datestamps from the lower to the
-/// upper one, both included and in seconds from 1970 on, and in the set, where one is given.
-#[derive(Clone, Copy)]
-pub(crate) struct Wanted<'a> {
-    pub(crate) prefix: &'a str,
-    pub(crate) lower: i64,
-    pub(crate) upper: i64,
-    pub(crate) set: Option<&'a str>,
-}
-
-/// Copies of the items that are wanted, in their order. The time is that of one look at each item,
-/// and of the copies.
-pub(crate) fn select(
+/// The items that have a record of the prefix, stand within the bounds and are in the set, where these
+/// are given. A set that the repository lacks has no items.
+pub(crate) fn select<V: Versions>(
     alloc: Global,
-    items: &[Item],
-    wanted: &Wanted<'_>,
-) -> Result<Vec<Item>, AllocError>
-    ensures { IfOk result (λ chosen. chosen.items ≡ selected (filter_in wanted.now) items.now) }
+    found: &Snapshot<'_>,
+    store: &mut V,
+    prefix: &Prefix,
+    from: &Option<Text>,
+    until: &Option<Text>,
+    set: &Option<Text>,
+) -> Result<Sequence<Item>, Fault>
+    requires stands { IsSome (V.lists store.old found.now.shelf.now.version) }
+    requires held { IsTrue (V.honest store.old) → IsFound found.now (V.lists store.old) }
+    ensures items { IfOk result (λ items. IsTrue (V.honest store.old)
+        → items ≡ selected (spec.filter_of prefix.now from.now until.now set.now) (items_on found.now.shelf.now (V.lists store.old))) }
+    ensures same { V.lists store.new ≡ V.lists store.old }
+    ensures device { IsCounted result (V.failures store.old) (V.failures store.new) }
+    ensures honesty { IsHonest result (V.honest store.old) (V.honest store.new) }
 {
-    let mut chosen = Vec::new(alloc);
-    for item in items {
-        if passes(item, wanted) {
-            chosen.push(item.copy(alloc)?)?;
+    let prefix = prefix.copy(alloc)?;
+    let (lower, upper) = (lower_given(from), upper_given(until));
+    match set {
+        Some(set) => match found.sets.find(set.as_str()) {
+            Some(set) => {
+                let filter = Filter::new(prefix, lower, upper, Some(set.copy(alloc)?));
+                select_all(store, found.shelf.version(), &filter)
+            }
+            None => Ok(Sequence::new(Vec::new(alloc))),
+        },
+        None => {
+            let filter = Filter::new(prefix, lower, upper, None);
+            select_all(store, found.shelf.version(), &filter)
         }
     }
-    Ok(chosen)
 }
 
-/// Whether the item is wanted.
-fn passes(item: &Item, wanted: &Wanted<'_>) -> bool
-    ensures { result ≡ passes (filter_in wanted.now) item.now }
+/// All items of the version that the filter lets pass.
+fn select_all<V: Versions>(store: &mut V, v: u64, filter: &Filter) -> Result<Sequence<Item>, Fault>
+    requires stands { IsSome (V.lists store.old v) }
+    ensures items { IfOk result (λ items. IsTrue (V.honest store.old) → items ≡ selected filter.now (list_at (V.lists store.old) v)) }
+    ensures same { V.lists store.new ≡ V.lists store.old }
+    ensures device { IsCounted result (V.failures store.old) (V.failures store.new) }
+    ensures honesty { IsHonest result (V.honest store.old) (V.honest store.new) }
 {
-    item.has_record(wanted.prefix)
-        && wanted.lower <= item.stamp()
-        && item.stamp() <= wanted.upper
-        && is_in_given(wanted.set, item.sets())
-}
-
-/// Whether an item of these setSpecs is in the set, where one is given.
-fn is_in_given(set: Option<&str>, sets: &[SetSpec]) -> bool
-    ensures { result ≡ is_in_given (option_copied set.entry) sets.now }
-{
-    match set {
-        Some(set) => is_in(set, sets),
-        None => true,
-    }
-}
-
-/// Whether an item of these setSpecs is in the set.
-#[tactic(auto, unfolding(oai_item::specs::Membership::is_in))]
-fn is_in(set: &str, sets: &[SetSpec]) -> bool
-    ensures { result ≡ is_in set.now sets.now }
-{
-    sets.iter().any(|spec| spec.lies_in(set))
+    let count = store.count(v, filter)?;
+    store.part(v, filter, 0, count)
 }
 
 /// The first second that the argument `from` lets pass.
-pub(crate) fn lower_given(from: &Option<Text>) -> i64
+fn lower_given(from: &Option<Text>) -> i64
     ensures { result ≡ spec.lower_given (given_bound from.now) }
 {
     match given_bound(from) {
@@ -86,7 +80,7 @@ pub(crate) fn lower_given(from: &Option<Text>) -> i64
 }
 
 /// The last second that the argument `until` lets pass.
-pub(crate) fn upper_given(until: &Option<Text>) -> i64
+fn upper_given(until: &Option<Text>) -> i64
     ensures { result ≡ spec.upper_given (given_bound until.now) }
 {
     match given_bound(until) {

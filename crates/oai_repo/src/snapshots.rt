@@ -1,6 +1,6 @@
 use crate::config::RepoConfig;
-use oai_item::Item;
-use oai_names::{SetSpec, Text};
+use crate::shelves::Shelf;
+use oai_names::SetTree;
 
 /// A repository as a request finds it.
 #[derive(Clone, Copy)]
@@ -9,8 +9,8 @@ pub(crate) struct Snapshot<'a> {
     pub(crate) config: &'a RepoConfig,
     /// The clock, in seconds from 1970 on.
     pub(crate) clock: i64,
-    /// The items, in their order.
-    pub(crate) items: &'a [Item],
-    /// The sets, in order of addition.
-    pub(crate) sets: &'a [(SetSpec, Text)],
+    /// Where the items stand.
+    pub(crate) shelf: &'a Shelf,
+    /// The sets.
+    pub(crate) sets: &'a SetTree,
 }

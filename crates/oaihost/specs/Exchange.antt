@@ -1,14 +1,16 @@
 -- What an exchange asks of the repository, and what it is answered. OAI-PMH 2.0, section 3.1; deposit lines are this
 -- repository's own.
-use Rattle.std.specs.Prelude.{◌≡◌, ℕ, ℤ, List, [], ◌∷◌, ◌++◌, take, codes, Option, Some, None, if◌then◌else◌, ◌==◌, Bool}
+use Rattle.std.specs.Prelude.{◌≡◌, ℕ, ℤ, List, [], ◌∷◌, ◌++◌, take, codes, Option, Some, None, Result, Ok, Err, if◌then◌else◌, ◌==◌, Bool, IsTrue}
 use Rattle.std.specs.List.{after_first}
 use Rattle.std.specs.Str.{bytes_eq}
 use Rattle.oai_deposit.specs.Lines.{line_of}
+use Rattle.oai_item.specs.declared.faults.Fault.{Fault}
+use Rattle.oai_catalogue.specs.Store.{Lists}
 use Rattle.oai_repo.specs.Held.{Held, state_of}
 use Rattle.oai_repo.specs.Machine.{Input, query, line, step}
 use Rattle.oaihost.specs.declared.exchange.Exchange.{Exchange}
 use Rattle.oaihost.specs.declared.exchange.Answer.{Answer}
-use Rattle.oaihost.specs.declared.exchange.Answer.TheVariants.{Performed, NoMemory}
+use Rattle.oaihost.specs.declared.exchange.Answer.TheVariants.{Performed, Failed}
 
 -- a target whose path begins with `/deposit/`
 abbrev pub is_deposit : List ℕ → Bool
@@ -36,17 +38,22 @@ body_of (query arguments) bytes = bytes
 body_of (line read) bytes = bytes ++ 10 ∷ []
 
 -- the exchange was performed: one step of the repository, whose bytes are the body
-abbrev pub IsPerformed : Held → ℤ → Input → List ℕ → Held → Type 0
-IsPerformed old moment input body new =
-    let done = step old.config (state_of old) moment input in
-    (body ≡ body_of input done.0) × (state_of new ≡ done.1) × (new.config ≡ old.config)
+abbrev pub IsPerformed : Held → Lists → ℤ → Input → List ℕ → Held → Lists → Type 0
+IsPerformed old before moment input body new after =
+    let done = step old.config (state_of old before) moment input in
+    (body ≡ body_of input done.0) × (state_of new after ≡ done.1) × (new.config ≡ old.config)
 
 -- a deposit says how many of its lines were done
 abbrev pub lines_done : Input → Option ℕ
 lines_done (query arguments) = None
 lines_done (line read) = Some 0
 
--- the exchange was performed, or memory was refused and everything is as it was
-abbrev pub IsAnswered : Held → ℤ → Input → Answer → Held → Type 0
-IsAnswered old moment input (Performed body) new = IsPerformed old moment input body new
-IsAnswered old moment input (NoMemory done) new = (done ≡ lines_done input) × (new ≡ old)
+-- the exchange was performed, over a store that is honest; or it failed, and everything is as it was
+abbrev pub IsAnswered : Bool → Held → Lists → ℤ → Input → Answer → Held → Lists → Type 0
+IsAnswered honest old before moment input (Performed body) new after = IsTrue honest → IsPerformed old before moment input body new after
+IsAnswered honest old before moment input (Failed fault lines) new after = (lines ≡ lines_done input) × (new ≡ old) × (after ≡ before)
+
+-- why an exchange failed
+abbrev pub fault_in : Answer → Result (Unit {0}) Fault
+fault_in (Performed body) = Ok tt
+fault_in (Failed fault lines) = Err fault

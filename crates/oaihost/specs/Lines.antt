@@ -1,12 +1,14 @@
 -- The lines that the program performs, what it writes for each, and what it says where it stops. This repository's own.
-use Rattle.std.specs.Prelude.{ℕ, ◌^◌, ◌==◌, ℤ, pos, neg_ℤ, Bool, ◌&&◌, nat_lt, nat_le, List, ◌++◌, length, drop, slice_index, codes, decimal, Option, Some, None, is_none, if◌then◌else◌}
+use Rattle.std.specs.Prelude.{ℕ, ◌^◌, ◌==◌, ℤ, pos, neg_ℤ, Bool, ◌&&◌, nat_lt, nat_le, List, [], ◌++◌, length, drop, slice_index, codes, decimal, Option, Some, None, is_none, if◌then◌else◌}
 use Rattle.std.specs.List.{before_first, after_first, count_by}
 use Rattle.std.specs.Option.{option_map}
 use Rattle.std.specs.Str.{all_ascii_digits}
 use Rattle.std.specs.Str.Parse.{digits_value}
+use Rattle.oai_item.specs.declared.faults.Fault.{Fault}
+use Rattle.oai_item.specs.declared.faults.Fault.TheVariants as fault
 use Rattle.oaihost.specs.declared.exchange.Exchange.{Exchange}
 use Rattle.oaihost.specs.declared.exchange.Answer.{Answer}
-use Rattle.oaihost.specs.declared.exchange.Answer.TheVariants.{Performed, NoMemory as Refused}
+use Rattle.oaihost.specs.declared.exchange.Answer.TheVariants.{Performed, Failed}
 use Rattle.oaihost.specs.declared.stop.Stop.{Stop}
 use Rattle.oaihost.specs.declared.stop.Stop.TheVariants.{BadExchange, InputFault, OutputFault, NoMemory}
 
@@ -68,15 +70,22 @@ is_bad line = nat_lt 0 (length line) && is_none (spelled line)
 
 -- ---- what is written for an answer
 
--- the status 503, the 60 seconds to wait, the lines done where it has them, and a line end
-unfoldable pub shown_refused : Option ℕ → List ℕ
-shown_refused None = codes "503 60\n"
-shown_refused (Some done) = codes "503 60 " ++ decimal done ++ codes "\n"
+-- the status of a fault: 503 and the seconds to wait where memory or room is wanted, and else 500
+abbrev pub status_of : Fault → List ℕ
+status_of fault.NoMemory = codes "503 60"
+status_of fault.TooManyPages = codes "503 60"
+status_of fault.Device = codes "500"
+status_of fault.Damaged = codes "500"
 
--- the status 200, a line end, and the body; or that memory was refused
+-- the lines done, where there are any, behind a space
+abbrev pub shown_done : Option ℕ → List ℕ
+shown_done None = []
+shown_done (Some done) = codes " " ++ decimal done
+
+-- the status 200, a line end, and the body; or the status of the fault, the lines done, and a line end
 unfoldable pub shown : Answer → List ℕ
 shown (Performed body) = codes "200\n" ++ body
-shown (Refused done) = shown_refused done
+shown (Failed fault done) = status_of fault ++ shown_done done ++ codes "\n"
 
 -- ---- what is said where it stops
 

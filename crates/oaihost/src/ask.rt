@@ -1,13 +1,15 @@
-ghost use Rattle.std.specs.Prelude.{◌≡◌, ℕ, ◌+◌, ◌-◌, ◌^◌, ◌≤◌, min, true, [], ◌++◌, length, Err, OnOk};
+ghost use Rattle.std.specs.Prelude.{◌≡◌, ℕ, ◌+◌, ◌-◌, ◌^◌, ◌≤◌, min, true, [], ◌++◌, length, codes, Err, OnOk};
 ghost use Rattle.std.specs.List.{count_by, position, position_or_len};
 ghost use Rattle.std.specs.Option.{option_map};
 ghost use Rattle.std.specs.Io.KnownBytes.{Appends};
 ghost use Rattle.oaihost.specs.Lines as spec;
 ghost use Rattle.oaihost.specs.declared.stop.Stop.TheVariants.{BadExchange};
 
-use crate::exchange::{Answer, Exchange, perform};
+use crate::exchange::{Answer, Exchange};
+use crate::served::Served;
 use crate::stop::Stop;
-use oai_repo::Repo;
+use oai_catalogue::Versions;
+use oai_item::Fault;
 use std::alloc::Global;
 use std::io::{self, Read, Write};
 
@@ -16,9 +18,6 @@ const MOST_READS: u64 = 1_000_000;
 
 /// The most bytes of a read.
 const READ_BYTES: usize = 65_536;
-
-/// Seconds to wait where memory was refused.
-const WAIT: u64 = 60;
 
 /// Performs the exchanges that the lines of the input spell, in order, and writes what each is
 /// answered. A line is `<moment> <METHOD> <target>`, and then for a body one space and the body to
@@ -29,9 +28,9 @@ const WAIT: u64 = 60;
 /// It stops at the first line that is no exchange, at a fault of the input or the output, at an
 /// input that does not end within 1,000,000 reads, and where memory for a line is refused. What was
 /// answered before stays written.
-pub fn ask_lines<R: Read, W: Write>(
+pub fn ask_lines<V: Versions + Drop, R: Read, W: Write>(
     alloc: Global,
-    served: &mut Repo,
+    served: &mut Served<V>,
     reader: &mut R,
     writer: &mut W,
 ) -> Result<(), Stop> {
@@ -43,9 +42,9 @@ pub fn ask_lines<R: Read, W: Write>(
 }
 
 /// Reads the input to its end, and performs each line as it ends.
-fn ask_all<R: Read, W: Write>(
+fn ask_all<V: Versions + Drop, R: Read, W: Write>(
     alloc: Global,
-    served: &mut Repo,
+    served: &mut Served<V>,
     reader: &mut R,
     writer: &mut W,
 ) -> Result<(), Stop> {
@@ -85,9 +84,9 @@ impl Lines {
     }
 
     /// Takes further bytes of the input and performs the lines that they end.
-    fn take<W: Write>(
+    fn take<V: Versions + Drop, W: Write>(
         &mut self,
-        served: &mut Repo,
+        served: &mut Served<V>,
         bytes: &[u8],
         writer: &mut W,
     ) -> Result<(), Stop> {
@@ -104,7 +103,11 @@ impl Lines {
     }
 
     /// Performs the last line, where it has no line end.
-    fn finish<W: Write>(&mut self, served: &mut Repo, writer: &mut W) -> Result<(), Stop> {
+    fn finish<V: Versions + Drop, W: Write>(
+        &mut self,
+        served: &mut Served<V>,
+        writer: &mut W,
+    ) -> Result<(), Stop> {
         self.end(served, writer)
     }
 
@@ -120,7 +123,11 @@ impl Lines {
     }
 
     /// Performs the line that has just ended, and begins the next.
-    fn end<W: Write>(&mut self, served: &mut Repo, writer: &mut W) -> Result<(), Stop>
+    fn end<V: Versions + Drop, W: Write>(
+        &mut self,
+        served: &mut Served<V>,
+        writer: &mut W,
+    ) -> Result<(), Stop>
         ensures number { self.new.ended ≡ min (self.old.ended + 1) (2 ^ 64 - 1) }
         ensures next { OnOk result (self.new.begun.items ≡ []) }
         ensures bad { spec.is_bad self.old.begun.items ≡ true → result ≡ Err (BadExchange self.new.ended) }
@@ -131,7 +138,7 @@ impl Lines {
             let Some((moment, exchange)) = read_exchange(&self.begun) else {
                 return Err(Stop::BadExchange(self.ended));
             };
-            let answer = perform(self.alloc, served, moment, &exchange);
+            let answer = served.perform(self.alloc, moment, &exchange);
             if write_answer(&answer, writer).is_err() {
                 return Err(Stop::OutputFault);
             }
@@ -224,17 +231,26 @@ pub(crate) fn write_answer<W: Write>(answer: &Answer, writer: &mut W) -> io::Res
             writer.write_all(b"200\n")?;
             writer.write_all(body.as_slice())
         }
-        Answer::NoMemory { done } => write_refused(*done, writer),
+        Answer::Failed { fault, done } => write_failed(status_of(*fault), *done, writer),
     }
 }
 
-/// Writes that memory was refused, and the lines that were done.
-#[tactic(auto, unfolding(crate::specs::Lines::shown_refused))]
-fn write_refused<W: Write>(done: Option<u64>, writer: &mut W) -> io::Result<()>
-    ensures { OnOk result (Appends (W.Write.contents writer.old) (W.Write.contents writer.new) (spec.shown_refused done)) }
+/// The status of a fault, with the seconds to wait where waiting helps.
+fn status_of(fault: Fault) -> &'static str
+    ensures { result.now ≡ spec.status_of fault }
+{
+    match fault {
+        Fault::NoMemory | Fault::TooManyPages => "503 60",
+        Fault::Device | Fault::Damaged => "500",
+    }
+}
+
+/// Writes the status of a fault, and the lines that were done.
+fn write_failed<W: Write>(status: &str, done: Option<u64>, writer: &mut W) -> io::Result<()>
+    ensures { OnOk result (Appends (W.Write.contents writer.old) (W.Write.contents writer.new) (status.now ++ spec.shown_done done ++ codes "\n")) }
 {
     match done {
-        Some(done) => writeln!(writer, "503 {WAIT} {done}"),
-        None => writeln!(writer, "503 {WAIT}"),
+        Some(done) => writeln!(writer, "{status} {done}"),
+        None => writeln!(writer, "{status}"),
     }
 }

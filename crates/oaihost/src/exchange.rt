@@ -1,15 +1,19 @@
-ghost use Rattle.std.specs.Prelude.{◌≡◌, ◌+◌, ◌≤◌, ◌++◌, [], ◌∷◌, length, vec_len, vec_capacity, codes, OnOk, OnErr, IfOk};
+ghost use Rattle.std.specs.Prelude.{◌≡◌, ◌+◌, ◌≤◌, ◌++◌, [], ◌∷◌, length, vec_len, vec_capacity, codes, OnErr, IfOk, IsTrue};
 ghost use Rattle.std.specs.List.{position_or_len};
+ghost use Rattle.oai_time.specs.Clock.{tick};
 ghost use Rattle.oai_time.specs.Stamp.{IsWritable};
 ghost use Rattle.oai_time.specs.TimeTexts.{datestamp_text};
 ghost use Rattle.oai_deposit.specs.Lines.{line_of};
+ghost use Rattle.oai_catalogue.specs.Store.{IsCounted, IsHonest, Lists};
+ghost use Rattle.oai_repo.specs.Held.{IsHeld, StandsIn};
 ghost use Rattle.oai_repo.specs.Machine.{line};
 ghost use Rattle.oaihost.specs.Exchange as spec;
 
+use oai_catalogue::Versions;
 use oai_deposit::{LineFault, read_line};
-use oai_item::{Change, LineRefusal};
+use oai_item::{Change, Fault, LineRefusal};
 use oai_names::Sequence;
-use oai_repo::{Fault, Refusal, Reply, Repo};
+use oai_repo::{Refusal, Reply, Repo};
 use oai_time::{Granularity, write_datestamp};
 use std::alloc::Global;
 
@@ -32,10 +36,11 @@ pub struct Exchange<'a> {
 pub enum Answer {
     /// It was performed, and this is the body of the answer.
     Performed(Sequence<u8>),
-    /// Memory was refused, and everything is as it was. Of a deposit, the number of its lines that
-    /// were done.
-    NoMemory {
-        /// The lines done.
+    /// It could not be performed, and everything is as it was.
+    Failed {
+        /// Why.
+        fault: Fault,
+        /// Of a deposit, the number of its lines that were done.
         done: Option<u64>,
     },
 }
@@ -44,18 +49,33 @@ pub enum Answer {
 /// `/deposit/` makes the body a deposit line, whatever the method; every other target makes a
 /// request of OAI-PMH (section 3.1.1 of OAI-PMH 2.0), with its arguments in the body of a POST and
 /// in the query of every other method.
-pub fn perform(alloc: Global, repo: &mut Repo, moment: i64, exchange: &Exchange<'_>) -> Answer
-    ensures { spec.IsAnswered repo.old moment (spec.input_of exchange.now) result repo.new }
+pub fn perform<V: Versions>(
+    alloc: Global,
+    repo: &mut Repo,
+    store: &mut V,
+    moment: i64,
+    exchange: &Exchange<'_>,
+) -> Answer
+    requires stands { StandsIn repo.old (V.lists store.old) }
+    requires held { IsTrue (V.honest store.old) → IsHeld repo.old (V.lists store.old) }
+    ensures answered { spec.IsAnswered (V.honest store.old) repo.old (V.lists store.old) moment (spec.input_of exchange.now) result repo.new (V.lists store.new) }
+    ensures stands { StandsIn repo.new (V.lists store.new) }
+    ensures held { IsTrue (V.honest store.old) → IsHeld repo.new (V.lists store.new) }
+    ensures device { IsCounted (spec.fault_in result) (V.failures store.old) (V.failures store.new) }
+    ensures honesty { IsHonest (spec.fault_in result) (V.honest store.old) (V.honest store.new) }
 {
     if is_deposit(exchange.target) {
-        match deposit(alloc, repo, moment, exchange.body) {
+        match deposit(alloc, repo, store, moment, exchange.body) {
             Ok(body) => Answer::Performed(Sequence::new(body)),
-            Err(Fault::NoMemory) => Answer::NoMemory { done: Some(0) },
+            Err(fault) => Answer::Failed {
+                fault,
+                done: Some(0),
+            },
         }
     } else {
-        match repo.ask(moment, arguments_of(exchange)) {
+        match repo.ask(store, moment, arguments_of(exchange)) {
             Ok(Reply::Page(page)) => Answer::Performed(page),
-            Err(Fault::NoMemory) => Answer::NoMemory { done: None },
+            Err(fault) => Answer::Failed { fault, done: None },
         }
     }
 }
@@ -105,13 +125,27 @@ fn path_len(target: &[u8]) -> usize
 
 /// Performs a deposit line and answers the line for it. Room for the answer is taken first, so a
 /// line that was performed is answered.
-fn deposit(alloc: Global, repo: &mut Repo, moment: i64, text: &[u8]) -> Result<Vec<u8>, Fault>
-    ensures ok { IfOk result (λ body. spec.IsPerformed repo.old moment (line (line_of text.now)) body.items repo.new) }
+fn deposit<V: Versions>(
+    alloc: Global,
+    repo: &mut Repo,
+    store: &mut V,
+    moment: i64,
+    text: &[u8],
+) -> Result<Vec<u8>, Fault>
+    requires stands { StandsIn repo.old (V.lists store.old) }
+    requires held { IsTrue (V.honest store.old) → IsHeld repo.old (V.lists store.old) }
+    ensures ok { IfOk result (λ body. IsTrue (V.honest store.old)
+        → spec.IsPerformed repo.old (V.lists store.old) moment (line (line_of text.now)) body.items repo.new (V.lists store.new)) }
     ensures err { OnErr result (repo.new ≡ repo.old) }
+    ensures err_lists { OnErr result (V.lists store.new ≡ V.lists store.old) }
+    ensures stands { StandsIn repo.new (V.lists store.new) }
+    ensures held { IsTrue (V.honest store.old) → IsHeld repo.new (V.lists store.new) }
+    ensures device { IsCounted result (V.failures store.old) (V.failures store.new) }
+    ensures honesty { IsHonest result (V.honest store.old) (V.honest store.new) }
 {
     let answer = Vec::with_capacity(alloc, MOST_LINE)?;
     match read_line(alloc, text) {
-        Ok(change) => changed(repo, moment, &change, answer),
+        Ok(change) => changed(repo, store, moment, &change, answer),
         Err(LineFault::Refused(cause)) => Ok(refused(repo, moment, cause, answer)),
         Err(LineFault::NoMemory) => Err(Fault::NoMemory),
     }
@@ -119,18 +153,27 @@ fn deposit(alloc: Global, repo: &mut Repo, moment: i64, text: &[u8]) -> Result<V
 
 /// Performs a change and answers the line for it, in the room that is there.
 #[tactic(auto, unfolding(oai_repo::specs::Machine::written))]
-fn changed(
+fn changed<V: Versions>(
     repo: &mut Repo,
+    store: &mut V,
     moment: i64,
     change: &Change,
     mut answer: Vec<u8>,
 ) -> Result<Vec<u8>, Fault>
     requires empty { answer.items ≡ [] }
     requires room { 32 ≤ vec_capacity answer }
-    ensures ok { IfOk result (λ body. spec.IsPerformed repo.old moment (line (Ok change.now)) body.items repo.new) }
+    requires stands { StandsIn repo.old (V.lists store.old) }
+    requires held { IsTrue (V.honest store.old) → IsHeld repo.old (V.lists store.old) }
+    ensures ok { IfOk result (λ body. IsTrue (V.honest store.old)
+        → spec.IsPerformed repo.old (V.lists store.old) moment (line (Ok change.now)) body.items repo.new (V.lists store.new)) }
     ensures err { OnErr result (repo.new ≡ repo.old) }
+    ensures err_lists { OnErr result (V.lists store.new ≡ V.lists store.old) }
+    ensures stands { StandsIn repo.new (V.lists store.new) }
+    ensures held { IsTrue (V.honest store.old) → IsHeld repo.new (V.lists store.new) }
+    ensures device { IsCounted result (V.failures store.old) (V.failures store.new) }
+    ensures honesty { IsHonest result (V.honest store.old) (V.honest store.new) }
 {
-    match repo.change(moment, change) {
+    match repo.change(store, moment, change) {
         Ok(stamp) => put_stamp(repo.config().granularity(), stamp, &mut answer),
         Err(Refusal::Refused(cause)) => put_line(cause.answer(), &mut answer),
         Err(Refusal::Fault(fault)) => return Err(fault),
@@ -144,7 +187,8 @@ fn changed(
 fn refused(repo: &mut Repo, moment: i64, cause: LineRefusal, mut answer: Vec<u8>) -> Vec<u8>
     requires empty { answer.items ≡ [] }
     requires room { 32 ≤ vec_capacity answer }
-    ensures { spec.IsPerformed repo.old moment (line (Err cause)) result.items repo.new }
+    ensures performed { (lists : Lists) → spec.IsPerformed repo.old lists moment (line (Err cause)) result.items repo.new lists }
+    ensures moved { repo.new ≡ record repo.old { clock = tick repo.old.clock moment } }
 {
     repo.advance(moment);
     put_line(cause.answer(), &mut answer);

@@ -4,12 +4,14 @@
 mod ask;
 mod builtin;
 mod exchange;
+mod served;
 mod stop;
 #[cfg(test)]
 mod tests;
 
 use ask::ask_lines;
-use oai_repo::Repo;
+use oai_catalogue::PlainVersions;
+use served::Served;
 use std::alloc::Global;
 use std::env;
 use std::io::{self, BufWriter};
@@ -61,10 +63,11 @@ fn run_ask(rt: &(impl Input + Print + AllocGlobal)) -> Result<(), Stop> {
     ask_lines(alloc, &mut served, &mut rt.reader(), &mut writer)
 }
 
-/// The built-in repository, without items.
-fn built_in(alloc: Global) -> Result<Repo, Stop> {
+/// The built-in repository, without items, over a store of plain lists.
+fn built_in(alloc: Global) -> Result<Served<PlainVersions>, Stop> {
     let Ok(config) = builtin::archive(alloc) else {
         return Err(Stop::NoMemory);
     };
-    Repo::new(alloc, config).map_err(|_| Stop::NoMemory)
+    let store = PlainVersions::new(alloc);
+    Served::new(alloc, config, store).map_err(|_| Stop::NoMemory)
 }

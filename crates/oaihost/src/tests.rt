@@ -1,13 +1,14 @@
 //! The worked exchanges, with the bytes that they are answered, and a reader and a writer that fail.
-mod documents;
 mod edge;
+mod faults;
 mod harvests;
 mod transcripts;
 
 use crate::ask::ask_lines;
 use crate::builtin;
+use crate::served::Served;
 use crate::stop::Stop;
-use oai_repo::Repo;
+use oai_catalogue::PlainVersions;
 use std::alloc::{AllocError, Global};
 use std::io::{self, ErrorKind, Read, Write};
 use std::process::Abort;
@@ -23,13 +24,38 @@ fn dublin_core() -> &'static str {
     "<oai_dc:dc xmlns:oai_dc=\"http://www.openarchives.org/OAI/2.0/oai_dc/\" xmlns:dc=\"http://purl.org/dc/elements/1.1/\" xmlns:xsi=\"http://www.w3.org/2001/XMLSchema-instance\" xsi:schemaLocation=\"http://www.openarchives.org/OAI/2.0/oai_dc/ http://www.openarchives.org/OAI/2.0/oai_dc.xsd\">"
 }
 
-/// Performs the lines on the built-in repository, and gives what was written.
-fn asked(alloc: Global, input: &str) -> Result<Vec<u8>, Fail> {
-    let mut served = Repo::new(alloc, builtin::archive(alloc)?)?;
-    let mut reader = input.as_bytes();
+/// Performs the lines that the reader gives on the built-in repository; why that stopped, if it did.
+fn performed<R: Read, W: Write>(
+    alloc: Global,
+    reader: &mut R,
+    writer: &mut W,
+) -> Result<Result<(), Stop>, Fail> {
+    let mut served = Served::new(alloc, builtin::archive(alloc)?, PlainVersions::new(alloc))?;
+    Ok(ask_lines(alloc, &mut served, reader, writer))
+}
+
+/// What is written for the lines that the reader gives.
+fn written<R: Read>(alloc: Global, reader: &mut R) -> Result<Vec<u8>, Fail> {
     let mut output = Vec::new(alloc);
-    ask_lines(alloc, &mut served, &mut reader, &mut output)?;
+    performed(alloc, reader, &mut output)??;
     Ok(output)
+}
+
+/// Why the program stops at what the reader gives.
+fn stop_of<R: Read>(rt: &impl Abort, alloc: Global, reader: &mut R) -> Result<Stop, Fail> {
+    let mut output = Vec::new(alloc);
+    match performed(alloc, reader, &mut output)? {
+        Ok(()) => panic!(rt; "nothing stopped"),
+        Err(stop) => Ok(stop),
+    }
+}
+
+/// The lines are answered so.
+fn assert_asked(rt: &impl Abort, alloc: Global, input: &str, wanted: &str) -> Result<(), Fail> {
+    let mut reader = input.as_bytes();
+    let output = written(alloc, &mut reader)?;
+    assert_eq!(rt; output.as_slice(), wanted.as_bytes(), "{input}");
+    Ok(())
 }
 
 /// Adds a line of the output that is wanted: `DOC` stands for what every document begins with, and
@@ -67,9 +93,7 @@ fn assert_transcript(rt: &impl Abort, alloc: Global, transcript: &str) -> Result
             None => push_wanted(line, &mut wanted)?,
         }
     }
-    let output = asked(alloc, input.as_str())?;
-    assert_eq!(rt; output.as_slice(), wanted.as_bytes(), "{transcript}");
-    Ok(())
+    assert_asked(rt, alloc, input.as_str(), wanted.as_str())
 }
 
 /// Performs each of the lines on a repository of its own; each is answered so.
@@ -77,8 +101,7 @@ fn assert_each(rt: &impl Abort, alloc: Global, lines: &str, answer: &str) -> Res
     let mut wanted = String::from_str(alloc, "200\n")?;
     push_wanted(answer, &mut wanted)?;
     for line in lines.lines() {
-        let output = asked(alloc, line)?;
-        assert_eq!(rt; output.as_slice(), wanted.as_bytes(), "{line}");
+        assert_asked(rt, alloc, line, wanted.as_str())?;
     }
     Ok(())
 }
@@ -162,46 +185,40 @@ fn deposit_of_letters(alloc: Global, letters: usize) -> Result<String, AllocErro
 #[test]
 fn largest_item(rt: HostRuntime) -> Result<(), Fail> {
     let line = deposit_of_letters(rt.alloc(), 15_945)?;
-    let output = asked(rt.alloc(), line.as_str())?;
-    assert_eq!(rt; output.as_slice(), transcripts::accepted().as_bytes());
-    Ok(())
+    assert_asked(&rt, rt.alloc(), line.as_str(), transcripts::accepted())
+}
+
+/// A deposit, a deposit of 16,001 bytes and a request of the item.
+fn too_large_asked(alloc: Global) -> Result<String, AllocError> {
+    let mut lines = String::from_str(alloc, transcripts::short_deposit())?;
+    lines.push_str(deposit_of_letters(alloc, 15_946)?.as_str())?;
+    lines.push_str(transcripts::request_of_the_item())?;
+    Ok(lines)
+}
+
+fn too_large_answered(alloc: Global) -> Result<String, AllocError> {
+    let mut wanted = String::from_str(alloc, transcripts::accepted())?;
+    wanted.push_str(transcripts::too_large())?;
+    push_wanted(transcripts::short_record(), &mut wanted)?;
+    Ok(wanted)
 }
 
 /// One of 16,001 bytes is refused, and the item is as before.
 #[test]
 fn too_large_item(rt: HostRuntime) -> Result<(), Fail> {
     let alloc = rt.alloc();
-    let mut lines = String::from_str(alloc, transcripts::short_deposit())?;
-    lines.push_str(deposit_of_letters(alloc, 15_946)?.as_str())?;
-    lines.push_str(transcripts::request_of_the_item())?;
-    let output = asked(alloc, lines.as_str())?;
-    let mut wanted = String::from_str(alloc, transcripts::accepted())?;
-    wanted.push_str(transcripts::too_large())?;
-    push_wanted(transcripts::short_record(), &mut wanted)?;
-    assert_eq!(rt; output.as_slice(), wanted.as_bytes());
-    Ok(())
-}
-
-/// Why the program stops at these lines.
-fn stop_at(rt: &impl Abort, alloc: Global, input: &str) -> Result<Stop, Fail> {
-    let mut served = Repo::new(alloc, builtin::archive(alloc)?)?;
-    let mut reader = input.as_bytes();
-    let mut output = Vec::new(alloc);
-    match ask_lines(alloc, &mut served, &mut reader, &mut output) {
-        Ok(()) => panic!(rt; "{input}: nothing stopped"),
-        Err(stop) => Ok(stop),
-    }
+    let lines = too_large_asked(alloc)?;
+    let wanted = too_large_answered(alloc)?;
+    assert_asked(&rt, alloc, lines.as_str(), wanted.as_str())
 }
 
 /// Each of these lines alone is a bad exchange.
 #[test]
 fn bad_exchanges(rt: HostRuntime) -> Result<(), Fail> {
     for line in transcripts::bad_lines().lines() {
-        assert_eq!(rt;
-            stop_at(&rt, rt.alloc(), line)?,
-            Stop::BadExchange(1),
-            "{line}"
-        );
+        let mut reader = line.as_bytes();
+        let stop = stop_of(&rt, rt.alloc(), &mut reader)?;
+        assert_eq!(rt; stop, Stop::BadExchange(1), "{line}");
     }
     Ok(())
 }
@@ -209,7 +226,8 @@ fn bad_exchanges(rt: HostRuntime) -> Result<(), Fail> {
 /// Empty lines count, and so do lines that were answered.
 #[test]
 fn lines_are_counted(rt: HostRuntime) -> Result<(), Fail> {
-    let stop = stop_at(&rt, rt.alloc(), "\n\n1 GET /?verb=Identify\n \n")?;
+    let mut reader: &[u8] = b"\n\n1 GET /?verb=Identify\n \n";
+    let stop = stop_of(&rt, rt.alloc(), &mut reader)?;
     assert_eq!(rt; stop, Stop::BadExchange(4));
     assert_eq!(rt;
         format!(in rt.alloc(); "{}", Stop::BadExchange(1))?.as_str(),
@@ -252,27 +270,29 @@ impl Write for FailingWriter {
     }
 }
 
+/// The answer to the first line of a request of Identify.
+fn identified(alloc: Global) -> Result<String, AllocError> {
+    let mut wanted = String::from_str(alloc, "200\n")?;
+    push_wanted(transcripts::identify(), &mut wanted)?;
+    Ok(wanted)
+}
+
 #[test]
 fn input_fails_in_mid_line(rt: HostRuntime) -> Result<(), Fail> {
     let alloc = rt.alloc();
-    let mut served = Repo::new(alloc, builtin::archive(alloc)?)?;
     let mut reader = FailingReader(b"1704067200 GET /oai/a?verb=Identify\n1704067200 GE");
     let mut output = Vec::new(alloc);
-    let asked = ask_lines(alloc, &mut served, &mut reader, &mut output);
+    let asked = performed(alloc, &mut reader, &mut output)?;
     assert_eq!(rt; asked, Err(Stop::InputFault));
-    let mut wanted = String::from_str(alloc, "200\n")?;
-    push_wanted(transcripts::identify(), &mut wanted)?;
-    assert_eq!(rt; output.as_slice(), wanted.as_bytes());
+    assert_eq!(rt; output.as_slice(), identified(alloc)?.as_bytes());
     Ok(())
 }
 
 #[test]
 fn output_fails_in_mid_answer(rt: HostRuntime) -> Result<(), Fail> {
-    let alloc = rt.alloc();
-    let mut served = Repo::new(alloc, builtin::archive(alloc)?)?;
     let mut reader: &[u8] = b"1704067200 GET /oai/a?verb=Identify\n";
     let mut writer = FailingWriter { room: 100 };
-    let asked = ask_lines(alloc, &mut served, &mut reader, &mut writer);
+    let asked = performed(rt.alloc(), &mut reader, &mut writer)?;
     assert_eq!(rt; asked, Err(Stop::OutputFault));
     Ok(())
 }

@@ -1,31 +1,41 @@
 //! A repository of days: its clock, the most items that it holds, and what it keeps of deleted ones.
-use crate::archives::{Told, archive_b, settings_of};
 use oai_answers::DeletedRecord;
+use oai_catalogue::PlainVersions;
 use oai_deposit::{LineFault, read_line};
-use oai_repo::{Refusal, Reply, Repo, RepoConfig};
+use oai_repo::{Refusal, Reply, RepoConfig};
 use std::alloc::{AllocError, Global};
 use std::process::Abort;
 use std::test::Fail;
+use tests_archives::{Stocked, Told, archive_b, settings_of};
+
+/// A repository over a store of plain lists.
+type Archive = Stocked<PlainVersions>;
 
 const MIDNIGHT: i64 = 1_704_067_200;
 
 /// A repository of at most two items, which keeps that of deleted ones.
-fn repository(alloc: Global, deleted: DeletedRecord) -> Result<Repo, Fail> {
+fn repository(alloc: Global, deleted: DeletedRecord) -> Result<Archive, Fail> {
     let told = Told {
         deleted,
         items: Some(2),
         ..archive_b()
     };
-    Ok(Repo::new(alloc, RepoConfig::new(alloc, settings_of(alloc, told)?)?)?)
+    let config = RepoConfig::new(alloc, settings_of(alloc, told)?)?;
+    Ok(Stocked::new(alloc, config, PlainVersions::new(alloc))?)
 }
 
 /// Archive B.
-fn repository_b(alloc: Global) -> Result<Repo, Fail> {
+fn repository_b(alloc: Global) -> Result<Archive, Fail> {
     repository(alloc, DeletedRecord::No)
 }
 
 /// The repository answers the query with these bytes, at the first midnight of 2024.
-fn assert_page(rt: &impl Abort, repo: &mut Repo, query: &[u8], wanted: &str) -> Result<(), Fail> {
+fn assert_page(
+    rt: &impl Abort,
+    repo: &mut Archive,
+    query: &[u8],
+    wanted: &str,
+) -> Result<(), Fail> {
     let Reply::Page(page) = repo.ask(MIDNIGHT, query)?;
     assert_eq!(rt; page.as_slice(), wanted.as_bytes());
     Ok(())
@@ -67,7 +77,7 @@ fn clock(rt: HostRuntime) -> Result<(), Fail> {
 /// What a deposit line is answered at the moment: a datestamp, or the line that refuses it.
 fn deposited(
     alloc: Global,
-    repo: &mut Repo,
+    repo: &mut Archive,
     moment: i64,
     line: &str,
 ) -> Result<Result<i64, &'static str>, Fail> {
@@ -97,7 +107,7 @@ type Answered<'a> = (i64, &'a str, Result<i64, &'a str>);
 fn assert_deposits(
     rt: &impl Abort,
     alloc: Global,
-    repo: &mut Repo,
+    repo: &mut Archive,
     lines: &[Answered<'_>],
 ) -> Result<(), Fail> {
     for (moment, line, wanted) in lines {

@@ -1,11 +1,10 @@
 //! How the input is cut into lines, whatever the pieces in which it comes, and what is written
 //! where it, the output or memory fails.
-use super::{asked, push_wanted, transcripts};
-use crate::ask::{ask_lines, write_answer};
-use crate::builtin;
+use super::{assert_asked, performed, push_wanted, stop_of, transcripts, written};
+use crate::ask::write_answer;
 use crate::exchange::Answer;
 use crate::stop::Stop;
-use oai_repo::Repo;
+use oai_item::Fault;
 use std::alloc::{AllocError, Global};
 use std::io::{self, ErrorKind, Read, Write};
 use std::process::Abort;
@@ -58,32 +57,34 @@ impl Read for PiecesReader<'_> {
     }
 }
 
-/// What is written where the text comes in these pieces.
-fn asked_in_pieces(
+/// The text, the script or the script after empty lines, is answered as the script is, where it comes
+/// in these pieces.
+fn assert_in_pieces(
+    rt: &impl Abort,
     alloc: Global,
     text: &[u8],
     first: usize,
     later: usize,
-) -> Result<Vec<u8>, Fail> {
-    let mut served = Repo::new(alloc, builtin::archive(alloc)?)?;
+) -> Result<(), Fail> {
     let mut reader = PiecesReader { text, first, later };
-    let mut output = Vec::new(alloc);
-    ask_lines(alloc, &mut served, &mut reader, &mut output)?;
-    Ok(output)
+    let output = written(alloc, &mut reader)?;
+    assert_eq!(rt;
+        output.as_slice(),
+        script_answer().as_bytes(),
+        "{first}, {later}"
+    );
+    Ok(())
 }
 
 /// In one read, in two that are cut at every place, and in many of each length.
 #[test]
 fn pieces(rt: HostRuntime) -> Result<(), Fail> {
     let alloc = rt.alloc();
-    let wanted = script_answer().as_bytes();
-    assert_eq!(rt; asked(alloc, script())?.as_slice(), wanted);
+    assert_asked(&rt, alloc, script(), script_answer())?;
     let text = script().as_bytes();
     for length in 1..=text.len() {
-        let in_two = asked_in_pieces(alloc, text, length, text.len())?;
-        assert_eq!(rt; in_two.as_slice(), wanted, "cut at {length}");
-        let in_many = asked_in_pieces(alloc, text, length, length)?;
-        assert_eq!(rt; in_many.as_slice(), wanted, "pieces of {length}");
+        assert_in_pieces(&rt, alloc, text, length, text.len())?;
+        assert_in_pieces(&rt, alloc, text, length, length)?;
     }
     Ok(())
 }
@@ -104,48 +105,54 @@ fn lines_cross_the_buffer(rt: HostRuntime) -> Result<(), Fail> {
     let alloc = rt.alloc();
     for before in 0..=script().len() {
         let text = script_after(alloc, 65_536 - before.min(65_536))?;
-        let output = asked_in_pieces(alloc, text.as_slice(), 65_536, 65_536)?;
-        assert_eq!(rt; output.as_slice(), script_answer().as_bytes(), "{before}");
+        assert_in_pieces(&rt, alloc, text.as_slice(), 65_536, 65_536)?;
     }
     Ok(())
 }
 
 /// A line of 140,022 bytes, which fills two reads and more, and a line after it.
-#[test]
-fn line_longer_than_the_buffer(rt: HostRuntime) -> Result<(), Fail> {
-    let alloc = rt.alloc();
+fn long_line(alloc: Global) -> Result<String, AllocError> {
     let mut text = String::from_str(alloc, "1704067200 GET /oai/a?")?;
     for _ in 0..140_000 {
         text.push('x')?;
     }
     text.push('\n')?;
     text.push_str(script())?;
-    let output = asked(alloc, text.as_str())?;
+    Ok(text)
+}
+
+/// What they are answered.
+fn long_line_answer(alloc: Global) -> Result<String, AllocError> {
     let mut wanted = String::from_str(alloc, "200\n")?;
     push_wanted(transcripts::bad_verb(), &mut wanted)?;
     wanted.push_str(script_answer())?;
-    assert_eq!(rt; output.as_slice(), wanted.as_bytes());
-    Ok(())
+    Ok(wanted)
 }
 
-/// Why the program stops where the text comes in pieces of such a length.
-fn stop_in_pieces(
+#[test]
+fn line_longer_than_the_buffer(rt: HostRuntime) -> Result<(), Fail> {
+    let alloc = rt.alloc();
+    let text = long_line(alloc)?;
+    let wanted = long_line_answer(alloc)?;
+    assert_asked(&rt, alloc, text.as_str(), wanted.as_str())
+}
+
+/// The program stops at a bad line of that number where the text comes in pieces of such a length.
+fn assert_bad_line(
     rt: &impl Abort,
     alloc: Global,
     text: &[u8],
     length: usize,
-) -> Result<Stop, Fail> {
-    let mut served = Repo::new(alloc, builtin::archive(alloc)?)?;
+    number: u64,
+) -> Result<(), Fail> {
     let mut reader = PiecesReader {
         text,
         first: length,
         later: length,
     };
-    let mut output = Vec::new(alloc);
-    match ask_lines(alloc, &mut served, &mut reader, &mut output) {
-        Ok(()) => panic!(rt; "nothing stopped"),
-        Err(stop) => Ok(stop),
-    }
+    let stop = stop_of(rt, alloc, &mut reader)?;
+    assert_eq!(rt; stop, Stop::BadExchange(number), "in pieces of {length}");
+    Ok(())
 }
 
 /// A bad line has its number, with a line end and without one, whatever the pieces.
@@ -161,15 +168,12 @@ fn numbers_of_bad_lines(rt: HostRuntime) -> Result<(), Fail> {
         ("1 PUT /deposit/ [\n1 PUT /deposit/ [\n1.0 GET /", 3),
     ] {
         for length in 1..=9 {
-            let stop = stop_in_pieces(&rt, alloc, text.as_bytes(), length)?;
-            assert_eq!(rt; stop, Stop::BadExchange(number), "{text}: {length}");
+            assert_bad_line(&rt, alloc, text.as_bytes(), length, number)?;
         }
     }
     let mut text = script_after(alloc, 70_000)?;
     text.extend_from_slice(b"\nx\n\n")?;
-    let stop = stop_in_pieces(&rt, alloc, text.as_slice(), 65_536)?;
-    assert_eq!(rt; stop, Stop::BadExchange(70_005));
-    Ok(())
+    assert_bad_line(&rt, alloc, text.as_slice(), 65_536, 70_005)
 }
 
 /// What is said on standard error.
@@ -188,17 +192,22 @@ fn what_is_said(rt: HostRuntime) -> Result<(), Fail> {
     Ok(())
 }
 
-/// Where memory was refused.
+/// What is written where memory or room is wanted, and where the store failed.
 #[test]
-fn refused_answers(rt: HostRuntime) -> Result<(), Fail> {
-    let mut output = Vec::new(rt.alloc());
-    write_answer(&Answer::NoMemory { done: Some(0) }, &mut output)?;
-    write_answer(&Answer::NoMemory { done: None }, &mut output)?;
-    write_answer(&Answer::NoMemory { done: Some(12) }, &mut output)?;
-    assert_eq!(rt;
-        output.as_slice(),
-        b"503 60 0\n503 60\n503 60 12\n".as_slice()
-    );
+fn failed_answers(rt: HostRuntime) -> Result<(), Fail> {
+    for (fault, done, text) in [
+        (Fault::NoMemory, Some(0), "503 60 0\n"),
+        (Fault::NoMemory, None, "503 60\n"),
+        (Fault::NoMemory, Some(12), "503 60 12\n"),
+        (Fault::TooManyPages, Some(0), "503 60 0\n"),
+        (Fault::Device, None, "500\n"),
+        (Fault::Device, Some(0), "500 0\n"),
+        (Fault::Damaged, Some(0), "500 0\n"),
+    ] {
+        let mut output = Vec::new(rt.alloc());
+        write_answer(&Answer::Failed { fault, done }, &mut output)?;
+        assert_eq!(rt; output.as_slice(), text.as_bytes());
+    }
     Ok(())
 }
 
@@ -231,10 +240,9 @@ fn each_read_fails(rt: HostRuntime) -> Result<(), Fail> {
     let alloc = rt.alloc();
     let text = script().as_bytes();
     for reads in 0..=text.len() {
-        let mut served = Repo::new(alloc, builtin::archive(alloc)?)?;
         let mut reader = ByteReader { text, reads };
         let mut output = Vec::new(alloc);
-        let done = ask_lines(alloc, &mut served, &mut reader, &mut output);
+        let done = performed(alloc, &mut reader, &mut output)?;
         assert_eq!(rt; done, Err(Stop::InputFault), "{reads}");
         assert_eq!(rt;
             output.as_slice(),
@@ -277,14 +285,13 @@ fn each_write_fails(rt: HostRuntime) -> Result<(), Fail> {
     let alloc = rt.alloc();
     let wanted = script_answer().as_bytes();
     for writes in 0..20 {
-        let mut served = Repo::new(alloc, builtin::archive(alloc)?)?;
         let mut reader = script().as_bytes();
         let mut writer = CountingWriter {
             taken: Vec::new(alloc),
             writes,
             flushes: true,
         };
-        let done = ask_lines(alloc, &mut served, &mut reader, &mut writer);
+        let done = performed(alloc, &mut reader, &mut writer)?;
         assert!(rt; wanted.starts_with(writer.taken.as_slice()), "{writes}");
         let is_whole = writer.taken.len() == wanted.len();
         assert_eq!(rt; done.is_ok(), is_whole, "{writes}");
@@ -297,14 +304,13 @@ fn each_write_fails(rt: HostRuntime) -> Result<(), Fail> {
 #[test]
 fn flush_fails(rt: HostRuntime) -> Result<(), Fail> {
     let alloc = rt.alloc();
-    let mut served = Repo::new(alloc, builtin::archive(alloc)?)?;
     let mut reader = script().as_bytes();
     let mut writer = CountingWriter {
         taken: Vec::new(alloc),
         writes: 100,
         flushes: false,
     };
-    let done = ask_lines(alloc, &mut served, &mut reader, &mut writer);
+    let done = performed(alloc, &mut reader, &mut writer)?;
     assert_eq!(rt; done, Err(Stop::OutputFault));
     assert_eq!(rt; writer.taken.as_slice(), script_answer().as_bytes());
     Ok(())
@@ -330,9 +336,8 @@ impl Read for EmptyLines {
 fn most_reads(rt: HostRuntime) -> Result<(), Fail> {
     let alloc = rt.alloc();
     for (lines, wanted) in [(999_999, Ok(())), (1_000_000, Err(Stop::InputFault))] {
-        let mut served = Repo::new(alloc, builtin::archive(alloc)?)?;
         let mut output = Vec::new(alloc);
-        let done = ask_lines(alloc, &mut served, &mut EmptyLines(lines), &mut output);
+        let done = performed(alloc, &mut EmptyLines(lines), &mut output)?;
         assert_eq!(rt; done, wanted, "{lines}");
         assert!(rt; output.is_empty());
     }

@@ -7,13 +7,13 @@ use Rattle.oai_repo.proofs.KeptLemmas.{Stands, stands}
 use Rattle.oai_repo.proofs.deposits.put_deposit.Goals as goal
 
 pub deposited-requires-clause-carries : goal.deposited-requires-clause-carries
-deposited-requires-clause-carries c =
+deposited-requires-clause-carries g c =
     let none : deposit_refusal c.args.config.now c.args.sets.now c.args.deposit.now.sets.now c.as_slice.result.now ≡ None = sym c.deposit_refusal.ensures ∙ c.in-None.is in
     let s = stands _ _ _ _ none in
     carries (codes "oai_dc") c.args.deposit.now.records.now (rw (← c.as_slice.ensures.records) s.core)
 
 pub deposited-requires-clause-known : goal.deposited-requires-clause-known
-deposited-requires-clause-known c =
+deposited-requires-clause-known g c =
     let none : deposit_refusal c.args.config.now c.args.sets.now c.args.deposit.now.sets.now c.as_slice.result.now ≡ None = sym c.deposit_refusal.ensures ∙ c.in-None.is in
     let s = stands _ _ _ _ none in
     rw (c.formats.ensures, ← c.as_slice.ensures.records) s.known

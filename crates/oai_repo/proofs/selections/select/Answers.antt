@@ -1,22 +1,22 @@
--- The selection of the items so far, with the next one where it is wanted.
-use Rattle.std.proofs.Common.{◌≡◌, ◌∙◌, ◌++◌, ◌∷◌, [], ap, sym, append-nil}
-use Rattle.oai_repo.specs.Found.{filter_in}
-use Rattle.oai_repo.proofs.SelectionLemmas.{selected-more, selected-none}
+-- A set that is not found selects nothing.
+use Rattle.std.proofs.Common.{◌≡◌, ◌∙◌, Bool, true, false, List, ℕ, Option, None, Some, refl, sym, ap, if◌then◌else◌}
+use Rattle.std.specs.Option.{option_copied}
+use Rattle.oai_names.specs.Sets.{has_set}
+use Rattle.oai_item.specs.Selection.{selected}
+use Rattle.oai_repo.specs.Answers.{filter_of}
+use Rattle.oai_repo.specs.Held.{holdings_of, items_on}
+use Rattle.oai_repo.proofs.SelectionLemmas.{unknown_set}
 use Rattle.oai_repo.proofs.selections.select.Goals as goal
-use Rattle.oai_repo.proofs.selections.select.Goals.{then-passes+in_ok-copy+in_ok-push, else-passes}
 
-pub loop-item-init : goal.loop-item-init
-loop-item-init c = c.new-chosen.ensures.items ∙ sym (selected-none (filter_in c.args.wanted.now))
+missing : (test : Bool) (text : List ℕ) → None ≡ (if test then Some text else None) → test ≡ false
+missing true text h = cc
+missing false text h = refl
 
-pub loop-item-preserved : goal.loop-item-preserved
-loop-item-preserved c =
-    let asked = filter_in c.args.wanted.now in
-    let more = selected-more asked c.args.items.now c.loop-item.item-index c.item-item.result c.passes.result c.loop-item-test.true c.item-item.is c.passes.ensures in
-    elim c.if-passes.branch [
-      | then-passes+in_ok-copy+in_ok-push w ↦
-          let yes = rw w.if-passes.true at more in
-          ap (λ v. v.items) w.chosen-is ∙ w.in_ok-push.ensures.items ∙ rw (w.in_ok-copy.ensures, c.loop-item.invariant) (sym yes)
-      | else-passes w ↦
-          let no = rw (w.if-passes.false, append-nil) at more in
-          ap (λ v. v.items) w.chosen-is ∙ c.loop-item.invariant ∙ sym no
-    ]
+pub returns-in-None-find-clause-items : goal.returns-in-None-find-clause-items
+returns-in-None-find-clause-items g c = λ honest.
+    let found = c.args.found.now in
+    let sets = found.sets.now in
+    let text = c.as_str.result.now in
+    let lacks : has_set sets text ≡ false = missing (has_set sets text) text (sym (ap option_copied c.in-None-find.is) ∙ c.find.ensures.found) in
+    let none = unknown_set found.config.now (holdings_of found.shelf.now sets (g.V.Versions.lists c.args.store.now)) c.args.prefix.now c.args.from.now c.args.until.now text (c.requires.held honest).kept c.find.ensures.above lacks in
+    rw c.in-Some.is (c.new-in-None-find.ensures ∙ c.new.ensures.items ∙ sym (rw c.as_str.ensures at none))

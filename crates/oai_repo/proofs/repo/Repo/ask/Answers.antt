@@ -5,10 +5,10 @@ use Rattle.oai_time.specs.Clock.{tick}
 use Rattle.oai_repo.proofs.StepLemmas.{step-asked}
 use Rattle.oai_repo.proofs.repo.Repo.ask.Goals as goal
 
-pub returns : goal.returns
-returns c =
+pub returns-clause-step : goal.returns-clause-step
+returns-clause-step g c = λ honest.
     let fits : FitsSigned w64 c.args.moment = c.ranges.moment in
     let fits_now : FitsSigned w64 c.now.result = record { sfits = c.now.type_inv } in
     let moved : c.tick.new.self ≡ tick c.self.inside.clock c.args.moment = simp to_z-of_z at c.tick.ensures.moved in
-    let told = rw (c.deref.ensures.value, c.as_slice.ensures, c.now.ensures) at (simp to_z-of_z at c.in_ok-page.ensures) in
-    rw (← c.self.view_is) (step-asked _ _ _ _ _ _ moved (c.new.ensures ∙ told), refl)
+    let told = rw c.now.ensures at (simp to_z-of_z at (c.in_ok-page.ensures.page honest)) in
+    rw (← c.self.view_is, c.page_at.ensures.same) (step-asked _ _ _ _ _ _ moved (c.new.ensures ∙ told))

@@ -1,0 +1,114 @@
+//! The repositories that tests speak of, by what is told of each.
+use oai_answers::DeletedRecord;
+use oai_names::{Sequence, Text};
+use oai_repo::{FormatSettings, Settings};
+use oai_time::Granularity;
+use std::alloc::{AllocError, Global};
+
+/// What is told of a repository: an address, so often, and the prefixes of its formats of journals,
+/// one after the other with commas between, where it has any.
+#[derive(Clone, Copy)]
+pub struct Told<'a> {
+    pub base: &'a str,
+    pub name: &'a str,
+    pub repository_name: &'a str,
+    pub address: &'a str,
+    pub addresses: usize,
+    pub earliest: &'a str,
+    pub deleted: DeletedRecord,
+    pub granularity: Granularity,
+    pub chunk: Option<u64>,
+    pub lifetime: Option<u64>,
+    pub lists: Option<u64>,
+    pub items: Option<u64>,
+    pub prefixes: Option<&'a str>,
+}
+
+/// Archive A: seconds, everything kept of deleted records, the format of journals.
+pub fn archive_a() -> Told<'static> {
+    Told {
+        name: "a",
+        repository_name: "Archive A",
+        address: "a@host.example",
+        earliest: "2024-01-01T00:00:00Z",
+        deleted: DeletedRecord::Persistent,
+        granularity: Granularity::Second,
+        prefixes: Some("jnl"),
+        ..archive_b()
+    }
+}
+
+/// Archive B: days, nothing kept of deleted records, oai_dc alone.
+pub fn archive_b() -> Told<'static> {
+    Told {
+        base: "http://host.example",
+        name: "b",
+        repository_name: "Archive B",
+        address: "b@host.example",
+        addresses: 1,
+        earliest: "2024-01-01",
+        deleted: DeletedRecord::No,
+        granularity: Granularity::Day,
+        chunk: Some(2),
+        lifetime: Some(60),
+        lists: Some(1),
+        items: Some(1_000),
+        prefixes: None,
+    }
+}
+
+/// The settings of which that is told.
+pub fn settings_of(alloc: Global, told: Told<'_>) -> Result<Settings, AllocError> {
+    Ok(Settings {
+        base: Text::new(alloc, told.base)?,
+        name: Text::new(alloc, told.name)?,
+        repository_name: Text::new(alloc, told.repository_name)?,
+        addresses: repeated(alloc, told.address, told.addresses)?,
+        earliest: Text::new(alloc, told.earliest)?,
+        deleted: told.deleted,
+        granularity: told.granularity,
+        chunk: told.chunk,
+        lifetime: told.lifetime,
+        lists: told.lists,
+        items: told.items,
+        formats: journals(alloc, told.prefixes)?,
+    })
+}
+
+/// The text, so often.
+fn repeated(alloc: Global, text: &str, times: usize) -> Result<Sequence<Text>, AllocError> {
+    let mut texts = Vec::new(alloc);
+    for _ in 0..times {
+        texts.push(Text::new(alloc, text)?)?;
+    }
+    Ok(Sequence::new(texts))
+}
+
+/// The formats of journals under these prefixes.
+fn journals(alloc: Global, prefixes: Option<&str>) -> Result<Sequence<FormatSettings>, AllocError> {
+    let mut formats = Vec::new(alloc);
+    if let Some(prefixes) = prefixes {
+        for prefix in prefixes.split(',') {
+            formats.push(journal(alloc, prefix)?)?;
+        }
+    }
+    Ok(Sequence::new(formats))
+}
+
+/// The format of journals, under this prefix.
+fn journal(alloc: Global, prefix: &str) -> Result<FormatSettings, AllocError> {
+    Ok(FormatSettings {
+        prefix: Text::new(alloc, prefix)?,
+        schema: Text::new(alloc, "http://host.example/jnl.xsd")?,
+        namespace: Text::new(alloc, "http://host.example/jnl/")?,
+        root: Text::new(alloc, "article")?,
+        fields: journal_fields(alloc)?,
+    })
+}
+
+fn journal_fields(alloc: Global) -> Result<Sequence<Text>, AllocError> {
+    let mut fields = Vec::new(alloc);
+    fields.push(Text::new(alloc, "volume")?)?;
+    fields.push(Text::new(alloc, "pages")?)?;
+    Ok(Sequence::new(fields))
+}

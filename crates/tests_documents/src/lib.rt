@@ -1,0 +1,6 @@
+//! Tests of the XML documents that requests are answered (`oai_answers`), each by its whole bytes. It
+//! holds nothing else.
+#![tactic(auto)]
+
+#[cfg(test)]
+mod documents;

@@ -1,0 +1,168 @@
+//! A repository over a store that lies, and says that there is nothing: each call returns, and one
+//! that finds an item missing changes nothing.
+use crate::samples::{
+    Asked, BEGIN, NEXT_DAY, change_in, deletion, deposit, formats, headers, record, records,
+};
+use oai_catalogue::{PlainVersions, Versions};
+use oai_item::Fault;
+use oai_names::Sequence;
+use oai_repo::{Refusal, Reply, RepoConfig};
+use std::alloc::Global;
+use std::process::Abort;
+use std::test::Fail;
+use tests_archives::{LyingVersions, Stocked, archive_a, settings_of};
+
+/// More lies than are asked for.
+const ALWAYS: u64 = 1_000;
+
+/// Archive A over a store that lies after so many answers, so often.
+fn archive(
+    alloc: Global,
+    truths: u64,
+    lies: u64,
+) -> Result<Stocked<LyingVersions<PlainVersions>>, Fail> {
+    let config = RepoConfig::new(alloc, settings_of(alloc, archive_a())?)?;
+    let store = LyingVersions::new(alloc, PlainVersions::new(alloc), truths, lies);
+    Ok(Stocked::new(alloc, config, store)?)
+}
+
+/// What a fault is called; it is an error of the test if it is another than damage.
+fn damage(fault: Fault) -> Result<&'static str, Fail> {
+    match fault {
+        Fault::Damaged => Ok("damaged"),
+        fault => Err(Fail::from(fault)),
+    }
+}
+
+/// What an exchange comes to: `ok`, the line of a refusal, `page`, or `damaged`.
+fn outcome<V: Versions + Drop>(
+    alloc: Global,
+    repo: &mut Stocked<V>,
+    asked: Asked,
+) -> Result<&'static str, Fail> {
+    let (moment, text) = asked;
+    match change_in(alloc, text)? {
+        Some(change) => match repo.change(moment, &change) {
+            Ok(_) => Ok("ok"),
+            Err(Refusal::Refused(cause)) => Ok(cause.answer()),
+            Err(Refusal::Fault(fault)) => damage(fault),
+        },
+        None => match repo.ask(moment, text.as_bytes()) {
+            Ok(Reply::Page(_)) => Ok("page"),
+            Err(fault) => damage(fault),
+        },
+    }
+}
+
+/// The exchanges come to that, one after the other; damage leaves the clock where it was.
+fn assert_outcomes<V: Versions + Drop>(
+    rt: &impl Abort,
+    alloc: Global,
+    repo: &mut Stocked<V>,
+    exchanges: &[(Asked, &str)],
+) -> Result<(), Fail> {
+    for (asked, wanted) in exchanges {
+        let (moment, text) = *asked;
+        let before = repo.clock();
+        assert_eq!(rt; outcome(alloc, repo, *asked)?, *wanted, "{text}");
+        let clock = if *wanted == "damaged" { before } else { moment };
+        assert_eq!(rt; repo.clock(), clock, "{text}");
+    }
+    Ok(())
+}
+
+/// An item that is known is damaged; of one that is not the store is not asked.
+fn all_lies() -> [(Asked, &'static str); 12] {
+    [
+        ((BEGIN, deposit(1)), "ok"),
+        ((BEGIN, deposit(1)), "damaged"),
+        ((NEXT_DAY, deposit(1)), "damaged"),
+        ((NEXT_DAY, deletion(1)), "damaged"),
+        ((NEXT_DAY, record(1)), "damaged"),
+        ((NEXT_DAY, formats()), "damaged"),
+        ((BEGIN + 1, headers()), "page"),
+        ((BEGIN + 2, records()), "page"),
+        ((BEGIN + 3, record(2)), "page"),
+        ((BEGIN + 4, deletion(2)), "refused 13 no-such-item"),
+        ((BEGIN + 5, deposit(2)), "ok"),
+        ((NEXT_DAY, deposit(2)), "damaged"),
+    ]
+}
+
+#[test]
+fn nothing_is_found(rt: HostRuntime) -> Result<(), Fail> {
+    let mut repo = archive(rt.alloc(), 0, ALWAYS)?;
+    assert_outcomes(&rt, rt.alloc(), &mut repo, &all_lies())
+}
+
+/// A deposit, and what four lies make of another one and of requests.
+fn four_lies() -> [(Asked, &'static str); 5] {
+    [
+        ((BEGIN + 7, deposit(1)), "ok"),
+        ((BEGIN + 7, deposit(1)), "damaged"),
+        ((NEXT_DAY, deposit(1)), "damaged"),
+        ((NEXT_DAY, deletion(1)), "damaged"),
+        ((NEXT_DAY, record(1)), "damaged"),
+    ]
+}
+
+/// The deposit alone.
+fn no_lies() -> [(Asked, &'static str); 1] {
+    [((BEGIN + 7, deposit(1)), "ok")]
+}
+
+/// The record of the first item after these exchanges, over a store of which so many answers are lies
+/// at first.
+fn record_after(
+    rt: &impl Abort,
+    alloc: Global,
+    lies: u64,
+    exchanges: &[(Asked, &str)],
+) -> Result<Sequence<u8>, Fail> {
+    let mut repo = archive(alloc, 0, lies)?;
+    assert_outcomes(rt, alloc, &mut repo, exchanges)?;
+    let Reply::Page(page) = repo.ask(NEXT_DAY, record(1).as_bytes())?;
+    Ok(page)
+}
+
+/// Once the store lies no more, the item is there as it was.
+#[test]
+fn damage_changes_nothing(rt: HostRuntime) -> Result<(), Fail> {
+    let page = record_after(&rt, rt.alloc(), 4, &four_lies())?;
+    let wanted = record_after(&rt, rt.alloc(), 0, &no_lies())?;
+    assert_eq!(rt; page.as_slice(), wanted.as_slice());
+    Ok(())
+}
+
+/// A new item, one in its place at the same datestamp and at another, lists, a deletion, and what it
+/// leaves.
+fn all_kinds() -> [Asked; 8] {
+    [
+        (BEGIN, deposit(1)),
+        (BEGIN, deposit(1)),
+        (NEXT_DAY, deposit(1)),
+        (NEXT_DAY, headers()),
+        (NEXT_DAY, records()),
+        (NEXT_DAY + 1, deletion(1)),
+        (NEXT_DAY + 1, record(1)),
+        (NEXT_DAY + 1, formats()),
+    ]
+}
+
+/// Each exchange comes to something over a store that lies after so many answers.
+fn assert_returns(alloc: Global, truths: u64) -> Result<(), Fail> {
+    let mut repo = archive(alloc, truths, ALWAYS)?;
+    for asked in all_kinds() {
+        outcome(alloc, &mut repo, asked)?;
+    }
+    Ok(())
+}
+
+/// Wherever the lies begin, each call returns, with an answer or with damage.
+#[test]
+fn each_call_returns(rt: HostRuntime) -> Result<(), Fail> {
+    for truths in 0..16 {
+        assert_returns(rt.alloc(), truths)?;
+    }
+    Ok(())
+}
