@@ -42,6 +42,13 @@ impl Filter {
         }
     }
 
+    /// The metadataPrefix.
+    pub fn prefix(&self) -> &Prefix
+        ensures { result.now ≡ self.now.prefix }
+    {
+        &self.prefix
+    }
+
     /// An equal filter. The error is want of memory.
     pub fn copy(&self, alloc: Global) -> Result<Filter, AllocError>
         ensures { IfOk result (λ copy. copy ≡ self.now) }

@@ -1,3 +1,4 @@
 pub mod Stops
 pub mod Tables
 pub mod Ends
+pub mod TokensRead

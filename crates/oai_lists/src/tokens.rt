@@ -1,11 +1,12 @@
 ghost use Rattle.std.specs.Prelude.{◌≡◌, ◌<◌, ◌^◌, ◌++◌, ℕ, Some, decimal, IfOk, IfSome, OnOk};
 ghost use Rattle.std.specs.Str.{bytes_eq};
 ghost use Rattle.oai_lists.specs.declared.tokens.Token.{Token as TokenData};
-ghost use Rattle.oai_lists.specs.Tokens.{AreNumbers, IsToken, token_text};
+ghost use Rattle.oai_lists.specs.Tokens.{AreNumbers, IsToken, token_of, token_text};
 
 use itoa::Buffer;
 use oai_names::Sequence;
 use std::alloc::{AllocError, Global};
+use std::fmt;
 
 /// What a resumption token says (OAI-PMH 2.0, section 3.5).
 #[derive(Clone, Copy, Debug, PartialEq, Eq)]
@@ -22,6 +23,7 @@ impl Token {
     pub fn read(text: &str) -> Option<Token>
         ensures found { IfSome result (λ token. IsToken text.now token) }
         ensures only { (token : TokenData) → IsToken text.now token → result ≡ Some token }
+        ensures read { result ≡ token_of text.now }
     {
         match text.split_once('.') {
             Some((list, cursor)) => read_numbers(list, cursor),
@@ -39,6 +41,16 @@ impl Token {
         text.push(b'.')?;
         write_number(self.cursor, &mut text)?;
         Ok(Sequence::new(text))
+    }
+}
+
+/// The text of the token.
+impl fmt::Display for Token {
+    ghost output = { λ token. Some (token_text token) };
+
+    #[tactic(auto, unfolding(crate::specs::Tokens::token_text))]
+    fn fmt<W: fmt::Write>(&self, f: &mut fmt::Formatter<W>) -> fmt::Result {
+        write!(f, "{}.{}", self.list, self.cursor)
     }
 }
 

@@ -14,7 +14,7 @@ use Rattle.oai_repo.specs.Changes.{refusal_of, after_deletion, dead_refusal, mis
 use Rattle.oai_repo.specs.Config.{Config}
 use Rattle.oai_repo.specs.Kept.{AreKept}
 use Rattle.oai_repo.specs.Machine.{act, act_on_change, accepted, changing, refused}
-use Rattle.oai_repo.specs.State.{State, Holdings, NamedSet}
+use Rattle.oai_repo.specs.State.{State, Holdings, NamedSet, OpenLists}
 use Rattle.oai_repo.specs.Workings.{IsDone, IsMade}
 use Rattle.oai_repo.specs.declared.refusals.Refusal.{Refusal}
 use Rattle.oai_repo.specs.declared.refusals.Refusal.TheVariants as refusal
@@ -84,16 +84,16 @@ kept-made config stamp old asked (Err (refusal.Fault fault)) new made kept = rw 
 -- ---- the machine
 
 -- a change that is made at the clock
-pub act-made : (config : Config) (clock : ℤ) (old new : Holdings) (asked : Change) → IsMade config (stamp_at config clock) old asked (Ok tt) new
-    → act config (record { clock = clock; holdings = old }) (changing asked) ≡ (accepted (stamp_at config clock), record { clock = clock; holdings = new })
+pub act-made : (config : Config) (clock : ℤ) (old new : Holdings) (begun : OpenLists) (asked : Change) → IsMade config (stamp_at config clock) old asked (Ok tt) new
+    → act config (record { clock = clock; holdings = old; begun = begun }) (changing asked) ≡ (accepted (stamp_at config clock), record { clock = clock; holdings = new; begun = begun })
 unfolding act
-act-made config clock old new asked made =
-    ap (act_on_change config (record { clock = clock; holdings = old }) (stamp_at config clock) asked) made.0 ∙ rw made.1 refl
+act-made config clock old new begun asked made =
+    ap (act_on_change config (record { clock = clock; holdings = old; begun = begun }) (stamp_at config clock) asked) made.0 ∙ rw made.1 refl
 
 -- one that is refused
-pub act-refused : (config : Config) (clock : ℤ) (old new : Holdings) (asked : Change) (cause : ChangeRefusal)
+pub act-refused : (config : Config) (clock : ℤ) (old new : Holdings) (begun : OpenLists) (asked : Change) (cause : ChangeRefusal)
     → IsMade config (stamp_at config clock) old asked (Err (refusal.Refused cause)) new
-    → act config (record { clock = clock; holdings = old }) (changing asked) ≡ (refused (in_repository cause), record { clock = clock; holdings = new })
+    → act config (record { clock = clock; holdings = old; begun = begun }) (changing asked) ≡ (refused (in_repository cause), record { clock = clock; holdings = new; begun = begun })
 unfolding act
-act-refused config clock old new asked cause made =
-    ap (act_on_change config (record { clock = clock; holdings = old }) (stamp_at config clock) asked) made.0 ∙ rw made.1 refl
+act-refused config clock old new begun asked cause made =
+    ap (act_on_change config (record { clock = clock; holdings = old; begun = begun }) (stamp_at config clock) asked) made.0 ∙ rw made.1 refl

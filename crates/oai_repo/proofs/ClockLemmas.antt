@@ -1,5 +1,5 @@
 -- The clock of a repository stays within the years that it begins in.
-use Rattle.std.proofs.Common.{◌≡◌, Bool, true, ◌&&◌, ℤ, pos, neg_ℤ, arith, cond}
+use Rattle.std.proofs.Common.{rules, ◌≡◌, Bool, true, ◌&&◌, ℤ, pos, neg_ℤ, ◌<ℤ◌, ◌≤ℤ◌, FitsSigned, w64, arith, cond}
 use Rattle.std.specs.Prelude.{int_lt, not}
 use Rattle.std.specs.Int.{int_max, int_min}
 use Rattle.std.proofs.lemmas.Bool.{and_parts}
@@ -19,3 +19,10 @@ writable clock h = grind (arith, ints)
 
 pub in_years-tick : (clock moment : ℤ) → is_in_years clock ≡ true → is_in_years (tick clock moment) ≡ true
 in_years-tick clock moment h = grind (arith, ints)
+
+-- a clock is a number of 64 bits
+pub years_fit : (clock : ℤ) → is_in_years clock ≡ true → FitsSigned w64 clock
+years_fit clock h =
+    let below : clock <ℤ pos 9_223_372_036_854_775_808 = grind (arith, ints) in
+    let above : neg_ℤ (pos 9_223_372_036_854_775_808) ≤ℤ clock = grind (arith, ints) in
+    search (rules, below, above)

@@ -6,3 +6,13 @@ pub mod ChangeLemmas
 pub mod StepLemmas
 pub mod SelectionLemmas
 pub mod ShelfLemmas
+pub mod NumberLemmas
+pub mod EndLemmas
+pub mod BegunLemmas
+pub mod MoveLemmas
+pub mod PartLemmas
+pub mod EarliestLemmas
+pub mod CutLemmas
+pub mod TokenLemmas
+pub mod WaitLemmas
+pub mod NeighbourLemmas

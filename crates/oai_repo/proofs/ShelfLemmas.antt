@@ -1,5 +1,5 @@
 -- The notes of a shelf agree with its items after each change, and no list changes but its own.
-use Rattle.std.proofs.Common.{◌≡◌, ◌≢◌, ◌∙◌, ◌+◌, ◌⊎◌, inl, inr, ℕ, ℤ, Bool, true, false, not, eqb, cond, List, [], ◌∷◌, length, map, Option, None, Some, IsSome, Result, Ok, Err, OnOk, unwrap_or, refl, sym, ap, subst, arith}
+use Rattle.std.proofs.Common.{◌≡◌, ◌≢◌, ◌∙◌, ◌+◌, ◌⊎◌, inl, inr, ℕ, ℤ, Bool, true, false, not, eqb, cond, List, [], ◌∷◌, length, map, Option, None, Some, IsSome, is_some, Result, Ok, Err, OnOk, unwrap_or, refl, sym, ap, subst, arith}
 use Rattle.std.specs.Prelude.{filter, find}
 use Rattle.std.specs.BTreeMap.{BTreeMap, UpdatesBy, get_by_text, insert_entry, is_at}
 use Rattle.std.specs.Map.{lookup, remove_entry}
@@ -11,7 +11,7 @@ use Rattle.std.specs.String.{string_bytes, string_cmp}
 use Rattle.std.specs.declared.cmp.Ordering.{Ordering}
 use Rattle.std.specs.declared.cmp.Ordering.TheVariants.{Less, Equal, Greater}
 use Rattle.std.specs.declared.string.String.{String}
-use Rattle.std.proofs.lemmas.Bool.{cases_Bool, cond-true, cond-false, cond_both, eq-eqb, eqb-true, ne_eqb, true≢false}
+use Rattle.std.proofs.lemmas.Bool.{and_from, cases_Bool, cond-true, cond-false, cond_both, eq-eqb, eqb-true, ne_eqb, true≢false}
 use Rattle.std.proofs.lemmas.Map.Text.{btree_map_updates_text, is_eq-slice_cmp}
 use Rattle.std.proofs.lemmas.Slice.Eq.{bytes_eq-Decides}
 use Rattle.oai_names.specs.Names.{may_be_identifier}
@@ -21,12 +21,13 @@ use Rattle.oai_item.proofs.Named.{found_name, item_at-named, item_named-new, ite
 use Rattle.oai_item.proofs.OrderLemmas.{apart-changed, apart-filter}
 use Rattle.oai_catalogue.specs.Store.{Lists, list_at, with_given, with_list, without_given, without_list}
 use Rattle.oai_catalogue.proofs.ListsLemmas.{list_at-with, same_lists, stands-with, with_own}
+use Rattle.oai_lists.specs.OpenLists.{Table}
 use Rattle.oai_repo.specs.Changes.{with_new}
 use Rattle.oai_repo.specs.Config.{Config}
-use Rattle.oai_repo.specs.Held.{AreNoted, Held, IsNew, IsShelved, KeepsOthers, Shelf}
+use Rattle.oai_repo.specs.Held.{AreInUse, AreNoted, IsNew, IsShelved, Shelf}
 use Rattle.oai_repo.specs.Kept.{AreKept}
 use Rattle.oai_repo.specs.Notes.{Notes, noted, notes_in}
-use Rattle.oai_repo.specs.State.{NamedSet, State}
+use Rattle.oai_repo.specs.State.{NamedSet, State, none_begun}
 use Rattle.oai_repo.specs.Workings.{IsMoved, IsNoting}
 use Rattle.oai_repo.proofs.KeptLemmas.{kept-none, length-placed}
 
@@ -283,21 +284,6 @@ moved_to v w before after unused is = record { lists = is; number = inr unused }
 pub stands_moved : (v w : ℕ) (before after : Lists) → IsMoved v before w after → IsSome (after w)
 stands_moved v w before after moved = subst (λ (o : Option (List ItemState)). IsSome o) (sym (ap (λ (lists : Lists). lists w) moved.lists)) (stands-with w (list_at after w) (without_list v before))
 
--- and the lists of others are as they were
-pub others_kept : (old new : Held) (before after : Lists) → IsMoved old.shelf.version before new.shelf.version after → KeepsOthers old before new after
-others_kept old new before after moved =
-    let v = old.shelf.version in
-    let w = new.shelf.version in
-    let kept = list_at after w in
-    record {
-      others = λ n a b. ap (λ (lists : Lists). lists n) moved.lists ∙ cond-false (eqb n w) (Some kept) (without_list v before n) b ∙ cond-false (eqb n v) None (before n) a;
-      given_up = λ n a b. ap (λ (lists : Lists). lists n) moved.lists ∙ cond-false (eqb n w) (Some kept) (without_list v before n) b ∙ cond-true (eqb n v) None (before n) a;
-      taken = λ n a b. elim moved.number [
-        | inl same ↦ absurd (true≢false (sym (eq-eqb n v (eqb-true n w b ∙ same)) ∙ a))
-        | inr unused ↦ ap before (eqb-true n w b) ∙ unused
-      ];
-    }
-
 -- ---- a new repository
 
 no_items : (config : Config) (v : ℕ) (before after : Lists) → after ≡ with_list v [] before → list_at after v ≡ []
@@ -315,16 +301,25 @@ new_held config v before after listed =
       kept = subst (λ (items : List ItemState). AreKept config (record { items = items; sets = [] })) (sym none) (kept-none config);
     }
 
-pub is_new : (config : Config) (clock : ℤ) (shelf : Shelf) (sets : List NamedSet) (v : ℕ) (before after : Lists) → clock ≡ config.earliest → shelf ≡ record { version = v; notes = [] } → sets ≡ []
-    → before v ≡ None → after ≡ with_list v [] before → IsNew config before (record { config = config; clock = clock; shelf = shelf; sets = sets }) after
-is_new config clock shelf sets v before after begins bare none unused listed =
-    rw (begins, bare, none) (record {
+-- the number alone is in use
+new_stands : (v : ℕ) (before after : Lists) → after ≡ with_list v [] before → AreInUse (v ∷ []) after
+new_stands v before after listed =
+    let there : is_some (after v) ≡ true = ap is_some (ap (λ (lists : Lists). lists v) listed ∙ cond-true (eqb v v) (Some []) (before v) (eq-eqb v v refl)) in
+    record { used = and_from (is_some (after v)) true there refl; apart = refl }
+
+pub is_new : (config : Config) (clock : ℤ) (shelf : Shelf) (sets : List NamedSet) (table : Table) (v : ℕ) (before after : Lists)
+    → clock ≡ config.earliest → shelf ≡ record { version = v; notes = [] } → sets ≡ [] → table ≡ record { limit = config.lists; next = 1; lists = [] }
+    → before v ≡ None → after ≡ with_list v [] before → IsNew config before (record { config = config; clock = clock; shelf = shelf; sets = sets; table = table }) after
+is_new config clock shelf sets table v before after begins bare none empty unused listed =
+    rw (begins, bare, none, empty) (record {
       configured = refl;
+      alone = refl;
       unused = unused;
       listed = listed;
       empty = ap (λ (items : List ItemState). state_with config items) (no_items config v before after listed);
-      held = new_held config v before after listed;
+      held = record { shelved = new_held config v before after listed; counted = refl };
+      stands = new_stands v before after listed;
     })
   where
     state_with : Config → List ItemState → State
-    state_with c items = record { clock = c.earliest; holdings = record { items = items; sets = [] } }
+    state_with c items = record { clock = c.earliest; holdings = record { items = items; sets = [] }; begun = none_begun }

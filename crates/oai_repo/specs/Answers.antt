@@ -76,49 +76,6 @@ filter_of prefix from until set = record {
   set = set;
 }
 
--- these items as one page, with nothing behind it
-abbrev pub whole_page : Config → List ItemState → Page
-whole_page config items = record { items = items; granularity = config.granularity; continuation = whole }
-
--- the items in the format, where there are any, as the verb lists them (sections 4.3 and 4.5). Lists of sets have a verb of their own
-abbrev pub listed : Config → ListVerb → Format → List ItemState → Answer
-listed config verb format [] = fails NoRecordsMatch
-listed config list.Identifiers format (item ∷ items) = lists_headers (whole_page config (item ∷ items))
-listed config list.Records format (item ∷ items) = lists_records format (whole_page config (item ∷ items))
-listed config list.Sets format (item ∷ items) = fails BadVerb
-
--- the same, where the repository has the format
-abbrev pub listed_in : Config → ListVerb → Option Format → List ItemState → Answer
-listed_in config verb None items = fails CannotDisseminateFormat
-listed_in config verb (Some format) items = listed config verb format items
-
--- there are no sets
-abbrev pub has_no_sets : List NamedSet → Bool
-has_no_sets [] = true
-has_no_sets (set ∷ sets) = false
-
--- ListIdentifiers and ListRecords of these items, which were selected: a set is asked for only where there are sets
-abbrev pub list_answer : Config → List NamedSet → ListVerb → List ℕ → Option (List ℕ) → List ItemState → Answer
-list_answer config sets verb prefix set items =
-    if is_some set && has_no_sets sets then fails NoSetHierarchy
-    else listed_in config verb (format_named prefix config.formats) items
-
--- the answer to a request that is well-formed. No list is cut, so no resumptionToken continues one (section 3.5)
-abbrev pub answer_to_ask : Config → Holdings → Ask → Answer
-answer_to_ask config holdings ask.Identify = identifies (description config)
-answer_to_ask config holdings (ask.Formats identifier) = formats_answer config holdings.items identifier
-answer_to_ask config holdings ask.Sets = sets_answer holdings.sets
-answer_to_ask config holdings (ask.Get identifier prefix) = record_answer config (item_named identifier holdings.items) prefix
-answer_to_ask config holdings (ask.List verb prefix from until set) =
-    list_answer config holdings.sets verb prefix set (selected (filter_of prefix from until set) holdings.items)
-answer_to_ask config holdings (ask.Resume verb token) = fails BadResumptionToken
-
--- the answer to a request
-abbrev pub answer_to : Config → Holdings → AskOrError → Answer
-answer_to config holdings bad_verb = fails BadVerb
-answer_to config holdings bad_argument = fails BadArgument
-answer_to config holdings (asks ask) = answer_to_ask config holdings ask
-
 -- the verb alone
 abbrev pub asked_for : List ℕ → Attributes
 asked_for verb = record no_arguments { verb = Some verb }
@@ -138,11 +95,6 @@ arguments_of_request (asks ask) = arguments_of_ask ask
 arguments_of_request bad_verb = no_arguments
 arguments_of_request bad_argument = no_arguments
 
--- the document that answers a request at the state's clock
-abbrev pub document_at : Config → State → AskOrError → Document
-document_at config state request = record {
-  date = state.clock;
-  base = config.base;
-  asked = arguments_of_request request;
-  answer = answer_to config state.holdings request;
-}
+-- the document that tells an answer at that clock
+abbrev pub document_of : Config → ℤ → Attributes → Answer → Document
+document_of config clock asked answer = record { date = clock; base = config.base; asked = asked; answer = answer }

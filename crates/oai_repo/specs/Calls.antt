@@ -11,18 +11,24 @@ use Rattle.oai_time.specs.Clock.{tick}
 use Rattle.oai_repo.specs.Changes.{deposit_refusal, missing_refusal, set_refusal}
 use Rattle.oai_repo.specs.Config.{Config}
 use Rattle.oai_repo.specs.Held.{Held, holdings_of, state_of}
-use Rattle.oai_repo.specs.Machine.{act_at, accepted, changing, query, refused, step}
+use Rattle.oai_repo.specs.Machine.{Told, act_at, accepted, bytes, changing, query, refused, step, wait}
 use Rattle.oai_repo.specs.State.{Holdings}
 use Rattle.oai_repo.specs.declared.refusals.Refusal.{Refusal}
 use Rattle.oai_repo.specs.declared.refusals.Refusal.TheVariants as refusal
-use Rattle.oai_repo.specs.declared.repo.Reply.{Reply}
-use Rattle.oai_repo.specs.declared.repo.Reply.TheVariants.{Page}
+use Rattle.oai_repo.specs.declared.replies.Reply.{Reply}
+use Rattle.oai_repo.specs.declared.replies.Reply.TheVariants.{Later, Page}
 
 -- ---- what is answered, over an honest store
 
+-- what a reply tells
+abbrev pub told_in : Reply → Told
+told_in (Page page) = bytes page
+told_in (Later seconds) = wait seconds
+
 -- a request was performed: it is a step
 abbrev pub IsAsked : Held → Lists → ℤ → List ℕ → Reply → Held → Lists → Type 0
-IsAsked old before moment bytes (Page page) new after = step old.config (state_of old before) moment (query bytes) ≡ (page, state_of new after)
+IsAsked old before moment arguments reply new after =
+    step old.config (state_of old before) moment (query arguments) ≡ (told_in reply, state_of new after)
 
 -- the causes among these that are looked for before any memory is taken and anything is read
 abbrev pub early_refusal : Config → Holdings → Change → Option ChangeRefusal

@@ -8,8 +8,10 @@ pub mod Notes
 pub mod Held
 pub mod Changes
 pub mod Answers
+pub mod Listing
 pub mod Machine
 pub mod Calls
 pub mod Inside
+pub mod Tables
 pub mod Found
 pub mod Workings

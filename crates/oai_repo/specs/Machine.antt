@@ -9,11 +9,12 @@ use Rattle.oai_item.specs.declared.refusals.ChangeRefusal.{ChangeRefusal}
 use Rattle.oai_args.specs.Asks.{AskOrError}
 use Rattle.oai_args.specs.Pairs.{decoded_pairs}
 use Rattle.oai_args.specs.Requests.{request_of}
-use Rattle.oai_answers.specs.Answers.{Document}
+use Rattle.oai_answers.specs.Answers.{Attributes, Document}
 use Rattle.oai_answers.specs.Documents.{document}
-use Rattle.oai_repo.specs.Answers.{document_at}
+use Rattle.oai_repo.specs.Answers.{arguments_of_request, document_of}
 use Rattle.oai_repo.specs.Changes.{changed, refusal_of, stamp_at}
 use Rattle.oai_repo.specs.Config.{Config}
+use Rattle.oai_repo.specs.Listing.{Said, answer_to, says, waits}
 use Rattle.oai_repo.specs.State.{State, moved}
 
 -- ---- what is done
@@ -24,9 +25,11 @@ pub data Command : Type 0 where
   changing : Change → Command
   refusing : LineRefusal → Command
 
--- what a command is answered: a document; or of a line that it was accepted, with a datestamp in seconds from 1970 on, or why not
+-- what a command is answered: a document, or how many seconds to wait; or of a line that it was accepted, with a datestamp in seconds
+-- from 1970 on, or why not
 pub data Outcome : Type 0 where
   documented : Document → Outcome
+  later : ℤ → Outcome
   accepted : ℤ → Outcome
   refused : Cause → Outcome
 
@@ -35,9 +38,17 @@ abbrev pub act_on_change : Config → State → ℤ → Change → Option Change
 act_on_change config state stamp change (Some cause) = (refused (in_repository cause), state)
 act_on_change config state stamp change None = (accepted stamp, record state { holdings = changed config stamp state.holdings change })
 
--- what a command is answered at the state's clock, and the state that it leaves. Only a change that is not refused leaves another
+-- what was said to a request, with its arguments, at that clock
+abbrev pub outcome_of : Config → ℤ → Attributes → Said → Outcome
+outcome_of config clock asked (says answer) = documented (document_of config clock asked answer)
+outcome_of config clock asked (waits seconds) = later seconds
+
+-- what a command is answered at the state's clock, and the state that it leaves. A request leaves other lists open where it begins
+-- one or continues one; of changes only one that is not refused leaves another state
 unfoldable pub act : Config → State → Command → Outcome × State
-act config state (asking request) = (documented (document_at config state request), state)
+act config state (asking request) =
+    let done = answer_to config state request in
+    (outcome_of config state.clock (arguments_of_request request) done.0, record state { begun = done.1 })
 act config state (changing change) =
     let stamp = stamp_at config state.clock in act_on_change config state stamp change (refusal_of config stamp state.holdings change)
 act config state (refusing cause) = (refused (in_line cause), state)
@@ -51,15 +62,21 @@ pub data Input : Type 0 where
 
 -- the command that it is, in a repository of the granularity
 abbrev pub command_of : Granularity → Input → Command
-command_of granularity (query bytes) = asking (request_of granularity (decoded_pairs bytes))
+command_of granularity (query arguments) = asking (request_of granularity (decoded_pairs arguments))
 command_of granularity (line (Ok change)) = changing change
 command_of granularity (line (Err cause)) = refusing cause
 
--- the bytes of an answer: a document, or a line without its end
-unfoldable pub written : Granularity → Outcome → List ℕ
-written granularity (documented answer) = document answer
-written granularity (accepted stamp) = codes "ok " ++ datestamp_text granularity stamp
-written granularity (refused cause) = refusal_line cause
+-- what is told: bytes, or how many seconds to wait
+pub data Told : Type 0 where
+  bytes : List ℕ → Told
+  wait : ℤ → Told
+
+-- what is told of an outcome: the bytes of a document, or of a line without its end
+unfoldable pub written : Granularity → Outcome → Told
+written granularity (documented answer) = bytes (document answer)
+written granularity (later seconds) = wait seconds
+written granularity (accepted stamp) = bytes (codes "ok " ++ datestamp_text granularity stamp)
+written granularity (refused cause) = bytes (refusal_line cause)
 
 -- ---- a step
 
@@ -67,7 +84,7 @@ written granularity (refused cause) = refusal_line cause
 abbrev pub act_at : Config → State → ℤ → Command → Outcome × State
 act_at config state moment command = act config (moved moment state) command
 
--- the same with the bytes of the answer
-abbrev pub step : Config → State → ℤ → Input → List ℕ × State
+-- the same with what is told of the outcome
+abbrev pub step : Config → State → ℤ → Input → Told × State
 step config state moment input =
     let done = act_at config state moment (command_of config.granularity input) in (written config.granularity done.0, done.1)

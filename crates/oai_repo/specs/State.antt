@@ -1,6 +1,7 @@
 -- The state of a repository, which is all that its answers depend on beside its configuration: this
 -- repository's own view of OAI-PMH 2.0, sections 2.3 to 2.7.
-use Rattle.std.specs.Prelude.{ℕ, ℤ, List, []}
+use Rattle.std.specs.Prelude.{ℕ, ℤ, Bool, int_lt, List, [], filter}
+use Rattle.oai_names.specs.declared.list_verbs.ListVerb.{ListVerb}
 use Rattle.oai_time.specs.Clock.{tick}
 use Rattle.oai_item.specs.Item.{ItemState}
 use Rattle.oai_repo.specs.Config.{Config}
@@ -15,19 +16,50 @@ pub record Holdings : Type 0 where
   pub items : List ItemState
   pub sets : List NamedSet
 
--- the clock, in seconds from 1970 on, and what the repository holds
+-- a list that was begun to be answered and that tokens continue (section 3.5): its number, the verb and the prefix that were
+-- asked for, all items that were selected, as they were, and the moment from which on it is open no more, in seconds from 1970 on
+pub record FrozenList : Type 0 where
+  pub number : ℕ
+  pub verb : ListVerb
+  pub prefix : List ℕ
+  pub items : List ItemState
+  pub end : ℤ
+
+-- the lists that are open, in the order in which they were begun, and the number of the next
+pub record OpenLists : Type 0 where
+  pub lists : List FrozenList
+  pub next : ℕ
+
+-- the clock, in seconds from 1970 on, what the repository holds, and its open lists
 pub record State : Type 0 where
   pub clock : ℤ
   pub holdings : Holdings
+  pub begun : OpenLists
 
 -- no item and no set
 abbrev pub no_holdings : Holdings
 no_holdings = record { items = []; sets = [] }
 
+-- no list is open, and the first gets the number 1
+abbrev pub none_begun : OpenLists
+none_begun = record { lists = []; next = 1 }
+
 -- a repository as it begins: the clock at the lower limit of its datestamps
 abbrev pub empty_state : Config → State
-empty_state config = record { clock = config.earliest; holdings = no_holdings }
+empty_state config = record { clock = config.earliest; holdings = no_holdings; begun = none_begun }
+
+-- a list is open exactly while its end is above the clock
+abbrev pub is_open_at : ℤ → FrozenList → Bool
+is_open_at clock list = int_lt clock list.end
+
+-- those of the lists that are open at that clock
+abbrev pub still_open : ℤ → OpenLists → OpenLists
+still_open clock begun = record begun { lists = filter (is_open_at clock) begun.lists }
+
+-- the state at that clock, at which lists may have ended
+abbrev pub at_clock : ℤ → State → State
+at_clock clock state = record state { clock = clock; begun = still_open clock state.begun }
 
 -- the state as a command at that moment finds it
 abbrev pub moved : ℤ → State → State
-moved moment state = record state { clock = tick state.clock moment }
+moved moment state = at_clock (tick state.clock moment) state

@@ -31,11 +31,15 @@ pub(crate) fn make<V: Versions>(
 ) -> Result<(), Refusal>
     requires stamped { IsStamp stamp }
     requires stands { IsSome (V.lists store.old shelf.old.version) }
-    requires held { IsTrue (V.honest store.old) → IsShelved config.now shelf.old sets.old (V.lists store.old) }
+    requires held { IsTrue (V.honest store.old) → IsShelved config.now shelf.old sets.old
+        (V.lists store.old) }
     ensures made { IsTrue (V.honest store.old)
-        → IsMade config.now stamp (holdings_of shelf.old sets.old (V.lists store.old)) change.now result (holdings_of shelf.new sets.new (V.lists store.new)) }
-    ensures held { IsTrue (V.honest store.old) → IsShelved config.now shelf.new sets.new (V.lists store.new) }
-    ensures moved { IsMoved shelf.old.version (V.lists store.old) shelf.new.version (V.lists store.new) }
+        → IsMade config.now stamp (holdings_of shelf.old sets.old (V.lists store.old)) change.now
+        result (holdings_of shelf.new sets.new (V.lists store.new)) }
+    ensures held { IsTrue (V.honest store.old) → IsShelved config.now shelf.new sets.new
+        (V.lists store.new) }
+    ensures moved { IsMoved shelf.old.version (V.lists store.old) shelf.new.version
+        (V.lists store.new) }
     ensures err { OnErr result (shelf.new ≡ shelf.old) }
     ensures err_sets { OnErr result (sets.new ≡ sets.old) }
     ensures err_lists { OnErr result (V.lists store.new ≡ V.lists store.old) }
@@ -65,7 +69,8 @@ pub(crate) fn make<V: Versions>(
 /// Adds the set as the last one, or refuses it by the first cause.
 #[tactic(auto, unfolding(crate::specs::Changes::set_refusal))]
 fn add_set(sets: &mut SetTree, set: &SetSpec, name: &str) -> Result<(), Refusal>
-    ensures done { IsDone (set_refusal sets.old set.now) None sets.old (sets.old ++ (set.now, name.now) ∷ []) result sets.new }
+    ensures done { IsDone (set_refusal sets.old set.now) None sets.old
+        (sets.old ++ (set.now, name.now) ∷ []) result sets.new }
     ensures err { OnErr result (sets.new ≡ sets.old) }
     ensures memory { IfErr (fault_in result) (λ f. f ≡ fault.NoMemory) }
 {

@@ -31,12 +31,19 @@ pub(crate) fn delete<V: Versions>(
 ) -> Result<(), Refusal>
     requires stamped { IsStamp stamp }
     requires stands { IsSome (V.lists store.old shelf.old.version) }
-    requires agrees { IsTrue (V.honest store.old) → AreNoted shelf.old.notes (items_on shelf.old (V.lists store.old)) }
-    requires small { IsTrue (V.honest store.old) → list_all (λ item. not (is_too_large item)) (items_on shelf.old (V.lists store.old)) ≡ true }
-    ensures done { IsTrue (V.honest store.old) → (let items = items_on shelf.old (V.lists store.old) in let found = item_named identifier.now items in
-        IsDone (missing_refusal found) (dead_refusal found) items (after_deletion policy stamp identifier.now items) result (items_on shelf.new (V.lists store.new))) }
-    ensures agrees { IsTrue (V.honest store.old) → AreNoted shelf.new.notes (items_on shelf.new (V.lists store.new)) }
-    ensures moved { IsMoved shelf.old.version (V.lists store.old) shelf.new.version (V.lists store.new) }
+    requires agrees { IsTrue (V.honest store.old) → AreNoted shelf.old.notes
+        (items_on shelf.old (V.lists store.old)) }
+    requires small { IsTrue (V.honest store.old) → list_all
+        (λ item. not (is_too_large item)) (items_on shelf.old (V.lists store.old)) ≡ true }
+    ensures done { IsTrue (V.honest store.old) → (let items = items_on shelf.old (V.lists store.old)
+        in let found = item_named identifier.now items in
+        IsDone (missing_refusal found) (dead_refusal found) items
+        (after_deletion policy stamp identifier.now items) result
+        (items_on shelf.new (V.lists store.new))) }
+    ensures agrees { IsTrue (V.honest store.old) → AreNoted shelf.new.notes
+        (items_on shelf.new (V.lists store.new)) }
+    ensures moved { IsMoved shelf.old.version (V.lists store.old) shelf.new.version
+        (V.lists store.new) }
     ensures err { OnErr result (shelf.new ≡ shelf.old) }
     ensures err_lists { OnErr result (V.lists store.new ≡ V.lists store.old) }
     ensures device { IsCounted (fault_in result) (V.failures store.old) (V.failures store.new) }
@@ -65,12 +72,17 @@ fn bury<V: Versions>(
 ) -> Result<(), Fault>
     requires stamped { IsStamp stamp }
     requires stands { IsSome (V.lists store.old shelf.old.version) }
-    requires agrees { IsTrue (V.honest store.old) → AreNoted shelf.old.notes (items_on shelf.old (V.lists store.old)) }
+    requires agrees { IsTrue (V.honest store.old) → AreNoted shelf.old.notes
+        (items_on shelf.old (V.lists store.old)) }
     requires small { IsTrue (V.honest store.old) → not (is_too_large item.now) ≡ true }
-    requires there { IsTrue (V.honest store.old) → item_named item.now.identifier (items_on shelf.old (V.lists store.old)) ≡ Some item.now }
-    ensures list { OnOk result (IsTrue (V.honest store.old) → items_on shelf.new (V.lists store.new) ≡ with_new (tombstone_of stamp item.now) (items_on shelf.old (V.lists store.old))) }
-    ensures agrees { OnOk result (IsTrue (V.honest store.old) → AreNoted shelf.new.notes (items_on shelf.new (V.lists store.new))) }
-    ensures moved { IsMoved shelf.old.version (V.lists store.old) shelf.new.version (V.lists store.new) }
+    requires there { IsTrue (V.honest store.old) → item_named item.now.identifier
+        (items_on shelf.old (V.lists store.old)) ≡ Some item.now }
+    ensures list { OnOk result (IsTrue (V.honest store.old) → items_on shelf.new (V.lists store.new)
+        ≡ with_new (tombstone_of stamp item.now) (items_on shelf.old (V.lists store.old))) }
+    ensures agrees { OnOk result (IsTrue (V.honest store.old)
+        → AreNoted shelf.new.notes (items_on shelf.new (V.lists store.new))) }
+    ensures moved { IsMoved shelf.old.version (V.lists store.old) shelf.new.version
+        (V.lists store.new) }
     ensures err { OnErr result (shelf.new ≡ shelf.old) }
     ensures err_lists { OnErr result (V.lists store.new ≡ V.lists store.old) }
     ensures device { IsCounted result (V.failures store.old) (V.failures store.new) }

@@ -47,14 +47,20 @@ pub(crate) fn put_deposit<V: Versions>(
 ) -> Result<(), Refusal>
     requires stamped { IsStamp stamp }
     requires stands { IsSome (V.lists store.old shelf.old.version) }
-    requires agrees { IsTrue (V.honest store.old) → AreNoted shelf.old.notes (items_on shelf.old (V.lists store.old)) }
-    ensures done { IsTrue (V.honest store.old) → (let items = items_on shelf.old (V.lists store.old) in
-        let item = live_item deposit.now.identifier.now stamp (reduced deposit.now.sets.now) deposit.now.records.now in
-        IsDone (spec.deposit_refusal config.now sets.now deposit.now.sets.now deposit.now.records.now)
+    requires agrees { IsTrue (V.honest store.old) → AreNoted shelf.old.notes
+        (items_on shelf.old (V.lists store.old)) }
+    ensures done { IsTrue (V.honest store.old) → (let items = items_on shelf.old (V.lists store.old)
+        in
+        let item = live_item deposit.now.identifier.now stamp (reduced deposit.now.sets.now)
+        deposit.now.records.now in
+        IsDone (spec.deposit_refusal config.now sets.now deposit.now.sets.now
+        deposit.now.records.now)
         (spec.item_refusal config.now (item_named item.identifier items) (length items) item)
         items (spec.with_new item items) result (items_on shelf.new (V.lists store.new))) }
-    ensures agrees { IsTrue (V.honest store.old) → AreNoted shelf.new.notes (items_on shelf.new (V.lists store.new)) }
-    ensures moved { IsMoved shelf.old.version (V.lists store.old) shelf.new.version (V.lists store.new) }
+    ensures agrees { IsTrue (V.honest store.old) → AreNoted shelf.new.notes
+        (items_on shelf.new (V.lists store.new)) }
+    ensures moved { IsMoved shelf.old.version (V.lists store.old) shelf.new.version
+        (V.lists store.new) }
     ensures err { OnErr result (shelf.new ≡ shelf.old) }
     ensures err_lists { OnErr result (V.lists store.new ≡ V.lists store.old) }
     ensures device { IsCounted (fault_in result) (V.failures store.old) (V.failures store.new) }
@@ -84,12 +90,17 @@ fn put_item<V: Versions>(
     item: &Item,
 ) -> Result<(), Refusal>
     requires stands { IsSome (V.lists store.old shelf.old.version) }
-    requires agrees { IsTrue (V.honest store.old) → AreNoted shelf.old.notes (items_on shelf.old (V.lists store.old)) }
-    ensures done { IsTrue (V.honest store.old) → (let items = items_on shelf.old (V.lists store.old) in
-        IsDone None (spec.item_refusal config.now (item_named item.now.identifier items) (length items) item.now)
+    requires agrees { IsTrue (V.honest store.old) → AreNoted shelf.old.notes
+        (items_on shelf.old (V.lists store.old)) }
+    ensures done { IsTrue (V.honest store.old) → (let items = items_on shelf.old (V.lists store.old)
+        in
+        IsDone None (spec.item_refusal config.now (item_named item.now.identifier items)
+        (length items) item.now)
         items (spec.with_new item.now items) result (items_on shelf.new (V.lists store.new))) }
-    ensures agrees { IsTrue (V.honest store.old) → AreNoted shelf.new.notes (items_on shelf.new (V.lists store.new)) }
-    ensures moved { IsMoved shelf.old.version (V.lists store.old) shelf.new.version (V.lists store.new) }
+    ensures agrees { IsTrue (V.honest store.old) → AreNoted shelf.new.notes
+        (items_on shelf.new (V.lists store.new)) }
+    ensures moved { IsMoved shelf.old.version (V.lists store.old) shelf.new.version
+        (V.lists store.new) }
     ensures err { OnErr result (shelf.new ≡ shelf.old) }
     ensures err_lists { OnErr result (V.lists store.new ≡ V.lists store.old) }
     ensures device { IsCounted (fault_in result) (V.failures store.old) (V.failures store.new) }
@@ -135,7 +146,8 @@ fn item_refusal(
     count: u64,
     item: &Item,
 ) -> Option<ChangeRefusal>
-    ensures cause { result ≡ spec.item_refusal config.now (option_copied replaced.entry) count item.now }
+    ensures cause { result ≡ spec.item_refusal config.now (option_copied replaced.entry) count
+        item.now }
     ensures fits { result ≡ None → length (encoded item.now) ≤ MOST_ITEM_BYTES }
 {
     if drops_format(replaced, item) {
@@ -191,11 +203,11 @@ fn have_known_fields(formats: &Formats, records: &[Record]) -> bool
 }
 
 /// Whether each field of the record is one of its format's.
-fn has_known_fields(formats: &Formats, record: &Record) -> bool
-    ensures { result ≡ has_known_fields formats.now record.now }
+fn has_known_fields(formats: &Formats, made: &Record) -> bool
+    ensures { result ≡ has_known_fields formats.now made.now }
 {
-    match formats.find_named(record.0.as_str()) {
-        Some(format) => are_fields_of(format, record.1.as_slice()),
+    match formats.find_named(made.0.as_str()) {
+        Some(format) => are_fields_of(format, made.1.as_slice()),
         None => true,
     }
 }
@@ -226,7 +238,8 @@ fn drops_format(replaced: Option<&Item>, item: &Item) -> bool
 
 /// Whether the item has a record in each format of the other one.
 fn has_each_format(item: &Item, other: &Item) -> bool
-    ensures { result ≡ list_all (λ (metadata : Metadata). has_record metadata.0 item.now.formats) other.now.formats }
+    ensures { result ≡ list_all (λ (metadata : Metadata). has_record metadata.0 item.now.formats)
+        other.now.formats }
 {
     other
         .formats()

@@ -1,37 +1,38 @@
-ghost use Rattle.std.specs.Prelude.{◌≡◌, ◌≤◌, true, IfOk, IsTrue, OnErr};
-ghost use Rattle.oai_time.specs.Clock.{tick};
+ghost use Rattle.std.specs.Prelude.{◌≡◌, ◌≤◌, ◌≤ℤ◌, true, IfOk, IsTrue, OnErr};
 ghost use Rattle.oai_time.specs.Stamp.{IsWritable};
 ghost use Rattle.oai_catalogue.specs.Store.{IsCounted, IsHonest};
 ghost use Rattle.oai_repo.specs.Calls.{IsAsked, IsChanged, IsLeft, fault_in};
 ghost use Rattle.oai_repo.specs.Config.{is_in_years};
-ghost use Rattle.oai_repo.specs.Held.{IsHeld, IsNew, KeepsOthers, StandsIn};
+ghost use Rattle.oai_repo.specs.Held.{IsHeld, IsNew, KeepsOthers, StandsIn, numbers_of, state_of};
+ghost use Rattle.oai_repo.specs.State.{at_clock, moved};
 
-use crate::answers::page_at;
 use crate::changes::make;
 use crate::config::RepoConfig;
 use crate::refusals::Refusal;
+use crate::replies::Reply;
+use crate::requests::reply_at;
 use crate::shelves::Shelf;
 use crate::snapshots::Snapshot;
+use crate::tables::drop_ended;
 use oai_catalogue::Versions;
 use oai_item::{Change, Fault};
-use oai_names::{Sequence, SetTree};
+use oai_lists::Lists;
+use oai_names::SetTree;
 use oai_time::{Clock, stamp};
 use std::alloc::Global;
 use std::marker::Model;
 
-/// What a request is answered.
-#[derive(Debug, Drop)]
-pub enum Reply {
-    /// The bytes of an XML document.
-    Page(Sequence<u8>),
-}
+/// The number of a repository's first list.
+const FIRST_NUMBER: u64 = 1;
 
-/// One repository: its configuration, its clock, where its items stand in a store, and its sets.
+/// One repository: its configuration, its clock, where its items stand in a store, its sets, and the
+/// lists that it has begun to answer.
 ///
-/// Its items are those of one version of the store that each call is given. A call has the condition
-/// that the repository's number is in use in the store, and that an honest store holds under it what
-/// the repository's own calls left there; each call keeps both. What is done to other versions of the
-/// store does not matter.
+/// Its items are those of one version of the store that each call is given, and each open list has a
+/// version of its own, in which the items stand as they did when the list began. A call has the
+/// condition that these numbers are in use in the store, no two of them equal, and that an honest store
+/// holds under them what the repository's own calls left there; each call keeps both. What is done to
+/// other versions of the store does not matter.
 #[derive(Debug, Drop)]
 pub struct Repo {
     alloc: Global,
@@ -39,11 +40,10 @@ pub struct Repo {
     clock: Clock,
     shelf: Shelf,
     sets: SetTree,
+    lists: Lists,
 }
 
 impl Model for Repo {
-    ghost use Rattle.std.specs.Prelude.{◌≡◌, true};
-    ghost use Rattle.oai_repo.specs.Config.{is_in_years};
     ghost use Rattle.oai_repo.specs.Held.{Held};
     ghost use Rattle.oai_repo.specs.Inside.{held_in};
 
@@ -51,7 +51,9 @@ impl Model for Repo {
 
     ghost view = { held_in };
 
-    ghost invariant = { λ repo. is_in_years repo.clock ≡ true };
+    ghost use Rattle.oai_repo.specs.Tables.{IsKept};
+
+    ghost invariant = { λ repo. IsKept repo.config repo.clock repo.lists };
 }
 
 impl Repo {
@@ -59,12 +61,14 @@ impl Repo {
     /// version of the store. What grows in it takes its memory from `alloc`. Any fault may come; the
     /// store then holds what it held.
     pub fn new<V: Versions>(alloc: Global, config: RepoConfig, store: &mut V) -> Result<Repo, Fault>
-        ensures new { IfOk result (λ repo. IsNew config (V.lists store.old) repo (V.lists store.new)) }
+        ensures new { IfOk result (λ repo. IsNew config (V.lists store.old) repo
+            (V.lists store.new)) }
         ensures err { OnErr result (V.lists store.new ≡ V.lists store.old) }
         ensures device { IsCounted result (V.failures store.old) (V.failures store.new) }
         ensures honesty { IsHonest result (V.honest store.old) (V.honest store.new) }
     {
         let clock = Clock::start(config.earliest());
+        let lists = Lists::new(alloc, config.lists(), FIRST_NUMBER);
         let version = store.fresh()?;
         Ok(Repo {
             alloc,
@@ -72,15 +76,17 @@ impl Repo {
             clock,
             shelf: Shelf::new(alloc, version),
             sets: SetTree::new(alloc),
+            lists,
         })
     }
 
     /// Performs a request of OAI-PMH, by the bytes of its query, at the moment, in seconds from 1970
-    /// on: it moves the clock and answers a document. After a fault everything is as it was, the clock
-    /// and the store's lists included. Any fault but `TooManyPages` may come.
+    /// on: it moves the clock and answers a document, or says how long to wait. After a fault everything
+    /// is as it was, the clock and the store's lists included. Any fault may come.
     ///
-    /// A request for one item costs one search of the store; a list costs what the store needs to count
-    /// and to read what is selected.
+    /// A request for one item costs one search of the store. The first part of a list costs what the
+    /// store needs to count what is selected, to read the part and to freeze a version; each further part
+    /// what the store needs to read it.
     pub fn ask<V: Versions>(
         &mut self,
         store: &mut V,
@@ -90,11 +96,14 @@ impl Repo {
         requires stands { StandsIn self.old (V.lists store.old) }
         requires held { IsTrue (V.honest store.old) → IsHeld self.old (V.lists store.old) }
         ensures step { IfOk result (λ reply. IsTrue (V.honest store.old)
-            → IsAsked self.old (V.lists store.old) moment query.now reply self.new (V.lists store.new)) }
-        ensures left { IsLeft result moment self.old (V.lists store.old) self.new (V.lists store.new) }
+            → IsAsked self.old (V.lists store.old) moment query.now reply self.new
+            (V.lists store.new)) }
+        ensures left { IsLeft result moment self.old (V.lists store.old) self.new
+            (V.lists store.new) }
         ensures stands { StandsIn self.new (V.lists store.new) }
         ensures held { IsTrue (V.honest store.old) → IsHeld self.new (V.lists store.new) }
-        ensures others { KeepsOthers self.old (V.lists store.old) self.new (V.lists store.new) }
+        ensures others { KeepsOthers (numbers_of self.old) (V.lists store.old) (numbers_of self.new)
+            (V.lists store.new) }
         ensures device { IsCounted result (V.failures store.old) (V.failures store.new) }
         ensures honesty { IsHonest result (V.honest store.old) (V.honest store.new) }
     {
@@ -106,9 +115,9 @@ impl Repo {
             shelf: &self.shelf,
             sets: &self.sets,
         };
-        let page = page_at(self.alloc, &found, store, query)?;
-        self.clock = clock;
-        Ok(Reply::Page(Sequence::new(page)))
+        let reply = reply_at(self.alloc, &found, &mut self.lists, store, query)?;
+        self.move_to(store, clock);
+        Ok(reply)
     }
 
     /// Makes a change at the moment, in seconds from 1970 on, and answers its datestamp. A change that
@@ -127,12 +136,15 @@ impl Repo {
         requires stands { StandsIn self.old (V.lists store.old) }
         requires held { IsTrue (V.honest store.old) → IsHeld self.old (V.lists store.old) }
         ensures changed { IsTrue (V.honest store.old)
-            → IsChanged self.old (V.lists store.old) moment change.now result self.new (V.lists store.new) }
+            → IsChanged self.old (V.lists store.old) moment change.now result self.new
+            (V.lists store.new) }
         ensures dated { IfOk result IsWritable }
-        ensures left { IsLeft (fault_in result) moment self.old (V.lists store.old) self.new (V.lists store.new) }
+        ensures left { IsLeft (fault_in result) moment self.old (V.lists store.old) self.new
+            (V.lists store.new) }
         ensures stands { StandsIn self.new (V.lists store.new) }
         ensures held { IsTrue (V.honest store.old) → IsHeld self.new (V.lists store.new) }
-        ensures others { KeepsOthers self.old (V.lists store.old) self.new (V.lists store.new) }
+        ensures others { KeepsOthers (numbers_of self.old) (V.lists store.old) (numbers_of self.new)
+            (V.lists store.new) }
         ensures device { IsCounted (fault_in result) (V.failures store.old) (V.failures store.new) }
         ensures honesty { IsHonest (fault_in result) (V.honest store.old) (V.honest store.new) }
     {
@@ -150,22 +162,56 @@ impl Repo {
         );
         match made {
             Ok(()) => {
-                self.clock = clock;
+                self.move_to(store, clock);
                 Ok(stamp)
             }
             Err(Refusal::Refused(cause)) => {
-                self.clock = clock;
+                self.move_to(store, clock);
                 Err(Refusal::Refused(cause))
             }
             Err(Refusal::Fault(fault)) => Err(Refusal::Fault(fault)),
         }
     }
 
-    /// Moves the clock to the moment, in seconds from 1970 on, and changes nothing else.
-    pub fn advance(&mut self, moment: i64)
-        ensures { self.new ≡ record self.old { clock = tick self.old.clock moment } }
+    /// Moves the clock to the moment, in seconds from 1970 on, and changes nothing else but that lists
+    /// end. It takes no memory and cannot fail.
+    pub fn advance<V: Versions>(&mut self, store: &mut V, moment: i64)
+        requires stands { StandsIn self.old (V.lists store.old) }
+        requires held { IsTrue (V.honest store.old) → IsHeld self.old (V.lists store.old) }
+        ensures moved { state_of self.new (V.lists store.new)
+            ≡ moved moment (state_of self.old (V.lists store.old)) }
+        ensures config { self.new.config ≡ self.old.config }
+        ensures stands { StandsIn self.new (V.lists store.new) }
+        ensures held { IsTrue (V.honest store.old) → IsHeld self.new (V.lists store.new) }
+        ensures others { KeepsOthers (numbers_of self.old) (V.lists store.old) (numbers_of self.new)
+            (V.lists store.new) }
+        ensures count { V.failures store.old ≤ V.failures store.new }
+        ensures honesty { V.honest store.new ≡ V.honest store.old }
     {
-        self.clock.tick(moment);
+        let mut clock = self.clock;
+        clock.tick(moment);
+        self.move_to(store, clock);
+    }
+
+    /// Moves the clock there, and drops the lists that have ended.
+    fn move_to<V: Versions>(&mut self, store: &mut V, clock: Clock)
+        requires later { self.old.clock ≤ℤ clock }
+        requires dated { is_in_years clock ≡ true }
+        requires stands { StandsIn self.old (V.lists store.old) }
+        requires held { IsTrue (V.honest store.old) → IsHeld self.old (V.lists store.old) }
+        ensures moved { state_of self.new (V.lists store.new)
+            ≡ at_clock clock (state_of self.old (V.lists store.old)) }
+        ensures clock { self.new.clock ≡ clock }
+        ensures config { self.new.config ≡ self.old.config }
+        ensures stands { StandsIn self.new (V.lists store.new) }
+        ensures held { IsTrue (V.honest store.old) → IsHeld self.new (V.lists store.new) }
+        ensures others { KeepsOthers (numbers_of self.old) (V.lists store.old) (numbers_of self.new)
+            (V.lists store.new) }
+        ensures count { V.failures store.old ≤ V.failures store.new }
+        ensures honesty { V.honest store.new ≡ V.honest store.old }
+    {
+        drop_ended(&mut self.lists, store, clock.now());
+        self.clock = clock;
     }
 
     /// The clock, in seconds from 1970 on, of the years 0001 to 9998.

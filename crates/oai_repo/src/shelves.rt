@@ -86,10 +86,14 @@ impl Shelf {
         identifier: &str,
     ) -> Result<Option<Item>, Fault>
         requires stands { IsSome (V.lists store.old self.now.version) }
-        requires agrees { IsTrue (V.honest store.old) → AreNoted self.now.notes (items_on self.now (V.lists store.old)) }
-        ensures found { IfOk result (λ item. IsTrue (V.honest store.old) → item ≡ item_named identifier.now (items_on self.now (V.lists store.old))) }
-        ensures known { OnErr result (IsTrue (V.honest store.old) → IsSome (item_named identifier.now (items_on self.now (V.lists store.old)))) }
-        ensures there { IfOk result (λ item. IsSome (noted identifier.now self.now.notes) → IsSome item) }
+        requires agrees { IsTrue (V.honest store.old)
+            → AreNoted self.now.notes (items_on self.now (V.lists store.old)) }
+        ensures found { IfOk result (λ item. IsTrue (V.honest store.old) → item
+            ≡ item_named identifier.now (items_on self.now (V.lists store.old))) }
+        ensures known { OnErr result (IsTrue (V.honest store.old)
+            → IsSome (item_named identifier.now (items_on self.now (V.lists store.old)))) }
+        ensures there { IfOk result (λ item. IsSome (noted identifier.now self.now.notes)
+            → IsSome item) }
         ensures same { V.lists store.new ≡ V.lists store.old }
         ensures device { IsCounted result (V.failures store.old) (V.failures store.new) }
         ensures honesty { IsHonest result (V.honest store.old) (V.honest store.new) }
@@ -115,11 +119,17 @@ impl Shelf {
     ) -> Result<(), Fault>
         requires stands { IsSome (V.lists store.old self.old.version) }
         requires fits { length (encoded item.now) ≤ MOST_ITEM_BYTES }
-        requires agrees { IsTrue (V.honest store.old) → AreNoted self.old.notes (items_on self.old (V.lists store.old)) }
-        requires replaced { IsTrue (V.honest store.old) → option_copied replaced ≡ item_named item.now.identifier (items_on self.old (V.lists store.old)) }
-        ensures list { OnOk result (IsTrue (V.honest store.old) → items_on self.new (V.lists store.new) ≡ with_new item.now (items_on self.old (V.lists store.old))) }
-        ensures agrees { OnOk result (IsTrue (V.honest store.old) → AreNoted self.new.notes (items_on self.new (V.lists store.new))) }
-        ensures moved { IsMoved self.old.version (V.lists store.old) self.new.version (V.lists store.new) }
+        requires agrees { IsTrue (V.honest store.old)
+            → AreNoted self.old.notes (items_on self.old (V.lists store.old)) }
+        requires replaced { IsTrue (V.honest store.old) → option_copied replaced
+            ≡ item_named item.now.identifier (items_on self.old (V.lists store.old)) }
+        ensures list { OnOk result (IsTrue (V.honest store.old)
+            → items_on self.new (V.lists store.new)
+            ≡ with_new item.now (items_on self.old (V.lists store.old))) }
+        ensures agrees { OnOk result (IsTrue (V.honest store.old)
+            → AreNoted self.new.notes (items_on self.new (V.lists store.new))) }
+        ensures moved { IsMoved self.old.version (V.lists store.old) self.new.version
+            (V.lists store.new) }
         ensures err { OnErr result (self.new ≡ self.old) }
         ensures err_lists { OnErr result (V.lists store.new ≡ V.lists store.old) }
         ensures device { IsCounted result (V.failures store.old) (V.failures store.new) }
@@ -142,10 +152,15 @@ impl Shelf {
         requires stands { IsSome (V.lists store.old self.old.version) }
         requires fits { length (encoded item.now) ≤ MOST_ITEM_BYTES }
         requires first { noted item.now.identifier self.old.notes ≡ None }
-        requires agrees { IsTrue (V.honest store.old) → AreNoted self.old.notes (items_on self.old (V.lists store.old)) }
-        ensures list { OnOk result (IsTrue (V.honest store.old) → items_on self.new (V.lists store.new) ≡ with_new item.now (items_on self.old (V.lists store.old))) }
-        ensures agrees { OnOk result (IsTrue (V.honest store.old) → AreNoted self.new.notes (items_on self.new (V.lists store.new))) }
-        ensures moved { IsMoved self.old.version (V.lists store.old) self.new.version (V.lists store.new) }
+        requires agrees { IsTrue (V.honest store.old)
+            → AreNoted self.old.notes (items_on self.old (V.lists store.old)) }
+        ensures list { OnOk result (IsTrue (V.honest store.old)
+            → items_on self.new (V.lists store.new)
+            ≡ with_new item.now (items_on self.old (V.lists store.old))) }
+        ensures agrees { OnOk result (IsTrue (V.honest store.old)
+            → AreNoted self.new.notes (items_on self.new (V.lists store.new))) }
+        ensures moved { IsMoved self.old.version (V.lists store.old) self.new.version
+            (V.lists store.new) }
         ensures err { OnErr result (self.new ≡ self.old) }
         ensures err_lists { OnErr result (V.lists store.new ≡ V.lists store.old) }
         ensures device { IsCounted result (V.failures store.old) (V.failures store.new) }
@@ -168,10 +183,15 @@ impl Shelf {
         requires stands { IsSome (V.lists store.old self.now.version) }
         requires fits { length (encoded item.now) ≤ MOST_ITEM_BYTES }
         requires again { noted item.now.identifier self.now.notes ≡ Some item.now.stamp }
-        requires agrees { IsTrue (V.honest store.old) → AreNoted self.now.notes (items_on self.now (V.lists store.old)) }
-        ensures list { OnOk result (IsTrue (V.honest store.old) → items_on self.now (V.lists store.new) ≡ with_new item.now (items_on self.now (V.lists store.old))) }
-        ensures agrees { OnOk result (IsTrue (V.honest store.old) → AreNoted self.now.notes (items_on self.now (V.lists store.new))) }
-        ensures moved { IsMoved self.now.version (V.lists store.old) self.now.version (V.lists store.new) }
+        requires agrees { IsTrue (V.honest store.old)
+            → AreNoted self.now.notes (items_on self.now (V.lists store.old)) }
+        ensures list { OnOk result (IsTrue (V.honest store.old)
+            → items_on self.now (V.lists store.new)
+            ≡ with_new item.now (items_on self.now (V.lists store.old))) }
+        ensures agrees { OnOk result (IsTrue (V.honest store.old)
+            → AreNoted self.now.notes (items_on self.now (V.lists store.new))) }
+        ensures moved { IsMoved self.now.version (V.lists store.old) self.now.version
+            (V.lists store.new) }
         ensures err_lists { OnErr result (V.lists store.new ≡ V.lists store.old) }
         ensures device { IsCounted result (V.failures store.old) (V.failures store.new) }
         ensures honesty { IsHonest result (V.honest store.old) (V.honest store.new) }
@@ -190,11 +210,17 @@ impl Shelf {
         requires stands { IsSome (V.lists store.old self.old.version) }
         requires fits { length (encoded item.now) ≤ MOST_ITEM_BYTES }
         requires there { IsSome (noted item.now.identifier self.old.notes) }
-        requires agrees { IsTrue (V.honest store.old) → AreNoted self.old.notes (items_on self.old (V.lists store.old)) }
-        requires replaced { IsTrue (V.honest store.old) → option_copied replaced ≡ item_named item.now.identifier (items_on self.old (V.lists store.old)) }
-        ensures list { OnOk result (IsTrue (V.honest store.old) → items_on self.new (V.lists store.new) ≡ with_new item.now (items_on self.old (V.lists store.old))) }
-        ensures agrees { OnOk result (IsTrue (V.honest store.old) → AreNoted self.new.notes (items_on self.new (V.lists store.new))) }
-        ensures moved { IsMoved self.old.version (V.lists store.old) self.new.version (V.lists store.new) }
+        requires agrees { IsTrue (V.honest store.old)
+            → AreNoted self.old.notes (items_on self.old (V.lists store.old)) }
+        requires replaced { IsTrue (V.honest store.old) → option_copied replaced
+            ≡ item_named item.now.identifier (items_on self.old (V.lists store.old)) }
+        ensures list { OnOk result (IsTrue (V.honest store.old)
+            → items_on self.new (V.lists store.new)
+            ≡ with_new item.now (items_on self.old (V.lists store.old))) }
+        ensures agrees { OnOk result (IsTrue (V.honest store.old)
+            → AreNoted self.new.notes (items_on self.new (V.lists store.new))) }
+        ensures moved { IsMoved self.old.version (V.lists store.old) self.new.version
+            (V.lists store.new) }
         ensures err { OnErr result (self.new ≡ self.old) }
         ensures err_lists { OnErr result (V.lists store.new ≡ V.lists store.old) }
         ensures device { IsCounted result (V.failures store.old) (V.failures store.new) }
@@ -218,11 +244,18 @@ impl Shelf {
     /// Takes the item out, which stands among the others. A fault leaves everything as it was.
     pub(crate) fn remove<V: Versions>(&mut self, store: &mut V, item: &Item) -> Result<(), Fault>
         requires stands { IsSome (V.lists store.old self.old.version) }
-        requires agrees { IsTrue (V.honest store.old) → AreNoted self.old.notes (items_on self.old (V.lists store.old)) }
-        requires there { IsTrue (V.honest store.old) → item_named item.now.identifier (items_on self.old (V.lists store.old)) ≡ Some item.now }
-        ensures list { OnOk result (IsTrue (V.honest store.old) → items_on self.new (V.lists store.new) ≡ without item.now.identifier (items_on self.old (V.lists store.old))) }
-        ensures agrees { OnOk result (IsTrue (V.honest store.old) → AreNoted self.new.notes (items_on self.new (V.lists store.new))) }
-        ensures moved { IsMoved self.old.version (V.lists store.old) self.new.version (V.lists store.new) }
+        requires agrees { IsTrue (V.honest store.old)
+            → AreNoted self.old.notes (items_on self.old (V.lists store.old)) }
+        requires there { IsTrue (V.honest store.old)
+            → item_named item.now.identifier (items_on self.old (V.lists store.old))
+            ≡ Some item.now }
+        ensures list { OnOk result (IsTrue (V.honest store.old)
+            → items_on self.new (V.lists store.new)
+            ≡ without item.now.identifier (items_on self.old (V.lists store.old))) }
+        ensures agrees { OnOk result (IsTrue (V.honest store.old)
+            → AreNoted self.new.notes (items_on self.new (V.lists store.new))) }
+        ensures moved { IsMoved self.old.version (V.lists store.old) self.new.version
+            (V.lists store.new) }
         ensures err { OnErr result (self.new ≡ self.old) }
         ensures err_lists { OnErr result (V.lists store.new ≡ V.lists store.old) }
         ensures device { IsCounted result (V.failures store.old) (V.failures store.new) }
@@ -237,7 +270,8 @@ impl Shelf {
     fn forget(&mut self, identifier: &str)
         ensures version { self.new.version ≡ self.old.version }
         ensures notes { IsNoting identifier.now None self.old.notes self.new.notes }
-        ensures many { IsSome (noted identifier.now self.old.notes) → length self.new.notes + 1 ≡ length self.old.notes }
+        ensures many { IsSome (noted identifier.now self.old.notes) → length self.new.notes + 1
+            ≡ length self.old.notes }
     {
         self.stamps.remove(identifier);
     }
@@ -246,7 +280,8 @@ impl Shelf {
 /// Writes another datestamp under a key that is there. It takes no memory.
 fn restamp(stamps: &mut BTreeMap<String, i64>, identifier: &str, stamp: i64)
     requires { IsSome (get_by_text stamps.old identifier.now) }
-    ensures stamps { (q : List ℕ) → get_by_text stamps.new q ≡ (if bytes_eq identifier.now q then Some stamp else get_by_text stamps.old q) }
+    ensures stamps { (q : List ℕ) → get_by_text stamps.new q
+        ≡ (if bytes_eq identifier.now q then Some stamp else get_by_text stamps.old q) }
     ensures many { length stamps.new.entries ≡ length stamps.old.entries }
 {
     match stamps.get_mut(identifier) {

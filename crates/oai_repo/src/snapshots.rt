@@ -1,3 +1,7 @@
+ghost use Rattle.std.specs.Prelude.{◌≡◌, ◌+ℤ◌, pos, int_le, int_lt, true};
+ghost use Rattle.oai_time.specs.Stamp.{IsWritable};
+ghost use Rattle.oai_repo.specs.Config.{is_in_years};
+
 use crate::config::RepoConfig;
 use crate::shelves::Shelf;
 use oai_names::SetTree;
@@ -13,4 +17,26 @@ pub(crate) struct Snapshot<'a> {
     pub(crate) shelf: &'a Shelf,
     /// The sets.
     pub(crate) sets: &'a SetTree,
+}
+
+impl Snapshot<'_> {
+    /// How long a list stays open, in seconds.
+    #[tactic(auto, unfolding(crate::specs::Config::are_limits))]
+    pub(crate) fn lifetime(&self) -> i64
+        ensures { result ≡ pos self.now.config.now.lifetime }
+    {
+        self.config.lifetime() as i64
+    }
+
+    /// When a list ends of which a part is told now, in seconds from 1970 on.
+    #[tactic(auto, unfolding(crate::specs::Config::are_limits))]
+    pub(crate) fn end(&self) -> i64
+        requires { is_in_years self.now.clock ≡ true }
+        ensures end { result ≡ self.now.clock +ℤ pos self.now.config.now.lifetime }
+        ensures writable { IsWritable result }
+        ensures later { int_lt self.now.clock result ≡ true }
+        ensures last { int_le result (pos 253_402_300_799) ≡ true }
+    {
+        self.clock + self.config.lifetime() as i64
+    }
 }

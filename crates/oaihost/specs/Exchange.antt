@@ -7,10 +7,10 @@ use Rattle.oai_deposit.specs.Lines.{line_of}
 use Rattle.oai_item.specs.declared.faults.Fault.{Fault}
 use Rattle.oai_catalogue.specs.Store.{Lists}
 use Rattle.oai_repo.specs.Held.{Held, state_of}
-use Rattle.oai_repo.specs.Machine.{Input, query, line, step}
+use Rattle.oai_repo.specs.Machine.{Input, Told, bytes, line, query, step, wait}
 use Rattle.oaihost.specs.declared.exchange.Exchange.{Exchange}
 use Rattle.oaihost.specs.declared.exchange.Answer.{Answer}
-use Rattle.oaihost.specs.declared.exchange.Answer.TheVariants.{Performed, Failed}
+use Rattle.oaihost.specs.declared.exchange.Answer.TheVariants.{Failed, Later, Performed}
 
 -- a target whose path begins with `/deposit/`
 abbrev pub is_deposit : List ℕ → Bool
@@ -32,16 +32,17 @@ arguments_of exchange = if bytes_eq exchange.method.now (codes "POST") then exch
 abbrev pub input_of : Exchange → Input
 input_of exchange = if is_deposit exchange.target.now then line (line_of exchange.body.now) else query (arguments_of exchange)
 
--- the body of an answer: a document as it is, a line with its end
-abbrev pub body_of : Input → List ℕ → List ℕ
-body_of (query arguments) bytes = bytes
-body_of (line read) bytes = bytes ++ 10 ∷ []
+-- what an exchange is told: a document, or the seconds to wait, as it is; a line with its end
+abbrev pub told_to : Input → Told → Told
+told_to (query arguments) told = told
+told_to (line read) (bytes text) = bytes (text ++ 10 ∷ [])
+told_to (line read) (wait seconds) = wait seconds
 
--- the exchange was performed: one step of the repository, whose bytes are the body
-abbrev pub IsPerformed : Held → Lists → ℤ → Input → List ℕ → Held → Lists → Type 0
-IsPerformed old before moment input body new after =
+-- the exchange was performed: one step of the repository, of which this is told
+abbrev pub IsPerformed : Held → Lists → ℤ → Input → Told → Held → Lists → Type 0
+IsPerformed old before moment input told new after =
     let done = step old.config (state_of old before) moment input in
-    (body ≡ body_of input done.0) × (state_of new after ≡ done.1) × (new.config ≡ old.config)
+    (told ≡ told_to input done.0) × (state_of new after ≡ done.1) × (new.config ≡ old.config)
 
 -- a deposit says how many of its lines were done
 abbrev pub lines_done : Input → Option ℕ
@@ -50,10 +51,12 @@ lines_done (line read) = Some 0
 
 -- the exchange was performed, over a store that is honest; or it failed, and everything is as it was
 abbrev pub IsAnswered : Bool → Held → Lists → ℤ → Input → Answer → Held → Lists → Type 0
-IsAnswered honest old before moment input (Performed body) new after = IsTrue honest → IsPerformed old before moment input body new after
+IsAnswered honest old before moment input (Performed body) new after = IsTrue honest → IsPerformed old before moment input (bytes body) new after
+IsAnswered honest old before moment input (Later seconds) new after = IsTrue honest → IsPerformed old before moment input (wait seconds) new after
 IsAnswered honest old before moment input (Failed fault lines) new after = (lines ≡ lines_done input) × (new ≡ old) × (after ≡ before)
 
 -- why an exchange failed
 abbrev pub fault_in : Answer → Result (Unit {0}) Fault
 fault_in (Performed body) = Ok tt
+fault_in (Later seconds) = Ok tt
 fault_in (Failed fault lines) = Err fault

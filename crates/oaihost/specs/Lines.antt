@@ -3,12 +3,13 @@ use Rattle.std.specs.Prelude.{ℕ, ◌^◌, ◌==◌, ℤ, pos, neg_ℤ, Bool, �
 use Rattle.std.specs.List.{before_first, after_first, count_by}
 use Rattle.std.specs.Option.{option_map}
 use Rattle.std.specs.Str.{all_ascii_digits}
+use Rattle.std.specs.Fmt.{signed_decimal}
 use Rattle.std.specs.Str.Parse.{digits_value}
 use Rattle.oai_item.specs.declared.faults.Fault.{Fault}
 use Rattle.oai_item.specs.declared.faults.Fault.TheVariants as fault
 use Rattle.oaihost.specs.declared.exchange.Exchange.{Exchange}
 use Rattle.oaihost.specs.declared.exchange.Answer.{Answer}
-use Rattle.oaihost.specs.declared.exchange.Answer.TheVariants.{Performed, Failed}
+use Rattle.oaihost.specs.declared.exchange.Answer.TheVariants.{Failed, Later, Performed}
 use Rattle.oaihost.specs.declared.stop.Stop.{Stop}
 use Rattle.oaihost.specs.declared.stop.Stop.TheVariants.{BadExchange, InputFault, OutputFault, NoMemory}
 
@@ -82,9 +83,11 @@ abbrev pub shown_done : Option ℕ → List ℕ
 shown_done None = []
 shown_done (Some done) = codes " " ++ decimal done
 
--- the status 200, a line end, and the body; or the status of the fault, the lines done, and a line end
+-- the status 200, a line end, and the body; the status 503, the seconds to wait, and a line end; or the status of the fault, the
+-- lines done, and a line end
 unfoldable pub shown : Answer → List ℕ
 shown (Performed body) = codes "200\n" ++ body
+shown (Later seconds) = codes "503 " ++ signed_decimal seconds ++ codes "\n"
 shown (Failed fault done) = status_of fault ++ shown_done done ++ codes "\n"
 
 -- ---- what is said where it stops

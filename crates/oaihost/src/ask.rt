@@ -1,4 +1,5 @@
 ghost use Rattle.std.specs.Prelude.{◌≡◌, ℕ, ◌+◌, ◌-◌, ◌^◌, ◌≤◌, min, true, [], ◌++◌, length, codes, Err, OnOk};
+ghost use Rattle.std.specs.Fmt.{signed_decimal};
 ghost use Rattle.std.specs.List.{count_by, position, position_or_len};
 ghost use Rattle.std.specs.Option.{option_map};
 ghost use Rattle.std.specs.Io.KnownBytes.{Appends};
@@ -130,8 +131,10 @@ impl Lines {
     ) -> Result<(), Stop>
         ensures number { self.new.ended ≡ min (self.old.ended + 1) (2 ^ 64 - 1) }
         ensures next { OnOk result (self.new.begun.items ≡ []) }
-        ensures bad { spec.is_bad self.old.begun.items ≡ true → result ≡ Err (BadExchange self.new.ended) }
-        ensures good { (n : ℕ) → result ≡ Err (BadExchange n) → spec.is_bad self.old.begun.items ≡ true }
+        ensures bad { spec.is_bad self.old.begun.items ≡ true → result
+            ≡ Err (BadExchange self.new.ended) }
+        ensures good { (n : ℕ) → result ≡ Err (BadExchange n) → spec.is_bad self.old.begun.items
+            ≡ true }
     {
         self.ended = self.ended.saturating_add(1);
         if !self.begun.is_empty() {
@@ -224,15 +227,25 @@ fn read_moment(text: &[u8]) -> Option<i64>
 /// Writes an answer: its status with the numbers that it has, a line end, and its body.
 #[tactic(auto, unfolding(crate::specs::Lines::shown))]
 pub(crate) fn write_answer<W: Write>(answer: &Answer, writer: &mut W) -> io::Result<()>
-    ensures { OnOk result (Appends (W.Write.contents writer.old) (W.Write.contents writer.new) (spec.shown answer.now)) }
+    ensures { OnOk result (Appends (W.Write.contents writer.old) (W.Write.contents writer.new)
+        (spec.shown answer.now)) }
 {
     match answer {
         Answer::Performed(body) => {
             writer.write_all(b"200\n")?;
             writer.write_all(body.as_slice())
         }
+        Answer::Later(seconds) => write_later(*seconds, writer),
         Answer::Failed { fault, done } => write_failed(status_of(*fault), *done, writer),
     }
+}
+
+/// Writes the status of an exchange that may be made again later, and the seconds to wait.
+fn write_later<W: Write>(seconds: i64, writer: &mut W) -> io::Result<()>
+    ensures { OnOk result (Appends (W.Write.contents writer.old) (W.Write.contents writer.new)
+        (codes "503 " ++ signed_decimal seconds ++ codes "\n")) }
+{
+    writeln!(writer, "503 {seconds}")
 }
 
 /// The status of a fault, with the seconds to wait where waiting helps.
@@ -247,7 +260,8 @@ fn status_of(fault: Fault) -> &'static str
 
 /// Writes the status of a fault, and the lines that were done.
 fn write_failed<W: Write>(status: &str, done: Option<u64>, writer: &mut W) -> io::Result<()>
-    ensures { OnOk result (Appends (W.Write.contents writer.old) (W.Write.contents writer.new) (status.now ++ spec.shown_done done ++ codes "\n")) }
+    ensures { OnOk result (Appends (W.Write.contents writer.old) (W.Write.contents writer.new)
+        (status.now ++ spec.shown_done done ++ codes "\n")) }
 {
     match done {
         Some(done) => writeln!(writer, "{status} {done}"),

@@ -1,12 +1,11 @@
 ghost use Rattle.std.specs.Prelude.{◌≡◌, ◌+◌, ◌≤◌, ◌++◌, [], ◌∷◌, length, vec_len, vec_capacity, codes, OnErr, IfOk, IsTrue};
 ghost use Rattle.std.specs.List.{position_or_len};
-ghost use Rattle.oai_time.specs.Clock.{tick};
 ghost use Rattle.oai_time.specs.Stamp.{IsWritable};
 ghost use Rattle.oai_time.specs.TimeTexts.{datestamp_text};
 ghost use Rattle.oai_deposit.specs.Lines.{line_of};
-ghost use Rattle.oai_catalogue.specs.Store.{IsCounted, IsHonest, Lists};
+ghost use Rattle.oai_catalogue.specs.Store.{IsCounted, IsHonest};
 ghost use Rattle.oai_repo.specs.Held.{IsHeld, StandsIn};
-ghost use Rattle.oai_repo.specs.Machine.{line};
+ghost use Rattle.oai_repo.specs.Machine.{bytes, line};
 ghost use Rattle.oaihost.specs.Exchange as spec;
 
 use oai_catalogue::Versions;
@@ -36,6 +35,8 @@ pub struct Exchange<'a> {
 pub enum Answer {
     /// It was performed, and this is the body of the answer.
     Performed(Sequence<u8>),
+    /// It was performed, and may be made again after so many seconds (OAI-PMH 2.0, section 3.1.2.2).
+    Later(i64),
     /// It could not be performed, and everything is as it was.
     Failed {
         /// Why.
@@ -58,10 +59,12 @@ pub fn perform<V: Versions>(
 ) -> Answer
     requires stands { StandsIn repo.old (V.lists store.old) }
     requires held { IsTrue (V.honest store.old) → IsHeld repo.old (V.lists store.old) }
-    ensures answered { spec.IsAnswered (V.honest store.old) repo.old (V.lists store.old) moment (spec.input_of exchange.now) result repo.new (V.lists store.new) }
+    ensures answered { spec.IsAnswered (V.honest store.old) repo.old (V.lists store.old) moment
+        (spec.input_of exchange.now) result repo.new (V.lists store.new) }
     ensures stands { StandsIn repo.new (V.lists store.new) }
     ensures held { IsTrue (V.honest store.old) → IsHeld repo.new (V.lists store.new) }
-    ensures device { IsCounted (spec.fault_in result) (V.failures store.old) (V.failures store.new) }
+    ensures device { IsCounted (spec.fault_in result) (V.failures store.old)
+        (V.failures store.new) }
     ensures honesty { IsHonest (spec.fault_in result) (V.honest store.old) (V.honest store.new) }
 {
     if is_deposit(exchange.target) {
@@ -75,6 +78,7 @@ pub fn perform<V: Versions>(
     } else {
         match repo.ask(store, moment, arguments_of(exchange)) {
             Ok(Reply::Page(page)) => Answer::Performed(page),
+            Ok(Reply::Later(seconds)) => Answer::Later(seconds),
             Err(fault) => Answer::Failed { fault, done: None },
         }
     }
@@ -135,7 +139,8 @@ fn deposit<V: Versions>(
     requires stands { StandsIn repo.old (V.lists store.old) }
     requires held { IsTrue (V.honest store.old) → IsHeld repo.old (V.lists store.old) }
     ensures ok { IfOk result (λ body. IsTrue (V.honest store.old)
-        → spec.IsPerformed repo.old (V.lists store.old) moment (line (line_of text.now)) body.items repo.new (V.lists store.new)) }
+        → spec.IsPerformed repo.old (V.lists store.old) moment (line (line_of text.now))
+        (bytes body.items) repo.new (V.lists store.new)) }
     ensures err { OnErr result (repo.new ≡ repo.old) }
     ensures err_lists { OnErr result (V.lists store.new ≡ V.lists store.old) }
     ensures stands { StandsIn repo.new (V.lists store.new) }
@@ -146,7 +151,7 @@ fn deposit<V: Versions>(
     let answer = Vec::with_capacity(alloc, MOST_LINE)?;
     match read_line(alloc, text) {
         Ok(change) => changed(repo, store, moment, &change, answer),
-        Err(LineFault::Refused(cause)) => Ok(refused(repo, moment, cause, answer)),
+        Err(LineFault::Refused(cause)) => Ok(refused(repo, store, moment, cause, answer)),
         Err(LineFault::NoMemory) => Err(Fault::NoMemory),
     }
 }
@@ -165,7 +170,8 @@ fn changed<V: Versions>(
     requires stands { StandsIn repo.old (V.lists store.old) }
     requires held { IsTrue (V.honest store.old) → IsHeld repo.old (V.lists store.old) }
     ensures ok { IfOk result (λ body. IsTrue (V.honest store.old)
-        → spec.IsPerformed repo.old (V.lists store.old) moment (line (Ok change.now)) body.items repo.new (V.lists store.new)) }
+        → spec.IsPerformed repo.old (V.lists store.old) moment (line (Ok change.now))
+        (bytes body.items) repo.new (V.lists store.new)) }
     ensures err { OnErr result (repo.new ≡ repo.old) }
     ensures err_lists { OnErr result (V.lists store.new ≡ V.lists store.old) }
     ensures stands { StandsIn repo.new (V.lists store.new) }
@@ -184,13 +190,25 @@ fn changed<V: Versions>(
 /// Moves the clock for a line that is refused as it stands and answers the line for it, in the room
 /// that is there.
 #[tactic(auto, unfolding(oai_repo::specs::Machine::written, oai_repo::specs::Machine::act))]
-fn refused(repo: &mut Repo, moment: i64, cause: LineRefusal, mut answer: Vec<u8>) -> Vec<u8>
+fn refused<V: Versions>(
+    repo: &mut Repo,
+    store: &mut V,
+    moment: i64,
+    cause: LineRefusal,
+    mut answer: Vec<u8>,
+) -> Vec<u8>
     requires empty { answer.items ≡ [] }
     requires room { 32 ≤ vec_capacity answer }
-    ensures performed { (lists : Lists) → spec.IsPerformed repo.old lists moment (line (Err cause)) result.items repo.new lists }
-    ensures moved { repo.new ≡ record repo.old { clock = tick repo.old.clock moment } }
+    requires stands { StandsIn repo.old (V.lists store.old) }
+    requires held { IsTrue (V.honest store.old) → IsHeld repo.old (V.lists store.old) }
+    ensures performed { spec.IsPerformed repo.old (V.lists store.old) moment (line (Err cause))
+        (bytes result.items) repo.new (V.lists store.new) }
+    ensures stands { StandsIn repo.new (V.lists store.new) }
+    ensures held { IsTrue (V.honest store.old) → IsHeld repo.new (V.lists store.new) }
+    ensures count { V.failures store.old ≤ V.failures store.new }
+    ensures honesty { V.honest store.new ≡ V.honest store.old }
 {
-    repo.advance(moment);
+    repo.advance(store, moment);
     put_line(cause.answer(), &mut answer);
     answer
 }
@@ -199,7 +217,8 @@ fn refused(repo: &mut Repo, moment: i64, cause: LineRefusal, mut answer: Vec<u8>
 fn put_stamp(granularity: Granularity, stamp: i64, out: &mut Vec<u8>)
     requires writable { IsWritable stamp }
     requires room { vec_len out.old + 32 ≤ vec_capacity out.old }
-    ensures { out.new.items ≡ out.old.items ++ (codes "ok " ++ datestamp_text granularity stamp) ++ 10 ∷ [] }
+    ensures { out.new.items ≡ out.old.items ++ (codes "ok " ++ datestamp_text granularity stamp)
+        ++ 10 ∷ [] }
 {
     put(b"ok ", out);
     put(write_datestamp(granularity, stamp).as_bytes(), out);

@@ -27,7 +27,8 @@ impl<V: Versions + Drop> Served<V> {
 
     /// Performs an exchange at the moment, in seconds from 1970 on, as `perform` says it.
     pub fn perform(&mut self, alloc: Global, moment: i64, exchange: &Exchange<'_>) -> Answer
-        ensures { spec.IsAnswered (V.honest self.old.store) self.old.repo (V.lists self.old.store) moment (spec.input_of exchange.now) result self.new.repo (V.lists self.new.store) }
+        ensures { spec.IsAnswered (V.honest self.old.store) self.old.repo (V.lists self.old.store)
+            moment (spec.input_of exchange.now) result self.new.repo (V.lists self.new.store) }
     {
         perform(alloc, &mut self.repo, &mut self.store, moment, exchange)
     }

@@ -2,6 +2,7 @@
 mod edge;
 mod faults;
 mod harvests;
+mod tokens;
 mod transcripts;
 
 use crate::ask::ask_lines;

@@ -1,41 +1,56 @@
--- Two repositories begin, one after the other, in one store.
-use Rattle.std.proofs.Common.{◌≡◌, ◌∙◌, ℕ, Bool, false, eqb, List, [], Option, IsSome, unwrap_or, sym, ap, subst}
-use Rattle.std.proofs.lemmas.Bool.{eq-eqb, eqb-true, false_from_ne_true, ne_eqb, true≢false}
-use Rattle.oai_item.specs.Item.{ItemState}
+-- Two repositories in one store begin, and each changes beside the other.
+use Rattle.std.proofs.Common.{◌≡◌, ◌∙◌, ℕ, Bool, true, false, eqb, List, [], ◌∷◌, IsTrue, Some, refl, ap, subst}
+use Rattle.std.proofs.lemmas.Bool.{cond-false, eqb-true, false_from_ne_true, or_from}
 use Rattle.oai_catalogue.specs.Store.{Lists}
-use Rattle.oai_catalogue.proofs.ListsLemmas.{at_other, numbers_apart, stands-with}
 use Rattle.oai_repo.specs.Config.{Config}
-use Rattle.oai_repo.specs.Held.{AreNoted, Held, IsHeld, IsNew, items_on}
-use Rattle.oai_repo.specs.Kept.{AreKept}
+use Rattle.oai_repo.specs.Held.{Held, IsHeld, IsNew, KeepsOthers, StandsIn, has, numbers_of}
+use Rattle.oai_repo.proofs.NeighbourLemmas.{apart_turned, held_where, stands_where, still_apart, still_held, still_stands}
+use Rattle.oai_repo.proofs.NumberLemmas.{clash, turned, unused_lacks}
 use Rattle.tests_archives.specs.Beside.{AreBeside}
 
-turned : (n m : ℕ) → eqb n m ≡ false → eqb m n ≡ false
-turned n m h = false_from_ne_true (eqb m n) (λ is. true≢false (sym (eq-eqb n m (sym (eqb-true m n is))) ∙ h))
-
--- where the list under its number is the same, a repository is held as before
-held_beside : (held : Held) (before after : Lists) → after held.shelf.version ≡ before held.shelf.version → IsHeld held before → IsHeld held after
-held_beside held before after same is =
-    let items : items_on held.shelf before ≡ items_on held.shelf after = sym (ap (λ (o : Option (List ItemState)). unwrap_or o []) same) in
+-- the first one changes
+pub first_changes : (was is : Bool) (old new other : Held) (before after : Lists) → is ≡ was → KeepsOthers (numbers_of old) before (numbers_of new) after → StandsIn new after
+    → (IsTrue was → IsHeld new after) → AreBeside was old other before → AreBeside is new other after
+first_changes was is old new other before after same kept stands held beside =
+    let apart = apart_turned old other beside.apart in
+    let back : IsTrue is → IsTrue was = λ honest. subst (λ (b : Bool). IsTrue b) same honest in
     record {
-      agrees = subst (λ (items : List ItemState). AreNoted held.shelf.notes items) items is.agrees;
-      kept = subst (λ (items : List ItemState). AreKept held.config (record { items = items; sets = held.sets })) items is.kept;
+      stands = stands;
+      held = λ honest. held (back honest);
+      other_stands = still_stands old new other before after kept beside.other_stands apart;
+      other_held = λ honest. still_held old new other before after kept beside.other_stands apart (beside.other_held (back honest));
+      apart = apart_turned other new (still_apart old new other before after kept beside.other_stands apart);
     }
 
--- one begins, and then the other
+-- the second one changes
+pub second_changes : (was is : Bool) (one old new : Held) (before after : Lists) → is ≡ was → KeepsOthers (numbers_of old) before (numbers_of new) after → StandsIn new after
+    → (IsTrue was → IsHeld new after) → AreBeside was one old before → AreBeside is one new after
+second_changes was is one old new before after same kept stands held beside =
+    let back : IsTrue is → IsTrue was = λ honest. subst (λ (b : Bool). IsTrue b) same honest in
+    record {
+      stands = still_stands old new one before after kept beside.stands beside.apart;
+      held = λ honest. still_held old new one before after kept beside.stands beside.apart (beside.held (back honest));
+      other_stands = stands;
+      other_held = λ honest. held (back honest);
+      apart = still_apart old new one before after kept beside.stands beside.apart;
+    }
+
+-- the second one begins beside the first
 pub new_beside : (honest : Bool) (config config' : Config) (one other : Held) (before between after : Lists)
     → IsNew config before one between → IsNew config' between other after → AreBeside honest one other after
 new_beside honest config config' one other before between after begun new =
-    let v = one.shelf.version in
-    let w = other.shelf.version in
-    let stands : IsSome (between v) = subst (λ (lists : Lists). IsSome (lists v)) (sym begun.listed) (stands-with v [] before) in
-    let other_stands : IsSome (after w) = subst (λ (lists : Lists). IsSome (lists w)) (sym new.listed) (stands-with w [] between) in
-    let numbers : (v ≡ w) → ⊥ = numbers_apart v w between stands new.unused in
-    let left : after v ≡ between v = ap (λ (lists : Lists). lists v) new.listed ∙ at_other v w [] between numbers in
+    let w : ℕ = other.shelf.version in
+    let lacks : has (numbers_of one) w ≡ false = unused_lacks (numbers_of one) between w begun.stands.used new.unused in
+    let differ : (n : ℕ) → has (numbers_of one) n ≡ true → eqb n w ≡ false =
+    λ n there. false_from_ne_true (eqb n w) (λ same. clash (has (numbers_of one) n) there (ap (has (numbers_of one)) (eqb-true n w same) ∙ lacks))
+    in
+    let same : (n : ℕ) → has (numbers_of one) n ≡ true → after n ≡ between n =
+    λ n there. ap (λ (lists : Lists). lists n) new.listed ∙ cond-false (eqb n w) (Some []) (between n) (differ n there)
+    in
     record {
-      stands = subst (λ (o : Option (List ItemState)). IsSome o) (sym left) stands;
-      held = λ _. held_beside one between after left begun.held;
-      other_stands = other_stands;
+      stands = stands_where one between after same begun.stands;
+      held = λ _. held_where one between after same begun.held;
+      other_stands = new.stands;
       other_held = λ _. new.held;
-      apart = turned v w (ne_eqb v w numbers);
-      other_apart = ne_eqb v w numbers;
+      apart = λ n there. ap (λ (numbers : List ℕ). has (w ∷ numbers) n) new.alone ∙ or_from (eqb w n) false (turned n w (differ n there)) refl;
     }

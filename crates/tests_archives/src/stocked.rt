@@ -35,7 +35,7 @@ impl<V: Versions + Drop> Stocked<V> {
 
     /// Moves its clock to the moment.
     pub fn advance(&mut self, moment: i64) {
-        self.repo.advance(moment);
+        self.repo.advance(&mut self.store, moment);
     }
 
     /// Its clock, in seconds from 1970 on.

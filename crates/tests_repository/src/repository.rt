@@ -36,7 +36,9 @@ fn assert_page(
     query: &[u8],
     wanted: &str,
 ) -> Result<(), Fail> {
-    let Reply::Page(page) = repo.ask(MIDNIGHT, query)?;
+    let Reply::Page(page) = repo.ask(MIDNIGHT, query)? else {
+        panic!(rt; "later")
+    };
     assert_eq!(rt; page.as_slice(), wanted.as_bytes());
     Ok(())
 }

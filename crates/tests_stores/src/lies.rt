@@ -49,6 +49,7 @@ fn outcome<V: Versions + Drop>(
         },
         None => match repo.ask(moment, text.as_bytes()) {
             Ok(Reply::Page(_)) => Ok("page"),
+            Ok(Reply::Later(_)) => Ok("later"),
             Err(fault) => damage(fault),
         },
     }
@@ -121,7 +122,9 @@ fn record_after(
 ) -> Result<Sequence<u8>, Fail> {
     let mut repo = archive(alloc, 0, lies)?;
     assert_outcomes(rt, alloc, &mut repo, exchanges)?;
-    let Reply::Page(page) = repo.ask(NEXT_DAY, record(1).as_bytes())?;
+    let Reply::Page(page) = repo.ask(NEXT_DAY, record(1).as_bytes())? else {
+        panic!(rt; "later")
+    };
     Ok(page)
 }
 

@@ -1,7 +1,7 @@
 //! Two repositories in one store, of whose items some have one identifier: each answers as it does
 //! alone.
 use crate::samples::{
-    Asked, BEGIN, NEXT_DAY, change_in, deletion, deposit, headers, record, records,
+    Asked, BEGIN, NEXT_DAY, change_in, deletion, deposit, headers, next_records, record, records,
 };
 use oai_catalogue::{PlainVersions, Versions};
 use oai_item::Fault;
@@ -22,8 +22,8 @@ fn config_of(alloc: Global, which: Which) -> Result<RepoConfig, Fail> {
 }
 
 /// What is asked of the two, in turn: items under the same identifiers, at the same moments and at
-/// others, which are changed, deleted and listed.
-fn exchanges() -> [(Which, Asked); 18] {
+/// others, which are changed, deleted and listed. A token of the first is none of the second.
+fn exchanges() -> [(Which, Asked); 21] {
     [
         (Which::First, (BEGIN, deposit(1))),
         (Which::Second, (BEGIN, deposit(1))),
@@ -37,8 +37,11 @@ fn exchanges() -> [(Which, Asked); 18] {
         (Which::Second, (BEGIN + 5, deposit(3))),
         (Which::First, (BEGIN + 6, deletion(2))),
         (Which::Second, (BEGIN + 6, deletion(2))),
+        (Which::First, (BEGIN + 7, deposit(3))),
         (Which::Second, (BEGIN + 7, records())),
         (Which::First, (BEGIN + 7, records())),
+        (Which::Second, (BEGIN + 8, next_records())),
+        (Which::First, (BEGIN + 8, next_records())),
         (Which::Second, (NEXT_DAY, deposit(3))),
         (Which::First, (NEXT_DAY, deletion(1))),
         (Which::First, (NEXT_DAY, records())),
@@ -57,8 +60,10 @@ fn write_change(changed: Result<i64, Refusal>, output: &mut Vec<u8>) -> Result<(
 
 /// Writes what a request is answered.
 fn write_page(asked: Result<Reply, Fault>, output: &mut Vec<u8>) -> Result<(), Fail> {
-    let Reply::Page(page) = asked?;
-    Ok(output.extend_from_slice(page.as_slice())?)
+    match asked? {
+        Reply::Page(page) => Ok(output.extend_from_slice(page.as_slice())?),
+        Reply::Later(seconds) => Ok(writeln!(output, "later {seconds}")?),
+    }
 }
 
 /// Writes what a repository with a store of its own answers.

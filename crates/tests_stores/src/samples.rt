@@ -55,6 +55,11 @@ pub(crate) fn records() -> &'static str {
     "verb=ListRecords&metadataPrefix=oai_dc"
 }
 
+/// What asks for those that come after the first two.
+pub(crate) fn next_records() -> &'static str {
+    "verb=ListRecords&resumptionToken=1.2"
+}
+
 /// The change that the text asks for, where it is a deposit line.
 pub(crate) fn change_in(alloc: Global, text: &str) -> Result<Option<Change>, Fail> {
     if text.starts_with('{') {

@@ -72,7 +72,7 @@ fn answer<V: Versions + Drop>(
     };
     let first = served.perform(alloc, moment, &exchange);
     match &first {
-        Answer::Performed(_) => {
+        Answer::Performed(_) | Answer::Later(_) => {
             write_answer(&first, output)?;
             Ok(false)
         }

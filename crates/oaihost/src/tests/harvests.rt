@@ -21,7 +21,7 @@ fn empty_repository(rt: HostRuntime) -> Result<(), Fail> {
     assert_transcript(&rt, rt.alloc(), empty_repository_asked())
 }
 
-/// Items of one datestamp stand in the order of their identifiers; no list goes on.
+/// Items of one datestamp stand in the order of their identifiers; a list of more than two goes on.
 fn lists_asked() -> &'static str {
     r#"> 1704067200 POST /deposit/a {"deposit":"oai:a:2","sets":[],"records":{"oai_dc":[]}}
 200
@@ -37,7 +37,7 @@ DOC <responseDate>2024-01-01T00:00:00Z</responseDate><request verb="ListIdentifi
 ok 2024-01-01T00:00:01Z
 > 1704067201 GET /oai/a?verb=ListIdentifiers&metadataPrefix=oai_dc
 200
-DOC <responseDate>2024-01-01T00:00:01Z</responseDate><request verb="ListIdentifiers" metadataPrefix="oai_dc">http://host.example/oai/a</request><ListIdentifiers><header><identifier>oai:a:1</identifier><datestamp>2024-01-01T00:00:00Z</datestamp></header><header><identifier>oai:a:2</identifier><datestamp>2024-01-01T00:00:00Z</datestamp></header><header><identifier>oai:a:0</identifier><datestamp>2024-01-01T00:00:01Z</datestamp></header></ListIdentifiers></OAI-PMH>
+DOC <responseDate>2024-01-01T00:00:01Z</responseDate><request verb="ListIdentifiers" metadataPrefix="oai_dc">http://host.example/oai/a</request><ListIdentifiers><header><identifier>oai:a:1</identifier><datestamp>2024-01-01T00:00:00Z</datestamp></header><header><identifier>oai:a:2</identifier><datestamp>2024-01-01T00:00:00Z</datestamp></header><resumptionToken expirationDate="2024-01-01T00:01:01Z" completeListSize="3" cursor="0">1.2</resumptionToken></ListIdentifiers></OAI-PMH>
 > 1704067201 GET /oai/a?verb=ListRecords&metadataPrefix=oai_dc&from=2024-01-01T00:00:01Z
 200
 DOC <responseDate>2024-01-01T00:00:01Z</responseDate><request verb="ListRecords" metadataPrefix="oai_dc" from="2024-01-01T00:00:01Z">http://host.example/oai/a</request><ListRecords><record><header><identifier>oai:a:0</identifier><datestamp>2024-01-01T00:00:01Z</datestamp></header><metadata>{dc}<dc:title>T</dc:title></oai_dc:dc></metadata></record></ListRecords></OAI-PMH>
@@ -46,7 +46,7 @@ DOC <responseDate>2024-01-01T00:00:01Z</responseDate><request verb="ListRecords"
 DOC <responseDate>2024-01-01T00:00:01Z</responseDate><request verb="ListRecords" metadataPrefix="jnl">http://host.example/oai/a</request><ListRecords><record><header><identifier>oai:a:0</identifier><datestamp>2024-01-01T00:00:01Z</datestamp></header><metadata><article xmlns="http://host.example/jnl/" xmlns:xsi="http://www.w3.org/2001/XMLSchema-instance" xsi:schemaLocation="http://host.example/jnl/ http://host.example/jnl.xsd"><volume>7</volume></article></metadata></record></ListRecords></OAI-PMH>
 > 1704067201 GET /oai/a?verb=ListIdentifiers&resumptionToken=1.2
 200
-DOC <responseDate>2024-01-01T00:00:01Z</responseDate><request verb="ListIdentifiers" resumptionToken="1.2">http://host.example/oai/a</request><error code="badResumptionToken">The resumption token is invalid or has expired.</error></OAI-PMH>"#
+DOC <responseDate>2024-01-01T00:00:01Z</responseDate><request verb="ListIdentifiers" resumptionToken="1.2">http://host.example/oai/a</request><ListIdentifiers><header><identifier>oai:a:0</identifier><datestamp>2024-01-01T00:00:01Z</datestamp></header><resumptionToken completeListSize="3" cursor="2"></resumptionToken></ListIdentifiers></OAI-PMH>"#
 }
 
 #[test]

@@ -4,6 +4,7 @@ use Rattle.std.proofs.lemmas.Str.Pattern.{split_after, split_parts}
 use Rattle.oai_lists.specs.Tokens.{IsToken, token_text}
 use Rattle.oai_lists.specs.declared.tokens.Token.{Token}
 use Rattle.oai_lists.proofs.Stops.{found_token, no_stop_at}
+use Rattle.oai_lists.proofs.TokensRead.{read_is}
 use Rattle.oai_lists.proofs.tokens.Token.read.Goals as goal
 
 pub returns-in-Some-clause-found : goal.returns-in-Some-clause-found
@@ -24,3 +25,9 @@ unfolding token_text
 returns-in-None-clause-only c = λ token is.
     let parts = split_after 46 c.args.text.now (decimal token.list) (decimal token.cursor) c.split_once.result c.split_once.ensures.cases (omega arith) is.spelled (no_stop_at token.list is.list) in
     absurd (rw c.in-None.is at parts)
+
+pub returns-in-Some-clause-read : goal.returns-in-Some-clause-read
+returns-in-Some-clause-read c = read_is c.args.text.now c.read_numbers.result (returns-in-Some-clause-found c) (returns-in-Some-clause-only c)
+
+pub returns-in-None-clause-read : goal.returns-in-None-clause-read
+returns-in-None-clause-read c = read_is c.args.text.now None tt (returns-in-None-clause-only c)

@@ -1,0 +1,42 @@
+-- A clock that moves on drops the lists that have ended, and changes nothing else.
+use Rattle.std.proofs.Common.{◌≡◌, ◌∙◌, ℕ, ℤ, ◌≤ℤ◌, Bool, true, List, [], ◌∷◌, Option, unwrap_or, refl, sym, ap, subst}
+use Rattle.oai_item.specs.Item.{ItemState}
+use Rattle.oai_catalogue.specs.Store.{Lists, list_at}
+use Rattle.oai_lists.specs.OpenLists.{Table, open_ones}
+use Rattle.oai_repo.specs.Config.{Config}
+use Rattle.oai_repo.specs.Held.{AreInUse, Held, IsHeld, KeepsOthers, Shelf, StandsIn, begun_of, numbers_of, state_of, versions_in}
+use Rattle.oai_repo.specs.State.{NamedSet, OpenLists, State, at_clock}
+use Rattle.oai_repo.specs.Tables.{IsKept, versions_ended, without_lists}
+use Rattle.oai_repo.proofs.BegunLemmas.{begun_dropped, counted_dropped, items_dropped, shelved_same, still_same, table_dropped}
+use Rattle.oai_repo.proofs.EndLemmas.{in_use_dropped, kept_dropped}
+
+abbrev pub held_with : Config → ℤ → Shelf → List NamedSet → Table → Held
+held_with config clock shelf sets table = record { config = config; clock = clock; shelf = shelf; sets = sets; table = table }
+
+-- the table without the lists that have ended
+abbrev pub dropped : ℤ → Table → Table
+dropped now table = record table { lists = open_ones now table.lists }
+
+pub state_dropped : (config : Config) (c now : ℤ) (shelf : Shelf) (sets : List NamedSet) (table : Table) (all : Lists) → c ≤ℤ now → StandsIn (held_with config c shelf sets table) all
+    → state_of (held_with config now shelf sets (dropped now table)) (without_lists (versions_ended now table) all) ≡ at_clock now (state_of (held_with config c shelf sets table) all)
+state_dropped config c now shelf sets table all later stands =
+    let made : List ItemState → OpenLists → State = λ items begun. record { clock = now; holdings = record { items = items; sets = sets }; begun = begun } in
+    let after : Lists = without_lists (versions_ended now table) all in
+    let items : list_at after shelf.version ≡ list_at all shelf.version = ap (λ (o : Option (List ItemState)). unwrap_or o []) (items_dropped now shelf.version table all stands.apart) in
+    ap (λ xs. made xs (begun_of now (dropped now table) after)) items
+    ∙ ap (made (list_at all shelf.version)) (begun_dropped now shelf.version table all stands.apart ∙ sym (still_same c now table all later))
+
+pub stands_dropped : (config : Config) (c now : ℤ) (shelf : Shelf) (sets : List NamedSet) (table : Table) (all : Lists) → StandsIn (held_with config c shelf sets table) all
+    → StandsIn (held_with config now shelf sets (dropped now table)) (without_lists (versions_ended now table) all)
+stands_dropped config c now shelf sets table all stands = in_use_dropped now shelf.version table.lists all stands
+
+pub held_dropped : (config : Config) (c now : ℤ) (shelf : Shelf) (sets : List NamedSet) (table : Table) (all : Lists) → StandsIn (held_with config c shelf sets table) all
+    → IsHeld (held_with config c shelf sets table) all → IsHeld (held_with config now shelf sets (dropped now table)) (without_lists (versions_ended now table) all)
+held_dropped config c now shelf sets table all stands held = record {
+  shelved = shelved_same config shelf sets all (without_lists (versions_ended now table) all) (items_dropped now shelf.version table all stands.apart) held.shelved;
+  counted = counted_dropped now shelf.version table all stands.apart held.counted;
+}
+
+pub others_dropped : (config : Config) (c now : ℤ) (shelf : Shelf) (sets : List NamedSet) (table : Table) (all : Lists)
+    → KeepsOthers (numbers_of (held_with config c shelf sets table)) all (numbers_of (held_with config now shelf sets (dropped now table))) (without_lists (versions_ended now table) all)
+others_dropped config c now shelf sets table all = kept_dropped now shelf.version table.lists all

@@ -1,0 +1,120 @@
+-- What a token continues, in the table and in the state that it stands for.
+use Rattle.std.proofs.Common.{◌≡◌, ◌∙◌, inl, inr, ℕ, ℤ, ◌<◌, Bool, true, false, ◌&&◌, eqb, cond, List, [], ◌∷◌, length, map, Option, None, Some, IsSome, refl, sym, ap, subst}
+use Rattle.std.specs.Prelude.{nat_lt}
+use Rattle.std.specs.Option.{option_map}
+use Rattle.std.proofs.lemmas.Bool.{and_parts, cases_Bool, cond-true, cond-false, eqb-true, ltb-true}
+use Rattle.oai_names.specs.declared.list_verbs.ListVerb.{ListVerb}
+use Rattle.oai_item.specs.Formats.{format_named}
+use Rattle.oai_answers.specs.Answers.{Attributes, fails}
+use Rattle.oai_answers.specs.declared.errors.ErrorCode.TheVariants.{BadResumptionToken}
+use Rattle.oai_catalogue.specs.Store.{Lists}
+use Rattle.oai_lists.specs.OpenLists.{Table, open_numbered}
+use Rattle.oai_lists.specs.declared.open_lists.OpenList.{OpenList}
+use Rattle.oai_lists.specs.declared.tokens.Token.{Token}
+use Rattle.oai_repo.specs.Config.{Config}
+use Rattle.oai_repo.specs.Found.{IsTold, page_said}
+use Rattle.oai_repo.specs.Held.{are_counted, begun_of, frozen_in, is_counted}
+use Rattle.oai_repo.specs.Listing.{Said, continues, is_continued, is_same_verb, list_continued, part_from, part_told, prolonged, says, token_answer, where_continued, with_prolonged}
+use Rattle.oai_repo.specs.State.{FrozenList, OpenLists}
+use Rattle.oai_repo.specs.Tables.{table_continued, table_where}
+use Rattle.oai_repo.specs.declared.replies.Reply.{Reply}
+use Rattle.oai_repo.specs.declared.snapshots.Snapshot.{Snapshot}
+use Rattle.oai_repo.proofs.BegunLemmas.{found_frozen, open_parts}
+
+-- ---- what was found in the table
+
+-- the list of the table, and what of it is right
+pub record IsContinued (now : ℤ) (verb : ListVerb) (lists : List OpenList) (list : OpenList) (cursor : ℕ) (token : Token) : Type 0 where
+  pub there : open_numbered token.list now lists ≡ Some list
+  pub right : is_same_verb list.verb verb ≡ true
+  pub at : cursor ≡ token.cursor
+  pub within : nat_lt cursor list.size ≡ true
+
+where_parts : (verb : ListVerb) (token : Token) (found : Option OpenList) (list : OpenList) (cursor : ℕ) → Some (list, cursor) ≡ table_where verb token found
+    → (found ≡ Some list) × (is_same_verb list.verb verb ≡ true) × (cursor ≡ token.cursor) × (nat_lt cursor list.size ≡ true)
+where_parts verb token None list cursor h = cc
+where_parts verb token (Some x) list cursor h =
+    elim (cases_Bool (is_same_verb x.verb verb && nat_lt token.cursor x.size)) [
+      | inl right ↦
+          let e : Some (list, cursor) ≡ Some (x, token.cursor) = h ∙ cond-true (is_same_verb x.verb verb && nat_lt token.cursor x.size) (Some (x, token.cursor)) None right in
+          let pair : (list, cursor) ≡ (x, token.cursor) = cc in
+          let list_is : list ≡ x = ap (λ (q : OpenList × ℕ). q.0) pair in
+          let cursor_is : cursor ≡ token.cursor = ap (λ (q : OpenList × ℕ). q.1) pair in
+          let parts = and_parts (is_same_verb x.verb verb) (nat_lt token.cursor x.size) right in (
+            ap (λ (l : OpenList). Some l) (sym list_is),
+            ap (λ (l : OpenList). is_same_verb l.verb verb) list_is ∙ parts.0,
+            cursor_is,
+            ap (λ (k : ℕ). nat_lt k list.size) cursor_is ∙ ap (λ (l : OpenList). nat_lt token.cursor l.size) list_is ∙ parts.1,
+          )
+      | inr wrong ↦
+          let e : Some (list, cursor) ≡ None = h ∙ cond-false (is_same_verb x.verb verb && nat_lt token.cursor x.size) (Some (x, token.cursor)) None wrong in
+          cc
+    ]
+
+pub token_found : (now : ℤ) (verb : ListVerb) (lists : List OpenList) (asked : Option Token) (list : OpenList) (cursor : ℕ) → Some (list, cursor) ≡ table_continued now verb lists asked
+    → (token : Token) × (asked ≡ Some token) × IsContinued now verb lists list cursor token
+token_found now verb lists None list cursor h = cc
+token_found now verb lists (Some token) list cursor h =
+    let parts = where_parts verb token (open_numbered token.list now lists) list cursor h in
+    (token, refl, record { there = parts.0; right = parts.1; at = parts.2; within = parts.3 })
+
+-- ---- the list of the state
+
+counted_size : (all : Lists) (list : OpenList) → is_counted all list ≡ true → list.size ≡ length (frozen_in all list).items
+counted_size all list h = eqb-true list.size (length (frozen_in all list).items) h
+
+-- the test of the state is that of the table
+same_test : (verb : ListVerb) (token : Token) (all : Lists) (list : OpenList) → is_counted all list ≡ true
+    → is_continued verb token (frozen_in all list) ≡ (is_same_verb list.verb verb && nat_lt token.cursor list.size)
+same_test verb token all list h = ap (λ (n : ℕ). is_same_verb list.verb verb && nat_lt token.cursor n) (sym (counted_size all list h))
+
+continued_as : (now : ℤ) (verb : ListVerb) (token : Token) (table : Table) (all : Lists)
+    → list_continued (begun_of now table all) verb token ≡ where_continued verb token (option_map (frozen_in all) (open_numbered token.list now table.lists))
+continued_as now verb token table all = ap (where_continued verb token) (found_frozen token.list now all table.lists)
+
+pub goes_on : (config : Config) (now : ℤ) (verb : ListVerb) (table : Table) (all : Lists) (list : OpenList) (cursor : ℕ) (asked : Option Token) (token : Token) → asked ≡ Some token
+    → IsContinued now verb table.lists list cursor token → are_counted table all ≡ true
+    → token_answer config now (begun_of now table all) verb asked
+    ≡ (says (part_told verb (format_named list.filter.prefix config.formats) (part_from config (prolonged config now (frozen_in all list)) cursor)), with_prolonged config now list.number (begun_of now table all))
+goes_on config now verb table all list cursor asked token is h counted =
+    let begun : OpenLists = begun_of now table all in
+    let frozen : FrozenList = frozen_in all list in
+    let parts = open_parts token.list now (is_counted all) table.lists list h.there counted in
+    let test : is_continued verb token frozen ≡ true =
+    same_test verb token all list parts.2
+    ∙ ap (λ (b : Bool). b && nat_lt token.cursor list.size) h.right
+    ∙ ap (λ (k : ℕ). nat_lt k list.size) (sym h.at) ∙ h.within
+    in
+    let found : list_continued begun verb token ≡ Some frozen =
+    continued_as now verb token table all
+    ∙ ap (λ (o : Option OpenList). where_continued verb token (option_map (frozen_in all) o)) h.there
+    ∙ cond-true (is_continued verb token frozen) (Some frozen) None test
+    in
+    ap (token_answer config now begun verb) is
+    ∙ ap (continues config now begun verb token.cursor) found
+    ∙ ap (λ (k : ℕ). continues config now begun verb k (Some frozen)) (sym h.at)
+
+stops_where : (verb : ListVerb) (token : Token) (all : Lists) (found : Option OpenList) → ((list : OpenList) → found ≡ Some list → is_counted all list ≡ true) → None ≡ table_where verb token found
+    → where_continued verb token (option_map (frozen_in all) found) ≡ None
+stops_where verb token all None counted h = refl
+stops_where verb token all (Some x) counted h =
+    elim (cases_Bool (is_same_verb x.verb verb && nat_lt token.cursor x.size)) [
+      | inl right ↦
+          let e : None ≡ Some (x, token.cursor) = h ∙ cond-true (is_same_verb x.verb verb && nat_lt token.cursor x.size) (Some (x, token.cursor)) None right in
+          cc
+      | inr wrong ↦ cond-false (is_continued verb token (frozen_in all x)) (Some (frozen_in all x)) None (same_test verb token all x (counted x refl) ∙ wrong)
+    ]
+
+pub stops : (config : Config) (now : ℤ) (verb : ListVerb) (table : Table) (all : Lists) (asked : Option Token) → None ≡ table_continued now verb table.lists asked → are_counted table all ≡ true
+    → token_answer config now (begun_of now table all) verb asked ≡ (says (fails BadResumptionToken), begun_of now table all)
+stops config now verb table all None h counted = refl
+stops config now verb table all (Some token) h counted =
+    let begun : OpenLists = begun_of now table all in
+    ap (continues config now begun verb token.cursor)
+    (continued_as now verb token table all
+    ∙ stops_where verb token all (open_numbered token.list now table.lists) (λ list there. (open_parts token.list now (is_counted all) table.lists list there counted).2) h)
+
+-- ---- what is told of it
+
+pub told_as : (found : Snapshot) (asked : Attributes) (done other : Said × OpenLists) (reply : Reply) (table : Table) (all : Lists) → done ≡ other → IsTold found asked other reply table all → IsTold found asked done reply table all
+told_as found asked done other reply table all is told = subst (λ (d : Said × OpenLists). IsTold found asked d reply table all) (sym is) told

@@ -1,0 +1,80 @@
+-- What becomes of the open lists of a repository behind its calls: this repository's own.
+use Rattle.std.specs.Prelude.{◌≡◌, ◌+◌, ℕ, ℤ, pos, int_le, nat_lt, Bool, true, ◌&&◌, List, ◌∷◌, filter, map, Option, None, Some, if◌then◌else◌}
+use Rattle.std.specs.List.{list_all}
+use Rattle.oai_catalogue.specs.Store.{Lists, list_at}
+use Rattle.oai_names.specs.declared.list_verbs.ListVerb.{ListVerb}
+use Rattle.oai_item.specs.Item.{ItemState}
+use Rattle.oai_answers.specs.Answers.{Continuation, Page, completes, remains}
+use Rattle.oai_answers.specs.declared.tokens.Extent.{Extent}
+use Rattle.oai_lists.specs.OpenLists.{Table, has_ended, open_numbered}
+use Rattle.oai_lists.specs.Tokens.{token_text}
+use Rattle.oai_lists.specs.declared.tokens.Token.{Token}
+use Rattle.oai_lists.specs.declared.open_lists.OpenList.{OpenList}
+use Rattle.oai_repo.specs.Config.{Config, is_in_years}
+use Rattle.oai_repo.specs.Held.{AreInUse, KeepsOthers, has, versions_in}
+use Rattle.oai_repo.specs.Listing.{is_same_verb}
+use Rattle.oai_repo.specs.declared.parts.Part.{Part}
+
+-- ---- what has ended
+
+-- the versions of the lists that have ended
+abbrev pub versions_ended : ℤ → Table → List ℕ
+versions_ended now table = map (λ (list : OpenList). list.version) (filter (has_ended now) table.lists)
+
+-- the lists without those under the numbers
+abbrev pub without_lists : List ℕ → Lists → Lists
+without_lists numbers lists n = if has numbers n then None else lists n
+
+-- ---- what a repository keeps of its table
+
+-- the list's end can be written as a date
+abbrev pub has_end : OpenList → Bool
+has_end list = int_le list.end (pos 253_402_300_799)
+
+-- as many lists may be open as the configuration says, and each end can be told
+pub record IsKeptTable (config : Config) (table : Table) : Type 0 where
+  pub limit : table.limit ≡ config.lists
+  pub ends : list_all has_end table.lists ≡ true
+
+-- the clock is in its years, and the table is kept
+pub record IsKept (config : Config) (clock : ℤ) (table : Table) : Type 0 where
+  pub dated : is_in_years clock ≡ true
+  pub begun : IsKeptTable config table
+
+-- ---- what a request leaves
+
+-- the table is kept, the numbers are in use, of others nothing has changed, and the items stand as they did
+pub record IsLeftOpen (config : Config) (v : ℕ) (old : Table) (before : Lists) (new : Table) (after : Lists) : Type 0 where
+  pub kept : IsKeptTable config new
+  pub stands : AreInUse (v ∷ versions_in new) after
+  pub others : KeepsOthers (v ∷ versions_in old) before (v ∷ versions_in new) after
+  pub items : list_at after v ≡ list_at before v
+
+-- ---- a part of a list, by the numbers that the table keeps of the list
+
+-- where the part stands in its list
+abbrev pub extent_of : Part → Extent
+extent_of part = record { size = part.size; cursor = part.cursor }
+
+-- records remain behind the part, or it completes the list
+abbrev pub followed_by : Config → Part → Continuation
+followed_by config part =
+    if nat_lt (part.cursor + config.chunk) part.size
+    then remains part.end (extent_of part) (token_text (record { list = part.number; cursor = part.cursor + config.chunk }))
+    else completes (extent_of part)
+
+-- the part with these items
+abbrev pub page_at : Config → List ItemState → Part → Page
+page_at config items part = record { items = items; granularity = config.granularity; continuation = followed_by config part }
+
+-- ---- the list that a token continues
+
+-- the list, where the token continues it by the verb
+abbrev pub table_where : ListVerb → Token → Option OpenList → Option (OpenList × ℕ)
+table_where verb token None = None
+table_where verb token (Some list) = if is_same_verb list.verb verb && nat_lt token.cursor list.size then Some (list, token.cursor) else None
+
+-- the list of the table, and the cursor
+abbrev pub table_continued : ℤ → ListVerb → List OpenList → Option Token → Option (OpenList × ℕ)
+table_continued now verb lists None = None
+table_continued now verb lists (Some token) = table_where verb token (open_numbered token.list now lists)
