@@ -1,5 +1,5 @@
 -- The open lists of a repository, as its table and its store have them.
-use Rattle.std.proofs.Common.{◌≡◌, ◌≢◌, ◌∙◌, ◌⊎◌, inl, inr, ℕ, ℤ, pos, ◌+◌, ◌+ℤ◌, ◌≤ℤ◌, Bool, true, false, not, ◌&&◌, ◌||◌, eqb, cond, List, [], ◌∷◌, ◌++◌, length, map, Option, None, Some, IsSome, is_some, unwrap_or, refl, sym, ap, subst, arith}
+use Rattle.std.proofs.Common.{◌≡◌, ◌∙◌, inl, inr, ℕ, ℤ, pos, ◌+◌, ◌+ℤ◌, ◌≤ℤ◌, Bool, true, false, not, ◌&&◌, ◌||◌, eqb, List, [], ◌∷◌, ◌++◌, length, map, Option, None, Some, IsSome, unwrap_or, refl, sym, ap, subst, arith}
 use Rattle.std.specs.Prelude.{filter, find, int_le, int_lt}
 use Rattle.std.specs.List.{list_all}
 use Rattle.std.specs.Option.{option_map}
@@ -11,15 +11,15 @@ use Rattle.oai_item.specs.Item.{ItemState}
 use Rattle.oai_item.specs.Selection.{selected}
 use Rattle.oai_catalogue.specs.Store.{Lists, list_at, with_list}
 use Rattle.oai_catalogue.proofs.ListsLemmas.{list_at-with}
-use Rattle.oai_lists.specs.OpenLists.{Table, has_ended, is_numbered, is_open, list_numbered, open_numbered, open_ones, renewed, renewed_one, with_list as opening}
+use Rattle.oai_lists.specs.OpenLists.{Table, is_numbered, is_open, list_numbered, open_numbered, open_ones, renewed, renewed_one, with_list as opening}
 use Rattle.oai_lists.specs.declared.open_lists.OpenList.{OpenList}
 use Rattle.oai_repo.specs.Config.{Config}
-use Rattle.oai_repo.specs.Held.{AreInUse, AreNoted, IsShelved, KeepsOthers, Shelf, are_counted, are_different, begun_of, frozen_in, has, holdings_of, is_counted, items_on, versions_in}
+use Rattle.oai_repo.specs.Held.{AreInUse, AreNoted, IsShelved, KeepsOthers, Shelf, are_counted, are_different, begun_of, frozen_in, has, is_counted, versions_in}
 use Rattle.oai_repo.specs.Kept.{AreKept}
 use Rattle.oai_repo.specs.Listing.{has_number, prolonged, prolonged_at, with_begun, with_prolonged}
 use Rattle.oai_repo.specs.State.{FrozenList, NamedSet, OpenLists, is_open_at, still_open}
 use Rattle.oai_repo.specs.Tables.{IsKeptTable, IsLeftOpen, has_end, versions_ended, without_lists}
-use Rattle.oai_repo.proofs.EndLemmas.{ended, in_use_dropped, kept_dropped, left_same, open_here, open_later, versions}
+use Rattle.oai_repo.proofs.EndLemmas.{in_use_dropped, kept_dropped, left_same, open_here, open_later, versions}
 use Rattle.oai_repo.proofs.NumberLemmas.{clash, in_use_end, kept_end, kept_same, same_number, turned, unused_lacks}
 
 -- ---- what a version holds is all that counts

@@ -1,6 +1,5 @@
 -- A change that is made, refused or fails in a part of what is held, as the definition of changes says it.
-use Rattle.std.proofs.Common.{◌≡◌, ◌≢◌, Bool, true, false, not, ℕ, List, [], ◌∷◌, ◌++◌, length, Option, Some, None, is_some, Result, Ok, Err, ℤ, refl, sym, ap, ◌∙◌, codes}
-use Rattle.std.specs.Prelude.{find}
+use Rattle.std.proofs.Common.{◌≡◌, ◌≢◌, true, ℕ, List, [], ◌∷◌, ◌++◌, length, Option, Some, None, Result, Ok, Err, ℤ, refl, ap, ◌∙◌}
 use Rattle.std.specs.Option.{option_or}
 use Rattle.oai_item.specs.Item.{ItemState, Metadata, has_record, record_named, live_item}
 use Rattle.oai_item.specs.Items.{item_named}
@@ -9,12 +8,11 @@ use Rattle.oai_item.specs.Refusals.{in_repository}
 use Rattle.oai_item.specs.declared.changes.Change.{Change}
 use Rattle.oai_item.specs.declared.changes.Change.TheVariants as change
 use Rattle.oai_item.specs.declared.refusals.ChangeRefusal.{ChangeRefusal}
-use Rattle.oai_repo.specs.Calls.{early_refusal}
 use Rattle.oai_repo.specs.Changes.{refusal_of, after_deletion, dead_refusal, missing_refusal, deposit_refusal, item_refusal, set_refusal, changed, stamp_at, with_new}
 use Rattle.oai_repo.specs.Config.{Config}
 use Rattle.oai_repo.specs.Kept.{AreKept}
 use Rattle.oai_repo.specs.Machine.{act, act_on_change, accepted, changing, refused}
-use Rattle.oai_repo.specs.State.{State, Holdings, NamedSet, OpenLists}
+use Rattle.oai_repo.specs.State.{Holdings, NamedSet, OpenLists}
 use Rattle.oai_repo.specs.Workings.{IsDone, IsMade}
 use Rattle.oai_repo.specs.declared.refusals.Refusal.{Refusal}
 use Rattle.oai_repo.specs.declared.refusals.Refusal.TheVariants as refusal

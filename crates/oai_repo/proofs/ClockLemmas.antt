@@ -1,7 +1,5 @@
 -- The clock of a repository stays within the years that it begins in.
-use Rattle.std.proofs.Common.{rules, ◌≡◌, Bool, true, ◌&&◌, ℤ, pos, neg_ℤ, ◌<ℤ◌, ◌≤ℤ◌, FitsSigned, w64, arith, cond}
-use Rattle.std.specs.Prelude.{int_lt, not}
-use Rattle.std.specs.Int.{int_max, int_min}
+use Rattle.std.proofs.Common.{rules, ◌≡◌, true, ℤ, pos, neg_ℤ, ◌<ℤ◌, ◌≤ℤ◌, FitsSigned, w64, arith}
 use Rattle.std.proofs.lemmas.Bool.{and_parts}
 use Rattle.std.proofs.lemmas.Int.{ints}
 use Rattle.oai_time.specs.Clock.{tick}

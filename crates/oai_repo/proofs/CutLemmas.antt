@@ -1,5 +1,5 @@
 -- What is selected is told whole, or is too much for one answer.
-use Rattle.std.proofs.Common.{◌≡◌, ◌∙◌, ℕ, ℤ, ◌<◌, ◌≤◌, Bool, true, false, ◌&&◌, cond, Bor, List, [], ◌∷◌, length, take, drop, Option, None, Some, is_some, Result, Ok, Err, IfOk, refl, sym, ap, subst, arith}
+use Rattle.std.proofs.Common.{◌≡◌, ◌∙◌, ℕ, ℤ, ◌<◌, ◌≤◌, false, ◌&&◌, Bor, List, [], ◌∷◌, length, take, drop, Option, Some, is_some, Result, Ok, Err, IfOk, refl, sym, ap, subst, arith}
 use Rattle.std.specs.Prelude.{nat_le}
 use Rattle.std.proofs.lemmas.Bool.{cond-true, cond-false, le-leb, lt-leb}
 use Rattle.oai_names.specs.Sets.{HasSetsAbove, has_set}
@@ -13,7 +13,7 @@ use Rattle.oai_answers.specs.declared.errors.ErrorCode.TheVariants.{NoRecordsMat
 use Rattle.oai_catalogue.specs.Store.{Lists}
 use Rattle.oai_repo.specs.Answers.{filter_of}
 use Rattle.oai_repo.specs.Config.{Config}
-use Rattle.oai_repo.specs.Found.{IsCut, IsFound, IsSelection, filter_asked, holdings_in, said_of, selected_on}
+use Rattle.oai_repo.specs.Found.{IsCut, IsFound, IsSelection, filter_asked, holdings_in, selected_on}
 use Rattle.oai_repo.specs.Listing.{Said, begins, has_no_sets, list_answer, list_begun, says, told_by, told_in, told_items, told_whole, wait_at, whole_page}
 use Rattle.oai_repo.specs.State.{OpenLists}
 use Rattle.oai_repo.specs.declared.cuts.ListRequest.{ListRequest}

@@ -1,8 +1,7 @@
 -- The earliest of the ends of open lists.
-use Rattle.std.proofs.Common.{◌≡◌, ◌∙◌, inl, inr, ℕ, suc, zero, ◌<◌, ℤ, pos, ◌-ℤ◌, ◌<ℤ◌, ◌≤ℤ◌, Bool, true, false, cond, List, [], ◌∷◌, map, length, get_or, Option, None, Some, refl, sym, ap, subst, arith}
-use Rattle.std.specs.Prelude.{int_le, int_lt}
+use Rattle.std.proofs.Common.{◌≡◌, ◌∙◌, ℕ, suc, zero, ◌<◌, ℤ, ◌-ℤ◌, ◌≤ℤ◌, Bool, true, List, [], ◌∷◌, map, length, get_or, Some, sym, ap, subst, arith}
 use Rattle.std.specs.Int.{int_min}
-use Rattle.std.specs.List.{All, Contains, list_all}
+use Rattle.std.specs.List.{list_all}
 use Rattle.std.proofs.lemmas.List.Sums.{AllPass-from_list_all}
 use Rattle.std.proofs.lemmas.Int.{ints}
 use Rattle.oai_catalogue.specs.Store.{Lists}
@@ -10,7 +9,6 @@ use Rattle.oai_lists.specs.OpenLists.{IsEarliest}
 use Rattle.oai_lists.specs.declared.open_lists.OpenList.{OpenList}
 use Rattle.oai_repo.specs.Held.{frozen_in}
 use Rattle.oai_repo.specs.Listing.{earliest_end, seconds_to_end}
-use Rattle.oai_repo.specs.State.{FrozenList}
 
 -- ---- numbers of moments
 

@@ -1,12 +1,11 @@
 -- Lists that have ended: what stands of a table, and of the store, when they are dropped.
-use Rattle.std.proofs.Common.{◌≡◌, ◌≢◌, ◌∙◌, ◌⊎◌, inl, inr, ℕ, ℤ, suc, ◌+◌, ◌<◌, Bool, true, false, not, ◌&&◌, ◌||◌, eqb, cond, List, [], ◌∷◌, ◌++◌, length, take, drop, map, Option, None, Some, IsSome, is_some, refl, sym, ap, subst, arith, add-one}
+use Rattle.std.proofs.Common.{◌≡◌, ◌∙◌, inl, inr, ℕ, ℤ, suc, ◌+◌, ◌<◌, Bool, true, false, not, ◌||◌, eqb, List, [], ◌∷◌, ◌++◌, length, take, drop, map, Option, None, Some, IsSome, is_some, refl, sym, ap, subst, arith}
 use Rattle.std.specs.Prelude.{filter, find}
 use Rattle.std.specs.Option.{option_map}
-use Rattle.std.specs.List.{after_first, before_first, list_all, position_or_len}
+use Rattle.std.specs.List.{position_or_len}
 use Rattle.std.proofs.lemmas.Bool.{and_from, and_parts, cases_Bool, cond-true, cond-false, eq-eqb, eqb-true, false_from_ne_true, not-true, not_from_false, or_from, or_left, or_parts, or_right}
 use Rattle.std.proofs.lemmas.Int.{ints}
-use Rattle.oai_item.specs.Item.{ItemState}
-use Rattle.oai_catalogue.specs.Store.{Lists, list_at, without_list}
+use Rattle.oai_catalogue.specs.Store.{Lists, without_list}
 use Rattle.oai_lists.specs.OpenLists.{Table, has_ended, is_open, open_ones, without_ended}
 use Rattle.oai_lists.specs.declared.open_lists.OpenList.{OpenList}
 use Rattle.oai_repo.specs.Held.{AreInUse, KeepsOthers, are_different, has, versions_in}

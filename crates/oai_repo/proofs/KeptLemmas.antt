@@ -1,5 +1,5 @@
 -- What a repository keeps true of its items stays true under each change that is not refused.
-use Rattle.std.proofs.Common.{◌≡◌, ◌<◌, ◌≤◌, ◌+◌, ℕ, ℤ, suc, Bool, true, false, not, ◌&&◌, ◌||◌, cond, List, [], ◌∷◌, ◌++◌, length, length-append, map, codes, Option, None, Some, is_some, is_none, Result, Ok, Err, is_err, refl, sym, ap, ◌∙◌, arith}
+use Rattle.std.proofs.Common.{◌≡◌, ◌<◌, ◌≤◌, ◌+◌, ℕ, ℤ, Bool, true, false, not, ◌&&◌, cond, List, [], ◌∷◌, ◌++◌, length, length-append, map, codes, Option, None, Some, is_some, is_none, Result, Ok, Err, is_err, refl, ap, ◌∙◌, arith}
 use Rattle.std.specs.Prelude.{filter, find, nat_lt, nat_le}
 use Rattle.std.specs.List.{flat_map, list_all, list_any}
 use Rattle.std.specs.Option.{option_or}
@@ -8,7 +8,6 @@ use Rattle.std.proofs.lemmas.Bool.{and_parts, or_left}
 use Rattle.std.proofs.lemmas.Bool.Decides.{nat_tests}
 use Rattle.std.proofs.lemmas.List.Elements.{All-filter}
 use Rattle.std.proofs.lemmas.List.Folds.{list_all-map, list_any-append}
-use Rattle.std.proofs.lemmas.Slice.Eq.{bytes_eq-Decides}
 use Rattle.std.proofs.lemmas.List.Sums.{AllPass-from_list_all, list_all-from_AllPass}
 use Rattle.oai_names.specs.Sets.{has_set}
 use Rattle.oai_item.specs.Item.{ItemState, Metadata, emptied, has_record, live_item, record_named, tombstone_of}
@@ -29,7 +28,7 @@ use Rattle.oai_item.specs.declared.refusals.ChangeRefusal.TheVariants.{UnknownSe
 use Rattle.oai_item.proofs.Lengths.{length-encoded, length-encoded_list, length-encoded_record}
 use Rattle.oai_item.proofs.Named.{found_name, of_found}
 use Rattle.oai_item.proofs.OrderLemmas.{all-weaker, all-filter, all-placed, placed-cons, placed-nil, in_order-changed, apart-changed, in_order-filter, apart-filter}
-use Rattle.oai_repo.specs.Changes.{after_deletion, with_tombstone, deposit_refusal, item_refusal, set_refusal, refusal_of, changed, drops_format, is_one_too_many, with_new}
+use Rattle.oai_repo.specs.Changes.{after_deletion, with_tombstone, deposit_refusal, item_refusal, refusal_of, changed, drops_format, is_one_too_many, with_new}
 use Rattle.oai_answers.specs.declared.identify.DeletedRecord.{DeletedRecord}
 use Rattle.oai_answers.specs.declared.identify.DeletedRecord.TheVariants.{No, Transient, Persistent}
 use Rattle.oai_repo.specs.Config.{Config}
@@ -81,6 +80,7 @@ stands config sets specs records h =
 
 -- and what the later ones say
 pub record Fits (config : Config) (replaced : Option ItemState) (count : ℕ) (item : ItemState) : Type 0 where
+  pub formats : drops_format replaced item.formats ≡ false
   pub small : is_too_large item ≡ false
   pub room : is_one_too_many config replaced count ≡ false
 
@@ -90,7 +90,7 @@ fits config replaced count item h =
     let after_drops = passed (drops_format replaced item.formats) DropsFormat _ h in
     let after_size = passed (is_too_large item) TooLarge _ after_drops.1 in
     let after_room = passed (is_one_too_many config replaced count) TooManyItems _ after_size.1 in
-    record { small = after_size.0; room = after_room.0 }
+    record { formats = after_drops.0; small = after_size.0; room = after_room.0 }
 
 -- ---- the sets of an item
 
@@ -120,7 +120,7 @@ length-placed item (x ∷ items) = ap length (placed-cons item x items) ∙ by_t
     by_test true h = omega arith
     by_test false h = omega arith
 
-at_most : (p : ItemState → Bool) (items : List ItemState) → length (filter p items) ≤ length items
+pub at_most : (p : ItemState → Bool) (items : List ItemState) → length (filter p items) ≤ length items
 at_most p [] = omega arith
 at_most p (x ∷ items) = by_test (p x) (at_most p items)
   where
@@ -153,7 +153,7 @@ room : (items left most : ℕ) (missing : Bool) → (missing && nat_le most item
 room items left most true full few fewer' within = grind (arith, nat_tests)
 room items left most false full few fewer' within = let less = fewer' refl in omega arith
 
-few-new : (config : Config) (items : List ItemState) (item : ItemState) → is_one_too_many config (item_named item.identifier items) (length items) ≡ false
+pub few-new : (config : Config) (items : List ItemState) (item : ItemState) → is_one_too_many config (item_named item.identifier items) (length items) ≡ false
     → length items ≤ config.items → length (with_new item items) ≤ config.items
 unfolding is_one_too_many
 few-new config items item full within =
@@ -166,28 +166,33 @@ few-new config items item full within =
 
 -- ---- a deposit
 
-well-without : (p : ItemState → Bool) (identifier : List ℕ) (items : List ItemState) → list_all p items ≡ true → list_all p (without identifier items) ≡ true
+pub well-without : (p : ItemState → Bool) (identifier : List ℕ) (items : List ItemState) → list_all p items ≡ true → list_all p (without identifier items) ≡ true
 unfolding without
 well-without p identifier items h = all-filter p (λ item. not (is_named identifier item)) items h
+
+-- the item of a deposit is as a repository keeps its items
+pub well-deposited : (config : Config) (holdings : Holdings) (identifier : List ℕ) (stamp : ℤ) (specs : List (List ℕ)) (records : List Metadata)
+    → Stands config holdings.sets specs records → Fits config (item_named identifier holdings.items) (length holdings.items) (live_item identifier stamp (reduced specs) records)
+    → is_well_kept config holdings.sets (live_item identifier stamp (reduced specs) records) ≡ true
+well-deposited config holdings identifier stamp specs records s f =
+    all_five _ _ _ _ _ s.core s.known s.fields (all_of_reduced (has_set holdings.sets) specs s.in_sets) (ap not f.small)
 
 deposited : (config : Config) (holdings : Holdings) (identifier : List ℕ) (stamp : ℤ) (specs : List (List ℕ)) (records : List Metadata)
     → Stands config holdings.sets specs records → Fits config (item_named identifier holdings.items) (length holdings.items) (live_item identifier stamp (reduced specs) records) → AreKept config holdings
     → AreKept config (record holdings { items = with_new (live_item identifier stamp (reduced specs) records) holdings.items })
 deposited config holdings identifier stamp specs records s f kept =
     let item : ItemState = live_item identifier stamp (reduced specs) records in
-    let not_large : not (is_too_large item) ≡ true = ap not f.small in
-    let well : is_well_kept config holdings.sets item ≡ true = all_five _ _ _ _ _ s.core s.known s.fields (all_of_reduced (has_set holdings.sets) specs s.in_sets) not_large in
     record {
       ordered = in_order-changed item holdings.items kept.ordered;
       apart = apart-changed item holdings.items kept.apart;
       few = few-new config holdings.items item f.room kept.few;
-      well = all-placed (is_well_kept config holdings.sets) item (without identifier holdings.items) well
+      well = all-placed (is_well_kept config holdings.sets) item (without identifier holdings.items) (well-deposited config holdings identifier stamp specs records s f)
           (well-without (is_well_kept config holdings.sets) identifier holdings.items kept.well);
     }
 
 -- ---- a deletion
 
-emptied-record : (prefix : List ℕ) (formats : List Metadata) → has_record prefix (map emptied formats) ≡ has_record prefix formats
+pub emptied-record : (prefix : List ℕ) (formats : List Metadata) → has_record prefix (map emptied formats) ≡ has_record prefix formats
 unfolding record_named
 emptied-record prefix [] = refl
 emptied-record prefix (format ∷ formats) = by_test (bytes_eq format.0 prefix) (emptied-record prefix formats)
@@ -244,7 +249,7 @@ tombstone_fits stamp item left r is small measure err =
 still_small : (a b most : ℕ) → a ≤ b → not (nat_lt most b) ≡ true → not (nat_lt most a) ≡ true
 still_small a b most h small = grind (arith, nat_tests)
 
-well-tombstone : (config : Config) (sets : List NamedSet) (stamp : ℤ) (item : ItemState)
+pub well-tombstone : (config : Config) (sets : List NamedSet) (stamp : ℤ) (item : ItemState)
     → is_well_kept config sets item ≡ true → is_well_kept config sets (tombstone_of stamp item) ≡ true
 well-tombstone config sets stamp item h =
     let size = and_parts _ (not (is_too_large item)) h in
@@ -269,7 +274,7 @@ replaced config holdings item there well kept = record {
 }
 
 -- the items without one of them
-taken : (config : Config) (holdings : Holdings) (identifier : List ℕ) → AreKept config holdings → AreKept config (record holdings { items = without identifier holdings.items })
+pub taken : (config : Config) (holdings : Holdings) (identifier : List ℕ) → AreKept config holdings → AreKept config (record holdings { items = without identifier holdings.items })
 unfolding without
 taken config holdings identifier kept = record {
   ordered = in_order-filter (λ item. not (is_named identifier item)) holdings.items kept.ordered;
@@ -278,7 +283,7 @@ taken config holdings identifier kept = record {
   well = all-filter (is_well_kept config holdings.sets) (λ item. not (is_named identifier item)) holdings.items kept.well;
 }
 
-buried : (config : Config) (holdings : Holdings) (identifier : List ℕ) (stamp : ℤ) (found : Option ItemState) → item_named identifier holdings.items ≡ found
+pub buried : (config : Config) (holdings : Holdings) (identifier : List ℕ) (stamp : ℤ) (found : Option ItemState) → item_named identifier holdings.items ≡ found
     → AreKept config holdings → AreKept config (record holdings { items = with_tombstone stamp found holdings.items })
 buried config holdings identifier stamp None is kept = kept
 buried config holdings identifier stamp (Some item) is kept =
@@ -312,8 +317,8 @@ still_well config set sets item h =
     let core = and_parts (has_record (codes "oai_dc") item.formats) (list_all (has_format config.formats) item.formats) fields.0 in
     all_five _ _ _ _ _ core.0 core.1 fields.1 (still_in set sets item.sets in_sets.1) size.1
 
-set_added : (config : Config) (holdings : Holdings) (set : NamedSet) → AreKept config holdings → AreKept config (record holdings { sets = holdings.sets ++ set ∷ [] })
-set_added config holdings set kept = record {
+pub set_kept : (config : Config) (holdings : Holdings) (set : NamedSet) → AreKept config holdings → AreKept config (record holdings { sets = holdings.sets ++ set ∷ [] })
+set_kept config holdings set kept = record {
   ordered = kept.ordered;
   apart = kept.apart;
   few = kept.few;
@@ -330,7 +335,7 @@ kept-changed config stamp holdings (change.Deposit identifier sets records) none
     let causes = no_cause (deposit_refusal config holdings.sets sets records) (item_refusal config (item_named identifier holdings.items) (length holdings.items) item) none in
     deposited config holdings identifier stamp sets records (stands config holdings.sets sets records causes.0) (fits config (item_named identifier holdings.items) (length holdings.items) item causes.1) kept
 kept-changed config stamp holdings (change.Delete identifier) none kept = deleted config holdings identifier stamp config.deleted kept
-kept-changed config stamp holdings (change.AddSet spec name) none kept = set_added config holdings (spec, name) kept
+kept-changed config stamp holdings (change.AddSet spec name) none kept = set_kept config holdings (spec, name) kept
 
 -- nothing is held, and all of it is as it should be
 pub kept-none : (config : Config) → AreKept config no_holdings

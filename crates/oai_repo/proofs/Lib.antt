@@ -16,3 +16,9 @@ pub mod CutLemmas
 pub mod TokenLemmas
 pub mod WaitLemmas
 pub mod NeighbourLemmas
+pub mod EffectLemmas
+pub mod StandLemmas
+pub mod FollowLemmas
+pub mod ChainLemmas
+pub mod GivenLemmas
+pub mod WorkedLemmas

@@ -1,13 +1,13 @@
 -- A clock that moves on drops the lists that have ended, and changes nothing else.
-use Rattle.std.proofs.Common.{◌≡◌, ◌∙◌, ℕ, ℤ, ◌≤ℤ◌, Bool, true, List, [], ◌∷◌, Option, unwrap_or, refl, sym, ap, subst}
+use Rattle.std.proofs.Common.{◌≡◌, ◌∙◌, ℤ, ◌≤ℤ◌, List, [], Option, unwrap_or, sym, ap}
 use Rattle.oai_item.specs.Item.{ItemState}
 use Rattle.oai_catalogue.specs.Store.{Lists, list_at}
 use Rattle.oai_lists.specs.OpenLists.{Table, open_ones}
 use Rattle.oai_repo.specs.Config.{Config}
-use Rattle.oai_repo.specs.Held.{AreInUse, Held, IsHeld, KeepsOthers, Shelf, StandsIn, begun_of, numbers_of, state_of, versions_in}
+use Rattle.oai_repo.specs.Held.{Held, IsHeld, KeepsOthers, Shelf, StandsIn, begun_of, numbers_of, state_of}
 use Rattle.oai_repo.specs.State.{NamedSet, OpenLists, State, at_clock}
-use Rattle.oai_repo.specs.Tables.{IsKept, versions_ended, without_lists}
-use Rattle.oai_repo.proofs.BegunLemmas.{begun_dropped, counted_dropped, items_dropped, shelved_same, still_same, table_dropped}
+use Rattle.oai_repo.specs.Tables.{versions_ended, without_lists}
+use Rattle.oai_repo.proofs.BegunLemmas.{begun_dropped, counted_dropped, items_dropped, shelved_same, still_same}
 use Rattle.oai_repo.proofs.EndLemmas.{in_use_dropped, kept_dropped}
 
 abbrev pub held_with : Config → ℤ → Shelf → List NamedSet → Table → Held

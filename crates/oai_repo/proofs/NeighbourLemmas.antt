@@ -1,5 +1,5 @@
 -- A repository beside another one in a store: what the one's calls leave of the other.
-use Rattle.std.proofs.Common.{◌≡◌, ◌∙◌, inl, inr, ℕ, Bool, true, false, eqb, Option, is_some, unwrap_or, refl, sym, ap}
+use Rattle.std.proofs.Common.{◌≡◌, inl, inr, ℕ, true, false, eqb, is_some}
 use Rattle.std.proofs.lemmas.Bool.{cases_Bool, or_left, or_right}
 use Rattle.oai_catalogue.specs.Store.{Lists}
 use Rattle.oai_repo.specs.Held.{Held, IsHeld, KeepsOthers, StandsIn, has, numbers_of, versions_in}

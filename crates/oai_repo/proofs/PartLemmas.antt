@@ -1,7 +1,7 @@
 -- The part of a list that is told, by the numbers that the table keeps of the list.
-use Rattle.std.proofs.Common.{◌≡◌, ◌∙◌, inl, inr, ℕ, ℤ, ◌+◌, ◌-◌, ◌<◌, ◌≤◌, min, Bool, true, false, cond, List, length, take, drop, refl, sym, ap, arith}
+use Rattle.std.proofs.Common.{◌≡◌, ◌∙◌, inl, inr, ℕ, ℤ, ◌+◌, ◌-◌, ◌<◌, ◌≤◌, min, cond, List, length, drop, sym, ap, arith}
 use Rattle.std.specs.Prelude.{nat_lt, if◌then◌else◌}
-use Rattle.std.proofs.lemmas.Bool.{cases_Bool, cond-true, cond-false, le-ltb, ltb-false, ltb-true}
+use Rattle.std.proofs.lemmas.Bool.{cases_Bool, cond-false, le-ltb, ltb-false, ltb-true}
 use Rattle.std.proofs.lemmas.List.{length-drop, length-take}
 use Rattle.oai_item.specs.Item.{ItemState}
 use Rattle.oai_lists.specs.Tokens.{token_text}
@@ -9,7 +9,7 @@ use Rattle.oai_answers.specs.Answers.{Continuation, Page, completes, remains}
 use Rattle.oai_repo.specs.Config.{Config}
 use Rattle.oai_repo.specs.Listing.{continued_at, extent_at, items_from, part_from}
 use Rattle.oai_repo.specs.State.{FrozenList}
-use Rattle.oai_repo.specs.Tables.{extent_of, followed_by, page_at}
+use Rattle.oai_repo.specs.Tables.{page_at}
 use Rattle.oai_repo.specs.declared.parts.Part.{Part}
 
 -- how many items the part has

@@ -1,19 +1,18 @@
 -- What no item can pass: a format or a set that the repository lacks selects nothing.
-use Rattle.std.proofs.Common.{◌≡◌, ◌∙◌, ℕ, ℤ, Bool, true, false, not, ◌&&◌, cond, List, [], ◌∷◌, length, take, drop, codes, Option, None, Some, is_some, inl, inr, refl, sym, ap, subst, arith}
-use Rattle.std.specs.Prelude.{filter, find, int_le}
-use Rattle.std.specs.List.{list_all, list_any}
+use Rattle.std.proofs.Common.{◌≡◌, ◌∙◌, ℕ, Bool, true, false, ◌&&◌, List, [], ◌∷◌, length, take, drop, codes, Option, None, Some, is_some, refl, sym, ap, arith}
+use Rattle.std.specs.Prelude.{filter, find}
+use Rattle.std.specs.List.{list_all}
 use Rattle.std.specs.Str.{bytes_eq}
-use Rattle.std.proofs.lemmas.Bool.{and_left, and_parts, and_right, cases_Bool, cond-false, false_from_ne_true, not-true, true≢false}
+use Rattle.std.proofs.lemmas.Bool.{and_parts, and_right, cond-false, false_from_ne_true, true≢false}
 use Rattle.std.proofs.lemmas.List.{take_all}
 use Rattle.std.proofs.lemmas.Slice.Eq.{bytes_eq-Decides}
-use Rattle.oai_names.specs.Sets.{Covers, HasSetsAbove, covers, has_set}
+use Rattle.oai_names.specs.Sets.{HasSetsAbove, covers, has_set}
 use Rattle.oai_names.proofs.Covering.{covers-Decides}
 use Rattle.oai_item.specs.Formats.{format_named}
 use Rattle.oai_item.specs.Item.{ItemState, Metadata, has_record, record_named}
 use Rattle.oai_item.specs.Known.{has_format}
 use Rattle.oai_item.specs.Membership.{is_in}
 use Rattle.oai_item.specs.Selection.{Filter, is_in_given, passes, selected}
-use Rattle.oai_item.specs.declared.formats.Format.{Format}
 use Rattle.oai_repo.specs.Answers.{filter_of}
 use Rattle.oai_repo.specs.Config.{Config}
 use Rattle.oai_repo.specs.Kept.{AreKept, is_well_kept}

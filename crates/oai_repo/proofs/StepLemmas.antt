@@ -1,5 +1,5 @@
 -- What a call does at the moved clock is a step of the machine.
-use Rattle.std.proofs.Common.{◌≡◌, ◌∙◌, ℤ, ℕ, List, Ok, Err, ap, sym, subst, refl}
+use Rattle.std.proofs.Common.{◌≡◌, ◌∙◌, ℤ, Ok, Err, ap, sym, subst}
 use Rattle.oai_item.specs.Refusals.{in_repository}
 use Rattle.oai_item.specs.declared.changes.Change.{Change}
 use Rattle.oai_item.specs.declared.refusals.ChangeRefusal.{ChangeRefusal}
@@ -15,7 +15,6 @@ use Rattle.oai_repo.specs.Listing.{Said, answer_to, says, waits}
 use Rattle.oai_repo.specs.Machine.{Told, act, written, accepted, asking, changing, outcome_of, refused}
 use Rattle.oai_repo.specs.State.{Holdings, OpenLists, State, still_open}
 use Rattle.oai_repo.specs.Workings.{IsMade}
-use Rattle.oai_repo.specs.declared.refusals.Refusal.{Refusal}
 use Rattle.oai_repo.specs.declared.refusals.Refusal.TheVariants as refusal
 use Rattle.oai_repo.specs.declared.replies.Reply.{Reply}
 use Rattle.oai_repo.proofs.ChangeLemmas.{act-made, act-refused}

@@ -1,8 +1,8 @@
 -- What a token continues, in the table and in the state that it stands for.
-use Rattle.std.proofs.Common.{◌≡◌, ◌∙◌, inl, inr, ℕ, ℤ, ◌<◌, Bool, true, false, ◌&&◌, eqb, cond, List, [], ◌∷◌, length, map, Option, None, Some, IsSome, refl, sym, ap, subst}
+use Rattle.std.proofs.Common.{◌≡◌, ◌∙◌, inl, inr, ℕ, ℤ, Bool, true, ◌&&◌, List, length, Option, None, Some, refl, sym, ap, subst}
 use Rattle.std.specs.Prelude.{nat_lt}
 use Rattle.std.specs.Option.{option_map}
-use Rattle.std.proofs.lemmas.Bool.{and_parts, cases_Bool, cond-true, cond-false, eqb-true, ltb-true}
+use Rattle.std.proofs.lemmas.Bool.{and_parts, cases_Bool, cond-true, cond-false, eqb-true}
 use Rattle.oai_names.specs.declared.list_verbs.ListVerb.{ListVerb}
 use Rattle.oai_item.specs.Formats.{format_named}
 use Rattle.oai_answers.specs.Answers.{Attributes, fails}
@@ -12,7 +12,7 @@ use Rattle.oai_lists.specs.OpenLists.{Table, open_numbered}
 use Rattle.oai_lists.specs.declared.open_lists.OpenList.{OpenList}
 use Rattle.oai_lists.specs.declared.tokens.Token.{Token}
 use Rattle.oai_repo.specs.Config.{Config}
-use Rattle.oai_repo.specs.Found.{IsTold, page_said}
+use Rattle.oai_repo.specs.Found.{IsTold}
 use Rattle.oai_repo.specs.Held.{are_counted, begun_of, frozen_in, is_counted}
 use Rattle.oai_repo.specs.Listing.{Said, continues, is_continued, is_same_verb, list_continued, part_from, part_told, prolonged, says, token_answer, where_continued, with_prolonged}
 use Rattle.oai_repo.specs.State.{FrozenList, OpenLists}

@@ -1,7 +1,6 @@
 -- Whether a further list may begin, by the table and by the state that it stands for.
-use Rattle.std.proofs.Common.{◌≡◌, ◌∙◌, inl, inr, ℕ, ℤ, pos, Bool, true, false, eqb, cond, List, length, map, Option, None, Some, Result, Ok, Err, refl, sym, ap}
+use Rattle.std.proofs.Common.{◌≡◌, ◌∙◌, ℕ, ℤ, pos, Bool, true, false, eqb, cond, length, Option, None, Some, Ok, Err, refl, sym, ap}
 use Rattle.std.specs.Prelude.{nat_le}
-use Rattle.std.proofs.lemmas.Bool.{cases_Bool, cond-true, cond-false}
 use Rattle.std.proofs.lemmas.List.{length-map}
 use Rattle.oai_catalogue.specs.Store.{Lists}
 use Rattle.oai_lists.specs.OpenLists.{IsOpening, Table, answered, open_fault, open_ones}
@@ -12,7 +11,6 @@ use Rattle.oai_lists.specs.declared.lists.TheConstants.{LAST_NUMBER}
 use Rattle.oai_repo.specs.Config.{Config}
 use Rattle.oai_repo.specs.Held.{begun_of, frozen_in}
 use Rattle.oai_repo.specs.Listing.{seconds_to_end, wait_at}
-use Rattle.oai_repo.specs.State.{OpenLists}
 
 -- the cause, by the two tests
 fault_of : Bool → Bool → Option OpenFault

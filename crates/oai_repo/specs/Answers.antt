@@ -1,24 +1,21 @@
 -- What a request is answered. OAI-PMH 2.0, sections 3.2, 3.6 and 4.
-use Rattle.std.specs.Prelude.{ℕ, ℤ, pos, neg_ℤ, Bool, true, false, ◌&&◌, List, [], ◌∷◌, codes, Option, Some, None, is_some, if◌then◌else◌}
-use Rattle.oai_names.specs.declared.list_verbs.ListVerb.{ListVerb}
-use Rattle.oai_names.specs.declared.list_verbs.ListVerb.TheVariants as list
+use Rattle.std.specs.Prelude.{ℕ, ℤ, pos, neg_ℤ, List, [], ◌∷◌, codes, Option, Some, None, if◌then◌else◌}
 use Rattle.oai_time.specs.Bound.{lower_of, upper_of}
 use Rattle.oai_time.specs.declared.bound.Bound.{Bound}
 use Rattle.oai_item.specs.Formats.{format_named}
 use Rattle.oai_item.specs.Item.{ItemState, has_record}
 use Rattle.oai_item.specs.Items.{item_named}
-use Rattle.oai_item.specs.Selection.{Filter, selected}
+use Rattle.oai_item.specs.Selection.{Filter}
 use Rattle.oai_item.specs.declared.formats.Format.{Format}
 use Rattle.oai_args.specs.Asks.{AskOrError, asks, bad_verb, bad_argument}
 use Rattle.oai_args.specs.Bounds.{given_bound}
 use Rattle.oai_args.specs.Verbs.{name_of, verb_of_list}
 use Rattle.oai_args.specs.declared.requests.Ask.{Ask}
 use Rattle.oai_args.specs.declared.requests.Ask.TheVariants as ask
-use Rattle.oai_answers.specs.Answers.{Attributes, Description, Answer, fails, identifies, gives_record, lists_formats, lists_sets, lists_headers, lists_records, Page, whole, offered, no_arguments, Document}
-use Rattle.oai_answers.specs.declared.errors.ErrorCode.{ErrorCode}
-use Rattle.oai_answers.specs.declared.errors.ErrorCode.TheVariants.{BadVerb, BadArgument, BadResumptionToken, CannotDisseminateFormat, IdDoesNotExist, NoRecordsMatch, NoMetadataFormats, NoSetHierarchy}
+use Rattle.oai_answers.specs.Answers.{Attributes, Description, Answer, fails, gives_record, lists_formats, lists_sets, offered, no_arguments, Document}
+use Rattle.oai_answers.specs.declared.errors.ErrorCode.TheVariants.{CannotDisseminateFormat, IdDoesNotExist, NoMetadataFormats, NoSetHierarchy}
 use Rattle.oai_repo.specs.Config.{Config}
-use Rattle.oai_repo.specs.State.{Holdings, NamedSet, State}
+use Rattle.oai_repo.specs.State.{NamedSet}
 
 -- what Identify tells (section 4.2)
 abbrev pub description : Config → Description

@@ -7,7 +7,6 @@ use Rattle.oai_item.specs.Items.{item_named}
 use Rattle.oai_item.specs.Selection.{Filter, selected}
 use Rattle.oai_item.specs.declared.formats.Format.{Format}
 use Rattle.oai_answers.specs.Answers.{Answer, Attributes, fails}
-use Rattle.oai_answers.specs.declared.errors.ErrorCode.TheVariants.{NoRecordsMatch}
 use Rattle.oai_answers.specs.Documents.{document}
 use Rattle.oai_catalogue.specs.Store.{Lists}
 use Rattle.oai_lists.specs.OpenLists.{Table}

@@ -8,6 +8,7 @@ mod config;
 mod cuts;
 mod deletions;
 mod deposits;
+mod laws;
 mod listings;
 mod parts;
 mod refusals;
@@ -22,6 +23,7 @@ mod snapshots;
 mod tables;
 
 pub use config::RepoConfig;
+pub use laws::{effect_law, following_law, number_law, worked_law};
 pub use refusals::Refusal;
 pub use replies::Reply;
 pub use repo::Repo;

@@ -1,6 +1,7 @@
 //! The worked exchanges, with the bytes that they are answered, and a reader and a writer that fail.
 mod edge;
 mod faults;
+mod following;
 mod harvests;
 mod tokens;
 mod transcripts;
@@ -69,13 +70,13 @@ fn push_wanted(line: &str, wanted: &mut String) -> Result<(), AllocError> {
         }
         None => line,
     };
-    match line.split_once("{dc}") {
-        Some((front, back)) => {
-            wanted.push_str(front)?;
-            wanted.push_str(dublin_core())?;
-            wanted.push_str(back)?;
-        }
-        None => wanted.push_str(line)?,
+    let mut parts = line.split("{dc}");
+    if let Some(front) = parts.next() {
+        wanted.push_str(front)?;
+    }
+    for part in parts {
+        wanted.push_str(dublin_core())?;
+        wanted.push_str(part)?;
     }
     wanted.push('\n')
 }

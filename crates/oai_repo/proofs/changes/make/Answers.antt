@@ -1,5 +1,5 @@
 -- What was done to the part is what is made of the whole.
-use Rattle.std.proofs.Common.{◌≡◌, FitsSigned, w64, Bool, true, not, List, length}
+use Rattle.std.proofs.Common.{FitsSigned, w64, not}
 use Rattle.std.proofs.lemmas.Bool.{and_parts}
 use Rattle.std.proofs.lemmas.Int.{to_z-of_z}
 use Rattle.oai_item.specs.Item.{ItemState}

@@ -1,5 +1,5 @@
 -- What is left of an item that was stored can be stored.
-use Rattle.std.proofs.Common.{◌≡◌, ◌∙◌, refl, sym, FitsSigned, w64}
+use Rattle.std.proofs.Common.{◌∙◌, refl, sym, FitsSigned, w64}
 use Rattle.std.proofs.lemmas.Bool.{false_from_ne_true}
 use Rattle.std.proofs.lemmas.Int.{to_z-of_z}
 use Rattle.oai_repo.proofs.KeptLemmas.{tombstone_fits}

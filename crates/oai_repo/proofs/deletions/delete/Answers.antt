@@ -1,8 +1,8 @@
 -- The item that is found is the one of its identifier, and it can be stored.
-use Rattle.std.proofs.Common.{◌≡◌, ◌∙◌, ℕ, List, Bool, true, not, Option, None, Some, IsTrue, refl, sym, ap, subst}
+use Rattle.std.proofs.Common.{◌≡◌, ◌∙◌, Bool, true, not, Option, None, Some, IsTrue, refl, sym, subst}
 use Rattle.std.specs.Option.{option_or}
 use Rattle.oai_item.specs.Item.{ItemState}
-use Rattle.oai_item.specs.Items.{item_named, without}
+use Rattle.oai_item.specs.Items.{item_named}
 use Rattle.oai_item.proofs.Named.{found_name, of_found}
 use Rattle.oai_repo.specs.Changes.{dead_refusal, missing_refusal}
 use Rattle.oai_repo.specs.Held.{items_on}

@@ -1,9 +1,8 @@
 -- A deposit that may stand as it is has a record, and each in a format of the repository.
-use Rattle.std.proofs.Common.{◌≡◌, None, sym, ◌∙◌, ap, List, ℕ, codes}
-use Rattle.oai_item.specs.Item.{Metadata}
+use Rattle.std.proofs.Common.{◌≡◌, None, sym, ◌∙◌, codes}
 use Rattle.oai_repo.specs.Changes.{deposit_refusal}
 use Rattle.oai_repo.proofs.ChangeLemmas.{carries}
-use Rattle.oai_repo.proofs.KeptLemmas.{Stands, stands}
+use Rattle.oai_repo.proofs.KeptLemmas.{stands}
 use Rattle.oai_repo.proofs.deposits.put_deposit.Goals as goal
 
 pub deposited-requires-clause-carries : goal.deposited-requires-clause-carries

@@ -1,11 +1,9 @@
 -- Whether the list begins is told by the table as by the state.
-use Rattle.std.proofs.Common.{◌≡◌, ◌∙◌, ℤ, Option, None, Some, Result, Ok, Err, IfOk, refl, sym, ap, subst, FitsSigned, w64}
+use Rattle.std.proofs.Common.{◌≡◌, ◌∙◌, ℤ, Err, refl, sym, ap, FitsSigned, w64}
 use Rattle.std.proofs.lemmas.Int.{to_z-of_z}
-use Rattle.oai_answers.specs.Borrowed.{attributes_of}
 use Rattle.oai_lists.specs.OpenLists.{answered, open_fault}
 use Rattle.oai_lists.specs.declared.lists.OpenFault.TheVariants.{Full, NumbersSpent}
-use Rattle.oai_repo.specs.Found.{IsTold, begun_in, list_long}
-use Rattle.oai_repo.specs.Listing.{begins}
+use Rattle.oai_repo.specs.Found.{list_long}
 use Rattle.oai_repo.specs.declared.replies.Reply.TheVariants.{Later}
 use Rattle.oai_repo.proofs.BegunLemmas.{begun_dropped, counted_dropped, left_dropped}
 use Rattle.oai_repo.proofs.ClockLemmas.{years_fit}

@@ -1,13 +1,12 @@
 -- The list stands behind the others, and its version holds the items as they stand.
-use Rattle.std.proofs.Common.{◌≡◌, ◌∙◌, ℤ, pos, ◌+ℤ◌, ℕ, List, refl, sym, ap, subst, FitsSigned, w64, to_z, of_z}
+use Rattle.std.proofs.Common.{◌≡◌, ◌∙◌, ℤ, ℕ, List, ap, FitsSigned, w64, to_z, of_z}
 use Rattle.std.proofs.lemmas.Int.{to_z-of_z}
 use Rattle.oai_item.specs.Item.{ItemState}
 use Rattle.oai_item.specs.Selection.{selected}
 use Rattle.oai_answers.specs.Answers.{Page}
 use Rattle.oai_answers.specs.Borrowed.{attributes_of}
-use Rattle.oai_catalogue.specs.Store.{Lists, list_at, with_list, without_list}
+use Rattle.oai_catalogue.specs.Store.{list_at, without_list}
 use Rattle.oai_catalogue.proofs.ListsLemmas.{stands-with, without_with}
-use Rattle.oai_lists.specs.OpenLists.{Table, with_list as opening}
 use Rattle.oai_lists.specs.declared.open_lists.OpenList.{OpenList}
 use Rattle.oai_repo.specs.Found.{list_long, page_said}
 use Rattle.oai_repo.specs.Held.{begun_of}

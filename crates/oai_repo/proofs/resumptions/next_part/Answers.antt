@@ -1,5 +1,5 @@
 -- The part is that of the list as the state has it.
-use Rattle.std.proofs.Common.{◌≡◌, ◌∙◌, ℤ, refl, sym, ap, Option, FitsSigned, w64, length}
+use Rattle.std.proofs.Common.{◌∙◌, refl, sym, ap, Option, FitsSigned, w64, length}
 use Rattle.std.specs.Option.{option_copied}
 use Rattle.std.proofs.lemmas.Bool.{eqb-true}
 use Rattle.std.proofs.lemmas.Int.{to_z-of_z}

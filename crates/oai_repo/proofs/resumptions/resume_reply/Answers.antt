@@ -1,11 +1,9 @@
 -- The list that the token continues is that of the state, and what is left is the table with its new end.
-use Rattle.std.proofs.Common.{◌≡◌, ◌∙◌, ℤ, ◌∷◌, true, eqb, refl, sym, ap, subst, Option, Some, None, FitsSigned, w64}
-use Rattle.std.specs.Option.{option_map}
+use Rattle.std.proofs.Common.{◌∷◌, true, eqb, refl, FitsSigned, w64}
 use Rattle.std.proofs.lemmas.Bool.{or_right}
 use Rattle.std.proofs.lemmas.Int.{to_z-of_z}
 use Rattle.oai_answers.specs.Borrowed.{attributes_of}
 use Rattle.oai_lists.specs.Tokens.{token_of}
-use Rattle.oai_repo.specs.Found.{page_said}
 use Rattle.oai_repo.specs.Held.{has, is_counted, versions_in}
 use Rattle.oai_repo.proofs.BegunLemmas.{all_true, begun_renewed, counted_renewed, left_renewed, numbered_left, open_parts}
 use Rattle.oai_repo.proofs.ClockLemmas.{years_fit}

@@ -1,5 +1,5 @@
 -- What is selected in the format that was found; a set that is not found selects nothing.
-use Rattle.std.proofs.Common.{◌≡◌, ◌∙◌, ℕ, List, refl, sym, ap}
+use Rattle.std.proofs.Common.{◌∙◌, ℕ, List, sym, ap}
 use Rattle.std.specs.Option.{option_copied}
 use Rattle.oai_repo.specs.Answers.{filter_of}
 use Rattle.oai_repo.proofs.CutLemmas.{selection_cuts, selection_none}

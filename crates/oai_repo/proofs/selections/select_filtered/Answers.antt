@@ -1,5 +1,5 @@
 -- What is counted is told whole where it is few enough.
-use Rattle.std.proofs.Common.{◌≡◌, ◌≢◌, ◌<◌, ◌∙◌, ℕ, refl, sym, ap, subst, arith, length, Bool, IsTrue, eqb, false}
+use Rattle.std.proofs.Common.{◌≡◌, ◌≢◌, ◌<◌, ◌∙◌, ℕ, refl, sym, subst, arith, length, Bool, IsTrue, eqb, false}
 use Rattle.std.proofs.lemmas.Bool.{eqb-false, eqb-true}
 use Rattle.oai_repo.proofs.CutLemmas.{cut_long, cut_none, cut_whole}
 use Rattle.oai_repo.proofs.selections.select_filtered.Goals as goal

@@ -1,5 +1,5 @@
 -- What was written through the borrow is what the map has.
-use Rattle.std.proofs.Common.{◌≡◌, ℕ, List, Some, FitsSigned, w64, to_z, of_z}
+use Rattle.std.proofs.Common.{Some, FitsSigned, w64, to_z, of_z}
 use Rattle.std.proofs.lemmas.Int.{to_z-of_z}
 use Rattle.std.proofs.lemmas.Map.Text.{btree_map_updates_text}
 use Rattle.oai_repo.proofs.shelves.restamp.Goals as goal

@@ -1,5 +1,5 @@
 -- Each turn drops one list and releases its version.
-use Rattle.std.proofs.Common.{◌≡◌, ◌∙◌, ℕ, ℤ, refl, sym, ap, subst, FitsSigned, w64, to_z, of_z, arith}
+use Rattle.std.proofs.Common.{◌∙◌, FitsSigned, w64, arith}
 use Rattle.std.proofs.lemmas.Int.{to_z-of_z}
 use Rattle.oai_repo.proofs.EndLemmas.{turn_less, turn_next, turn_used, turns_done}
 use Rattle.oai_repo.proofs.tables.drop_ended.Goals as goal

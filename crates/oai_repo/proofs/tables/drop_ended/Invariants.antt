@@ -1,4 +1,4 @@
-use Rattle.std.proofs.Common.{◌≡◌, ◌≤◌, ℕ, length}
+use Rattle.std.proofs.Common.{◌≡◌, ◌≤◌, length}
 use Rattle.oai_repo.proofs.EndLemmas.{IsDropping}
 use Rattle.oai_repo.proofs.tables.drop_ended.Given as goal
 

@@ -1,5 +1,5 @@
 -- The first to end is one of those that are left.
-use Rattle.std.proofs.Common.{◌≡◌, ◌∙◌, ℤ, pos, refl, sym, ap, FitsSigned, w64}
+use Rattle.std.proofs.Common.{◌∙◌, ℤ, pos, sym, FitsSigned, w64}
 use Rattle.std.specs.Prelude.{int_le, int_lt}
 use Rattle.std.proofs.lemmas.Int.{to_z-of_z}
 use Rattle.oai_lists.specs.OpenLists.{open_ones}

@@ -1,12 +1,11 @@
 -- The reply is that of the step, over the fields that the repository is opened to.
-use Rattle.std.proofs.Common.{◌≡◌, ◌∙◌, ℤ, List, ◌∷◌, refl, sym, ap, subst, Bool, IsTrue, FitsSigned, w64}
+use Rattle.std.proofs.Common.{◌≡◌, ◌∙◌, ℤ, List, ◌∷◌, sym, ap, subst, Bool, IsTrue, FitsSigned, w64}
 use Rattle.std.proofs.lemmas.Int.{to_z-of_z}
 use Rattle.oai_time.specs.Clock.{tick}
 use Rattle.oai_item.specs.Item.{ItemState}
 use Rattle.oai_args.specs.Asks.{AskOrError}
 use Rattle.oai_args.specs.Pairs.{decoded_pairs}
 use Rattle.oai_args.specs.Requests.{request_of}
-use Rattle.oai_catalogue.specs.Store.{list_at}
 use Rattle.oai_repo.specs.Answers.{arguments_of_request}
 use Rattle.oai_repo.specs.Calls.{told_in}
 use Rattle.oai_repo.specs.Held.{begun_of, holdings_of, numbers_of, versions_in}

@@ -1,10 +1,10 @@
 -- Each way out gives the case of the machine, over the fields that the repository is opened to, and leaves the lists of others.
-use Rattle.std.proofs.Common.{◌≡◌, ◌∙◌, ℤ, ℕ, ◌∷◌, Bool, refl, ap, sym, subst, Ok, Err, FitsSigned, w64, to_z, of_z, IsTrue}
+use Rattle.std.proofs.Common.{◌≡◌, ◌∙◌, ℤ, ◌∷◌, Bool, ap, sym, subst, Ok, Err, FitsSigned, w64, IsTrue}
 use Rattle.std.proofs.lemmas.Int.{to_z-of_z}
 use Rattle.oai_item.specs.Refusals.{in_repository}
 use Rattle.oai_time.specs.Clock.{tick}
 use Rattle.oai_repo.specs.Changes.{stamp_at}
-use Rattle.oai_repo.specs.Held.{begun_of, holdings_of, numbers_of, state_of, versions_in}
+use Rattle.oai_repo.specs.Held.{begun_of, holdings_of, numbers_of, versions_in}
 use Rattle.oai_repo.specs.Machine.{Outcome, accepted, refused}
 use Rattle.oai_repo.specs.State.{OpenLists, State}
 use Rattle.oai_repo.specs.Workings.{IsMade}

@@ -1,5 +1,5 @@
 -- The lists that have ended are dropped at the clock, over the fields that the repository is opened to.
-use Rattle.std.proofs.Common.{◌≡◌, ◌∙◌, refl, sym, ap, FitsSigned, w64}
+use Rattle.std.proofs.Common.{FitsSigned, w64}
 use Rattle.std.proofs.lemmas.Int.{to_z-of_z}
 use Rattle.oai_repo.proofs.BegunLemmas.{table_dropped}
 use Rattle.oai_repo.proofs.MoveLemmas.{held_dropped, others_dropped, stands_dropped, state_dropped}

@@ -1,7 +1,6 @@
 -- A repository without items keeps all that it has to, and its clock begins in the years of its configuration.
-use Rattle.std.proofs.Common.{◌≡◌, FitsSigned, w64, ◌∙◌, ap, refl, sym, subst, true, ℤ, [], ℕ}
+use Rattle.std.proofs.Common.{◌≡◌, FitsSigned, w64, ◌∙◌, ap, refl, [], ℕ}
 use Rattle.std.proofs.lemmas.Int.{to_z-of_z}
-use Rattle.oai_lists.specs.OpenLists.{Table}
 use Rattle.oai_repo.proofs.ClockLemmas.{in_years-config}
 use Rattle.oai_repo.proofs.ShelfLemmas.{is_new}
 use Rattle.oai_repo.proofs.repo.Repo.new.Goals as goal

@@ -1,9 +1,9 @@
 -- At the datestamp that is noted the item of the identifier is found, unless the store is not honest.
-use Rattle.std.proofs.Common.{◌≡◌, ◌∙◌, ℕ, ℤ, List, Bool, true, false, Option, None, Some, IsSome, IsTrue, refl, sym, ap, subst, FitsSigned, w64}
+use Rattle.std.proofs.Common.{◌≡◌, ◌∙◌, Option, None, Some, IsSome, sym, ap, subst, FitsSigned, w64}
 use Rattle.std.proofs.lemmas.Bool.{false_from_ne_true}
 use Rattle.std.proofs.lemmas.Int.{to_z-of_z}
 use Rattle.oai_item.specs.Item.{ItemState}
-use Rattle.oai_item.specs.Items.{item_at, item_named}
+use Rattle.oai_item.specs.Items.{item_named}
 use Rattle.oai_repo.specs.Held.{Shelf}
 use Rattle.oai_repo.specs.Notes.{noted}
 use Rattle.oai_repo.proofs.ShelfLemmas.{found_at}

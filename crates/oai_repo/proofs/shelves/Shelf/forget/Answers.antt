@@ -1,5 +1,5 @@
 -- Without an entry of the map nothing is noted under its key.
-use Rattle.std.proofs.Common.{◌≡◌, ◌+◌, ◌∙◌, ℕ, ℤ, List, Option, None, Some, IsSome, is_some, length, true, refl, sym, ap, subst, arith, if◌then◌else◌}
+use Rattle.std.proofs.Common.{◌≡◌, ◌∙◌, None, is_some, length, true, sym, ap, subst, arith}
 use Rattle.oai_repo.specs.Held.{Shelf}
 use Rattle.oai_repo.specs.Notes.{noted, notes_in}
 use Rattle.oai_repo.specs.Workings.{IsNoting}

@@ -1,5 +1,5 @@
 -- Nothing is noted yet.
-use Rattle.std.proofs.Common.{◌≡◌, ℤ, Option, None, IsSome, subst}
+use Rattle.std.proofs.Common.{ℤ, Option, IsSome, subst}
 use Rattle.oai_repo.proofs.ShelfLemmas.{none_in}
 use Rattle.oai_repo.proofs.shelves.Shelf.new.Goals as goal
 

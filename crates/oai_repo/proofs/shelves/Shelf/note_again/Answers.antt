@@ -1,8 +1,6 @@
 -- What is written in the map is what is noted.
-use Rattle.std.proofs.Common.{◌≡◌, ◌∙◌, ℕ, ℤ, List, Option, Some, IsSome, sym, ap, subst, FitsSigned, w64}
+use Rattle.std.proofs.Common.{◌∙◌, ℤ, Option, Some, IsSome, sym, ap, subst, FitsSigned, w64}
 use Rattle.std.proofs.lemmas.Int.{to_z-of_z}
-use Rattle.std.specs.BTreeMap.{get_by_text}
-use Rattle.oai_names.specs.Names.{may_be_identifier}
 use Rattle.oai_repo.specs.Held.{Shelf}
 use Rattle.oai_repo.specs.Notes.{noted, notes_in}
 use Rattle.oai_repo.specs.Workings.{IsNoting}

@@ -1,6 +1,5 @@
 -- What is put at the same datestamp is put in place of the item of its identifier.
-use Rattle.std.proofs.Common.{◌≡◌, ℕ, List, IsTrue, ap}
-use Rattle.oai_item.specs.Item.{ItemState}
+use Rattle.std.proofs.Common.{◌≡◌, IsTrue, ap}
 use Rattle.oai_item.specs.Items.{with_item}
 use Rattle.oai_catalogue.specs.Store.{list_at}
 use Rattle.oai_repo.specs.Changes.{with_new}

@@ -1,5 +1,5 @@
 -- An item of a new identifier is noted and put; where it is not put, it is noted no more.
-use Rattle.std.proofs.Common.{◌≡◌, ◌∙◌, ◌+◌, ℕ, ℤ, List, true, Option, None, Some, IsSome, IsTrue, length, refl, sym, ap, subst, FitsSigned, w64}
+use Rattle.std.proofs.Common.{◌≡◌, ◌∙◌, ◌+◌, ℕ, List, true, None, Some, IsSome, length, sym, ap, subst, FitsSigned, w64}
 use Rattle.std.proofs.lemmas.Int.{to_z-of_z}
 use Rattle.std.specs.BTreeMap.{get_by_text}
 use Rattle.std.specs.String.{string_bytes}

@@ -1,8 +1,7 @@
 -- What is put at another datestamp is put in place of the item of its identifier.
-use Rattle.std.proofs.Common.{◌≡◌, ◌∙◌, ◌+◌, ℕ, ℤ, List, true, Option, None, Some, IsSome, IsTrue, length, refl, sym, ap, subst, FitsSigned, w64}
+use Rattle.std.proofs.Common.{◌≡◌, ◌∙◌, Some, length, ap, FitsSigned, w64}
 use Rattle.std.proofs.lemmas.Int.{to_z-of_z}
 use Rattle.std.specs.Option.{option_copied}
-use Rattle.oai_item.specs.Item.{ItemState}
 use Rattle.oai_catalogue.specs.Store.{list_at, with_given, without_given}
 use Rattle.oai_repo.specs.Held.{Shelf, items_on}
 use Rattle.oai_repo.specs.Notes.{Notes, notes_in}

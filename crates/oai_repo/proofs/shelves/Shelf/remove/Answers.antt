@@ -1,10 +1,10 @@
 -- What is taken out at its datestamp is the item of its identifier.
-use Rattle.std.proofs.Common.{◌≡◌, ◌∙◌, ◌+◌, ℕ, ℤ, List, true, Option, None, Some, IsSome, IsTrue, length, refl, sym, ap, subst, FitsSigned, w64}
+use Rattle.std.proofs.Common.{◌≡◌, ◌∙◌, ◌+◌, None, IsSome, length, ap, FitsSigned, w64}
 use Rattle.std.proofs.lemmas.Int.{to_z-of_z}
 use Rattle.oai_item.specs.Items.{without_at}
 use Rattle.oai_catalogue.specs.Store.{list_at}
 use Rattle.oai_repo.specs.Held.{Shelf, items_on}
-use Rattle.oai_repo.specs.Notes.{noted, notes_in}
+use Rattle.oai_repo.specs.Notes.{noted}
 use Rattle.oai_repo.specs.Workings.{IsNoting}
 use Rattle.oai_repo.proofs.ShelfLemmas.{taken_out}
 use Rattle.oai_repo.proofs.shelves.Shelf.remove.Goals as goal

@@ -1,7 +1,7 @@
 -- What the map has is what is noted, for identifiers alone.
-use Rattle.std.proofs.Common.{◌≡◌, ◌∙◌, ℤ, Option, IsSome, sym, ap, subst}
+use Rattle.std.proofs.Common.{◌∙◌, ℤ, Option, IsSome, sym, ap, subst}
 use Rattle.oai_repo.specs.Held.{Shelf}
-use Rattle.oai_repo.specs.Notes.{noted, notes_in}
+use Rattle.oai_repo.specs.Notes.{noted}
 use Rattle.oai_repo.proofs.ShelfLemmas.{noted_view}
 use Rattle.oai_repo.proofs.shelves.Shelf.stamp_of.Goals as goal
 

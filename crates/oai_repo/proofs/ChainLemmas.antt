@@ -1,0 +1,239 @@
+-- A chain from its first request on, among all that is asked of a repository.
+use Rattle.std.proofs.Common.{◌≡◌, ◌∙◌, inl, inr, ℕ, ℤ, ◌<◌, ◌≤◌, ◌^◌, Bool, true, false, ◌&&◌, cond, List, [], ◌∷◌, ◌++◌, length, append-nil, Option, None, Some, is_some, refl, sym, ap, subst, arith}
+use Rattle.std.specs.Prelude.{find, nat_le}
+use Rattle.std.specs.List.{list_all}
+use Rattle.std.specs.Str.{bytes_eq}
+use Rattle.std.proofs.lemmas.Bool.{and_from, and_parts, cond-false, false≢true, lt-leb, true≢false}
+use Rattle.std.proofs.lemmas.Bool.Decides.{nat_tests}
+use Rattle.std.proofs.lemmas.List.Folds.{list_all-append}
+use Rattle.std.proofs.lemmas.Slice.Eq.{bytes_eq-Decides}
+use Rattle.oai_names.specs.Sets.{HasSetsAbove, has_set}
+use Rattle.oai_names.specs.declared.list_verbs.ListVerb.{ListVerb}
+use Rattle.oai_item.specs.Formats.{format_named}
+use Rattle.oai_item.specs.Item.{ItemState}
+use Rattle.oai_item.specs.Items.{are_apart, is_apart}
+use Rattle.oai_item.specs.Order.{are_in_order, precedes}
+use Rattle.oai_item.specs.Selection.{Filter, passes, selected}
+use Rattle.oai_item.specs.declared.formats.Format.{Format}
+use Rattle.oai_item.proofs.OrderLemmas.{apart-filter, in_order-filter}
+use Rattle.oai_args.specs.Asks.{asks}
+use Rattle.oai_args.specs.declared.requests.Ask.TheVariants as ask
+use Rattle.oai_answers.specs.Answers.{Page, fails}
+use Rattle.oai_answers.specs.declared.errors.ErrorCode.TheVariants.{NoSetHierarchy}
+use Rattle.oai_repo.specs.Answers.{filter_of}
+use Rattle.oai_repo.specs.Config.{Config, IsConfig, are_limits, is_chunk, is_items, is_lifetime, is_lists}
+use Rattle.oai_repo.specs.Effects.{IsSound}
+use Rattle.oai_repo.specs.Following.{AreNext, IsChain, IsFollowed, Wish, first_request, is_later, is_of_records, joined, page_told, selection_in}
+use Rattle.oai_repo.specs.Kept.{AreKept}
+use Rattle.oai_repo.specs.Listing.{answer_to, begins, has_no_sets, list_begun, part_from, says, told_in, told_items, told_whole, wait_at}
+use Rattle.oai_repo.specs.Machine.{Command, act}
+use Rattle.oai_repo.specs.Runs.{Exchange, IsPart, Timed, performed, run}
+use Rattle.oai_repo.specs.State.{FrozenList, Holdings, NamedSet, OpenLists, State, empty_state, moved}
+use Rattle.oai_repo.proofs.EffectLemmas.{sound_act, sound_empty, sound_moved}
+use Rattle.oai_repo.proofs.FollowLemmas.{Followed, IsGood, asked_page, follow, told_page, asked_later}
+use Rattle.oai_repo.proofs.KeptLemmas.{at_most}
+use Rattle.oai_repo.proofs.SelectionLemmas.{unknown_format, unknown_set}
+use Rattle.oai_repo.proofs.StandLemmas.{Stands, stands_opened}
+
+-- ---- what is selected
+
+-- a test that many pass was passed by some
+empty_few : (items : List ItemState) (chunk : ℕ) → chunk < length items → items ≡ [] → ⊥
+empty_few items chunk many none = absurd (omega (arith, many, ap length none))
+
+-- where records are selected in a set, there are sets
+sets_there : (config : Config) (holdings : Holdings) (prefix : List ℕ) (from until set : Option (List ℕ)) (sets : List NamedSet) → holdings.sets ≡ sets → AreKept config holdings
+    → config.chunk < length (selected (filter_of prefix from until set) holdings.items) → (is_some set && has_no_sets sets) ≡ false
+sets_there config holdings prefix from until None sets is kept many = refl
+sets_there config holdings prefix from until (Some set) (x ∷ sets) is kept many = refl
+sets_there config holdings prefix from until (Some set) [] is kept many =
+    let none = unknown_set config holdings prefix from until set kept above (ap (λ (sets : List NamedSet). has_set sets set) is) in
+    absurd (empty_few (selected (filter_of prefix from until (Some set)) holdings.items) config.chunk many none)
+  where
+    above : HasSetsAbove holdings.sets
+    above a spec there lies = absurd (false≢true (sym (ap (λ (sets : List NamedSet). has_set sets spec) is) ∙ there))
+
+-- where records are selected in a format, the repository has it
+format_there : (config : Config) (holdings : Holdings) (prefix : List ℕ) (from until set : Option (List ℕ)) (format : Option Format) → format_named prefix config.formats ≡ format → AreKept config holdings
+    → config.chunk < length (selected (filter_of prefix from until set) holdings.items) → (f : Format) × (format_named prefix config.formats ≡ Some f)
+format_there config holdings prefix from until set (Some format) is kept many = (format, is)
+format_there config holdings prefix from until set None is kept many =
+    absurd (empty_few (selected (filter_of prefix from until set) holdings.items) config.chunk many (unknown_format config holdings prefix from until set kept is))
+
+-- the format that is found has the prefix
+named : (prefix : List ℕ) (formats : List Format) (format : Format) → format_named prefix formats ≡ Some format → format.prefix ≡ prefix
+unfolding format_named
+named prefix [] format h = cc
+named prefix (x ∷ formats) format h = by_test (bytes_eq x.prefix prefix) ((bytes_eq-Decides x.prefix prefix).0) h (named prefix formats format)
+  where
+    by_test : (b : Bool) → (b ≡ true → x.prefix ≡ prefix) → cond b (Some x) (find (λ (f : Format). bytes_eq f.prefix prefix) formats) ≡ Some format
+        → (find (λ (f : Format). bytes_eq f.prefix prefix) formats ≡ Some format → format.prefix ≡ prefix) → format.prefix ≡ prefix
+    by_test true same found later = let e : x ≡ format = cc in ap (λ (f : Format). f.prefix) (sym e) ∙ same refl
+    by_test false same found later = later found
+
+-- no more are selected than a repository may hold
+few_selected : (config : Config) (holdings : Holdings) (asked : Filter) → IsConfig config → AreKept config holdings → length (selected asked holdings.items) < 2 ^ 64
+unfolding selected are_limits
+few_selected config holdings asked good kept =
+    let limits = and_parts (is_chunk config.chunk && is_lifetime config.lifetime && is_lists config.lists) (is_items config.items) good.limited in
+    few (length (selected asked holdings.items)) (length holdings.items) config.items (at_most (passes asked) holdings.items) kept.few limits.1
+  where
+    few : (some all most : ℕ) → some ≤ all → all ≤ most → is_items most ≡ true → some < 2 ^ 64
+    few some all most part within limit = grind (arith, nat_tests)
+
+-- ---- the first request
+
+-- the list that a first request opens
+record IsFirst (config : Config) (state : State) (command : Command) (wish : Wish) : Type 0 where
+  pub list : FrozenList
+  pub good : IsGood config list
+  pub verb : list.verb ≡ wish.verb
+  pub items : list.items ≡ selection_in state wish
+  pub told : page_told (act config state command).0 ≡ Some (part_from config list 0)
+  pub stands : Stands config list (act config state command).1
+
+-- it is told to wait, or opens the list
+by_wait : (config : Config) (state : State) (command : Command) (wish : Wish) (format : Format) (wait : Option ℤ) → wait_at config state.clock state.begun ≡ wait
+    → IsConfig config → IsSound config state → is_of_records wish.verb ≡ true → format_named wish.prefix config.formats ≡ Some format → command ≡ first_request wish → is_later (act config state command).0 ≡ false
+    → answer_to config state (asks (ask.List wish.verb wish.prefix wish.from wish.until wish.set))
+    ≡ begins config state.begun format (list_begun config state.clock state.begun wish.verb format.prefix (selection_in state wish)) wait
+    → IsFirst config state command wish
+by_wait config state command wish format (Some seconds) wait good sound verb known is answered said =
+    absurd (true≢false (sym (asked_later config state command _ seconds state.begun is said) ∙ answered))
+by_wait config state command wish format None wait good sound verb known is answered said =
+    let list : FrozenList = list_begun config state.clock state.begun wish.verb format.prefix (selection_in state wish) in
+    let done = asked_page config state command _ _ _ is said in
+    record {
+      list = list;
+      good = record {
+        format = format;
+        verb = verb;
+        known = ap (λ (p : List ℕ). format_named p config.formats) (named wish.prefix config.formats format known) ∙ known;
+        small = few_selected config state.holdings (filter_of wish.prefix wish.from wish.until wish.set) good sound.kept;
+      };
+      verb = refl;
+      items = refl;
+      told = done.0 ∙ told_page wish.verb format (part_from config list 0) verb;
+      stands = subst (Stands config list) (sym done.1) (stands_opened config state list sound refl refl);
+    }
+
+-- a list that is too long for one page begins, where it may
+told_long : (config : Config) (clock : ℤ) (begun : OpenLists) (verb : ListVerb) (format : Format) (items : List ItemState) → config.chunk < length items
+    → told_items config clock begun verb format items ≡ begins config begun format (list_begun config clock begun verb format.prefix items) (wait_at config clock begun)
+unfolding told_items
+told_long config clock begun verb format items many =
+    cond-false (nat_le (length items) config.chunk) (says (told_whole config verb format items), begun) (begins config begun format (list_begun config clock begun verb format.prefix items) (wait_at config clock begun))
+    (lt-leb (length items) config.chunk many)
+
+first_turn : (config : Config) (state : State) (command : Command) (wish : Wish) → IsConfig config → IsSound config state → is_of_records wish.verb ≡ true → command ≡ first_request wish
+    → config.chunk < length (selection_in state wish) → is_later (act config state command).0 ≡ false → IsFirst config state command wish
+first_turn config state command wish good sound verb is many answered =
+    let items : List ItemState = selection_in state wish in
+    let format = format_there config state.holdings wish.prefix wish.from wish.until wish.set (format_named wish.prefix config.formats) refl sound.kept many in
+    by_wait config state command wish format.0 (wait_at config state.clock state.begun) refl good sound verb format.1 is answered
+    (
+    cond-false (is_some wish.set && has_no_sets state.holdings.sets) (says (fails NoSetHierarchy), state.begun)
+    (told_in config state.clock state.begun wish.verb (format_named wish.prefix config.formats) items)
+    (sets_there config state.holdings wish.prefix wish.from wish.until wish.set state.holdings.sets refl sound.kept many)
+    ∙ ap (λ (f : Option Format). told_in config state.clock state.begun wish.verb f items) format.1
+    ∙ told_long config state.clock state.begun wish.verb format.0 items many
+    )
+
+-- ---- the whole chain
+
+-- the front of a list in order is in order, and apart
+front_all : (p : ItemState → Bool) (front others : List ItemState) → list_all p (front ++ others) ≡ true → list_all p front ≡ true
+front_all p front others h = (and_parts (list_all p front) (list_all p others) (sym (list_all-append p front others) ∙ h)).0
+
+front_ordered : (front others : List ItemState) → are_in_order (front ++ others) ≡ true → are_in_order front ≡ true
+front_ordered [] others h = refl
+front_ordered (x ∷ front) others h =
+    let parts = and_parts (list_all (precedes x) (front ++ others)) (are_in_order (front ++ others)) h in
+    and_from (list_all (precedes x) front) (are_in_order front) (front_all (precedes x) front others parts.0) (front_ordered front others parts.1)
+
+front_apart : (front others : List ItemState) → are_apart (front ++ others) ≡ true → are_apart front ≡ true
+front_apart [] others h = refl
+front_apart (x ∷ front) others h =
+    let parts = and_parts (list_all (is_apart x) (front ++ others)) (are_apart (front ++ others)) h in
+    and_from (list_all (is_apart x) front) (are_apart front) (front_all (is_apart x) front others parts.0) (front_apart front others parts.1)
+
+selected_ordered : (asked : Filter) (items : List ItemState) → are_in_order items ≡ true → are_in_order (selected asked items) ≡ true
+unfolding selected
+selected_ordered asked items h = in_order-filter (passes asked) items h
+
+selected_apart : (asked : Filter) (items : List ItemState) → are_apart items ≡ true → are_apart (selected asked items) ≡ true
+unfolding selected
+selected_apart asked items h = apart-filter (passes asked) items h
+
+-- what the pages of a list from its first record on are
+whole_list : (config : Config) (state : State) (wish : Wish) (exchanges : List Exchange) → AreKept config state.holdings → Followed config (selection_in state wish) 0 exchanges
+    → (pages : List Page) × IsFollowed config (selection_in state wish) exchanges pages
+whole_list config state wish exchanges kept followed =
+    let asked : Filter = filter_of wish.prefix wish.from wish.until wish.set in
+    let pages : List Page = followed.0 in
+    let told = followed.1 in (
+      pages,
+      record {
+        told = told.told;
+        placed = told.placed;
+        begun = (told.others, told.front);
+        complete = λ ends. sym (append-nil (joined pages)) ∙ ap (λ ys. joined pages ++ ys) (sym (told.complete ends)) ∙ told.front;
+        ordered = front_ordered (joined pages) told.others (ap are_in_order told.front ∙ selected_ordered asked state.holdings.items kept.ordered);
+        apart = front_apart (joined pages) told.others (ap are_apart told.front ∙ selected_apart asked state.holdings.items kept.apart);
+      },
+    )
+
+-- an exchange that begins a chain, and those behind it
+chain_here : (config : Config) (state : State) (timed : Timed) (commands : List Timed) (wish : Wish) (others : List Exchange) → IsConfig config → IsSound config state
+    → IsPart others (run config (performed config state timed).left commands) → is_of_records wish.verb ≡ true → timed.command ≡ first_request wish
+    → config.chunk < length (selection_in (moved timed.moment state) wish) → is_later (performed config state timed).outcome ≡ false → AreNext wish.verb (performed config state timed) others
+    → (pages : List Page) × IsFollowed config (selection_in (moved timed.moment state) wish) (performed config state timed ∷ others) pages
+chain_here config state timed commands wish others good sound part verb is many answered next =
+    let found : State = moved timed.moment state in
+    let exchange : Exchange = performed config state timed in
+    let sound_found = sound_moved config timed.moment state sound in
+    let begun = first_turn config found timed.command wish good sound_found verb is many answered in
+    let followed = follow config commands exchange.left begun.list 0 exchange others begun.good (sound_act config found timed.command sound_found) begun.stands begun.told part
+    (subst (λ (v : ListVerb). AreNext v exchange others) (sym begun.verb) next)
+    in
+    whole_list config found wish (exchange ∷ others) sound_found.kept (subst (λ (items : List ItemState). Followed config items 0 (exchange ∷ others)) begun.items followed)
+
+chain_at : (config : Config) (state : State) (timed : Timed) (commands : List Timed) (wish : Wish) (first : Exchange) (others : List Exchange) → first ≡ performed config state timed
+    → IsConfig config → IsSound config state → IsPart others (run config (performed config state timed).left commands) → is_of_records wish.verb ≡ true → first.command ≡ first_request wish
+    → config.chunk < length (selection_in first.found wish) → is_later first.outcome ≡ false → AreNext wish.verb first others
+    → (pages : List Page) × IsFollowed config (selection_in first.found wish) (first ∷ others) pages
+chain_at config state timed commands wish first others is good sound part verb asked many answered next =
+    let shown = chain_here config state timed commands wish others good sound part verb
+    (subst (λ (e : Exchange). e.command ≡ first_request wish) is asked)
+    (subst (λ (e : Exchange). config.chunk < length (selection_in e.found wish)) is many)
+    (subst (λ (e : Exchange). is_later e.outcome ≡ false) is answered)
+    (subst (λ (e : Exchange). AreNext wish.verb e others) is next)
+    in
+    subst (λ (e : Exchange). (pages : List Page) × IsFollowed config (selection_in e.found wish) (e ∷ others) pages) (sym is) shown
+
+-- wherever it begins
+chain_from : (config : Config) (commands : List Timed) (state : State) (wish : Wish) (first : Exchange) (others : List Exchange) → IsConfig config → IsSound config state
+    → IsPart (first ∷ others) (run config state commands) → is_of_records wish.verb ≡ true → first.command ≡ first_request wish
+    → config.chunk < length (selection_in first.found wish) → is_later first.outcome ≡ false → AreNext wish.verb first others
+    → (pages : List Page) × IsFollowed config (selection_in first.found wish) (first ∷ others) pages
+chain_from config [] state wish first others good sound none verb asked many answered next = cc
+chain_from config (timed ∷ commands) state wish first others good sound (inl part) verb asked many answered next =
+    chain_from config commands (act config (moved timed.moment state) timed.command).1 wish first others good
+    (sound_act config (moved timed.moment state) timed.command (sound_moved config timed.moment state sound)) part verb asked many answered next
+chain_from config (timed ∷ commands) state wish first others good sound (inr here) verb asked many answered next =
+    let later : State = (performed config state timed).left in
+    let is : first ∷ others ≡ performed config state timed ∷ here.0 = here.1 in
+    let first_is : first ≡ performed config state timed = cc in
+    let others_are : others ≡ here.0 = cc in
+    let part : IsPart others (run config later commands) = subst (λ (es : List Exchange). IsPart es (run config later commands)) (sym others_are) here.2 in
+    chain_at config state timed commands wish first others first_is good sound part verb asked many answered next
+
+chain_followed : (config : Config) (commands : List Timed) (state : State) (wish : Wish) (first : Exchange) (others : List Exchange) → IsConfig config → IsSound config state
+    → IsChain config (run config state commands) wish first others → (pages : List Page) × IsFollowed config (selection_in first.found wish) (first ∷ others) pages
+chain_followed config commands state wish first others good sound chain =
+    chain_from config commands state wish first others good sound chain.among chain.verb chain.asked chain.long chain.answered chain.next
+
+-- and whatever was asked of a repository from its beginning on
+pub following : (config : Config) (commands : List Timed) (wish : Wish) (first : Exchange) (others : List Exchange) → IsConfig config
+    → IsChain config (run config (empty_state config) commands) wish first others → (pages : List Page) × IsFollowed config (selection_in first.found wish) (first ∷ others) pages
+following config commands wish first others good chain = chain_followed config commands (empty_state config) wish first others good (sound_empty config) chain

@@ -1,0 +1,307 @@
+-- What a command does to a state is an effect that is possible, and each effect that is possible leaves a sound state sound.
+use Rattle.std.proofs.Common.{◌≡◌, ◌∙◌, ℕ, ℤ, pos, ◌+◌, ◌<◌, ◌≤◌, ◌+ℤ◌, Bool, true, false, not, ◌&&◌, eqb, cond, List, [], ◌∷◌, ◌++◌, length, map, Option, None, Some, is_some, is_none, refl, sym, ap, subst, arith}
+use Rattle.std.specs.Prelude.{filter, find, nat_le, nat_lt}
+use Rattle.std.specs.List.{list_all}
+use Rattle.std.specs.Str.{bytes_eq}
+use Rattle.std.proofs.lemmas.Bool.{and_from, and_parts, cond_both}
+use Rattle.std.proofs.lemmas.Bool.Decides.{nat_tests}
+use Rattle.std.proofs.lemmas.List.Elements.{All-filter}
+use Rattle.std.proofs.lemmas.List.Folds.{list_all-append}
+use Rattle.std.proofs.lemmas.List.Sums.{AllPass-from_list_all, list_all-from_AllPass}
+use Rattle.std.proofs.lemmas.Slice.Eq.{bytes_eq-Decides}
+use Rattle.oai_names.specs.declared.list_verbs.ListVerb.{ListVerb}
+use Rattle.oai_lists.specs.declared.lists.TheConstants.{LAST_NUMBER}
+use Rattle.oai_lists.specs.declared.tokens.Token.{Token}
+use Rattle.oai_lists.specs.Tokens.{token_of}
+use Rattle.oai_item.specs.Formats.{format_named}
+use Rattle.oai_item.specs.Item.{ItemState, Metadata, emptied, has_record, live_item, record_named, tombstone_of}
+use Rattle.oai_item.specs.Items.{item_named, without}
+use Rattle.oai_item.specs.Membership.{reduced}
+use Rattle.oai_item.specs.Selection.{selected}
+use Rattle.oai_item.specs.declared.changes.Change.{Change}
+use Rattle.oai_item.specs.declared.changes.Change.TheVariants as change
+use Rattle.oai_item.specs.declared.formats.Format.{Format}
+use Rattle.oai_item.specs.declared.refusals.ChangeRefusal.{ChangeRefusal}
+use Rattle.oai_item.proofs.Named.{found_name, of_found}
+use Rattle.oai_item.proofs.OrderLemmas.{all-placed, in_order-changed, apart-changed}
+use Rattle.oai_args.specs.Asks.{AskOrError, asks, bad_verb, bad_argument}
+use Rattle.oai_args.specs.declared.requests.Ask.TheVariants as ask
+use Rattle.oai_answers.specs.declared.identify.DeletedRecord.{DeletedRecord}
+use Rattle.oai_answers.specs.declared.identify.DeletedRecord.TheVariants.{No, Transient, Persistent}
+use Rattle.oai_repo.specs.Answers.{filter_of}
+use Rattle.oai_repo.specs.Changes.{after_deletion, changed, deposit_refusal, drops_format, is_one_too_many, item_refusal, refusal_of, stamp_at, with_new, with_tombstone}
+use Rattle.oai_repo.specs.Config.{Config}
+use Rattle.oai_repo.specs.Effects.{Effect, IsEffected, IsPossible, IsPut, IsSound, effected, holding, is_given, item_put, item_taken, list_opened, list_renewed, set_added, unchanged}
+use Rattle.oai_repo.specs.Kept.{AreKept, is_well_kept}
+use Rattle.oai_repo.specs.Listing.{Said, answer_to, begins, continues, has_no_sets, list_answer, list_begun, list_continued, prolonged_at, told_in, told_items, token_answer, wait_at}
+use Rattle.oai_repo.specs.Machine.{Command, act, act_on_change, asking, changing, refusing}
+use Rattle.oai_repo.specs.State.{FrozenList, Holdings, OpenLists, State, empty_state, is_open_at, moved}
+use Rattle.oai_repo.proofs.KeptLemmas.{emptied-record, few-new, fits, kept-none, no_cause, set_kept, stands, taken, well-deposited, well-tombstone, well-without}
+
+-- ---- a sound state stays sound
+
+-- a repository that begins
+pub sound_empty : (config : Config) → IsSound config (empty_state config)
+sound_empty config = record { kept = kept-none config; given = refl; few = omega arith }
+
+-- what is true of all is true of those that a test keeps
+pub all_kept : {A : Type 0} (p q : A → Bool) (xs : List A) → list_all p xs ≡ true → list_all p (filter q xs) ≡ true
+all_kept p q xs h = list_all-from_AllPass p (filter q xs) (All-filter q (λ x. p x ≡ true) xs (AllPass-from_list_all p xs h))
+
+-- at a later clock fewer lists are open
+pub sound_moved : (config : Config) (moment : ℤ) (state : State) → IsSound config state → IsSound config (moved moment state)
+sound_moved config moment state sound = record {
+  kept = sound.kept;
+  given = all_kept (is_given state.begun.next) (is_open_at (moved moment state).clock) state.begun.lists sound.given;
+  few = sound.few;
+}
+
+-- an item that is put
+put_kept : (config : Config) (state : State) (item : ItemState) → IsPut config state item → AreKept config state.holdings
+    → AreKept config (record state.holdings { items = with_new item state.holdings.items })
+put_kept config state item put kept =
+    let items : List ItemState = state.holdings.items in
+    record {
+      ordered = in_order-changed item items kept.ordered;
+      apart = apart-changed item items kept.apart;
+      few = few-new config items item put.room kept.few;
+      well = all-placed (is_well_kept config state.holdings.sets) item (without item.identifier items) put.well
+          (well-without (is_well_kept config state.holdings.sets) item.identifier items kept.well);
+    }
+
+-- a list that stays open, or does not, has the number that it had
+pub same_number : (config : Config) (clock : ℤ) (number : ℕ) (list : FrozenList) → (prolonged_at config clock number list).number ≡ list.number
+same_number config clock number list = by_test (eqb list.number number)
+  where
+    by_test : (b : Bool) → (cond b (record list { end = clock +ℤ pos config.lifetime }) list).number ≡ list.number
+    by_test true = refl
+    by_test false = refl
+
+-- a list that stays open keeps its number
+renewed_given : (config : Config) (clock : ℤ) (number next : ℕ) (lists : List FrozenList) → list_all (is_given next) lists ≡ true
+    → list_all (is_given next) (map (prolonged_at config clock number) lists) ≡ true
+renewed_given config clock number next [] h = refl
+renewed_given config clock number next (x ∷ lists) h =
+    let parts = and_parts (is_given next x) (list_all (is_given next) lists) h in
+    and_from (is_given next (prolonged_at config clock number x)) (list_all (is_given next) (map (prolonged_at config clock number) lists))
+    (ap (λ (n : ℕ). nat_lt n next) (same_number config clock number x) ∙ parts.0)
+    (renewed_given config clock number next lists parts.1)
+
+-- numbers that were given were given before the next one too
+given_more : (next : ℕ) (lists : List FrozenList) → list_all (is_given next) lists ≡ true → list_all (is_given (next + 1)) lists ≡ true
+given_more next [] h = refl
+given_more next (x ∷ lists) h =
+    let parts = and_parts (is_given next x) (list_all (is_given next) lists) h in
+    and_from (is_given (next + 1) x) (list_all (is_given (next + 1)) lists) (above x.number parts.0) (given_more next lists parts.1)
+  where
+    above : (n : ℕ) → nat_lt n next ≡ true → nat_lt n (next + 1) ≡ true
+    above n below = grind (arith, nat_tests)
+
+-- nothing keeps a list waiting: there is room, and a number
+passed : {A : Type 0} (test : Bool) (cause : A) (later : Option A) → cond test (Some cause) later ≡ None → (test ≡ false) × (later ≡ None)
+passed true cause later h = cc
+passed false cause later h = (refl, h)
+
+pub number_left : (config : Config) (clock : ℤ) (begun : OpenLists) → wait_at config clock begun ≡ None → begun.next ≤ LAST_NUMBER → begun.next < LAST_NUMBER
+unfolding wait_at
+number_left config clock begun h few =
+    let room = passed (nat_le config.lists (length begun.lists)) _ _ h in
+    let number = passed (eqb begun.next LAST_NUMBER) _ _ room.1 in
+    below begun.next LAST_NUMBER number.0 few
+  where
+    below : (n last : ℕ) → eqb n last ≡ false → n ≤ last → n < last
+    below n last apart few = grind (arith, nat_tests)
+
+opened_given : (next : ℕ) (list : FrozenList) (lists : List FrozenList) → list.number ≡ next → list_all (is_given next) lists ≡ true
+    → list_all (is_given (next + 1)) (lists ++ list ∷ []) ≡ true
+opened_given next list lists is h =
+    let last : nat_lt list.number (next + 1) ≡ true = grind (arith, nat_tests) in
+    list_all-append (is_given (next + 1)) lists (list ∷ []) ∙ and_from _ _ (given_more next lists h) (and_from (nat_lt list.number (next + 1)) true last refl)
+
+-- after each effect that is possible
+pub sound_effected : (config : Config) (state : State) (effect : Effect) → IsPossible config state effect → IsSound config state → IsSound config (effected config state effect)
+sound_effected config state unchanged possible sound = sound
+sound_effected config state (item_put item) possible sound = record { kept = put_kept config state item possible sound.kept; given = sound.given; few = sound.few }
+sound_effected config state (item_taken identifier) possible sound = record { kept = taken config state.holdings identifier sound.kept; given = sound.given; few = sound.few }
+sound_effected config state (set_added set) possible sound = record { kept = set_kept config state.holdings set sound.kept; given = sound.given; few = sound.few }
+sound_effected config state (list_renewed number) possible sound = record {
+  kept = sound.kept;
+  given = renewed_given config state.clock number state.begun.next state.begun.lists sound.given;
+  few = sound.few;
+}
+sound_effected config state (list_opened list) possible sound = record {
+  kept = sound.kept;
+  given = opened_given state.begun.next list state.begun.lists possible.number sound.given;
+  few = let less = number_left config state.clock state.begun possible.admitted sound.few in omega (arith, less);
+}
+
+-- ---- what a command does
+
+-- the open lists are others after a request, and nothing else is
+abbrev pub asked_to : State → OpenLists → State
+asked_to state begun = record state { begun = begun }
+
+-- what was said, with the lists that are open then, is an effect
+abbrev pub IsBegunBy : Config → State → Said × OpenLists → Type 0
+IsBegunBy config state done = IsEffected config state (asked_to state done.1)
+
+nothing : (config : Config) (state : State) → IsEffected config state state
+nothing config state = record { effect = unchanged; possible = tt; done = refl }
+
+begun_by : (config : Config) (state : State) (verb : ListVerb) (format : Format) (items : List ItemState) (wait : Option ℤ) → wait_at config state.clock state.begun ≡ wait
+    → IsBegunBy config state (begins config state.begun format (list_begun config state.clock state.begun verb format.prefix items) wait)
+begun_by config state verb format items (Some seconds) is = nothing config state
+begun_by config state verb format items None is = record {
+  effect = list_opened (list_begun config state.clock state.begun verb format.prefix items);
+  possible = record { admitted = is; number = refl; lasting = refl };
+  done = refl;
+}
+
+told_by_items : (config : Config) (state : State) (verb : ListVerb) (format : Format) (items : List ItemState)
+    → IsBegunBy config state (told_items config state.clock state.begun verb format items)
+unfolding told_items
+told_by_items config state verb format items =
+    cond_both (nat_le (length items) config.chunk) _ _ (λ (done : Said × OpenLists). IsBegunBy config state done)
+    (λ _. nothing config state)
+    (λ _. begun_by config state verb format items (wait_at config state.clock state.begun) refl)
+
+told_by_format : (config : Config) (state : State) (verb : ListVerb) (format : Option Format) (items : List ItemState)
+    → IsBegunBy config state (told_in config state.clock state.begun verb format items)
+told_by_format config state verb None items = nothing config state
+told_by_format config state verb (Some format) items = told_by_items config state verb format items
+
+listed : (config : Config) (state : State) (verb : ListVerb) (prefix : List ℕ) (set : Option (List ℕ)) (items : List ItemState)
+    → IsBegunBy config state (list_answer config state.clock state.begun state.holdings.sets verb prefix set items)
+listed config state verb prefix set items =
+    cond_both (is_some set && has_no_sets state.holdings.sets) _ _ (λ (done : Said × OpenLists). IsBegunBy config state done)
+    (λ _. nothing config state)
+    (λ _. told_by_format config state verb (format_named prefix config.formats) items)
+
+continued : (config : Config) (state : State) (verb : ListVerb) (cursor : ℕ) (found : Option FrozenList)
+    → IsBegunBy config state (continues config state.clock state.begun verb cursor found)
+continued config state verb cursor None = nothing config state
+continued config state verb cursor (Some list) = record { effect = list_renewed list.number; possible = tt; done = refl }
+
+resumed : (config : Config) (state : State) (verb : ListVerb) (token : Option Token) → IsBegunBy config state (token_answer config state.clock state.begun verb token)
+resumed config state verb None = nothing config state
+resumed config state verb (Some token) = continued config state verb token.cursor (list_continued state.begun verb token)
+
+answered : (config : Config) (state : State) (request : AskOrError) → IsBegunBy config state (answer_to config state request)
+answered config state bad_verb = nothing config state
+answered config state bad_argument = nothing config state
+answered config state (asks ask.Identify) = nothing config state
+answered config state (asks (ask.Formats identifier)) = nothing config state
+answered config state (asks ask.Sets) = nothing config state
+answered config state (asks (ask.Get identifier prefix)) = nothing config state
+answered config state (asks (ask.List verb prefix from until set)) = listed config state verb prefix set (selected (filter_of prefix from until set) state.holdings.items)
+answered config state (asks (ask.Resume verb token)) = resumed config state verb (token_of token)
+
+-- ---- what a change does
+
+-- records have one in the format of the first, and in each in which the others have one
+first_record : (x : Metadata) (records : List Metadata) → has_record x.0 (x ∷ records) ≡ true
+unfolding record_named
+first_record x records = rw ((bytes_eq-Decides x.0 x.0).1 refl) refl
+
+later_record : (x : Metadata) (prefix : List ℕ) (records : List Metadata) → has_record prefix records ≡ true → has_record prefix (x ∷ records) ≡ true
+unfolding record_named
+later_record x prefix records h = by_test (bytes_eq x.0 prefix) h
+  where
+    by_test : (b : Bool) → is_some (find (λ (f : Metadata). bytes_eq f.0 prefix) records) ≡ true
+        → is_some (cond b (Some x) (find (λ (f : Metadata). bytes_eq f.0 prefix) records)) ≡ true
+    by_test true h = refl
+    by_test false h = h
+
+later_records : (x : Metadata) (records some : List Metadata) → list_all (λ (metadata : Metadata). has_record metadata.0 records) some ≡ true
+    → list_all (λ (metadata : Metadata). has_record metadata.0 (x ∷ records)) some ≡ true
+later_records x records [] h = refl
+later_records x records (y ∷ some) h =
+    let parts = and_parts (has_record y.0 records) (list_all (λ (metadata : Metadata). has_record metadata.0 records) some) h in
+    and_from _ _ (later_record x y.0 records parts.0) (later_records x records some parts.1)
+
+-- so they have one in each of their formats
+has_own : (records : List Metadata) → list_all (λ (metadata : Metadata). has_record metadata.0 records) records ≡ true
+has_own [] = refl
+has_own (x ∷ records) = and_from _ _ (first_record x records) (later_records x records records (has_own records))
+
+-- what is left of an item has a record in each format of the item
+none_dropped : (records kept : List Metadata) → list_all (λ (metadata : Metadata). has_record metadata.0 records) kept ≡ true
+    → list_all (λ (metadata : Metadata). has_record metadata.0 (map emptied records)) kept ≡ true
+none_dropped records [] h = refl
+none_dropped records (x ∷ kept) h =
+    let parts = and_parts (has_record x.0 records) (list_all (λ (metadata : Metadata). has_record metadata.0 records) kept) h in
+    and_from _ _ (emptied-record x.0 records ∙ parts.0) (none_dropped records kept parts.1)
+
+-- a deleted item takes the place of one that is there
+tombstone_put : (config : Config) (state : State) (identifier : List ℕ) (item : ItemState) → item_named identifier state.holdings.items ≡ Some item → AreKept config state.holdings
+    → IsPut config state (tombstone_of (stamp_at config state.clock) item)
+unfolding is_one_too_many
+tombstone_put config state identifier item is kept =
+    let found : item_named item.identifier state.holdings.items ≡ Some item = ap (λ (id : List ℕ). item_named id state.holdings.items) (found_name identifier state.holdings.items item is) ∙ is in
+    record {
+      dated = refl;
+      well = well-tombstone config state.holdings.sets (stamp_at config state.clock) item (of_found (is_well_kept config state.holdings.sets) identifier state.holdings.items item is kept.well);
+      formats = ap (λ (o : Option ItemState). drops_format o (map emptied item.formats)) found ∙ ap not (none_dropped item.formats item.formats (has_own item.formats));
+      room = ap (λ (o : Option ItemState). is_none o && nat_le config.items (length state.holdings.items)) found;
+    }
+
+-- the holdings are others after a change, and nothing else is
+abbrev pub IsChangedBy : Config → State → Holdings → Type 0
+IsChangedBy config state holdings = IsEffected config state (record state { holdings = holdings })
+
+buried_by : (config : Config) (state : State) (identifier : List ℕ) (found : Option ItemState) → item_named identifier state.holdings.items ≡ found → AreKept config state.holdings
+    → IsEffected config state (holding state (with_tombstone (stamp_at config state.clock) found state.holdings.items))
+buried_by config state identifier None is kept = nothing config state
+buried_by config state identifier (Some item) is kept = record {
+  effect = item_put (tombstone_of (stamp_at config state.clock) item);
+  possible = tombstone_put config state identifier item is kept;
+  done = refl;
+}
+
+deleted_by : (config : Config) (state : State) (identifier : List ℕ) (policy : DeletedRecord) → config.deleted ≡ policy → AreKept config state.holdings
+    → IsEffected config state (holding state (after_deletion policy (stamp_at config state.clock) identifier state.holdings.items))
+deleted_by config state identifier No is kept = record { effect = item_taken identifier; possible = is; done = refl }
+deleted_by config state identifier Transient is kept = buried_by config state identifier (item_named identifier state.holdings.items) refl kept
+deleted_by config state identifier Persistent is kept = buried_by config state identifier (item_named identifier state.holdings.items) refl kept
+
+deposited_by : (config : Config) (state : State) (identifier : List ℕ) (sets : List (List ℕ)) (records : List Metadata)
+    → deposit_refusal config state.holdings.sets sets records ≡ None
+    → item_refusal config (item_named identifier state.holdings.items) (length state.holdings.items) (live_item identifier (stamp_at config state.clock) (reduced sets) records) ≡ None
+    → IsPut config state (live_item identifier (stamp_at config state.clock) (reduced sets) records)
+deposited_by config state identifier sets records first later =
+    let stamp : ℤ = stamp_at config state.clock in
+    let fit = fits config (item_named identifier state.holdings.items) (length state.holdings.items) (live_item identifier stamp (reduced sets) records) later in
+    record {
+      dated = refl;
+      well = well-deposited config state.holdings identifier stamp sets records (stands config state.holdings.sets sets records first) fit;
+      formats = fit.formats;
+      room = fit.room;
+    }
+
+changed_by : (config : Config) (state : State) (asked : Change) → refusal_of config (stamp_at config state.clock) state.holdings asked ≡ None → AreKept config state.holdings
+    → IsChangedBy config state (changed config (stamp_at config state.clock) state.holdings asked)
+unfolding refusal_of changed
+changed_by config state (change.Deposit identifier sets records) none kept =
+    let item : ItemState = live_item identifier (stamp_at config state.clock) (reduced sets) records in
+    let causes = no_cause (deposit_refusal config state.holdings.sets sets records) (item_refusal config (item_named identifier state.holdings.items) (length state.holdings.items) item) none in
+    record { effect = item_put item; possible = deposited_by config state identifier sets records causes.0 causes.1; done = refl }
+changed_by config state (change.Delete identifier) none kept = deleted_by config state identifier config.deleted refl kept
+changed_by config state (change.AddSet spec name) none kept = record { effect = set_added (spec, name); possible = none; done = refl }
+
+acted_by : (config : Config) (state : State) (asked : Change) (refusal : Option ChangeRefusal) → refusal_of config (stamp_at config state.clock) state.holdings asked ≡ refusal → AreKept config state.holdings
+    → IsEffected config state (act_on_change config state (stamp_at config state.clock) asked refusal).1
+acted_by config state asked (Some cause) is kept = nothing config state
+acted_by config state asked None is kept = changed_by config state asked is kept
+
+-- each command does one of these to the state
+pub effect_of : (config : Config) (state : State) (command : Command) → IsSound config state → IsEffected config state (act config state command).1
+unfolding act
+effect_of config state (asking request) sound = answered config state request
+effect_of config state (changing asked) sound = acted_by config state asked (refusal_of config (stamp_at config state.clock) state.holdings asked) refl sound.kept
+effect_of config state (refusing cause) sound = nothing config state
+
+-- so a command leaves a sound state
+pub sound_act : (config : Config) (state : State) (command : Command) → IsSound config state → IsSound config (act config state command).1
+sound_act config state command sound =
+    let done = effect_of config state command sound in
+    subst (IsSound config) (sym done.done) (sound_effected config state done.effect done.possible sound)

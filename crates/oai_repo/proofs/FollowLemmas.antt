@@ -1,0 +1,309 @@
+-- The pages of a chain are, joined, the records that were selected at its first request.
+use Rattle.std.proofs.Common.{◌≡◌, ◌∙◌, inl, inr, ℕ, ℤ, ◌+◌, ◌<◌, ◌≤◌, ◌^◌, Bool, true, false, not, ◌||◌, cond, List, [], ◌∷◌, ◌++◌, length, append-nil, append_assoc, suc, zero, take, drop, map, Option, None, Some, is_none, refl, sym, ap, subst, arith}
+use Rattle.std.specs.Prelude.{int_lt, nat_lt}
+use Rattle.std.proofs.lemmas.Bool.{and_from, cond-true, lt-ltb, ltb-true}
+use Rattle.std.proofs.lemmas.Bool.Decides.{nat_tests}
+use Rattle.std.proofs.lemmas.List.{drop-drop, length-drop}
+use Rattle.oai_names.specs.declared.list_verbs.ListVerb.{ListVerb}
+use Rattle.oai_names.specs.declared.list_verbs.ListVerb.TheVariants as list
+use Rattle.oai_lists.specs.Tokens.{token_of, token_text}
+use Rattle.oai_lists.specs.declared.lists.TheConstants.{LAST_NUMBER}
+use Rattle.oai_lists.specs.declared.tokens.Token.{Token}
+use Rattle.oai_lists.proofs.TokensRead.{token_of-is}
+use Rattle.oai_item.specs.Formats.{format_named}
+use Rattle.oai_item.specs.Item.{ItemState}
+use Rattle.oai_item.specs.declared.formats.Format.{Format}
+use Rattle.oai_args.specs.Asks.{AskOrError, asks}
+use Rattle.oai_args.specs.declared.requests.Ask.TheVariants as ask
+use Rattle.oai_answers.specs.Answers.{Attributes, Continuation, Page, completes, remains}
+use Rattle.oai_repo.specs.Answers.{arguments_of_request}
+use Rattle.oai_repo.specs.Config.{Config}
+use Rattle.oai_repo.specs.Effects.{IsSound, is_given}
+use Rattle.oai_repo.specs.Following.{ArePlaced, AreNext, IsNext, IsPlaced, Offer, are_complete, extent_in, is_later, is_of_records, joined, next_request, offer_in, page_in, page_told}
+use Rattle.oai_repo.specs.Listing.{Said, answer_to, continues, extent_at, has_number, is_continued, is_same_verb, items_from, part_from, part_told, prolonged, says, told_by, token_answer, waits, where_continued, with_prolonged}
+use Rattle.oai_repo.specs.Machine.{Command, act, asking, outcome_of}
+use Rattle.oai_repo.specs.Runs.{Exchange, IsPart, Timed, performed, run}
+use Rattle.oai_repo.specs.State.{FrozenList, OpenLists, State, moved}
+use Rattle.oai_repo.proofs.EffectLemmas.{effect_of, sound_act, sound_moved}
+use Rattle.oai_repo.proofs.StandLemmas.{IsThere, Stands, of_found, stands_effected, stands_moved, stands_renewed}
+
+-- ---- the parts of a list
+
+-- a part and what is behind it
+cut : {A : Type 0} (n : ℕ) (xs : List A) → take n xs ++ drop (length (take n xs)) xs ≡ xs
+cut zero xs = refl
+cut (suc n) [] = refl
+cut (suc n) (x ∷ xs) = ap (λ ys. x ∷ ys) (cut n xs)
+
+-- a part behind which something is left is full
+full_part : {A : Type 0} (n : ℕ) (xs : List A) → length (take n xs) < length xs → length (take n xs) ≡ n
+full_part zero xs h = refl
+full_part (suc n) [] h = absurd (omega (arith, h))
+full_part (suc n) (x ∷ xs) h = let rest = full_part n xs (omega (arith, h)) in omega (arith, rest)
+
+none_behind : {A : Type 0} (n : ℕ) (xs : List A) → length xs ≤ n → drop n xs ≡ []
+none_behind zero [] h = refl
+none_behind zero (x ∷ xs) h = absurd (omega (arith, h))
+none_behind (suc n) [] h = refl
+none_behind (suc n) (x ∷ xs) h = none_behind n xs (omega (arith, h))
+
+-- how many records stand before the next part
+next_at : Config → FrozenList → ℕ → ℕ
+next_at config list cursor = cursor + length (items_from config list cursor)
+
+-- the two ways in which a part ends
+abbrev by_rest : FrozenList → ℕ → ℕ → Bool → Continuation
+by_rest list cursor next test = cond test (remains list.end (extent_at list cursor) (token_text (record { list = list.number; cursor = next }))) (completes (extent_at list cursor))
+
+-- what a part offers: where records remain, a token that tells how many came before
+offered_where : (list : FrozenList) (cursor next : ℕ) (test : Bool) (offer : Offer) → offer_in (by_rest list cursor next test) ≡ Some offer
+    → (test ≡ true) × (offer ≡ record { token = token_text (record { list = list.number; cursor = next }); expires = list.end })
+offered_where list cursor next true offer h = (refl, cc)
+offered_where list cursor next false offer h = cc
+
+not_offered : (list : FrozenList) (cursor next : ℕ) (test : Bool) → is_none (offer_in (by_rest list cursor next test)) ≡ not test
+not_offered list cursor next true = refl
+not_offered list cursor next false = refl
+
+extent_told : (list : FrozenList) (cursor next : ℕ) (test : Bool) → extent_in (by_rest list cursor next test) ≡ Some (extent_at list cursor)
+extent_told list cursor next true = refl
+extent_told list cursor next false = refl
+
+pub part_items : (config : Config) (list : FrozenList) (cursor : ℕ) → (part_from config list cursor).items ≡ items_from config list cursor
+unfolding part_from
+part_items config list cursor = refl
+
+part_ends : (config : Config) (list : FrozenList) (cursor : ℕ)
+    → (part_from config list cursor).continuation ≡ by_rest list cursor (next_at config list cursor) (nat_lt (next_at config list cursor) (length list.items))
+unfolding part_from next_at
+part_ends config list cursor = refl
+
+-- whether records remain behind a part
+remain : Config → FrozenList → ℕ → Bool
+remain config list cursor = nat_lt (next_at config list cursor) (length list.items)
+
+part_offer : (config : Config) (list : FrozenList) (cursor : ℕ) → is_none (offer_in (part_from config list cursor).continuation) ≡ not (remain config list cursor)
+unfolding remain
+part_offer config list cursor =
+    ap (λ c. is_none (offer_in c)) (part_ends config list cursor) ∙ not_offered list cursor (next_at config list cursor) (nat_lt (next_at config list cursor) (length list.items))
+
+is_left : (k n : ℕ) → not (nat_lt k n) ≡ false → k < n
+is_left k n h = grind (arith, nat_tests)
+
+part_placed : (config : Config) (list : FrozenList) (cursor : ℕ) → IsPlaced config.chunk (length list.items) cursor (part_from config list cursor)
+unfolding remain next_at
+part_placed config list cursor = record {
+  extent = ap extent_in (part_ends config list cursor) ∙ extent_told list cursor (next_at config list cursor) (nat_lt (next_at config list cursor) (length list.items));
+  full = λ offers.
+      let more : cursor + length (items_from config list cursor) < length list.items =
+      is_left (cursor + length (items_from config list cursor)) (length list.items) (sym (part_offer config list cursor) ∙ offers)
+      in
+      let size = length-drop cursor list.items in
+      let within : length (take config.chunk (drop cursor list.items)) < length (drop cursor list.items) = omega (arith, more, size) in
+      ap length (part_items config list cursor) ∙ full_part config.chunk (drop cursor list.items) within;
+}
+
+-- ---- the pages so far
+
+-- what a front of a chain that begins behind so many records is answered
+pub record IsTold (config : Config) (items : List ItemState) (cursor : ℕ) (exchanges : List Exchange) (pages : List Page) : Type 0 where
+  pub told : map (λ (exchange : Exchange). page_told exchange.outcome) exchanges ≡ map (λ (page : Page). Some page) pages
+  pub placed : ArePlaced config.chunk (length items) cursor pages
+  pub others : List ItemState
+  pub front : joined pages ++ others ≡ drop cursor items
+  pub complete : are_complete pages ≡ true → others ≡ []
+
+nothing_left : (k n : ℕ) → (not (nat_lt k n) || false) ≡ true → n ≤ k
+nothing_left k n h = grind (arith, nat_tests)
+
+-- one page, and what is behind it
+one_page : (config : Config) (list : FrozenList) (cursor : ℕ) (exchange : Exchange) → page_told exchange.outcome ≡ Some (part_from config list cursor)
+    → IsTold config list.items cursor (exchange ∷ []) (part_from config list cursor ∷ [])
+unfolding remain next_at
+one_page config list cursor exchange told =
+    let items : List ItemState = items_from config list cursor in
+    let behind : List ItemState = drop (length items) (drop cursor list.items) in
+    record {
+      told = ap (λ (p : Option Page). p ∷ []) told;
+      placed = (part_placed config list cursor, tt);
+      others = behind;
+      front = ap (λ (xs : List ItemState). (xs ++ []) ++ behind) (part_items config list cursor) ∙ ap (λ (xs : List ItemState). xs ++ behind) (append-nil items) ∙ cut config.chunk (drop cursor list.items);
+      complete = λ ends.
+          drop-drop (length items) cursor list.items
+          ∙ none_behind (cursor + length items) list.items (nothing_left (cursor + length items) (length list.items) (ap (λ b. b || false) (sym (part_offer config list cursor)) ∙ ends));
+    }
+
+-- one page more, before others
+more_pages : (config : Config) (list : FrozenList) (cursor : ℕ) (exchange : Exchange) (exchanges : List Exchange) (pages : List Page) → page_told exchange.outcome ≡ Some (part_from config list cursor)
+    → remain config list cursor ≡ true → IsTold config list.items (next_at config list cursor) exchanges pages
+    → IsTold config list.items cursor (exchange ∷ exchanges) (part_from config list cursor ∷ pages)
+unfolding next_at
+more_pages config list cursor exchange exchanges pages told more later =
+    let items : List ItemState = items_from config list cursor in
+    let placed_later : ArePlaced config.chunk (length list.items) (cursor + length (part_from config list cursor).items) pages =
+    subst (λ (xs : List ItemState). ArePlaced config.chunk (length list.items) (cursor + length xs) pages) (sym (part_items config list cursor)) later.placed
+    in
+    record {
+      told = ap (λ (p : Option Page). p ∷ map (λ (e : Exchange). page_told e.outcome) exchanges) told ∙ ap (λ ps. Some (part_from config list cursor) ∷ ps) later.told;
+      placed = (part_placed config list cursor, placed_later);
+      others = later.others;
+      front =
+          ap (λ (xs : List ItemState). (xs ++ joined pages) ++ later.others) (part_items config list cursor)
+          ∙ append_assoc items (joined pages) later.others
+          ∙ ap (λ ys. items ++ ys) (later.front ∙ sym (drop-drop (length items) cursor list.items))
+          ∙ cut config.chunk (drop cursor list.items);
+      complete = λ ends. later.complete (ap (λ b. b || are_complete pages) (sym (part_offer config list cursor ∙ ap not more)) ∙ ends);
+    }
+
+-- ---- a token is answered
+
+-- the verb of records is its own
+same_verb : (verb : ListVerb) → is_of_records verb ≡ true → is_same_verb verb verb ≡ true
+same_verb list.Identifiers h = refl
+same_verb list.Records h = refl
+same_verb list.Sets h = cc
+
+pub told_page : (verb : ListVerb) (format : Format) (page : Page) → is_of_records verb ≡ true → page_in (told_by verb format page) ≡ Some page
+told_page list.Identifiers format page h = refl
+told_page list.Records format page h = refl
+told_page list.Sets format page h = cc
+
+-- what is needed of a list beside that it stands: its verb is one of records, its format is one of the repository, and its size is a number of
+-- 64 bits
+pub record IsGood (config : Config) (list : FrozenList) : Type 0 where
+  pub format : Format
+  pub verb : is_of_records list.verb ≡ true
+  pub known : format_named list.prefix config.formats ≡ Some format
+  pub small : length list.items < 2 ^ 64
+
+numbered : (number next last : ℕ) → nat_lt number next ≡ true → next ≤ last → number < last + 1
+numbered number next last below few = grind (arith, nat_tests)
+
+small_number : (config : Config) (state : State) (list : FrozenList) → IsSound config state → IsThere list state.begun → list.number < 2 ^ 64
+small_number config state list sound there =
+    numbered list.number state.begun.next LAST_NUMBER
+    (of_found (has_number list.number) (is_given state.begun.next) state.begun.lists (record list { end = there.0 }) there.2 sound.given) sound.few
+
+abbrev pub asked_next : FrozenList → ℕ → List ℕ
+asked_next list cursor = token_text (record { list = list.number; cursor = cursor })
+
+token_read : (list : FrozenList) (cursor : ℕ) → list.number < 2 ^ 64 → cursor < 2 ^ 64 → token_of (asked_next list cursor) ≡ Some (record { list = list.number; cursor = cursor })
+token_read list cursor small within =
+    token_of-is (asked_next list cursor) (record { list = list.number; cursor = cursor }) (record { list = small; cursor = within; spelled = refl })
+
+-- the token of a list that is there, by its verb, and of a record that it has
+answered_next : (config : Config) (state : State) (list : FrozenList) (cursor : ℕ) (good : IsGood config list) → IsSound config state → IsThere list state.begun → cursor < length list.items
+    → answer_to config state (asks (ask.Resume list.verb (asked_next list cursor)))
+    ≡ (says (told_by list.verb good.format (part_from config (prolonged config state.clock list) cursor)), with_prolonged config state.clock list.number state.begun)
+answered_next config state list cursor good sound there within =
+    let found : FrozenList = record list { end = there.0 } in
+    let token : Token = record { list = list.number; cursor = cursor } in
+    let from : Option FrozenList → Said × OpenLists = λ o. continues config state.clock state.begun list.verb cursor (where_continued list.verb token o) in
+    let right : is_continued list.verb token found ≡ true = and_from (is_same_verb list.verb list.verb) (nat_lt cursor (length list.items)) (same_verb list.verb good.verb) (lt-ltb cursor (length list.items) within) in
+    ap (token_answer config state.clock state.begun list.verb) (token_read list cursor (small_number config state list sound there) (omega (arith, within, good.small)))
+    ∙ ap from there.2
+    ∙ ap (continues config state.clock state.begun list.verb cursor) (cond-true (is_continued list.verb token found) (Some found) None right)
+    ∙ ap (λ (f : Option Format). (says (part_told list.verb f (part_from config (prolonged config state.clock list) cursor)), with_prolonged config state.clock list.number state.begun)) good.known
+
+-- ---- one request of a chain
+
+-- the page of what is said, if one is told
+abbrev pub page_said : Said → Option Page
+page_said (says answer) = page_in answer
+page_said (waits seconds) = None
+
+said_page : (config : Config) (clock : ℤ) (asked : Attributes) (said : Said) → page_told (outcome_of config clock asked said) ≡ page_said said
+said_page config clock asked (says answer) = refl
+said_page config clock asked (waits seconds) = refl
+
+said_later : (config : Config) (clock : ℤ) (asked : Attributes) (seconds : ℤ) → is_later (outcome_of config clock asked (waits seconds)) ≡ true
+said_later config clock asked seconds = refl
+
+-- a request that is answered so, and with these lists open then
+pub asked_page : (config : Config) (state : State) (command : Command) (request : AskOrError) (said : Said) (begun : OpenLists) → command ≡ asking request → answer_to config state request ≡ (said, begun)
+    → (page_told (act config state command).0 ≡ page_said said) × ((act config state command).1 ≡ record state { begun = begun })
+unfolding act
+asked_page config state command request said begun is answer =
+    let told : page_told (act config state (asking request)).0 ≡ page_said said =
+    said_page config state.clock (arguments_of_request request) (answer_to config state request).0 ∙ ap (λ (done : Said × OpenLists). page_said done.0) answer
+    in
+    let left : (act config state (asking request)).1 ≡ record state { begun = begun } = ap (λ (done : Said × OpenLists). record state { begun = done.1 }) answer in
+    (ap (λ (c : Command). page_told (act config state c).0) is ∙ told, ap (λ (c : Command). (act config state c).1) is ∙ left)
+
+-- one that is told to wait is
+pub asked_later : (config : Config) (state : State) (command : Command) (request : AskOrError) (seconds : ℤ) (begun : OpenLists) → command ≡ asking request
+    → answer_to config state request ≡ (waits seconds, begun) → is_later (act config state command).0 ≡ true
+unfolding act
+asked_later config state command request seconds begun is answer =
+    ap (λ (c : Command). is_later (act config state c).0) is
+    ∙ ap (λ (done : Said × OpenLists). is_later (outcome_of config state.clock (arguments_of_request request) done.0)) answer
+
+-- the next request of a chain, by the token of the page before it
+turned : (config : Config) (state : State) (command : Command) (list : FrozenList) (cursor : ℕ) → IsGood config list → IsSound config state → Stands config list state
+    → command ≡ next_request list.verb (asked_next list cursor) → cursor < length list.items → int_lt state.clock list.end ≡ true
+    → (page_told (act config state command).0 ≡ Some (part_from config (prolonged config state.clock list) cursor)) × Stands config (prolonged config state.clock list) (act config state command).1
+turned config state command list cursor good sound stands is within before =
+    let there = stands.there before in
+    let done = asked_page config state command _ _ _ is (answered_next config state list cursor good sound there within) in (
+      done.0 ∙ told_page list.verb good.format (part_from config (prolonged config state.clock list) cursor) good.verb,
+      subst (Stands config (prolonged config state.clock list)) (sym done.1) (stands_renewed config state list there),
+    )
+
+-- the list goes on standing where another command comes
+stands_on : (config : Config) (state : State) (command : Command) (list : FrozenList) → IsSound config state → Stands config list state → Stands config list (act config state command).1
+stands_on config state command list sound stands =
+    let done = effect_of config state command sound in
+    subst (Stands config list) (sym done.done) (stands_effected config list state done.effect stands)
+
+-- ---- a chain behind a page
+
+-- what the exchange after a page asks for
+next_asked : (config : Config) (list : FrozenList) (cursor : ℕ) (before after : Exchange) → page_told before.outcome ≡ Some (part_from config list cursor) → IsNext list.verb before after
+    → (remain config list cursor ≡ true) × (after.command ≡ next_request list.verb (asked_next list (next_at config list cursor))) × (int_lt after.found.clock list.end ≡ true)
+unfolding remain
+next_asked config list cursor before after told next =
+    let pages : Some next.page ≡ Some (part_from config list cursor) = sym next.told ∙ told in
+    let page : next.page ≡ part_from config list cursor = cc in
+    let offered : offer_in (by_rest list cursor (next_at config list cursor) (nat_lt (next_at config list cursor) (length list.items))) ≡ Some next.offer =
+    ap offer_in (sym (part_ends config list cursor)) ∙ ap (λ (p : Page). offer_in p.continuation) (sym page) ∙ next.offered
+    in
+    let is = offered_where list cursor (next_at config list cursor) (nat_lt (next_at config list cursor) (length list.items)) next.offer offered in (
+      is.0,
+      next.asked ∙ ap (λ (o : Offer). next_request list.verb o.token) is.1,
+      ap (λ (o : Offer). int_lt after.found.clock o.expires) (sym is.1) ∙ next.unexpired,
+    )
+
+remains_within : (config : Config) (list : FrozenList) (cursor : ℕ) → remain config list cursor ≡ true → nat_lt (next_at config list cursor) (length list.items) ≡ true
+unfolding remain
+remains_within config list cursor h = h
+
+-- the pages of those that follow a page, and of it
+abbrev pub Followed : Config → List ItemState → ℕ → List Exchange → Type 0
+Followed config items cursor exchanges = (pages : List Page) × IsTold config items cursor exchanges pages
+
+pub follow : (config : Config) (commands : List Timed) (state : State) (list : FrozenList) (cursor : ℕ) (before : Exchange) (others : List Exchange)
+    → IsGood config list → IsSound config state → Stands config list state → page_told before.outcome ≡ Some (part_from config list cursor)
+    → IsPart others (run config state commands) → AreNext list.verb before others → Followed config list.items cursor (before ∷ others)
+follow config [] state list cursor before others good sound stands told none next =
+    subst (λ (es : List Exchange). Followed config list.items cursor (before ∷ es)) (sym none) (part_from config list cursor ∷ [], one_page config list cursor before told)
+follow config (timed ∷ commands) state list cursor before others good sound stands told (inl part) next =
+    let found : State = moved timed.moment state in
+    let sound_found = sound_moved config timed.moment state sound in
+    let stands_found = stands_moved config list timed.moment state stands in
+    follow config commands (act config found timed.command).1 list cursor before others good (sound_act config found timed.command sound_found)
+    (stands_on config found timed.command list sound_found stands_found) told part next
+follow config (timed ∷ commands) state list cursor before others good sound stands told (inr here) next =
+    let found : State = moved timed.moment state in
+    let exchange : Exchange = performed config state timed in
+    let sound_found = sound_moved config timed.moment state sound in
+    let stands_found = stands_moved config list timed.moment state stands in
+    let nexts : AreNext list.verb before (exchange ∷ here.0) = subst (AreNext list.verb before) here.1 next in
+    let asked = next_asked config list cursor before exchange told nexts.0 in
+    let next' : ℕ = next_at config list cursor in
+    let within : next' < length list.items = ltb-true next' (length list.items) (remains_within config list cursor asked.0) in
+    let turn = turned config found timed.command list next' good sound_found stands_found asked.1 within asked.2 in
+    let later = follow config commands exchange.left (prolonged config found.clock list) next' exchange here.0 (record { format = good.format; verb = good.verb; known = good.known; small = good.small })
+    (sound_act config found timed.command sound_found) turn.1 turn.0 here.2 nexts.1
+    in
+    subst (λ (es : List Exchange). Followed config list.items cursor (before ∷ es)) (sym here.1)
+    (part_from config list cursor ∷ later.0, more_pages config list cursor before (exchange ∷ here.0) later.0 told asked.0 later.1)

@@ -1,0 +1,80 @@
+-- What a command can do to a state, and what is true of every state that commands lead to. This repository's own.
+use Rattle.std.specs.Prelude.{◌≡◌, ◌≤◌, ℕ, pos, ◌+ℤ◌, Bool, true, false, List, [], ◌∷◌, ◌++◌, length, None, nat_lt}
+use Rattle.std.specs.List.{list_all}
+use Rattle.oai_lists.specs.declared.lists.TheConstants.{LAST_NUMBER}
+use Rattle.oai_item.specs.Item.{ItemState}
+use Rattle.oai_item.specs.Items.{item_named, without}
+use Rattle.oai_answers.specs.declared.identify.DeletedRecord.TheVariants.{No}
+use Rattle.oai_repo.specs.Changes.{drops_format, is_one_too_many, set_refusal, stamp_at, with_new}
+use Rattle.oai_repo.specs.Config.{Config}
+use Rattle.oai_repo.specs.Kept.{AreKept, is_well_kept}
+use Rattle.oai_repo.specs.Listing.{wait_at, with_begun, with_prolonged}
+use Rattle.oai_repo.specs.State.{FrozenList, NamedSet, State}
+
+-- ---- what is done to a state
+
+-- nothing; an item comes in place of the one of its identifier, if there is one; the item of an identifier goes, and nothing of it is
+-- kept; a set comes behind the others; the open list of a number stays open from now on; or a list is opened
+pub data Effect : Type 0 where
+  unchanged : Effect
+  item_put : ItemState → Effect
+  item_taken : List ℕ → Effect
+  set_added : NamedSet → Effect
+  list_renewed : ℕ → Effect
+  list_opened : FrozenList → Effect
+
+-- the state with other items
+abbrev pub holding : State → List ItemState → State
+holding state items = record state { holdings = record state.holdings { items = items } }
+
+-- the state then
+abbrev pub effected : Config → State → Effect → State
+effected config state unchanged = state
+effected config state (item_put item) = holding state (with_new item state.holdings.items)
+effected config state (item_taken identifier) = holding state (without identifier state.holdings.items)
+effected config state (set_added set) = record state { holdings = record state.holdings { sets = state.holdings.sets ++ set ∷ [] } }
+effected config state (list_renewed number) = record state { begun = with_prolonged config state.clock number state.begun }
+effected config state (list_opened list) = record state { begun = with_begun list state.begun }
+
+-- ---- when it can be done
+
+-- an item is put: it has the datestamp of the clock and is as the repository keeps its items; it has a record in each format in which
+-- the one that it replaces has one; and where it replaces none there is room for it
+pub record IsPut (config : Config) (state : State) (item : ItemState) : Type 0 where
+  pub dated : item.stamp ≡ stamp_at config state.clock
+  pub well : is_well_kept config state.holdings.sets item ≡ true
+  pub formats : drops_format (item_named item.identifier state.holdings.items) item.formats ≡ false
+  pub room : is_one_too_many config (item_named item.identifier state.holdings.items) (length state.holdings.items) ≡ false
+
+-- a list is opened: nothing keeps it waiting, it gets the next number, and it is open for its lifetime
+pub record IsOpened (config : Config) (state : State) (list : FrozenList) : Type 0 where
+  pub admitted : wait_at config state.clock state.begun ≡ None
+  pub number : list.number ≡ state.begun.next
+  pub lasting : list.end ≡ state.clock +ℤ pos config.lifetime
+
+-- it can be done. Nothing of an item is forgotten but where the repository keeps nothing of deleted records (section 2.5.1)
+abbrev pub IsPossible : Config → State → Effect → Type 0
+IsPossible config state unchanged = Unit {0}
+IsPossible config state (item_put item) = IsPut config state item
+IsPossible config state (item_taken identifier) = config.deleted ≡ No
+IsPossible config state (set_added set) = set_refusal state.holdings.sets set.0 ≡ None
+IsPossible config state (list_renewed number) = Unit {0}
+IsPossible config state (list_opened list) = IsOpened config state list
+
+-- the second state is the first after something that can be done to it
+pub record IsEffected (config : Config) (old new : State) : Type 0 where
+  pub effect : Effect
+  pub possible : IsPossible config old effect
+  pub done : new ≡ effected config old effect
+
+-- ---- what is true of every state
+
+-- the number of the list has been given: it is below that of the next
+abbrev pub is_given : ℕ → FrozenList → Bool
+is_given next list = nat_lt list.number next
+
+-- what is held is as a repository keeps it, each open list has a number that was given, and the last number of 64 bits was not
+pub record IsSound (config : Config) (state : State) : Type 0 where
+  pub kept : AreKept config state.holdings
+  pub given : list_all (is_given state.begun.next) state.begun.lists ≡ true
+  pub few : state.begun.next ≤ LAST_NUMBER

@@ -1,0 +1,146 @@
+-- A list that is followed from part to part by its resumption tokens. OAI-PMH 2.0, section 3.5.
+use Rattle.std.specs.Prelude.{◌≡◌, ◌<◌, ◌+◌, ℕ, ℤ, int_lt, Bool, true, false, List, [], ◌∷◌, ◌++◌, length, map, Option, Some, None, is_none}
+use Rattle.std.specs.List.{flat_map, list_any}
+use Rattle.oai_names.specs.declared.list_verbs.ListVerb.{ListVerb}
+use Rattle.oai_names.specs.declared.list_verbs.ListVerb.TheVariants as list
+use Rattle.oai_item.specs.Item.{ItemState}
+use Rattle.oai_item.specs.Items.{are_apart}
+use Rattle.oai_item.specs.Order.{are_in_order}
+use Rattle.oai_item.specs.Selection.{selected}
+use Rattle.oai_args.specs.Asks.{asks}
+use Rattle.oai_args.specs.declared.requests.Ask.TheVariants as ask
+use Rattle.oai_answers.specs.Answers.{Answer, Continuation, Page, completes, fails, gives_record, identifies, lists_formats, lists_headers, lists_records, lists_sets, remains, whole}
+use Rattle.oai_answers.specs.declared.tokens.Extent.{Extent}
+use Rattle.oai_repo.specs.Answers.{filter_of}
+use Rattle.oai_repo.specs.Config.{Config}
+use Rattle.oai_repo.specs.Machine.{Command, Outcome, accepted, asking, documented, later, refused}
+use Rattle.oai_repo.specs.Runs.{Exchange, IsPart}
+use Rattle.oai_repo.specs.State.{State}
+
+-- ---- what is read off an answer
+
+-- the part of a list that an answer tells, or the whole, if it tells one
+abbrev pub page_in : Answer → Option Page
+page_in (lists_headers page) = Some page
+page_in (lists_records format page) = Some page
+page_in (fails code) = None
+page_in (identifies description) = None
+page_in (lists_formats formats) = None
+page_in (lists_sets sets) = None
+page_in (gives_record dissemination) = None
+
+abbrev pub page_told : Outcome → Option Page
+page_told (documented document) = page_in document.answer
+page_told (later seconds) = None
+page_told (accepted stamp) = None
+page_told (refused cause) = None
+
+-- the request is to wait
+abbrev pub is_later : Outcome → Bool
+is_later (later seconds) = true
+is_later (documented document) = false
+is_later (accepted stamp) = false
+is_later (refused cause) = false
+
+-- a token that asks for what remains, and when it expires, in seconds from 1970 on
+pub record Offer : Type 0 where
+  pub token : List ℕ
+  pub expires : ℤ
+
+-- what the part offers: nothing where nothing remains, and its token is empty
+abbrev pub offer_in : Continuation → Option Offer
+offer_in (remains expires extent token) = Some (record { token = token; expires = expires })
+offer_in (completes extent) = None
+offer_in whole = None
+
+-- how many records the list has (completeListSize), and how many of them stand before the part (cursor), where this is told
+abbrev pub extent_in : Continuation → Option Extent
+extent_in (remains expires extent token) = Some extent
+extent_in (completes extent) = Some extent
+extent_in whole = None
+
+-- ---- a chain of requests
+
+-- ListIdentifiers or ListRecords
+abbrev pub is_of_records : ListVerb → Bool
+is_of_records list.Identifiers = true
+is_of_records list.Records = true
+is_of_records list.Sets = false
+
+-- what a list request asks for: the verb and its arguments
+pub record Wish : Type 0 where
+  pub verb : ListVerb
+  pub prefix : List ℕ
+  pub from : Option (List ℕ)
+  pub until : Option (List ℕ)
+  pub set : Option (List ℕ)
+
+-- the list request
+abbrev pub first_request : Wish → Command
+first_request wish = asking (asks (ask.List wish.verb wish.prefix wish.from wish.until wish.set))
+
+-- the request of that verb with a token
+abbrev pub next_request : ListVerb → List ℕ → Command
+next_request verb token = asking (asks (ask.Resume verb token))
+
+-- the records that the list request selects in a state (section 2.7)
+abbrev pub selection_in : State → Wish → List ItemState
+selection_in state wish = selected (filter_of wish.prefix wish.from wish.until wish.set) state.holdings.items
+
+-- the second exchange asks, by that verb, with the token that the page of the first offers, and before this expires
+pub record IsNext (verb : ListVerb) (before after : Exchange) : Type 0 where
+  pub page : Page
+  pub offer : Offer
+  pub told : page_told before.outcome ≡ Some page
+  pub offered : offer_in page.continuation ≡ Some offer
+  pub asked : after.command ≡ next_request verb offer.token
+  pub unexpired : int_lt after.found.clock offer.expires ≡ true
+
+-- each exchange asks with the token of the one before it
+abbrev pub AreNext : ListVerb → Exchange → List Exchange → Type 0
+AreNext verb before [] = Unit {0}
+AreNext verb before (next ∷ exchanges) = IsNext verb before next × AreNext verb next exchanges
+
+-- a chain among the exchanges of a repository: one that asks for a list which is too long for one page, and which is not told to wait;
+-- and then, whatever else is asked and deposited between, those that follow it by its tokens
+pub record IsChain (config : Config) (exchanges : List Exchange) (wish : Wish) (first : Exchange) (others : List Exchange) : Type 0 where
+  pub among : IsPart (first ∷ others) exchanges
+  pub verb : is_of_records wish.verb ≡ true
+  pub asked : first.command ≡ first_request wish
+  pub long : config.chunk < length (selection_in first.found wish)
+  pub answered : is_later first.outcome ≡ false
+  pub next : AreNext wish.verb first others
+
+-- ---- what a chain is answered
+
+-- the records of the pages, one page after the other
+abbrev pub joined : List Page → List ItemState
+joined pages = flat_map (λ (page : Page). page.items) pages
+
+-- a page of a list with so many records, and so many before it: it says so; and where it offers a token it has `chunk` records
+pub record IsPlaced (chunk size before : ℕ) (page : Page) : Type 0 where
+  pub extent : extent_in page.continuation ≡ Some (record { size = size; cursor = before })
+  pub full : is_none (offer_in page.continuation) ≡ false → length page.items ≡ chunk
+
+-- each page stands behind those before it
+abbrev pub ArePlaced : ℕ → ℕ → ℕ → List Page → Type 0
+ArePlaced chunk size before [] = Unit {0}
+ArePlaced chunk size before (page ∷ pages) = IsPlaced chunk size before page × ArePlaced chunk size (before + length page.items) pages
+
+-- one of the pages has the empty token: nothing remains
+abbrev pub are_complete : List Page → Bool
+are_complete pages = list_any (λ (page : Page). is_none (offer_in page.continuation)) pages
+
+-- the first list begins the second
+abbrev pub Begins : List ItemState → List ItemState → Type 0
+Begins front all = (others : List ItemState) × (front ++ others ≡ all)
+
+-- the exchanges are answered with these pages of the selection: each is answered with a page, and the page says where it stands; their
+-- records, joined, begin the selection, and are all of it once a page has the empty token; each record once, in order
+pub record IsFollowed (config : Config) (selection : List ItemState) (exchanges : List Exchange) (pages : List Page) : Type 0 where
+  pub told : map (λ (exchange : Exchange). page_told exchange.outcome) exchanges ≡ map (λ (page : Page). Some page) pages
+  pub placed : ArePlaced config.chunk (length selection) 0 pages
+  pub begun : Begins (joined pages) selection
+  pub complete : are_complete pages ≡ true → joined pages ≡ selection
+  pub ordered : are_in_order (joined pages) ≡ true
+  pub apart : are_apart (joined pages) ≡ true

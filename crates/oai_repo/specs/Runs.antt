@@ -1,0 +1,68 @@
+-- What one repository answers in the course of time. This repository's own.
+use Rattle.std.specs.Prelude.{◌≡◌, ◌⊎◌, ℕ, ℤ, Bool, true, ◌==◌, ◌&&◌, not, nat_lt, List, [], ◌∷◌, filter, map}
+use Rattle.std.specs.List.{flat_map, list_all, list_any}
+use Rattle.oai_lists.specs.declared.lists.TheConstants.{LAST_NUMBER}
+use Rattle.oai_repo.specs.Config.{Config}
+use Rattle.oai_repo.specs.Machine.{Command, Outcome, act_at}
+use Rattle.oai_repo.specs.State.{FrozenList, OpenLists, State, moved}
+
+-- a command and the moment at which it comes, in seconds from 1970 on: any moment, also one before those of earlier commands
+pub record Timed : Type 0 where
+  pub moment : ℤ
+  pub command : Command
+
+-- a command that was performed: the state that it found, the clock moved; what it was answered; and the state that it left
+pub record Exchange : Type 0 where
+  pub found : State
+  pub command : Command
+  pub outcome : Outcome
+  pub left : State
+
+-- a command that is performed in that state
+abbrev pub performed : Config → State → Timed → Exchange
+performed config state timed =
+    let done = act_at config state timed.moment timed.command in
+    record { found = moved timed.moment state; command = timed.command; outcome = done.0; left = done.1 }
+
+-- commands that are performed one after the other, the first in that state
+abbrev pub run : Config → State → List Timed → List Exchange
+run config state [] = []
+run config state (timed ∷ commands) =
+    let exchange = performed config state timed in exchange ∷ run config exchange.left commands
+
+-- the first list is the second, or what is left of it without some of its members
+abbrev pub IsPart : {A : Type 0} → List A → List A → Type 0
+IsPart some [] = some ≡ []
+IsPart some (x ∷ whole) = IsPart some whole ⊎ ((others : List _) × (some ≡ x ∷ others) × IsPart others whole)
+
+-- it is true of each exchange
+abbrev pub Throughout : (Exchange → Type 0) → List Exchange → Type 0
+Throughout P [] = Unit {0}
+Throughout P (exchange ∷ exchanges) = P exchange × Throughout P exchanges
+
+-- ---- the numbers of lists
+
+-- the numbers of the open lists
+abbrev pub numbers_open : OpenLists → List ℕ
+numbers_open begun = map (λ (list : FrozenList). list.number) begun.lists
+
+-- the number is one of these
+abbrev pub is_one_of : List ℕ → ℕ → Bool
+is_one_of numbers n = list_any (λ m. m == n) numbers
+
+-- the numbers that an exchange gave: of the lists that are open after it, and were not before
+abbrev pub given_in : Exchange → List ℕ
+given_in exchange = filter (λ n. not (is_one_of (numbers_open exchange.found.begun) n)) (numbers_open exchange.left.begun)
+
+-- the numbers that were given, one after the other
+abbrev pub numbers_given : List Exchange → List ℕ
+numbers_given exchanges = flat_map given_in exchanges
+
+-- each number is below every later one
+abbrev pub are_rising : List ℕ → Bool
+are_rising [] = true
+are_rising (n ∷ numbers) = list_all (nat_lt n) numbers && are_rising numbers
+
+-- each number is below 18446744073709551615
+abbrev pub are_never_last : List ℕ → Bool
+are_never_last numbers = list_all (λ n. nat_lt n LAST_NUMBER) numbers

@@ -1,0 +1,71 @@
+//! What is true of a repository in the course of time, whatever is asked of it and deposited. These
+//! laws are of the machine by whose definitions the calls of [`Repo`](crate::Repo) are specified.
+
+ghost use Rattle.std.specs.Prelude.{◌≡◌, ℤ, List, ◌∷◌, true};
+ghost use Rattle.oai_answers.specs.Answers.{Page};
+ghost use Rattle.oai_repo.specs.Config.{Config, IsConfig};
+ghost use Rattle.oai_repo.specs.Effects.{Effect, IsEffected, IsPossible, IsSound, effected};
+ghost use Rattle.oai_repo.specs.Following.{IsChain, IsFollowed, Wish, selection_in};
+ghost use Rattle.oai_repo.specs.Machine.{Command, act};
+ghost use Rattle.oai_repo.specs.Runs.{
+  Exchange,
+  Throughout,
+  Timed,
+  are_never_last,
+  are_rising,
+  numbers_given,
+  run,
+};
+ghost use Rattle.oai_repo.specs.State.{State, empty_state, moved};
+ghost use Rattle.oai_repo.specs.Worked.{IsWorked, worked_config};
+
+/// What a command can do: in a sound state it leaves the state, puts an item or takes one out, adds a
+/// set, lets a list stay open or opens one, and each of these only where it may be done. A state is
+/// sound where what is held is as a repository keeps it, and where each open list has a number that
+/// was given, which the last one of 64 bits never is. A repository begins so, and stays so.
+pub fn effect_law()
+    ensures does { (config : Config) (state : State) (command : Command) → IsSound config state
+        → IsEffected config state (act config state command).1 }
+    ensures empty { (config : Config) → IsSound config (empty_state config) }
+    ensures later { (config : Config) (moment : ℤ) (state : State) → IsSound config state
+        → IsSound config (moved moment state) }
+    ensures keeps { (config : Config) (state : State) (effect : Effect)
+        → IsPossible config state effect → IsSound config state
+        → IsSound config (effected config state effect) }
+{}
+
+/// The numbers of lists. Whatever a repository is asked from its beginning on, and whenever: each
+/// command finds a sound state and leaves one; the numbers of the lists that are opened rise, so that
+/// none is given twice; and 18446744073709551615 is never given.
+pub fn number_law()
+    ensures sound { (config : Config) (commands : List Timed)
+        → Throughout (λ (exchange : Exchange). IsSound config exchange.found
+        × IsSound config exchange.left) (run config (empty_state config) commands) }
+    ensures rising { (config : Config) (commands : List Timed)
+        → are_rising (numbers_given (run config (empty_state config) commands)) ≡ true }
+    ensures never_last { (config : Config) (commands : List Timed)
+        → are_never_last (numbers_given (run config (empty_state config) commands)) ≡ true }
+{}
+
+/// Following a list (OAI-PMH 2.0, section 3.5). Whatever a repository is asked from its beginning on,
+/// and whenever, and whatever is deposited and deleted meanwhile: a list request that selects more
+/// records than a page has and that is not told to wait, and the requests that follow it, each with the
+/// token of the page before and before this expires, are answered with pages. Each page tells how many
+/// records were selected and how many stand before it. The records of the pages, joined, begin the
+/// selection at the first request, and are all of it once a page has the empty token; each record once,
+/// in order.
+pub fn following_law()
+    ensures followed { (config : Config) (commands : List Timed) (wish : Wish)
+        (first : Exchange) (others : List Exchange) → IsConfig config
+        → IsChain config (run config (empty_state config) commands) wish first others
+        → (pages : List Page)
+        × IsFollowed config (selection_in first.found wish) (first ∷ others) pages }
+{}
+
+/// What the law of following asks for can be met: a run of fifteen commands, computed, in which a list
+/// is followed over three pages while items are deposited and deleted, a moment falls, the table is
+/// full, and tokens are refused, one by its verb and one at its end.
+pub fn worked_law()
+    ensures config { IsConfig worked_config }
+    ensures chain { (first : Exchange) × (others : List Exchange) × IsWorked first others }
+{}
