@@ -1,21 +1,21 @@
 -- Which lists have ended, and what is kept of the others.
-use Rattle.std.proofs.Common.{◌≡◌, ◌≢◌, ◌∙◌, ℕ, ℤ, suc, zero, ◌+◌, ◌<◌, ◌≤◌, ◌<ℤ◌, ◌≤ℤ◌, inl, inr, ◌⊎◌, Bool, true, false, not, ◌&&◌, cond, eqb, List, [], ◌∷◌, ◌++◌, Option, None, Some, Result, Ok, Err, map, length, take, drop, get_or, set, refl, sym, ap, subst, arith, add-one, drop-cons, length-append, unwrap_or, IsSome, is_some, append-nil}
-use Rattle.std.specs.Prelude.{filter, find, int_le, int_lt, nat_lt, nat_le, position}
+use Rattle.std.proofs.Common.{◌≡◌, ◌≢◌, ◌∙◌, ℕ, ℤ, ◌+◌, ◌<◌, ◌≤◌, ◌<ℤ◌, ◌≤ℤ◌, inl, inr, ◌⊎◌, Bool, true, false, not, ◌&&◌, cond, eqb, List, [], ◌∷◌, ◌++◌, Option, None, Some, Ok, Err, length, take, drop, get_or, set, refl, sym, ap, subst, arith, add-one, unwrap_or, IsSome, is_some, append-nil}
+use Rattle.std.specs.Prelude.{find, int_le, int_lt, nat_lt, nat_le, position}
 use Rattle.std.specs.Int.{int_min}
-use Rattle.std.specs.List.{All, Contains, HoldsAt, after_first, before_first, list_all, position_or_len, remove}
-use Rattle.std.proofs.lemmas.Bool.{false≢true, and_from, and_parts, cond-true, cond-false, cond_both, cases_Bool, eqb-false, eqb-true, le-leb, le-ltb, lt-leb, lt-ltb, ltb-false, ltb-true, not-true, not_from_false}
+use Rattle.std.specs.List.{after_first, before_first, list_all, position_or_len, remove}
+use Rattle.std.proofs.lemmas.Bool.{false≢true, and_from, and_parts, cond-true, cond-false, cond_both, cases_Bool, eqb-false, le-leb, lt-leb, lt-ltb, ltb-true, not-true, not_from_false}
 use Rattle.std.proofs.lemmas.Int.{ints}
 use Rattle.std.proofs.lemmas.List.{drop-set, drop_all, get_or-take, get_or_default, length-take-le, map-append, take-append-drop, take-set, take_all}
-use Rattle.std.proofs.lemmas.List.Folds.{list_all-append, list_all-map}
+use Rattle.std.proofs.lemmas.List.Folds.{list_all-append}
 use Rattle.std.proofs.lemmas.List.Quantifiers.{position-Some}
 use Rattle.std.proofs.lemmas.List.Sums.{AllPass-from_list_all, list_all-from_AllPass, position_or_len_is}
 use Rattle.oai_lists.specs.Bounds.{IsHeld, IsPlaced, none_numbered}
-use Rattle.oai_lists.specs.OpenLists.{IsEarliest, IsOpening, IsTable, Table, answered, are_numbered, has_ended, is_before, is_numbered, is_open, list_numbered, open_fault, open_ones, renewed, renewed_one, with_list}
+use Rattle.oai_lists.specs.OpenLists.{IsEarliest, IsOpening, Table, answered, are_numbered, has_ended, is_before, is_numbered, is_open, list_numbered, open_fault, open_ones, renewed, renewed_one, with_list}
 use Rattle.oai_lists.specs.declared.lists.OpenFault.{OpenFault}
-use Rattle.oai_lists.specs.declared.lists.OpenFault.TheVariants.{Full, NumbersSpent, NoMemory}
+use Rattle.oai_lists.specs.declared.lists.OpenFault.TheVariants.{Full, NumbersSpent}
 use Rattle.oai_lists.specs.declared.open_lists.OpenList.{OpenList}
 use Rattle.oai_lists.specs.declared.lists.TheConstants.{LAST_NUMBER}
-use Rattle.oai_lists.proofs.Tables.{all-weaker, cut, filter_all, find_none, find_past, list_numbered-none, numbered-append, numbered-join}
+use Rattle.oai_lists.proofs.Tables.{all-weaker, cut, filter_all, find_past, numbered-append, numbered-join}
 
 -- ---- numbers of moments
 

@@ -1,20 +1,18 @@
 -- Lists whose numbers rise: where one is, and what is left when one is opened, renewed or dropped.
-use Rattle.std.proofs.Common.{◌≡◌, ◌≢◌, ◌∙◌, ℕ, ℤ, suc, zero, ◌+◌, ◌<◌, ◌≤◌, ◌<ℤ◌, ◌≤ℤ◌, inl, inr, Bool, true, false, not, ◌&&◌, cond, eqb, List, [], ◌∷◌, ◌++◌, Option, None, Some, Result, Ok, Err, map, length, take, drop, get_or, set, refl, sym, ap, subst, arith, add-one, drop-cons, length-append}
-use Rattle.std.specs.Prelude.{filter, find, int_le, int_lt, nat_lt, nat_le, position}
-use Rattle.std.specs.Int.{int_min}
-use Rattle.std.specs.List.{All, AllWithin, HoldsAt, after_first, before_first, list_all, position_or_len, remove}
-use Rattle.std.specs.List.Sorted.{IsBinarySearchResult, IsNonDecreasingBy, IsSearchInRange}
+use Rattle.std.proofs.Common.{◌≡◌, ◌∙◌, ℕ, ℤ, suc, zero, ◌+◌, ◌<◌, ◌≤◌, inl, inr, Bool, true, false, not, ◌&&◌, cond, eqb, List, [], ◌∷◌, ◌++◌, None, Some, Ok, Err, length, take, drop, get_or, refl, sym, ap, arith, add-one, drop-cons}
+use Rattle.std.specs.Prelude.{filter, find, nat_lt}
+use Rattle.std.specs.List.{AllWithin, HoldsAt, list_all}
+use Rattle.std.specs.List.Sorted.{IsBinarySearchResult, IsNonDecreasingBy}
 use Rattle.std.specs.Ordering.{is_lt, nat_cmp, ordering_index}
 use Rattle.std.specs.declared.cmp.Ordering.TheVariants.{Less, Equal, Greater}
-use Rattle.std.proofs.lemmas.Bool.{and_from, and_parts, cond-true, cond-false, cond_both, cases_Bool, eq-eqb, eqb-true, le-ltb, lt-ltb, ltb-true, ne_eqb, not-true, not_from_false}
-use Rattle.std.proofs.lemmas.Cmp.{nat_cmp_total, ranked}
-use Rattle.std.proofs.lemmas.Int.{ints}
-use Rattle.std.proofs.lemmas.List.{drop-set, get_or-drop, get_or-take, length-drop, length-take-le, map-append, take-append-drop, take-set, take_all}
-use Rattle.std.proofs.lemmas.List.Folds.{list_all-append, list_all-map}
+use Rattle.std.proofs.lemmas.Bool.{and_from, and_parts, cond-true, cond-false, cases_Bool, eq-eqb, eqb-true, le-ltb, ltb-true, ne_eqb, not-true, not_from_false}
+use Rattle.std.proofs.lemmas.Cmp.{nat_cmp_total}
+use Rattle.std.proofs.lemmas.List.{get_or-drop, get_or-take, length-drop, length-take-le, take-append-drop}
+use Rattle.std.proofs.lemmas.List.Folds.{list_all-append}
 use Rattle.std.proofs.lemmas.List.Sorted.{searchable_from_sorted}
 use Rattle.std.proofs.lemmas.List.Sums.{list_all-from_AllPass}
-use Rattle.oai_lists.specs.Bounds.{IsHeld, IsPlaced, none_numbered}
-use Rattle.oai_lists.specs.OpenLists.{Table, IsTable, are_numbered, has_ended, is_before, is_numbered, is_open, list_numbered, open_numbered, open_ones, renewed, renewed_one, with_list}
+use Rattle.oai_lists.specs.Bounds.{IsPlaced, none_numbered}
+use Rattle.oai_lists.specs.OpenLists.{are_numbered, is_before, is_numbered, is_open, list_numbered, open_numbered}
 use Rattle.oai_lists.specs.declared.open_lists.OpenList.{OpenList}
 
 -- ---- tests that all pass, or that all fail

@@ -2,3 +2,5 @@ pub mod Covering
 pub mod Parents
 pub mod Ancestors
 pub mod Additions
+pub mod Cuts
+pub mod EscapeCuts

@@ -23,14 +23,14 @@ use Rattle.oai_answers.specs.declared.errors.ErrorCode.TheVariants.{NoSetHierarc
 use Rattle.oai_repo.specs.Answers.{filter_of}
 use Rattle.oai_repo.specs.Config.{Config, IsConfig, are_limits, is_chunk, is_items, is_lifetime, is_lists}
 use Rattle.oai_repo.specs.Effects.{IsSound}
-use Rattle.oai_repo.specs.Following.{AreNext, IsChain, IsFollowed, Wish, first_request, is_later, is_of_records, joined, page_told, selection_in}
+use Rattle.oai_repo.specs.Following.{AreNext, answer_told, IsChain, IsFollowed, Wish, first_request, is_later, is_of_records, joined, selection_in}
 use Rattle.oai_repo.specs.Kept.{AreKept}
-use Rattle.oai_repo.specs.Listing.{answer_to, begins, has_no_sets, list_begun, part_from, says, told_in, told_items, told_whole, wait_at}
+use Rattle.oai_repo.specs.Listing.{told_by, answer_to, begins, has_no_sets, list_begun, part_from, says, told_in, told_items, told_whole, wait_at}
 use Rattle.oai_repo.specs.Machine.{Command, act}
 use Rattle.oai_repo.specs.Runs.{Exchange, IsPart, Timed, performed, run}
 use Rattle.oai_repo.specs.State.{FrozenList, Holdings, NamedSet, OpenLists, State, empty_state, moved}
 use Rattle.oai_repo.proofs.EffectLemmas.{sound_act, sound_empty, sound_moved}
-use Rattle.oai_repo.proofs.FollowLemmas.{Followed, IsGood, asked_page, follow, told_page, asked_later}
+use Rattle.oai_repo.proofs.FollowLemmas.{Followed, IsGood, asked_page, follow, asked_later}
 use Rattle.oai_repo.proofs.KeptLemmas.{at_most}
 use Rattle.oai_repo.proofs.SelectionLemmas.{unknown_format, unknown_set}
 use Rattle.oai_repo.proofs.StandLemmas.{Stands, stands_opened}
@@ -61,7 +61,7 @@ format_there config holdings prefix from until set None is kept many =
     absurd (empty_few (selected (filter_of prefix from until set) holdings.items) config.chunk many (unknown_format config holdings prefix from until set kept is))
 
 -- the format that is found has the prefix
-named : (prefix : List ℕ) (formats : List Format) (format : Format) → format_named prefix formats ≡ Some format → format.prefix ≡ prefix
+pub named : (prefix : List ℕ) (formats : List Format) (format : Format) → format_named prefix formats ≡ Some format → format.prefix ≡ prefix
 unfolding format_named
 named prefix [] format h = cc
 named prefix (x ∷ formats) format h = by_test (bytes_eq x.prefix prefix) ((bytes_eq-Decides x.prefix prefix).0) h (named prefix formats format)
@@ -89,7 +89,8 @@ record IsFirst (config : Config) (state : State) (command : Command) (wish : Wis
   pub good : IsGood config list
   pub verb : list.verb ≡ wish.verb
   pub items : list.items ≡ selection_in state wish
-  pub told : page_told (act config state command).0 ≡ Some (part_from config list 0)
+  pub known : format_named wish.prefix config.formats ≡ Some good.format
+  pub told : answer_told (act config state command).0 ≡ Some (told_by list.verb good.format (part_from config list 0))
   pub stands : Stands config list (act config state command).1
 
 -- it is told to wait, or opens the list
@@ -113,7 +114,8 @@ by_wait config state command wish format None wait good sound verb known is answ
       };
       verb = refl;
       items = refl;
-      told = done.0 ∙ told_page wish.verb format (part_from config list 0) verb;
+      known = known;
+      told = done.0;
       stands = subst (Stands config list) (sym done.1) (stands_opened config state list sound refl refl);
     }
 
@@ -166,14 +168,17 @@ unfolding selected
 selected_apart asked items h = apart-filter (passes asked) items h
 
 -- what the pages of a list from its first record on are
-whole_list : (config : Config) (state : State) (wish : Wish) (exchanges : List Exchange) → AreKept config state.holdings → Followed config (selection_in state wish) 0 exchanges
-    → (pages : List Page) × IsFollowed config (selection_in state wish) exchanges pages
-whole_list config state wish exchanges kept followed =
+whole_list : (config : Config) (state : State) (wish : Wish) (format : Format) (exchanges : List Exchange) → AreKept config state.holdings → format_named wish.prefix config.formats ≡ Some format
+    → Followed config wish.verb format (selection_in state wish) 0 exchanges
+    → (pages : List Page) × IsFollowed config wish (selection_in state wish) exchanges pages
+whole_list config state wish format exchanges kept known followed =
     let asked : Filter = filter_of wish.prefix wish.from wish.until wish.set in
     let pages : List Page = followed.0 in
     let told = followed.1 in (
       pages,
       record {
+        format = format;
+        known = known;
         told = told.told;
         placed = told.placed;
         begun = (told.others, told.front);
@@ -187,7 +192,7 @@ whole_list config state wish exchanges kept followed =
 chain_here : (config : Config) (state : State) (timed : Timed) (commands : List Timed) (wish : Wish) (others : List Exchange) → IsConfig config → IsSound config state
     → IsPart others (run config (performed config state timed).left commands) → is_of_records wish.verb ≡ true → timed.command ≡ first_request wish
     → config.chunk < length (selection_in (moved timed.moment state) wish) → is_later (performed config state timed).outcome ≡ false → AreNext wish.verb (performed config state timed) others
-    → (pages : List Page) × IsFollowed config (selection_in (moved timed.moment state) wish) (performed config state timed ∷ others) pages
+    → (pages : List Page) × IsFollowed config wish (selection_in (moved timed.moment state) wish) (performed config state timed ∷ others) pages
 chain_here config state timed commands wish others good sound part verb is many answered next =
     let found : State = moved timed.moment state in
     let exchange : Exchange = performed config state timed in
@@ -196,12 +201,14 @@ chain_here config state timed commands wish others good sound part verb is many 
     let followed = follow config commands exchange.left begun.list 0 exchange others begun.good (sound_act config found timed.command sound_found) begun.stands begun.told part
     (subst (λ (v : ListVerb). AreNext v exchange others) (sym begun.verb) next)
     in
-    whole_list config found wish (exchange ∷ others) sound_found.kept (subst (λ (items : List ItemState). Followed config items 0 (exchange ∷ others)) begun.items followed)
+    whole_list config found wish begun.good.format (exchange ∷ others) sound_found.kept begun.known
+    (subst (λ (items : List ItemState). Followed config wish.verb begun.good.format items 0 (exchange ∷ others)) begun.items
+    (subst (λ (v : ListVerb). Followed config v begun.good.format begun.list.items 0 (exchange ∷ others)) begun.verb followed))
 
 chain_at : (config : Config) (state : State) (timed : Timed) (commands : List Timed) (wish : Wish) (first : Exchange) (others : List Exchange) → first ≡ performed config state timed
     → IsConfig config → IsSound config state → IsPart others (run config (performed config state timed).left commands) → is_of_records wish.verb ≡ true → first.command ≡ first_request wish
     → config.chunk < length (selection_in first.found wish) → is_later first.outcome ≡ false → AreNext wish.verb first others
-    → (pages : List Page) × IsFollowed config (selection_in first.found wish) (first ∷ others) pages
+    → (pages : List Page) × IsFollowed config wish (selection_in first.found wish) (first ∷ others) pages
 chain_at config state timed commands wish first others is good sound part verb asked many answered next =
     let shown = chain_here config state timed commands wish others good sound part verb
     (subst (λ (e : Exchange). e.command ≡ first_request wish) is asked)
@@ -209,13 +216,13 @@ chain_at config state timed commands wish first others is good sound part verb a
     (subst (λ (e : Exchange). is_later e.outcome ≡ false) is answered)
     (subst (λ (e : Exchange). AreNext wish.verb e others) is next)
     in
-    subst (λ (e : Exchange). (pages : List Page) × IsFollowed config (selection_in e.found wish) (e ∷ others) pages) (sym is) shown
+    subst (λ (e : Exchange). (pages : List Page) × IsFollowed config wish (selection_in e.found wish) (e ∷ others) pages) (sym is) shown
 
 -- wherever it begins
 chain_from : (config : Config) (commands : List Timed) (state : State) (wish : Wish) (first : Exchange) (others : List Exchange) → IsConfig config → IsSound config state
     → IsPart (first ∷ others) (run config state commands) → is_of_records wish.verb ≡ true → first.command ≡ first_request wish
     → config.chunk < length (selection_in first.found wish) → is_later first.outcome ≡ false → AreNext wish.verb first others
-    → (pages : List Page) × IsFollowed config (selection_in first.found wish) (first ∷ others) pages
+    → (pages : List Page) × IsFollowed config wish (selection_in first.found wish) (first ∷ others) pages
 chain_from config [] state wish first others good sound none verb asked many answered next = cc
 chain_from config (timed ∷ commands) state wish first others good sound (inl part) verb asked many answered next =
     chain_from config commands (act config (moved timed.moment state) timed.command).1 wish first others good
@@ -229,11 +236,11 @@ chain_from config (timed ∷ commands) state wish first others good sound (inr h
     chain_at config state timed commands wish first others first_is good sound part verb asked many answered next
 
 chain_followed : (config : Config) (commands : List Timed) (state : State) (wish : Wish) (first : Exchange) (others : List Exchange) → IsConfig config → IsSound config state
-    → IsChain config (run config state commands) wish first others → (pages : List Page) × IsFollowed config (selection_in first.found wish) (first ∷ others) pages
+    → IsChain config (run config state commands) wish first others → (pages : List Page) × IsFollowed config wish (selection_in first.found wish) (first ∷ others) pages
 chain_followed config commands state wish first others good sound chain =
     chain_from config commands state wish first others good sound chain.among chain.verb chain.asked chain.long chain.answered chain.next
 
 -- and whatever was asked of a repository from its beginning on
 pub following : (config : Config) (commands : List Timed) (wish : Wish) (first : Exchange) (others : List Exchange) → IsConfig config
-    → IsChain config (run config (empty_state config) commands) wish first others → (pages : List Page) × IsFollowed config (selection_in first.found wish) (first ∷ others) pages
+    → IsChain config (run config (empty_state config) commands) wish first others → (pages : List Page) × IsFollowed config wish (selection_in first.found wish) (first ∷ others) pages
 following config commands wish first others good chain = chain_followed config commands (empty_state config) wish first others good (sound_empty config) chain

@@ -1,5 +1,5 @@
 -- What a command does to a state is an effect that is possible, and each effect that is possible leaves a sound state sound.
-use Rattle.std.proofs.Common.{◌≡◌, ◌∙◌, ℕ, ℤ, pos, ◌+◌, ◌<◌, ◌≤◌, ◌+ℤ◌, Bool, true, false, not, ◌&&◌, eqb, cond, List, [], ◌∷◌, ◌++◌, length, map, Option, None, Some, is_some, is_none, refl, sym, ap, subst, arith}
+use Rattle.std.proofs.Common.{◌≡◌, ◌∙◌, ℕ, ℤ, pos, ◌+◌, ◌<◌, ◌≤◌, ◌+ℤ◌, Bool, true, false, not, ◌&&◌, eqb, cond, List, [], ◌∷◌, ◌++◌, length, map, codes, Option, None, Some, is_some, is_none, refl, sym, ap, subst, arith}
 use Rattle.std.specs.Prelude.{filter, find, nat_le, nat_lt}
 use Rattle.std.specs.List.{list_all}
 use Rattle.std.specs.Str.{bytes_eq}
@@ -13,17 +13,19 @@ use Rattle.oai_names.specs.declared.list_verbs.ListVerb.{ListVerb}
 use Rattle.oai_lists.specs.declared.lists.TheConstants.{LAST_NUMBER}
 use Rattle.oai_lists.specs.declared.tokens.Token.{Token}
 use Rattle.oai_lists.specs.Tokens.{token_of}
+use Rattle.oai_names.specs.Sets.{has_set}
+use Rattle.oai_item.specs.Known.{has_format, has_known_fields}
 use Rattle.oai_item.specs.Formats.{format_named}
 use Rattle.oai_item.specs.Item.{ItemState, Metadata, emptied, has_record, live_item, record_named, tombstone_of}
 use Rattle.oai_item.specs.Items.{item_named, without}
 use Rattle.oai_item.specs.Membership.{reduced}
-use Rattle.oai_item.specs.Selection.{selected}
+use Rattle.oai_item.specs.Selection.{Filter, passes, selected}
 use Rattle.oai_item.specs.declared.changes.Change.{Change}
 use Rattle.oai_item.specs.declared.changes.Change.TheVariants as change
 use Rattle.oai_item.specs.declared.formats.Format.{Format}
 use Rattle.oai_item.specs.declared.refusals.ChangeRefusal.{ChangeRefusal}
 use Rattle.oai_item.proofs.Named.{found_name, of_found}
-use Rattle.oai_item.proofs.OrderLemmas.{all-placed, in_order-changed, apart-changed}
+use Rattle.oai_item.proofs.OrderLemmas.{all-weaker, all-placed, in_order-changed, apart-changed}
 use Rattle.oai_args.specs.Asks.{AskOrError, asks, bad_verb, bad_argument}
 use Rattle.oai_args.specs.declared.requests.Ask.TheVariants as ask
 use Rattle.oai_answers.specs.declared.identify.DeletedRecord.{DeletedRecord}
@@ -31,18 +33,18 @@ use Rattle.oai_answers.specs.declared.identify.DeletedRecord.TheVariants.{No, Tr
 use Rattle.oai_repo.specs.Answers.{filter_of}
 use Rattle.oai_repo.specs.Changes.{after_deletion, changed, deposit_refusal, drops_format, is_one_too_many, item_refusal, refusal_of, stamp_at, with_new, with_tombstone}
 use Rattle.oai_repo.specs.Config.{Config}
-use Rattle.oai_repo.specs.Effects.{Effect, IsEffected, IsPossible, IsPut, IsSound, effected, holding, is_given, item_put, item_taken, list_opened, list_renewed, set_added, unchanged}
-use Rattle.oai_repo.specs.Kept.{AreKept, is_well_kept}
+use Rattle.oai_repo.specs.Effects.{Effect, is_formed, is_well_formed, IsEffected, IsPossible, IsPut, IsSound, effected, holding, is_given, item_put, item_taken, list_opened, list_renewed, set_added, unchanged}
+use Rattle.oai_repo.specs.Kept.{AreKept, is_too_large, is_well_kept}
 use Rattle.oai_repo.specs.Listing.{Said, answer_to, begins, continues, has_no_sets, list_answer, list_begun, list_continued, prolonged_at, told_in, told_items, token_answer, wait_at}
 use Rattle.oai_repo.specs.Machine.{Command, act, act_on_change, asking, changing, refusing}
-use Rattle.oai_repo.specs.State.{FrozenList, Holdings, OpenLists, State, empty_state, is_open_at, moved}
+use Rattle.oai_repo.specs.State.{FrozenList, Holdings, NamedSet, OpenLists, State, empty_state, is_open_at, moved}
 use Rattle.oai_repo.proofs.KeptLemmas.{emptied-record, few-new, fits, kept-none, no_cause, set_kept, stands, taken, well-deposited, well-tombstone, well-without}
 
 -- ---- a sound state stays sound
 
 -- a repository that begins
 pub sound_empty : (config : Config) → IsSound config (empty_state config)
-sound_empty config = record { kept = kept-none config; given = refl; few = omega arith }
+sound_empty config = record { kept = kept-none config; given = refl; formed = refl; few = omega arith }
 
 -- what is true of all is true of those that a test keeps
 pub all_kept : {A : Type 0} (p q : A → Bool) (xs : List A) → list_all p xs ≡ true → list_all p (filter q xs) ≡ true
@@ -53,6 +55,7 @@ pub sound_moved : (config : Config) (moment : ℤ) (state : State) → IsSound c
 sound_moved config moment state sound = record {
   kept = sound.kept;
   given = all_kept (is_given state.begun.next) (is_open_at (moved moment state).clock) state.begun.lists sound.given;
+  formed = all_kept (is_formed config) (is_open_at (moved moment state).clock) state.begun.lists sound.formed;
   few = sound.few;
 }
 
@@ -86,6 +89,23 @@ renewed_given config clock number next (x ∷ lists) h =
     and_from (is_given next (prolonged_at config clock number x)) (list_all (is_given next) (map (prolonged_at config clock number) lists))
     (ap (λ (n : ℕ). nat_lt n next) (same_number config clock number x) ∙ parts.0)
     (renewed_given config clock number next lists parts.1)
+
+-- and the items that it had
+same_items : (config : Config) (clock : ℤ) (number : ℕ) (list : FrozenList) → (prolonged_at config clock number list).items ≡ list.items
+same_items config clock number list = by_test (eqb list.number number)
+  where
+    by_test : (b : Bool) → (cond b (record list { end = clock +ℤ pos config.lifetime }) list).items ≡ list.items
+    by_test true = refl
+    by_test false = refl
+
+renewed_formed : (config : Config) (clock : ℤ) (number : ℕ) (lists : List FrozenList) → list_all (is_formed config) lists ≡ true
+    → list_all (is_formed config) (map (prolonged_at config clock number) lists) ≡ true
+renewed_formed config clock number [] h = refl
+renewed_formed config clock number (x ∷ lists) h =
+    let parts = and_parts (is_formed config x) (list_all (is_formed config) lists) h in
+    and_from (is_formed config (prolonged_at config clock number x)) (list_all (is_formed config) (map (prolonged_at config clock number) lists))
+    (ap (λ (items : List ItemState). list_all (is_well_formed config) items) (same_items config clock number x) ∙ parts.0)
+    (renewed_formed config clock number lists parts.1)
 
 -- numbers that were given were given before the next one too
 given_more : (next : ℕ) (lists : List FrozenList) → list_all (is_given next) lists ≡ true → list_all (is_given (next + 1)) lists ≡ true
@@ -121,17 +141,19 @@ opened_given next list lists is h =
 -- after each effect that is possible
 pub sound_effected : (config : Config) (state : State) (effect : Effect) → IsPossible config state effect → IsSound config state → IsSound config (effected config state effect)
 sound_effected config state unchanged possible sound = sound
-sound_effected config state (item_put item) possible sound = record { kept = put_kept config state item possible sound.kept; given = sound.given; few = sound.few }
-sound_effected config state (item_taken identifier) possible sound = record { kept = taken config state.holdings identifier sound.kept; given = sound.given; few = sound.few }
-sound_effected config state (set_added set) possible sound = record { kept = set_kept config state.holdings set sound.kept; given = sound.given; few = sound.few }
+sound_effected config state (item_put item) possible sound = record { kept = put_kept config state item possible sound.kept; given = sound.given; formed = sound.formed; few = sound.few }
+sound_effected config state (item_taken identifier) possible sound = record { kept = taken config state.holdings identifier sound.kept; given = sound.given; formed = sound.formed; few = sound.few }
+sound_effected config state (set_added set) possible sound = record { kept = set_kept config state.holdings set sound.kept; given = sound.given; formed = sound.formed; few = sound.few }
 sound_effected config state (list_renewed number) possible sound = record {
   kept = sound.kept;
   given = renewed_given config state.clock number state.begun.next state.begun.lists sound.given;
+  formed = renewed_formed config state.clock number state.begun.lists sound.formed;
   few = sound.few;
 }
 sound_effected config state (list_opened list) possible sound = record {
   kept = sound.kept;
   given = opened_given state.begun.next list state.begun.lists possible.number sound.given;
+  formed = list_all-append (is_formed config) state.begun.lists (list ∷ []) ∙ and_from (list_all (is_formed config) state.begun.lists) (is_formed config list && true) sound.formed (and_from (is_formed config list) true possible.formed refl);
   few = let less = number_left config state.clock state.begun possible.admitted sound.few in omega (arith, less);
 }
 
@@ -148,34 +170,49 @@ IsBegunBy config state done = IsEffected config state (asked_to state done.1)
 nothing : (config : Config) (state : State) → IsEffected config state state
 nothing config state = record { effect = unchanged; possible = tt; done = refl }
 
-begun_by : (config : Config) (state : State) (verb : ListVerb) (format : Format) (items : List ItemState) (wait : Option ℤ) → wait_at config state.clock state.begun ≡ wait
+-- what a repository keeps, it tells
+pub kept_formed : (config : Config) (sets : List NamedSet) (item : ItemState) → is_well_kept config sets item ≡ true → is_well_formed config item ≡ true
+kept_formed config sets item h =
+    let size = and_parts _ (not (is_too_large item)) h in
+    let in_sets = and_parts _ (list_all (has_set sets) item.sets) size.0 in
+    let fields = and_parts _ (list_all (has_known_fields config.formats) item.formats) in_sets.0 in
+    let core = and_parts (has_record (codes "oai_dc") item.formats) (list_all (has_format config.formats) item.formats) fields.0 in
+    and_from (list_all (has_format config.formats) item.formats) (list_all (has_known_fields config.formats) item.formats) core.1 fields.1
+
+pub selected_formed : (config : Config) (holdings : Holdings) (asked : Filter) → AreKept config holdings → list_all (is_well_formed config) (selected asked holdings.items) ≡ true
+unfolding selected
+selected_formed config holdings asked kept =
+    all_kept (is_well_formed config) (passes asked) holdings.items
+    (all-weaker (is_well_kept config holdings.sets) (is_well_formed config) (kept_formed config holdings.sets) holdings.items kept.well)
+
+begun_by : (config : Config) (state : State) (verb : ListVerb) (format : Format) (items : List ItemState) (wait : Option ℤ) → list_all (is_well_formed config) items ≡ true → wait_at config state.clock state.begun ≡ wait
     → IsBegunBy config state (begins config state.begun format (list_begun config state.clock state.begun verb format.prefix items) wait)
-begun_by config state verb format items (Some seconds) is = nothing config state
-begun_by config state verb format items None is = record {
+begun_by config state verb format items (Some seconds) formed is = nothing config state
+begun_by config state verb format items None formed is = record {
   effect = list_opened (list_begun config state.clock state.begun verb format.prefix items);
-  possible = record { admitted = is; number = refl; lasting = refl };
+  possible = record { admitted = is; number = refl; lasting = refl; formed = formed };
   done = refl;
 }
 
-told_by_items : (config : Config) (state : State) (verb : ListVerb) (format : Format) (items : List ItemState)
+told_by_items : (config : Config) (state : State) (verb : ListVerb) (format : Format) (items : List ItemState) → list_all (is_well_formed config) items ≡ true
     → IsBegunBy config state (told_items config state.clock state.begun verb format items)
 unfolding told_items
-told_by_items config state verb format items =
+told_by_items config state verb format items formed =
     cond_both (nat_le (length items) config.chunk) _ _ (λ (done : Said × OpenLists). IsBegunBy config state done)
     (λ _. nothing config state)
-    (λ _. begun_by config state verb format items (wait_at config state.clock state.begun) refl)
+    (λ _. begun_by config state verb format items (wait_at config state.clock state.begun) formed refl)
 
-told_by_format : (config : Config) (state : State) (verb : ListVerb) (format : Option Format) (items : List ItemState)
+told_by_format : (config : Config) (state : State) (verb : ListVerb) (format : Option Format) (items : List ItemState) → list_all (is_well_formed config) items ≡ true
     → IsBegunBy config state (told_in config state.clock state.begun verb format items)
-told_by_format config state verb None items = nothing config state
-told_by_format config state verb (Some format) items = told_by_items config state verb format items
+told_by_format config state verb None items formed = nothing config state
+told_by_format config state verb (Some format) items formed = told_by_items config state verb format items formed
 
-listed : (config : Config) (state : State) (verb : ListVerb) (prefix : List ℕ) (set : Option (List ℕ)) (items : List ItemState)
+listed : (config : Config) (state : State) (verb : ListVerb) (prefix : List ℕ) (set : Option (List ℕ)) (items : List ItemState) → list_all (is_well_formed config) items ≡ true
     → IsBegunBy config state (list_answer config state.clock state.begun state.holdings.sets verb prefix set items)
-listed config state verb prefix set items =
+listed config state verb prefix set items formed =
     cond_both (is_some set && has_no_sets state.holdings.sets) _ _ (λ (done : Said × OpenLists). IsBegunBy config state done)
     (λ _. nothing config state)
-    (λ _. told_by_format config state verb (format_named prefix config.formats) items)
+    (λ _. told_by_format config state verb (format_named prefix config.formats) items formed)
 
 continued : (config : Config) (state : State) (verb : ListVerb) (cursor : ℕ) (found : Option FrozenList)
     → IsBegunBy config state (continues config state.clock state.begun verb cursor found)
@@ -186,15 +223,16 @@ resumed : (config : Config) (state : State) (verb : ListVerb) (token : Option To
 resumed config state verb None = nothing config state
 resumed config state verb (Some token) = continued config state verb token.cursor (list_continued state.begun verb token)
 
-answered : (config : Config) (state : State) (request : AskOrError) → IsBegunBy config state (answer_to config state request)
-answered config state bad_verb = nothing config state
-answered config state bad_argument = nothing config state
-answered config state (asks ask.Identify) = nothing config state
-answered config state (asks (ask.Formats identifier)) = nothing config state
-answered config state (asks ask.Sets) = nothing config state
-answered config state (asks (ask.Get identifier prefix)) = nothing config state
-answered config state (asks (ask.List verb prefix from until set)) = listed config state verb prefix set (selected (filter_of prefix from until set) state.holdings.items)
-answered config state (asks (ask.Resume verb token)) = resumed config state verb (token_of token)
+answered : (config : Config) (state : State) (request : AskOrError) → IsSound config state → IsBegunBy config state (answer_to config state request)
+answered config state bad_verb sound = nothing config state
+answered config state bad_argument sound = nothing config state
+answered config state (asks ask.Identify) sound = nothing config state
+answered config state (asks (ask.Formats identifier)) sound = nothing config state
+answered config state (asks ask.Sets) sound = nothing config state
+answered config state (asks (ask.Get identifier prefix)) sound = nothing config state
+answered config state (asks (ask.List verb prefix from until set)) sound =
+    listed config state verb prefix set (selected (filter_of prefix from until set) state.holdings.items) (selected_formed config state.holdings (filter_of prefix from until set) sound.kept)
+answered config state (asks (ask.Resume verb token)) sound = resumed config state verb (token_of token)
 
 -- ---- what a change does
 
@@ -296,7 +334,7 @@ acted_by config state asked None is kept = changed_by config state asked is kept
 -- each command does one of these to the state
 pub effect_of : (config : Config) (state : State) (command : Command) → IsSound config state → IsEffected config state (act config state command).1
 unfolding act
-effect_of config state (asking request) sound = answered config state request
+effect_of config state (asking request) sound = answered config state request sound
 effect_of config state (changing asked) sound = acted_by config state asked (refusal_of config (stamp_at config state.clock) state.holdings asked) refl sound.kept
 effect_of config state (refusing cause) sound = nothing config state
 

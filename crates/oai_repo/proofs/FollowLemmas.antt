@@ -1,6 +1,6 @@
 -- The pages of a chain are, joined, the records that were selected at its first request.
 use Rattle.std.proofs.Common.{◌≡◌, ◌∙◌, inl, inr, ℕ, ℤ, ◌+◌, ◌<◌, ◌≤◌, ◌^◌, Bool, true, false, not, ◌||◌, cond, List, [], ◌∷◌, ◌++◌, length, append-nil, append_assoc, suc, zero, take, drop, map, Option, None, Some, is_none, refl, sym, ap, subst, arith}
-use Rattle.std.specs.Prelude.{int_lt, nat_lt}
+use Rattle.std.specs.Prelude.{option_and_then, int_lt, nat_lt}
 use Rattle.std.proofs.lemmas.Bool.{and_from, cond-true, lt-ltb, ltb-true}
 use Rattle.std.proofs.lemmas.Bool.Decides.{nat_tests}
 use Rattle.std.proofs.lemmas.List.{drop-drop, length-drop}
@@ -15,11 +15,11 @@ use Rattle.oai_item.specs.Item.{ItemState}
 use Rattle.oai_item.specs.declared.formats.Format.{Format}
 use Rattle.oai_args.specs.Asks.{AskOrError, asks}
 use Rattle.oai_args.specs.declared.requests.Ask.TheVariants as ask
-use Rattle.oai_answers.specs.Answers.{Attributes, Continuation, Page, completes, remains}
+use Rattle.oai_answers.specs.Answers.{Answer, Attributes, Continuation, Page, completes, remains}
 use Rattle.oai_repo.specs.Answers.{arguments_of_request}
 use Rattle.oai_repo.specs.Config.{Config}
 use Rattle.oai_repo.specs.Effects.{IsSound, is_given}
-use Rattle.oai_repo.specs.Following.{ArePlaced, AreNext, IsNext, IsPlaced, Offer, are_complete, extent_in, is_later, is_of_records, joined, next_request, offer_in, page_in, page_told}
+use Rattle.oai_repo.specs.Following.{ArePlaced, AreNext, IsNext, IsPlaced, Offer, answer_told, are_complete, extent_in, is_later, is_of_records, joined, next_request, offer_in, page_in}
 use Rattle.oai_repo.specs.Listing.{Said, answer_to, continues, extent_at, has_number, is_continued, is_same_verb, items_from, part_from, part_told, prolonged, says, told_by, token_answer, waits, where_continued, with_prolonged}
 use Rattle.oai_repo.specs.Machine.{Command, act, asking, outcome_of}
 use Rattle.oai_repo.specs.Runs.{Exchange, IsPart, Timed, performed, run}
@@ -90,7 +90,11 @@ part_offer config list cursor =
 is_left : (k n : ℕ) → not (nat_lt k n) ≡ false → k < n
 is_left k n h = grind (arith, nat_tests)
 
-part_placed : (config : Config) (list : FrozenList) (cursor : ℕ) → IsPlaced config.chunk (length list.items) cursor (part_from config list cursor)
+part_dated : (config : Config) (list : FrozenList) (cursor : ℕ) → (part_from config list cursor).granularity ≡ config.granularity
+unfolding part_from
+part_dated config list cursor = refl
+
+part_placed : (config : Config) (list : FrozenList) (cursor : ℕ) → IsPlaced config (length list.items) cursor (part_from config list cursor)
 unfolding remain next_at
 part_placed config list cursor = record {
   extent = ap extent_in (part_ends config list cursor) ∙ extent_told list cursor (next_at config list cursor) (nat_lt (next_at config list cursor) (length list.items));
@@ -101,14 +105,15 @@ part_placed config list cursor = record {
       let size = length-drop cursor list.items in
       let within : length (take config.chunk (drop cursor list.items)) < length (drop cursor list.items) = omega (arith, more, size) in
       ap length (part_items config list cursor) ∙ full_part config.chunk (drop cursor list.items) within;
+  dated = part_dated config list cursor;
 }
 
 -- ---- the pages so far
 
 -- what a front of a chain that begins behind so many records is answered
-pub record IsTold (config : Config) (items : List ItemState) (cursor : ℕ) (exchanges : List Exchange) (pages : List Page) : Type 0 where
-  pub told : map (λ (exchange : Exchange). page_told exchange.outcome) exchanges ≡ map (λ (page : Page). Some page) pages
-  pub placed : ArePlaced config.chunk (length items) cursor pages
+pub record IsTold (config : Config) (verb : ListVerb) (format : Format) (items : List ItemState) (cursor : ℕ) (exchanges : List Exchange) (pages : List Page) : Type 0 where
+  pub told : map (λ (exchange : Exchange). answer_told exchange.outcome) exchanges ≡ map (λ (page : Page). Some (told_by verb format page)) pages
+  pub placed : ArePlaced config (length items) cursor pages
   pub others : List ItemState
   pub front : joined pages ++ others ≡ drop cursor items
   pub complete : are_complete pages ≡ true → others ≡ []
@@ -117,14 +122,14 @@ nothing_left : (k n : ℕ) → (not (nat_lt k n) || false) ≡ true → n ≤ k
 nothing_left k n h = grind (arith, nat_tests)
 
 -- one page, and what is behind it
-one_page : (config : Config) (list : FrozenList) (cursor : ℕ) (exchange : Exchange) → page_told exchange.outcome ≡ Some (part_from config list cursor)
-    → IsTold config list.items cursor (exchange ∷ []) (part_from config list cursor ∷ [])
+one_page : (config : Config) (list : FrozenList) (format : Format) (cursor : ℕ) (exchange : Exchange) → answer_told exchange.outcome ≡ Some (told_by list.verb format (part_from config list cursor))
+    → IsTold config list.verb format list.items cursor (exchange ∷ []) (part_from config list cursor ∷ [])
 unfolding remain next_at
-one_page config list cursor exchange told =
+one_page config list format cursor exchange told =
     let items : List ItemState = items_from config list cursor in
     let behind : List ItemState = drop (length items) (drop cursor list.items) in
     record {
-      told = ap (λ (p : Option Page). p ∷ []) told;
+      told = ap (λ (a : Option Answer). a ∷ []) told;
       placed = (part_placed config list cursor, tt);
       others = behind;
       front = ap (λ (xs : List ItemState). (xs ++ []) ++ behind) (part_items config list cursor) ∙ ap (λ (xs : List ItemState). xs ++ behind) (append-nil items) ∙ cut config.chunk (drop cursor list.items);
@@ -134,17 +139,20 @@ one_page config list cursor exchange told =
     }
 
 -- one page more, before others
-more_pages : (config : Config) (list : FrozenList) (cursor : ℕ) (exchange : Exchange) (exchanges : List Exchange) (pages : List Page) → page_told exchange.outcome ≡ Some (part_from config list cursor)
-    → remain config list cursor ≡ true → IsTold config list.items (next_at config list cursor) exchanges pages
-    → IsTold config list.items cursor (exchange ∷ exchanges) (part_from config list cursor ∷ pages)
+more_pages : (config : Config) (list : FrozenList) (format : Format) (cursor : ℕ) (exchange : Exchange) (exchanges : List Exchange) (pages : List Page)
+    → answer_told exchange.outcome ≡ Some (told_by list.verb format (part_from config list cursor)) → remain config list cursor ≡ true
+    → IsTold config list.verb format list.items (next_at config list cursor) exchanges pages
+    → IsTold config list.verb format list.items cursor (exchange ∷ exchanges) (part_from config list cursor ∷ pages)
 unfolding next_at
-more_pages config list cursor exchange exchanges pages told more later =
+more_pages config list format cursor exchange exchanges pages told more later =
     let items : List ItemState = items_from config list cursor in
-    let placed_later : ArePlaced config.chunk (length list.items) (cursor + length (part_from config list cursor).items) pages =
-    subst (λ (xs : List ItemState). ArePlaced config.chunk (length list.items) (cursor + length xs) pages) (sym (part_items config list cursor)) later.placed
+    let placed_later : ArePlaced config (length list.items) (cursor + length (part_from config list cursor).items) pages =
+    subst (λ (xs : List ItemState). ArePlaced config (length list.items) (cursor + length xs) pages) (sym (part_items config list cursor)) later.placed
     in
     record {
-      told = ap (λ (p : Option Page). p ∷ map (λ (e : Exchange). page_told e.outcome) exchanges) told ∙ ap (λ ps. Some (part_from config list cursor) ∷ ps) later.told;
+      told =
+          ap (λ (o : Option Answer). o ∷ map (λ (e : Exchange). answer_told e.outcome) exchanges) told
+          ∙ ap (λ ps. Some (told_by list.verb format (part_from config list cursor)) ∷ ps) later.told;
       placed = (part_placed config list cursor, placed_later);
       others = later.others;
       front =
@@ -207,28 +215,28 @@ answered_next config state list cursor good sound there within =
 
 -- ---- one request of a chain
 
--- the page of what is said, if one is told
-abbrev pub page_said : Said → Option Page
-page_said (says answer) = page_in answer
-page_said (waits seconds) = None
+-- the answer of what is said, if it is one
+abbrev pub answer_said : Said → Option Answer
+answer_said (says answer) = Some answer
+answer_said (waits seconds) = None
 
-said_page : (config : Config) (clock : ℤ) (asked : Attributes) (said : Said) → page_told (outcome_of config clock asked said) ≡ page_said said
-said_page config clock asked (says answer) = refl
-said_page config clock asked (waits seconds) = refl
+said_answer : (config : Config) (clock : ℤ) (asked : Attributes) (said : Said) → answer_told (outcome_of config clock asked said) ≡ answer_said said
+said_answer config clock asked (says answer) = refl
+said_answer config clock asked (waits seconds) = refl
 
 said_later : (config : Config) (clock : ℤ) (asked : Attributes) (seconds : ℤ) → is_later (outcome_of config clock asked (waits seconds)) ≡ true
 said_later config clock asked seconds = refl
 
 -- a request that is answered so, and with these lists open then
 pub asked_page : (config : Config) (state : State) (command : Command) (request : AskOrError) (said : Said) (begun : OpenLists) → command ≡ asking request → answer_to config state request ≡ (said, begun)
-    → (page_told (act config state command).0 ≡ page_said said) × ((act config state command).1 ≡ record state { begun = begun })
+    → (answer_told (act config state command).0 ≡ answer_said said) × ((act config state command).1 ≡ record state { begun = begun })
 unfolding act
 asked_page config state command request said begun is answer =
-    let told : page_told (act config state (asking request)).0 ≡ page_said said =
-    said_page config state.clock (arguments_of_request request) (answer_to config state request).0 ∙ ap (λ (done : Said × OpenLists). page_said done.0) answer
+    let told : answer_told (act config state (asking request)).0 ≡ answer_said said =
+    said_answer config state.clock (arguments_of_request request) (answer_to config state request).0 ∙ ap (λ (done : Said × OpenLists). answer_said done.0) answer
     in
     let left : (act config state (asking request)).1 ≡ record state { begun = begun } = ap (λ (done : Said × OpenLists). record state { begun = done.1 }) answer in
-    (ap (λ (c : Command). page_told (act config state c).0) is ∙ told, ap (λ (c : Command). (act config state c).1) is ∙ left)
+    (ap (λ (c : Command). answer_told (act config state c).0) is ∙ told, ap (λ (c : Command). (act config state c).1) is ∙ left)
 
 -- one that is told to wait is
 pub asked_later : (config : Config) (state : State) (command : Command) (request : AskOrError) (seconds : ℤ) (begun : OpenLists) → command ≡ asking request
@@ -239,15 +247,14 @@ asked_later config state command request seconds begun is answer =
     ∙ ap (λ (done : Said × OpenLists). is_later (outcome_of config state.clock (arguments_of_request request) done.0)) answer
 
 -- the next request of a chain, by the token of the page before it
-turned : (config : Config) (state : State) (command : Command) (list : FrozenList) (cursor : ℕ) → IsGood config list → IsSound config state → Stands config list state
+turned : (config : Config) (state : State) (command : Command) (list : FrozenList) (cursor : ℕ) (good : IsGood config list) → IsSound config state → Stands config list state
     → command ≡ next_request list.verb (asked_next list cursor) → cursor < length list.items → int_lt state.clock list.end ≡ true
-    → (page_told (act config state command).0 ≡ Some (part_from config (prolonged config state.clock list) cursor)) × Stands config (prolonged config state.clock list) (act config state command).1
+    → (answer_told (act config state command).0 ≡ Some (told_by list.verb good.format (part_from config (prolonged config state.clock list) cursor)))
+    × Stands config (prolonged config state.clock list) (act config state command).1
 turned config state command list cursor good sound stands is within before =
     let there = stands.there before in
-    let done = asked_page config state command _ _ _ is (answered_next config state list cursor good sound there within) in (
-      done.0 ∙ told_page list.verb good.format (part_from config (prolonged config state.clock list) cursor) good.verb,
-      subst (Stands config (prolonged config state.clock list)) (sym done.1) (stands_renewed config state list there),
-    )
+    let done = asked_page config state command _ _ _ is (answered_next config state list cursor good sound there within) in
+    (done.0, subst (Stands config (prolonged config state.clock list)) (sym done.1) (stands_renewed config state list there))
 
 -- the list goes on standing where another command comes
 stands_on : (config : Config) (state : State) (command : Command) (list : FrozenList) → IsSound config state → Stands config list state → Stands config list (act config state command).1
@@ -258,11 +265,14 @@ stands_on config state command list sound stands =
 -- ---- a chain behind a page
 
 -- what the exchange after a page asks for
-next_asked : (config : Config) (list : FrozenList) (cursor : ℕ) (before after : Exchange) → page_told before.outcome ≡ Some (part_from config list cursor) → IsNext list.verb before after
+next_asked : (config : Config) (list : FrozenList) (good : IsGood config list) (cursor : ℕ) (before after : Exchange)
+    → answer_told before.outcome ≡ Some (told_by list.verb good.format (part_from config list cursor)) → IsNext list.verb before after
     → (remain config list cursor ≡ true) × (after.command ≡ next_request list.verb (asked_next list (next_at config list cursor))) × (int_lt after.found.clock list.end ≡ true)
 unfolding remain
-next_asked config list cursor before after told next =
-    let pages : Some next.page ≡ Some (part_from config list cursor) = sym next.told ∙ told in
+next_asked config list good cursor before after told next =
+    let pages : Some next.page ≡ Some (part_from config list cursor) =
+    sym next.told ∙ ap (option_and_then page_in) told ∙ told_page list.verb good.format (part_from config list cursor) good.verb
+    in
     let page : next.page ≡ part_from config list cursor = cc in
     let offered : offer_in (by_rest list cursor (next_at config list cursor) (nat_lt (next_at config list cursor) (length list.items))) ≡ Some next.offer =
     ap offer_in (sym (part_ends config list cursor)) ∙ ap (λ (p : Page). offer_in p.continuation) (sym page) ∙ next.offered
@@ -278,14 +288,14 @@ unfolding remain
 remains_within config list cursor h = h
 
 -- the pages of those that follow a page, and of it
-abbrev pub Followed : Config → List ItemState → ℕ → List Exchange → Type 0
-Followed config items cursor exchanges = (pages : List Page) × IsTold config items cursor exchanges pages
+abbrev pub Followed : Config → ListVerb → Format → List ItemState → ℕ → List Exchange → Type 0
+Followed config verb format items cursor exchanges = (pages : List Page) × IsTold config verb format items cursor exchanges pages
 
 pub follow : (config : Config) (commands : List Timed) (state : State) (list : FrozenList) (cursor : ℕ) (before : Exchange) (others : List Exchange)
-    → IsGood config list → IsSound config state → Stands config list state → page_told before.outcome ≡ Some (part_from config list cursor)
-    → IsPart others (run config state commands) → AreNext list.verb before others → Followed config list.items cursor (before ∷ others)
+    (good : IsGood config list) → IsSound config state → Stands config list state → answer_told before.outcome ≡ Some (told_by list.verb good.format (part_from config list cursor))
+    → IsPart others (run config state commands) → AreNext list.verb before others → Followed config list.verb good.format list.items cursor (before ∷ others)
 follow config [] state list cursor before others good sound stands told none next =
-    subst (λ (es : List Exchange). Followed config list.items cursor (before ∷ es)) (sym none) (part_from config list cursor ∷ [], one_page config list cursor before told)
+    subst (λ (es : List Exchange). Followed config list.verb good.format list.items cursor (before ∷ es)) (sym none) (part_from config list cursor ∷ [], one_page config list good.format cursor before told)
 follow config (timed ∷ commands) state list cursor before others good sound stands told (inl part) next =
     let found : State = moved timed.moment state in
     let sound_found = sound_moved config timed.moment state sound in
@@ -298,12 +308,12 @@ follow config (timed ∷ commands) state list cursor before others good sound st
     let sound_found = sound_moved config timed.moment state sound in
     let stands_found = stands_moved config list timed.moment state stands in
     let nexts : AreNext list.verb before (exchange ∷ here.0) = subst (AreNext list.verb before) here.1 next in
-    let asked = next_asked config list cursor before exchange told nexts.0 in
+    let asked = next_asked config list good cursor before exchange told nexts.0 in
     let next' : ℕ = next_at config list cursor in
     let within : next' < length list.items = ltb-true next' (length list.items) (remains_within config list cursor asked.0) in
     let turn = turned config found timed.command list next' good sound_found stands_found asked.1 within asked.2 in
     let later = follow config commands exchange.left (prolonged config found.clock list) next' exchange here.0 (record { format = good.format; verb = good.verb; known = good.known; small = good.small })
     (sound_act config found timed.command sound_found) turn.1 turn.0 here.2 nexts.1
     in
-    subst (λ (es : List Exchange). Followed config list.items cursor (before ∷ es)) (sym here.1)
-    (part_from config list cursor ∷ later.0, more_pages config list cursor before (exchange ∷ here.0) later.0 told asked.0 later.1)
+    subst (λ (es : List Exchange). Followed config list.verb good.format list.items cursor (before ∷ es)) (sym here.1)
+    (part_from config list cursor ∷ later.0, more_pages config list good.format cursor before (exchange ∷ here.0) later.0 told asked.0 later.1)

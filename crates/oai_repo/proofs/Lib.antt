@@ -22,3 +22,5 @@ pub mod FollowLemmas
 pub mod ChainLemmas
 pub mod GivenLemmas
 pub mod WorkedLemmas
+pub mod ShownLemmas
+pub mod ReadLemmas

@@ -1,9 +1,10 @@
 -- What a command can do to a state, and what is true of every state that commands lead to. This repository's own.
-use Rattle.std.specs.Prelude.{◌≡◌, ◌≤◌, ℕ, pos, ◌+ℤ◌, Bool, true, false, List, [], ◌∷◌, ◌++◌, length, None, nat_lt}
+use Rattle.std.specs.Prelude.{◌≡◌, ◌≤◌, ℕ, pos, ◌+ℤ◌, Bool, true, false, ◌&&◌, List, [], ◌∷◌, ◌++◌, length, None, nat_lt}
 use Rattle.std.specs.List.{list_all}
 use Rattle.oai_lists.specs.declared.lists.TheConstants.{LAST_NUMBER}
 use Rattle.oai_item.specs.Item.{ItemState}
 use Rattle.oai_item.specs.Items.{item_named, without}
+use Rattle.oai_item.specs.Known.{has_format, has_known_fields}
 use Rattle.oai_answers.specs.declared.identify.DeletedRecord.TheVariants.{No}
 use Rattle.oai_repo.specs.Changes.{drops_format, is_one_too_many, set_refusal, stamp_at, with_new}
 use Rattle.oai_repo.specs.Config.{Config}
@@ -46,11 +47,16 @@ pub record IsPut (config : Config) (state : State) (item : ItemState) : Type 0 w
   pub formats : drops_format (item_named item.identifier state.holdings.items) item.formats ≡ false
   pub room : is_one_too_many config (item_named item.identifier state.holdings.items) (length state.holdings.items) ≡ false
 
--- a list is opened: nothing keeps it waiting, it gets the next number, and it is open for its lifetime
+-- each record of the item is in a format of the repository and has no field but that format's
+abbrev pub is_well_formed : Config → ItemState → Bool
+is_well_formed config item = list_all (has_format config.formats) item.formats && list_all (has_known_fields config.formats) item.formats
+
+-- a list is opened: nothing keeps it waiting, it gets the next number, it is open for its lifetime, and its items are such
 pub record IsOpened (config : Config) (state : State) (list : FrozenList) : Type 0 where
   pub admitted : wait_at config state.clock state.begun ≡ None
   pub number : list.number ≡ state.begun.next
   pub lasting : list.end ≡ state.clock +ℤ pos config.lifetime
+  pub formed : list_all (is_well_formed config) list.items ≡ true
 
 -- it can be done. Nothing of an item is forgotten but where the repository keeps nothing of deleted records (section 2.5.1)
 abbrev pub IsPossible : Config → State → Effect → Type 0
@@ -73,8 +79,14 @@ pub record IsEffected (config : Config) (old new : State) : Type 0 where
 abbrev pub is_given : ℕ → FrozenList → Bool
 is_given next list = nat_lt list.number next
 
--- what is held is as a repository keeps it, each open list has a number that was given, and the last number of 64 bits was not
+-- the items of the list, as they were, are such as the repository tells
+abbrev pub is_formed : Config → FrozenList → Bool
+is_formed config list = list_all (is_well_formed config) list.items
+
+-- what is held is as a repository keeps it; each open list has a number that was given, and items that the repository tells; and the last
+-- number of 64 bits was not given
 pub record IsSound (config : Config) (state : State) : Type 0 where
   pub kept : AreKept config state.holdings
   pub given : list_all (is_given state.begun.next) state.begun.lists ≡ true
+  pub formed : list_all (is_formed config) state.begun.lists ≡ true
   pub few : state.begun.next ≤ LAST_NUMBER

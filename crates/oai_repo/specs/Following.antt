@@ -1,23 +1,33 @@
 -- A list that is followed from part to part by its resumption tokens. OAI-PMH 2.0, section 3.5.
-use Rattle.std.specs.Prelude.{◌≡◌, ◌<◌, ◌+◌, ℕ, ℤ, int_lt, Bool, true, false, List, [], ◌∷◌, ◌++◌, length, map, Option, Some, None, is_none}
+use Rattle.std.specs.Prelude.{◌≡◌, ◌<◌, ◌+◌, ℕ, ℤ, int_lt, Bool, true, false, List, [], ◌∷◌, ◌++◌, length, map, Option, Some, None, is_none, option_and_then}
 use Rattle.std.specs.List.{flat_map, list_any}
 use Rattle.oai_names.specs.declared.list_verbs.ListVerb.{ListVerb}
 use Rattle.oai_names.specs.declared.list_verbs.ListVerb.TheVariants as list
+use Rattle.oai_item.specs.Formats.{format_named}
 use Rattle.oai_item.specs.Item.{ItemState}
 use Rattle.oai_item.specs.Items.{are_apart}
 use Rattle.oai_item.specs.Order.{are_in_order}
 use Rattle.oai_item.specs.Selection.{selected}
+use Rattle.oai_item.specs.declared.formats.Format.{Format}
 use Rattle.oai_args.specs.Asks.{asks}
 use Rattle.oai_args.specs.declared.requests.Ask.TheVariants as ask
 use Rattle.oai_answers.specs.Answers.{Answer, Continuation, Page, completes, fails, gives_record, identifies, lists_formats, lists_headers, lists_records, lists_sets, remains, whole}
 use Rattle.oai_answers.specs.declared.tokens.Extent.{Extent}
 use Rattle.oai_repo.specs.Answers.{filter_of}
 use Rattle.oai_repo.specs.Config.{Config}
+use Rattle.oai_repo.specs.Listing.{told_by}
 use Rattle.oai_repo.specs.Machine.{Command, Outcome, accepted, asking, documented, later, refused}
 use Rattle.oai_repo.specs.Runs.{Exchange, IsPart}
 use Rattle.oai_repo.specs.State.{State}
 
 -- ---- what is read off an answer
+
+-- the answer, if the outcome is one
+abbrev pub answer_told : Outcome → Option Answer
+answer_told (documented document) = Some document.answer
+answer_told (later seconds) = None
+answer_told (accepted stamp) = None
+answer_told (refused cause) = None
 
 -- the part of a list that an answer tells, or the whole, if it tells one
 abbrev pub page_in : Answer → Option Page
@@ -30,10 +40,7 @@ page_in (lists_sets sets) = None
 page_in (gives_record dissemination) = None
 
 abbrev pub page_told : Outcome → Option Page
-page_told (documented document) = page_in document.answer
-page_told (later seconds) = None
-page_told (accepted stamp) = None
-page_told (refused cause) = None
+page_told outcome = option_and_then page_in (answer_told outcome)
 
 -- the request is to wait
 abbrev pub is_later : Outcome → Bool
@@ -117,15 +124,17 @@ pub record IsChain (config : Config) (exchanges : List Exchange) (wish : Wish) (
 abbrev pub joined : List Page → List ItemState
 joined pages = flat_map (λ (page : Page). page.items) pages
 
--- a page of a list with so many records, and so many before it: it says so; and where it offers a token it has `chunk` records
-pub record IsPlaced (chunk size before : ℕ) (page : Page) : Type 0 where
+-- a page of a list with so many records, and so many before it: it says so; where it offers a token it has `chunk` records; and its
+-- datestamps are of the repository's granularity
+pub record IsPlaced (config : Config) (size before : ℕ) (page : Page) : Type 0 where
   pub extent : extent_in page.continuation ≡ Some (record { size = size; cursor = before })
-  pub full : is_none (offer_in page.continuation) ≡ false → length page.items ≡ chunk
+  pub full : is_none (offer_in page.continuation) ≡ false → length page.items ≡ config.chunk
+  pub dated : page.granularity ≡ config.granularity
 
 -- each page stands behind those before it
-abbrev pub ArePlaced : ℕ → ℕ → ℕ → List Page → Type 0
-ArePlaced chunk size before [] = Unit {0}
-ArePlaced chunk size before (page ∷ pages) = IsPlaced chunk size before page × ArePlaced chunk size (before + length page.items) pages
+abbrev pub ArePlaced : Config → ℕ → ℕ → List Page → Type 0
+ArePlaced config size before [] = Unit {0}
+ArePlaced config size before (page ∷ pages) = IsPlaced config size before page × ArePlaced config size (before + length page.items) pages
 
 -- one of the pages has the empty token: nothing remains
 abbrev pub are_complete : List Page → Bool
@@ -135,11 +144,14 @@ are_complete pages = list_any (λ (page : Page). is_none (offer_in page.continua
 abbrev pub Begins : List ItemState → List ItemState → Type 0
 Begins front all = (others : List ItemState) × (front ++ others ≡ all)
 
--- the exchanges are answered with these pages of the selection: each is answered with a page, and the page says where it stands; their
--- records, joined, begin the selection, and are all of it once a page has the empty token; each record once, in order
-pub record IsFollowed (config : Config) (selection : List ItemState) (exchanges : List Exchange) (pages : List Page) : Type 0 where
-  pub told : map (λ (exchange : Exchange). page_told exchange.outcome) exchanges ≡ map (λ (page : Page). Some page) pages
-  pub placed : ArePlaced config.chunk (length selection) 0 pages
+-- the exchanges are answered with these pages of the selection: each by the verb, and in the format, that was asked for; each page says
+-- where it stands; their records, joined, begin the selection, and are all of it once a page has the empty token; each record
+-- once, in order
+pub record IsFollowed (config : Config) (wish : Wish) (selection : List ItemState) (exchanges : List Exchange) (pages : List Page) : Type 0 where
+  pub format : Format
+  pub known : format_named wish.prefix config.formats ≡ Some format
+  pub told : map (λ (exchange : Exchange). answer_told exchange.outcome) exchanges ≡ map (λ (page : Page). Some (told_by wish.verb format page)) pages
+  pub placed : ArePlaced config (length selection) 0 pages
   pub begun : Begins (joined pages) selection
   pub complete : are_complete pages ≡ true → joined pages ≡ selection
   pub ordered : are_in_order (joined pages) ≡ true

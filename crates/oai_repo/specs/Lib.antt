@@ -14,6 +14,7 @@ pub mod Effects
 pub mod Runs
 pub mod Following
 pub mod Worked
+pub mod Shown
 pub mod Calls
 pub mod Inside
 pub mod Tables

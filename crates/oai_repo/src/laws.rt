@@ -2,7 +2,9 @@
 //! laws are of the machine by whose definitions the calls of [`Repo`](crate::Repo) are specified.
 
 ghost use Rattle.std.specs.Prelude.{◌≡◌, ℤ, List, ◌∷◌, true};
-ghost use Rattle.oai_answers.specs.Answers.{Page};
+ghost use Rattle.oai_answers.specs.Answers.{Document, Page};
+ghost use Rattle.oai_answers.specs.Documents.{document};
+ghost use Rattle.oai_answers.specs.Seen.{document_seen};
 ghost use Rattle.oai_repo.specs.Config.{Config, IsConfig};
 ghost use Rattle.oai_repo.specs.Effects.{Effect, IsEffected, IsPossible, IsSound, effected};
 ghost use Rattle.oai_repo.specs.Following.{IsChain, IsFollowed, Wish, selection_in};
@@ -15,6 +17,13 @@ ghost use Rattle.oai_repo.specs.Runs.{
   are_rising,
   numbers_given,
   run,
+};
+ghost use Rattle.oai_repo.specs.Shown.{
+  IsFollowedList,
+  IsSomeAnswer,
+  bytes_of,
+  is_followed_to_its_end,
+  selection_seen,
 };
 ghost use Rattle.oai_repo.specs.State.{State, empty_state, moved};
 ghost use Rattle.oai_repo.specs.Worked.{IsWorked, worked_config};
@@ -59,7 +68,7 @@ pub fn following_law()
         (first : Exchange) (others : List Exchange) → IsConfig config
         → IsChain config (run config (empty_state config) commands) wish first others
         → (pages : List Page)
-        × IsFollowed config (selection_in first.found wish) (first ∷ others) pages }
+        × IsFollowed config wish (selection_in first.found wish) (first ∷ others) pages }
 {}
 
 /// What the law of following asks for can be met: a run of fifteen commands, computed, in which a list
@@ -68,4 +77,21 @@ pub fn following_law()
 pub fn worked_law()
     ensures config { IsConfig worked_config }
     ensures chain { (first : Exchange) × (others : List Exchange) × IsWorked first others }
+{}
+
+/// What the bytes of the answers show (OAI-PMH 2.0, sections 2.5 and 3). Two documents that
+/// repositories answer some time show the same where they are equal byte for byte. And where what is
+/// written to the requests of two lists that are followed is equal, and one of them is followed to its
+/// end, the headers and the records of the selections at their first requests show the same: what a
+/// harvester reads determines what was selected.
+pub fn shown_law()
+    ensures documents { (config other : Config) (a b : Document) → IsSomeAnswer config a
+        → IsSomeAnswer other b → document a ≡ document b → document_seen a ≡ document_seen b }
+    ensures lists { (config other : Config) (wish its : Wish) (first its_first : Exchange)
+        (others its_others : List Exchange) → IsFollowedList config wish first others
+        → IsFollowedList other its its_first its_others
+        → is_followed_to_its_end (first ∷ others) ≡ true
+        → bytes_of config (first ∷ others) ≡ bytes_of other (its_first ∷ its_others)
+        → selection_seen config wish (selection_in first.found wish)
+        ≡ selection_seen other its (selection_in its_first.found its) }
 {}

@@ -23,7 +23,7 @@ mod snapshots;
 mod tables;
 
 pub use config::RepoConfig;
-pub use laws::{effect_law, following_law, number_law, worked_law};
+pub use laws::{effect_law, following_law, number_law, shown_law, worked_law};
 pub use refusals::Refusal;
 pub use replies::Reply;
 pub use repo::Repo;

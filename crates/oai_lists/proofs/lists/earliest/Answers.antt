@@ -1,8 +1,7 @@
-use Rattle.std.proofs.Common.{rules, ◌≡◌, ◌∙◌, ◌<ℤ◌, ◌≤ℤ◌, ℕ, ◌+◌, ◌<◌, FitsSigned, List, arith, get_or, length, refl, sym, ap, subst, take, w64}
-use Rattle.std.specs.List.{All, Contains}
+use Rattle.std.proofs.Common.{rules, ◌≡◌, ◌<ℤ◌, ◌≤ℤ◌, ℕ, FitsSigned, List, arith, get_or, refl, sym, subst, take, w64}
 use Rattle.std.proofs.lemmas.Int.{ints, to_z-of_z}
 use Rattle.std.proofs.lemmas.List.{take_all}
-use Rattle.std.proofs.lemmas.List.Elements.{All-more, All-weaker, Contains-get_or}
+use Rattle.std.proofs.lemmas.List.Elements.{All-more, All-weaker}
 use Rattle.oai_lists.specs.declared.open_lists.OpenList.{OpenList}
 use Rattle.oai_lists.proofs.lists.earliest.Goals as goal
 use Rattle.oai_lists.proofs.lists.earliest.Goals.{then-list-earliest, else-list-earliest}

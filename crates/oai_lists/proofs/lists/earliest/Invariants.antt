@@ -1,4 +1,4 @@
-use Rattle.std.proofs.Common.{◌≡◌, ◌≤ℤ◌, take}
+use Rattle.std.proofs.Common.{◌≤ℤ◌, take}
 use Rattle.std.specs.List.{All, Contains}
 use Rattle.oai_lists.specs.declared.open_lists.OpenList.{OpenList}
 use Rattle.oai_lists.proofs.lists.earliest.Given as goal

@@ -1,4 +1,4 @@
-use Rattle.std.proofs.Common.{rules, ◌≡◌, ◌∙◌, ◌<ℤ◌, ◌++◌, ◌<◌, ℕ, ℤ, FitsSigned, List, None, Some, arith, ap, get_or, length, option_map, sym, true, w64}
+use Rattle.std.proofs.Common.{rules, ◌≡◌, ◌∙◌, ◌<ℤ◌, ◌++◌, ℕ, FitsSigned, List, None, Some, arith, ap, option_map, sym, true, w64}
 use Rattle.std.specs.Prelude.{find, int_le, position}
 use Rattle.std.specs.List.{after_first, before_first, list_all}
 use Rattle.std.proofs.lemmas.Int.{ints, to_z-of_z}

@@ -1,4 +1,4 @@
-use Rattle.std.proofs.Common.{rules, ◌≡◌, ◌∙◌, ◌<ℤ◌, ◌≤ℤ◌, ℕ, ℤ, FitsSigned, List, None, Some, ap, arith, cond, get_or, is_some, sym, w64, true, false}
+use Rattle.std.proofs.Common.{rules, ◌≡◌, ◌∙◌, ◌<ℤ◌, ◌≤ℤ◌, FitsSigned, List, None, Some, ap, arith, cond, get_or, is_some, sym, w64}
 use Rattle.std.proofs.lemmas.Bool.{cond-true, cond-false}
 use Rattle.std.proofs.lemmas.Int.{ints}
 use Rattle.oai_lists.specs.Bounds.{IsPlaced, none_numbered}

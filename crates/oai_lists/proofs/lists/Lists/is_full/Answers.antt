@@ -1,4 +1,4 @@
-use Rattle.std.proofs.Common.{rules, ◌≡◌, ◌∙◌, ◌<ℤ◌, ◌<◌, ◌≤◌, FitsSigned, ap, arith, length, sym, w64}
+use Rattle.std.proofs.Common.{rules, ◌∙◌, ◌<ℤ◌, ◌<◌, ◌≤◌, FitsSigned, ap, arith, length, sym, w64}
 use Rattle.std.specs.Prelude.{nat_le}
 use Rattle.std.proofs.lemmas.Int.{ints}
 use Rattle.oai_lists.specs.OpenLists.{Table, open_ones}

@@ -1,8 +1,8 @@
-use Rattle.std.proofs.Common.{rules, ◌≡◌, ◌≢◌, ◌∙◌, ◌+◌, ◌<◌, ◌^◌, ◌++◌, ◌∷◌, [], ℕ, ℤ, Err, Ok, None, FitsSigned, Fits, List, ap, arith, subst, sym, w64}
+use Rattle.std.proofs.Common.{rules, ◌≡◌, ◌≢◌, ◌∙◌, ◌+◌, ◌++◌, ◌∷◌, [], ℕ, ℤ, FitsSigned, Fits, List, ap, arith, subst, sym, w64}
 use Rattle.std.specs.Int.{int_min}
 use Rattle.std.proofs.lemmas.Int.{to_z-of_z}
 use Rattle.oai_lists.specs.Bounds.{IsHeld}
-use Rattle.oai_lists.specs.OpenLists.{Table, answered, open_fault, with_list}
+use Rattle.oai_lists.specs.OpenLists.{Table, with_list}
 use Rattle.oai_lists.specs.declared.open_lists.OpenList.{OpenList}
 use Rattle.oai_lists.specs.declared.lists.TheConstants.{LAST_NUMBER}
 use Rattle.oai_lists.proofs.Ends.{held_push, opening_free, opening_refused}

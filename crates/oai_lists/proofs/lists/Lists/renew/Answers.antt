@@ -1,6 +1,5 @@
-use Rattle.std.proofs.Common.{rules, ◌≡◌, ◌∙◌, ℕ, ℤ, FitsSigned, IsSome, List, None, Some, ap, get_or, set, subst, sym, w64}
+use Rattle.std.proofs.Common.{rules, ◌≡◌, ◌∙◌, ℤ, FitsSigned, List, Some, ap, set, subst, sym, w64}
 use Rattle.std.specs.Int.{int_min}
-use Rattle.std.proofs.lemmas.Bool.{false≢true}
 use Rattle.std.proofs.lemmas.Int.{to_z-of_z}
 use Rattle.oai_lists.specs.Bounds.{IsHeld, IsPlaced, none_numbered}
 use Rattle.oai_lists.specs.OpenLists.{Table, list_numbered, renewed}

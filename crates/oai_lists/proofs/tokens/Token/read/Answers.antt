@@ -1,8 +1,7 @@
 -- The first full stop stands between the numbers.
-use Rattle.std.proofs.Common.{◌≡◌, ◌∙◌, ℕ, ◌∷◌, ◌++◌, decimal, Option, Some, None, IfSome, refl, sym, ap, arith}
+use Rattle.std.proofs.Common.{decimal, None, arith}
 use Rattle.std.proofs.lemmas.Str.Pattern.{split_after, split_parts}
-use Rattle.oai_lists.specs.Tokens.{IsToken, token_text}
-use Rattle.oai_lists.specs.declared.tokens.Token.{Token}
+use Rattle.oai_lists.specs.Tokens.{token_text}
 use Rattle.oai_lists.proofs.Stops.{found_token, no_stop_at}
 use Rattle.oai_lists.proofs.TokensRead.{read_is}
 use Rattle.oai_lists.proofs.tokens.Token.read.Goals as goal

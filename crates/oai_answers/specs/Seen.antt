@@ -1,0 +1,169 @@
+-- What the bytes of a document show to a reader: all but what the document does not print. OAI-PMH 2.0, sections 2.5, 3.2, 3.5, 3.6
+-- and 4.
+use Rattle.std.specs.Prelude.{◌≡◌, ◌⊎◌, ℕ, Bool, true, if◌then◌else◌, List, map, codes, Option, None, Some}
+use Rattle.std.specs.Fmt.{decimal}
+use Rattle.std.specs.List.{list_all}
+use Rattle.std.specs.Str.{bytes_eq}
+use Rattle.oai_time.specs.TimeTexts.{datestamp_text, second_text}
+use Rattle.oai_time.specs.declared.granularity.Granularity.{Granularity}
+use Rattle.oai_item.specs.Formats.{dublin_core}
+use Rattle.oai_item.specs.Item.{ItemState, fields_in}
+use Rattle.oai_item.specs.Known.{are_fields_of}
+use Rattle.oai_item.specs.Rules.{is_allowed}
+use Rattle.oai_item.specs.declared.fields.Field.{Field}
+use Rattle.oai_item.specs.declared.formats.Format.{Format}
+use Rattle.oai_answers.specs.Answers.{Answer, Attributes, Continuation, Description, Document, completes, fails, gives_record, identifies, lists_formats, lists_headers, lists_records, lists_sets, no_arguments, remains, whole}
+use Rattle.oai_answers.specs.declared.errors.ErrorCode.{ErrorCode}
+use Rattle.oai_answers.specs.declared.errors.ErrorCode.TheVariants.{BadArgument, BadVerb}
+use Rattle.oai_answers.specs.declared.identify.DeletedRecord.{DeletedRecord}
+
+-- ---- what is seen
+
+-- of a header (section 2.5): whether the record is live, its identifier, its datestamp as it is printed, and its setSpecs in order
+pub record SeenHeader : Type 0 where
+  pub live : Bool
+  pub identifier : List ℕ
+  pub datestamp : List ℕ
+  pub sets : List (List ℕ)
+
+-- of a format: that it is unqualified Dublin Core; or its root, its namespace and its schema
+pub data SeenFormat : Type 0 where
+  seen_dublin_core : SeenFormat
+  seen_declared : List ℕ → List ℕ → List ℕ → SeenFormat
+
+-- of the metadata of a record: its format, and its fields, name and text, in order
+pub record SeenMetadata : Type 0 where
+  pub format : SeenFormat
+  pub fields : List Field
+
+-- of a record: its header; and its metadata, where it is live
+pub record SeenRecord : Type 0 where
+  pub header : SeenHeader
+  pub metadata : Option SeenMetadata
+
+-- of how a list goes on (section 3.5): nothing; or a token, with expirationDate, completeListSize and cursor as they are printed; or the empty
+-- token, with completeListSize and cursor
+pub data SeenToken : Type 0 where
+  no_token : SeenToken
+  seen_token : List ℕ → List ℕ → List ℕ → List ℕ → SeenToken
+  empty_token : List ℕ → List ℕ → SeenToken
+
+-- of Identify (section 4.2): all that it tells, the earliest datestamp as it is printed
+pub record SeenIdentity : Type 0 where
+  pub name : List ℕ
+  pub base : List ℕ
+  pub addresses : List (List ℕ)
+  pub earliest : List ℕ
+  pub deleted : DeletedRecord
+  pub granularity : Granularity
+
+-- of a format in ListMetadataFormats (section 4.4)
+pub record SeenOffer : Type 0 where
+  pub prefix : List ℕ
+  pub schema : List ℕ
+  pub namespace : List ℕ
+
+-- of an answer
+pub data SeenAnswer : Type 0 where
+  seen_error : ErrorCode → SeenAnswer
+  seen_identity : SeenIdentity → SeenAnswer
+  seen_formats : List SeenOffer → SeenAnswer
+  seen_sets : List (List ℕ × List ℕ) → SeenAnswer
+  seen_record : SeenRecord → SeenAnswer
+  seen_headers : List SeenHeader → SeenToken → SeenAnswer
+  seen_records : List SeenRecord → SeenToken → SeenAnswer
+
+-- of a document: its date as it is printed, the base URL, the arguments as they are told, and the answer
+pub record SeenDocument : Type 0 where
+  pub date : List ℕ
+  pub base : List ℕ
+  pub arguments : Attributes
+  pub answer : SeenAnswer
+
+-- ---- what a document shows
+
+abbrev pub header_seen : Granularity → ItemState → SeenHeader
+header_seen granularity item = record {
+  live = item.live;
+  identifier = item.identifier;
+  datestamp = datestamp_text granularity item.stamp;
+  sets = item.sets;
+}
+
+-- oai_dc is known by its prefix
+abbrev pub format_seen : Format → SeenFormat
+format_seen format =
+    if bytes_eq format.prefix (codes "oai_dc") then seen_dublin_core
+    else seen_declared format.root format.namespace format.schema
+
+-- the record in the format
+abbrev pub metadata_seen : Format → ItemState → Option SeenMetadata
+metadata_seen format item =
+    if item.live then Some (record { format = format_seen format; fields = fields_in format.prefix item.formats }) else None
+
+abbrev pub record_seen : Granularity → Format → ItemState → SeenRecord
+record_seen granularity format item = record {
+  header = header_seen granularity item;
+  metadata = metadata_seen format item;
+}
+
+abbrev pub token_seen : Continuation → SeenToken
+token_seen whole = no_token
+token_seen (remains expires extent token) = seen_token token (second_text expires) (decimal extent.size) (decimal extent.cursor)
+token_seen (completes extent) = empty_token (decimal extent.size) (decimal extent.cursor)
+
+abbrev pub identity_seen : List ℕ → Description → SeenIdentity
+identity_seen base d = record {
+  name = d.name;
+  base = base;
+  addresses = d.addresses;
+  earliest = datestamp_text d.granularity d.earliest;
+  deleted = d.deleted;
+  granularity = d.granularity;
+}
+
+abbrev pub offer_seen : Format → SeenOffer
+offer_seen format = record { prefix = format.prefix; schema = format.schema; namespace = format.namespace }
+
+abbrev pub answer_seen : List ℕ → Answer → SeenAnswer
+answer_seen base (fails code) = seen_error code
+answer_seen base (identifies d) = seen_identity (identity_seen base d)
+answer_seen base (lists_formats formats) = seen_formats (map offer_seen formats)
+answer_seen base (lists_sets sets) = seen_sets sets
+answer_seen base (gives_record d) = seen_record (record_seen d.granularity d.format d.item)
+answer_seen base (lists_headers page) = seen_headers (map (header_seen page.granularity) page.items) (token_seen page.continuation)
+answer_seen base (lists_records format page) = seen_records (map (record_seen page.granularity format) page.items) (token_seen page.continuation)
+
+-- the arguments that `request` repeats: none beside badVerb and badArgument (section 3.2)
+abbrev pub arguments_seen : Answer → Attributes → Attributes
+arguments_seen (fails BadVerb) asked = no_arguments
+arguments_seen (fails BadArgument) asked = no_arguments
+arguments_seen answer asked = asked
+
+abbrev pub document_seen : Document → SeenDocument
+document_seen d = record {
+  date = second_text d.date;
+  base = d.base;
+  arguments = arguments_seen d.answer d.asked;
+  answer = answer_seen d.base d.answer;
+}
+
+-- ---- of which documents that can be said
+
+-- a format of a repository (section 3.4): oai_dc, or one that keeps the rules of a declared format
+abbrev pub IsGoodFormat : Format → Type 0
+IsGoodFormat format = (format ≡ dublin_core) ⊎ (is_allowed format ≡ true)
+
+-- each field of the item's record in the format is a field of the format
+abbrev pub has_own_fields : Format → ItemState → Bool
+has_own_fields format item = are_fields_of (Some format) (fields_in format.prefix item.formats)
+
+-- the records that an answer tells are such
+abbrev pub IsRegular : Answer → Type 0
+IsRegular (fails code) = Unit {0}
+IsRegular (identifies d) = Unit {0}
+IsRegular (lists_formats formats) = Unit {0}
+IsRegular (lists_sets sets) = Unit {0}
+IsRegular (gives_record d) = IsGoodFormat d.format × (has_own_fields d.format d.item ≡ true)
+IsRegular (lists_headers page) = Unit {0}
+IsRegular (lists_records format page) = IsGoodFormat format × (list_all (has_own_fields format) page.items ≡ true)

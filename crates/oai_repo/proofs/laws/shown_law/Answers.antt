@@ -1,0 +1,8 @@
+use Rattle.oai_repo.proofs.ReadLemmas.{answers_shown, lists_shown}
+use Rattle.oai_repo.proofs.laws.shown_law.Goals as goal
+
+pub returns-clause-documents : goal.returns-clause-documents
+returns-clause-documents c = answers_shown
+
+pub returns-clause-lists : goal.returns-clause-lists
+returns-clause-lists c = lists_shown
