@@ -1,6 +1,6 @@
 -- Items in order, cut around a place: those before it, those at it or near it, and those behind it. What is done at the place is done in
 -- the middle part alone.
-use Rattle.std.proofs.Common.{◌≡◌, ◌+◌, ◌<◌, ◌≤◌, ℕ, ℤ, suc, zero, Bool, true, false, not, ◌&&◌, cond, List, [], ◌∷◌, ◌++◌, Option, None, Some, Result, Ok, Err, length, take, drop, get_or, set, refl, sym, ◌∙◌, ap, subst, arith, add-one, drop-cons}
+use Rattle.std.proofs.Common.{◌≡◌, ◌+◌, ◌<◌, ◌≤◌, ℕ, ℤ, suc, zero, Bool, true, false, not, cond, List, [], ◌∷◌, ◌++◌, None, Some, Result, Ok, Err, length, take, drop, get_or, set, refl, sym, ◌∙◌, ap, arith, add-one, drop-cons}
 use Rattle.std.specs.Prelude.{filter, find}
 use Rattle.std.specs.List.{AllWithin, HoldsAt, insert, remove, list_all}
 use Rattle.std.specs.List.Sorted.{IsBinarySearchResult, IsNonDecreasingBy, IsSearchInRange}

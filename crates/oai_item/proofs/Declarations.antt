@@ -1,5 +1,5 @@
 -- Declaring keeps what is true of the formats of a repository.
-use Rattle.std.proofs.Common.{◌≡◌, ◌<◌, ◌∙◌, ap, sym, subst, ℕ, Bool, true, false, cond, ◌||◌, ◌&&◌, List, [], ◌∷◌, ◌++◌, length, length-append, refl, Option, Some, None, Result, Ok, Err, map, arith, is_some, not, if◌then◌else◌, nat_lt, slice_get, drop}
+use Rattle.std.proofs.Common.{◌≡◌, ◌<◌, ◌∙◌, ap, sym, subst, ℕ, Bool, true, false, cond, ◌||◌, List, [], ◌∷◌, ◌++◌, length, length-append, refl, Option, Some, None, Result, Ok, Err, map, arith, is_some, not, if◌then◌else◌, nat_lt, slice_get, drop}
 use Rattle.std.specs.List.{list_all, list_any}
 use Rattle.std.specs.Str.{bytes_eq}
 use Rattle.std.proofs.lemmas.Bool.{and_from, and_parts, ltb-true, not_from_false, or_from}

@@ -1,5 +1,5 @@
 -- Elements that stay by a flag for each, and how they are moved to the front.
-use Rattle.std.proofs.Common.{length-set, ◌≡◌, ◌∙◌, ℕ, ◌+◌, ◌<◌, ◌≤◌, suc, zero, Bool, true, false, cond, ◌&&◌, List, [], ◌∷◌, ◌++◌, length, take, drop, get_or, set, inl, inr, refl, sym, ap, arith, append-nil}
+use Rattle.std.proofs.Common.{length-set, ◌≡◌, ◌∙◌, ℕ, ◌+◌, ◌<◌, ◌≤◌, Bool, true, false, cond, List, [], ◌∷◌, ◌++◌, length, take, drop, get_or, set, inl, inr, refl, sym, ap, arith, append-nil}
 use Rattle.std.specs.List.{list_all, swap}
 use Rattle.std.proofs.lemmas.Bool.{and_from, and_parts, cases_lt, cond_both}
 use Rattle.std.proofs.lemmas.List.Edits.{length-swap}

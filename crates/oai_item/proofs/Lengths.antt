@@ -9,15 +9,15 @@ use Rattle.oai_item.specs.declared.sizes.TheConstants.{MOST_ITEM_BYTES}
 use Rattle.oai_item.specs.Encoding.{IsMeasure, encoded, encoded_bool, encoded_count, encoded_field, encoded_list, encoded_record, encoded_stamp, encoded_text}
 use Rattle.oai_item.specs.Item.{ItemState, Metadata}
 
-length-encoded_count : (n : ℕ) → length (encoded_count n) ≡ 4
+pub length-encoded_count : (n : ℕ) → length (encoded_count n) ≡ 4
 unfolding encoded_count
 length-encoded_count n = refl
 
-length-encoded_stamp : (item : ItemState) → length (encoded_stamp item.stamp) ≡ 8
+pub length-encoded_stamp : (item : ItemState) → length (encoded_stamp item.stamp) ≡ 8
 unfolding encoded_stamp
 length-encoded_stamp item = refl
 
-length-encoded_bool : (live : Bool) → length (encoded_bool live) ≡ 1
+pub length-encoded_bool : (live : Bool) → length (encoded_bool live) ≡ 1
 length-encoded_bool true = refl
 length-encoded_bool false = refl
 

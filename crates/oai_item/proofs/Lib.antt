@@ -2,6 +2,12 @@ pub mod FormatLemmas
 pub mod Repeats
 pub mod Declarations
 pub mod Lengths
+pub mod Spellings
+pub mod Numbers
+pub mod Unreduced
+pub mod Wholes
+pub mod Spelled
+pub mod Written
 pub mod Above
 pub mod Flagged
 pub mod Grammars

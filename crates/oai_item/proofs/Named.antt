@@ -1,16 +1,16 @@
 -- Items looked up by their identifiers, where no two have one: what stands under an identifier after a change, and that a change by
 -- datestamp and identifier is one by identifier.
-use Rattle.std.proofs.Common.{◌≡◌, ◌≢◌, ◌∙◌, ◌+◌, ℕ, ℤ, Bool, true, false, not, ◌&&◌, cond, List, [], ◌∷◌, length, Option, None, Some, inl, inr, refl, sym, ap, subst, arith}
+use Rattle.std.proofs.Common.{◌≡◌, ◌∙◌, ◌+◌, ℕ, ℤ, Bool, true, false, not, ◌&&◌, cond, List, [], ◌∷◌, length, Option, None, Some, inl, inr, refl, sym, ap, subst, arith}
 use Rattle.std.specs.Prelude.{filter, find}
 use Rattle.std.specs.List.{list_all}
 use Rattle.std.specs.Ordering.{int_eq}
 use Rattle.std.specs.Str.{bytes_eq}
-use Rattle.std.proofs.lemmas.Bool.{and_left, and_parts, both_ways, cases_Bool, cond-true, cond-false, false_from_ne_true, not-true, not_from_false}
+use Rattle.std.proofs.lemmas.Bool.{and_parts, both_ways, cases_Bool, cond-true, cond-false, not-true, not_from_false}
 use Rattle.std.proofs.lemmas.Slice.Eq.{bytes_eq-Decides}
 use Rattle.oai_item.specs.Item.{ItemState}
 use Rattle.oai_item.specs.Items.{is_named, is_apart, are_apart, is_at, item_at, item_named, placed, with_item, without, without_at}
 use Rattle.oai_item.specs.Order.{precedes}
-use Rattle.oai_item.proofs.Around.{filter_all, find_none}
+use Rattle.oai_item.proofs.Around.{filter_all}
 use Rattle.oai_item.proofs.OrderLemmas.{all-filter_same, all-weaker, placed-cons, placed-nil}
 
 -- ---- what is found

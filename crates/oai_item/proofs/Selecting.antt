@@ -1,6 +1,6 @@
 -- A selection is the one list in order that has the members that are asked for.
-use Rattle.std.proofs.Common.{◌≡◌, ◌↔◌, ◌⊎◌, inl, inr, ℕ, ℤ, ◌≤ℤ◌, Bool, true, false, ◌&&◌, List, [], ◌∷◌, Option, None, Some, IfSome, refl, sym, ◌∙◌, ap, arith}
-use Rattle.std.specs.Prelude.{filter, int_le}
+use Rattle.std.proofs.Common.{◌≡◌, ◌↔◌, inl, inr, ℕ, ℤ, ◌≤ℤ◌, Bool, true, ◌&&◌, List, [], ◌∷◌, Option, None, Some, IfSome, refl, sym, ◌∙◌, ap, arith}
+use Rattle.std.specs.Prelude.{int_le}
 use Rattle.std.specs.List.{Contains, list_all}
 use Rattle.std.proofs.lemmas.Bool.{and_from, and_parts, both_ways}
 use Rattle.std.proofs.lemmas.Int.{ints}

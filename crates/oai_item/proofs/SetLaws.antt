@@ -24,7 +24,7 @@ covers_trans : (s t u : List ℕ) → covers s t ≡ true → covers t u ≡ tru
 covers_trans s t u first second =
     (covers-Decides s u).1 (Covers-trans s t u ((covers-Decides s t).0 first) ((covers-Decides t u).0 second))
 
-covers_itself : (s : List ℕ) → covers s s ≡ true
+pub covers_itself : (s : List ℕ) → covers s s ≡ true
 covers_itself s = (covers-Decides s s).1 (inl refl)
 
 -- what lies below a set is longer than it

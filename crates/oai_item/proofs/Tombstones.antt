@@ -1,6 +1,5 @@
 -- What is left of a deleted item keeps the rules of items.
-use Rattle.std.proofs.Common.{◌≡◌, ◌≢◌, ◌∙◌, ℕ, ℤ, Bool, true, false, ◌&&◌, List, [], ◌∷◌, map, refl, ap, sym}
-use Rattle.std.specs.List.{list_all}
+use Rattle.std.proofs.Common.{◌≡◌, ◌≢◌, ◌∙◌, ℤ, true, ◌&&◌, List, [], ◌∷◌, map, refl, ap}
 use Rattle.std.proofs.lemmas.List.Folds.{list_all-map}
 use Rattle.oai_names.specs.Names.{may_be_prefix}
 use Rattle.oai_item.specs.Item.{IsItem, IsStamp, ItemState, Metadata, are_prefixed, are_rising, emptied, have_no_fields, is_before, tombstone_of}

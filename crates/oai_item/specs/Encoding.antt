@@ -1,11 +1,14 @@
 -- How an item is spelled in bytes, where it is stored. This spelling is this repository's own, and no part of OAI-PMH.
-use Rattle.std.specs.Prelude.{◌≡◌, ◌<◌, ◌≤◌, ℕ, ℤ, Bool, true, false, List, [], ◌∷◌, ◌++◌, length, Result, Ok, Err}
+use Rattle.std.specs.Prelude.{◌≡◌, ◌<◌, ◌≤◌, ℕ, ℤ, Bool, true, false, List, [], ◌∷◌, ◌++◌, ◌&&◌, length, drop, Result, Ok, Err}
 use Rattle.std.specs.Int.{w64, bytes_high_first, cast_unsigned}
-use Rattle.std.specs.List.{flat_map}
+use Rattle.std.specs.List.{flat_map, list_all}
+use Rattle.std.specs.Str.{is_utf8}
+use Rattle.oai_item.specs.declared.decodings.DecodeFault.{DecodeFault}
+use Rattle.oai_item.specs.declared.decodings.DecodeFault.TheVariants.{Damaged, NoMemory}
 use Rattle.oai_item.specs.declared.fields.Field.{Field}
 use Rattle.oai_item.specs.declared.sizes.TooLarge.{TooLarge}
 use Rattle.oai_item.specs.declared.sizes.TheConstants.{MOST_ITEM_BYTES}
-use Rattle.oai_item.specs.Item.{ItemState, Metadata}
+use Rattle.oai_item.specs.Item.{IsItem, ItemState, Metadata}
 
 -- one byte: 1 where the item is live, 0 where it is deleted
 abbrev pub encoded_bool : Bool → List ℕ
@@ -49,3 +52,43 @@ encoded item =
 abbrev pub IsMeasure : ℕ → Result ℕ TooLarge → Type 0
 IsMeasure bytes (Ok n) = (n ≡ bytes) × (bytes ≤ MOST_ITEM_BYTES)
 IsMeasure bytes (Err _) = MOST_ITEM_BYTES < bytes
+
+-- the name and the text of a field are UTF-8
+abbrev pub is_text_field : Field → Bool
+is_text_field field = is_utf8 field.name && is_utf8 field.text
+
+-- the prefix of a record and its fields are UTF-8
+abbrev pub is_text_record : Metadata → Bool
+is_text_record format = is_utf8 format.0 && list_all is_text_field format.1
+
+-- each text of the item is UTF-8, as those of an item in memory are
+abbrev pub is_text_item : ItemState → Bool
+is_text_item item =
+    is_utf8 item.identifier && list_all is_utf8 item.sets && list_all is_text_record item.formats
+
+-- the bytes spell the item: they are just its spelling, and not too many; and it keeps the rules of items
+pub record Spells (bytes : List ℕ) (item : ItemState) : Type 0 where
+  pub spelling : bytes ≡ encoded item
+  pub few : length bytes ≤ MOST_ITEM_BYTES
+  pub valid : IsItem item
+  pub texts : is_text_item item ≡ true
+
+-- what writing the item at the front of bytes answers, and the bytes then: how many it wrote, which spell the item, and those
+-- behind them are as they were; or that they are too many, and all are as they were
+abbrev pub IsEncoding : ItemState → List ℕ → Result ℕ TooLarge → List ℕ → Type 0
+IsEncoding item old (Ok n) new =
+    Spells (encoded item) item × (n ≡ length (encoded item)) × (new ≡ encoded item ++ drop n old)
+IsEncoding item old (Err _) new = (MOST_ITEM_BYTES < length (encoded item)) × (new ≡ old)
+
+-- what reading an item from the bytes, all of them, answers: the item that they spell; or that they spell none. Memory may be
+-- refused
+abbrev pub IsDecoding : List ℕ → Result ItemState DecodeFault → Type 0
+IsDecoding bytes (Ok item) = Spells bytes item
+IsDecoding bytes (Err Damaged) = (item : ItemState) → ¬ (Spells bytes item)
+IsDecoding bytes (Err NoMemory) = Unit {0}
+
+-- reading gave that item, unless memory was refused
+abbrev pub GivesBack : ItemState → Result ItemState DecodeFault → Type 0
+GivesBack item (Ok read) = read ≡ item
+GivesBack item (Err Damaged) = ⊥
+GivesBack item (Err NoMemory) = Unit {0}

@@ -1,6 +1,6 @@
 -- Whether the records of an item are those that a repository can have: in its formats, and of their fields. OAI-PMH 2.0, section
 -- 3.4.
-use Rattle.std.specs.Prelude.{ℕ, Bool, true, List, Option, None, Some, is_some}
+use Rattle.std.specs.Prelude.{Bool, true, List, Option, None, Some, is_some}
 use Rattle.std.specs.List.{list_all}
 use Rattle.oai_names.specs.Names.{is_among}
 use Rattle.oai_item.specs.Formats.{format_named}

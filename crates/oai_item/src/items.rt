@@ -1,10 +1,14 @@
-ghost use Rattle.std.specs.Prelude.{◌≡◌, ◌≢◌, ℕ, List, [], true, length, IfOk};
+ghost use Rattle.std.specs.Prelude.{◌≡◌, ◌≢◌, ◌≤◌, ℕ, List, [], true, length, take, Result, IfOk};
 ghost use Rattle.std.specs.Option.{option_copied, option_map};
-ghost use Rattle.oai_item.specs.Encoding.{IsMeasure, encoded};
-ghost use Rattle.oai_item.specs.Item.{IsItem, IsStamp, are_prefixed, are_rising, has_record, live_item, record_named, tombstone_of};
+ghost use Rattle.oai_item.specs.Encoding.{GivesBack, IsDecoding, IsEncoding, IsMeasure, Spells, encoded};
+ghost use Rattle.oai_item.specs.declared.decodings.DecodeFault.{DecodeFault};
+ghost use Rattle.oai_item.specs.declared.sizes.TheConstants.{MOST_ITEM_BYTES};
+ghost use Rattle.oai_item.specs.Item.{IsItem, IsStamp, ItemState, are_prefixed, are_rising, has_record, live_item, record_named, tombstone_of};
 ghost use Rattle.oai_item.specs.Membership.{AreApart, is_in, reduced};
 
 use crate::copies::{copy_records, copy_sets, emptied};
+use crate::decodings::{DecodeFault, Parts, may_be_records, read_parts};
+use crate::encodings::put_parts;
 use crate::fields::Field;
 use crate::reductions::reduced;
 use crate::sizes::{TooLarge, with_records, with_sets, with_text};
@@ -163,6 +167,52 @@ impl Item {
         let middle = with_sets(front, self.sets.as_slice())?;
         with_records(middle, self.formats.as_slice())
     }
+
+    /// Writes the item's spelling at the front of the bytes, and leaves those behind it alone. The
+    /// answer is how many bytes it is, as `encoded_len` tells it; there must be room for so many. The
+    /// error: they are more than 16,000, and nothing is written. It takes no memory.
+    pub fn encode_into(&self, out: &mut [u8]) -> Result<usize, TooLarge>
+        requires { length (encoded self.now) ≤ MOST_ITEM_BYTES
+            → length (encoded self.now) ≤ length out.old }
+        ensures { IsEncoding self.now out.old result out.new }
+    {
+        self.encoded_len()?;
+        let identifier = self.identifier.as_str();
+        let sets = self.sets.as_slice();
+        let formats = self.formats.as_slice();
+        Ok(put_parts(out, self.live, self.stamp, identifier, sets, formats))
+    }
+
+    /// The item that the bytes spell, all of them, as `encode_into` writes it; each item has one
+    /// spelling. The errors: `Damaged` where they spell none, as with bytes left over, or are more
+    /// than 16,000; `NoMemory`, also before all bytes were looked at. A number in the bytes asks for
+    /// no more memory than so many sets, records or fields as the bytes behind it have room for.
+    pub fn decode(alloc: Global, bytes: &[u8]) -> Result<Item, DecodeFault>
+        ensures { IsDecoding bytes.now result }
+    {
+        let Parts {
+            live,
+            stamp,
+            identifier,
+            sets,
+            formats,
+        } = read_parts(alloc, bytes)?;
+        if !may_be_records(live, formats.as_slice()) {
+            return Err(DecodeFault::Damaged);
+        }
+        let many = sets.as_slice().len();
+        let sets = reduced(alloc, sets)?;
+        if sets.as_slice().len() < many {
+            return Err(DecodeFault::Damaged);
+        }
+        Ok(Item {
+            identifier,
+            stamp,
+            live,
+            sets,
+            formats,
+        })
+    }
 }
 
 /// The record of that prefix.
@@ -202,4 +252,16 @@ pub fn set_law()
     ensures membership { (s : List ℕ) (sets : List (List ℕ))
         → is_in s (reduced sets) ≡ is_in s sets }
     ensures apart { (sets : List (List ℕ)) → AreApart (reduced sets) }
+{}
+
+/// What writing and reading items keep: bytes spell one item at most, and reading what was written
+/// gives the item that was written, unless memory is refused.
+#[tactic(auto, using(crate::proofs::Spelled::same_spelled, crate::proofs::Spelled::round_trip))]
+pub fn encoding_law()
+    ensures one { (bytes : List ℕ) (item other : ItemState)
+        → Spells bytes item → Spells bytes other → other ≡ item }
+    ensures round_trip { (item : ItemState) (old new : List ℕ) (n : ℕ)
+        (answer : Result ItemState DecodeFault)
+        → IsEncoding item old (Ok n) new → IsDecoding (take n new) answer
+        → GivesBack item answer }
 {}

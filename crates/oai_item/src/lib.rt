@@ -3,7 +3,9 @@
 
 mod changes;
 mod copies;
+mod decodings;
 mod deposits;
+mod encodings;
 mod faults;
 mod fields;
 mod formats;
@@ -17,10 +19,11 @@ mod short_texts;
 mod sizes;
 
 pub use changes::Change;
+pub use decodings::DecodeFault;
 pub use faults::Fault;
 pub use fields::Field;
 pub use formats::{Format, FormatFault, Formats};
-pub use items::{Item, is_in, set_law};
+pub use items::{Item, encoding_law, is_in, set_law};
 pub use order::{order_law, place_of};
 pub use records::Records;
 pub use refusals::{ChangeRefusal, LineRefusal};

@@ -1,14 +1,9 @@
-//! Tests of items and of what keeps them: items and metadata formats (`oai_item`), stores of versions
-//! (`oai_catalogue`) and lists that are open (`oai_lists`). It holds nothing else.
+//! Tests of items, of items as bytes, and of metadata formats (`oai_item`). It holds nothing else.
 #![tactic(auto)]
 
+#[cfg(test)]
+mod encodings;
 #[cfg(test)]
 mod formats;
 #[cfg(test)]
 mod items;
-#[cfg(test)]
-mod open_lists;
-#[cfg(test)]
-mod samples;
-#[cfg(test)]
-mod stores;

@@ -1,5 +1,5 @@
 -- What stays of the sets is of the grammar, since all of them are.
-use Rattle.std.proofs.Common.{◌≡◌, ◌∙◌, ap, sym}
+use Rattle.std.proofs.Common.{◌∙◌, ap, sym}
 use Rattle.oai_item.specs.Item.{are_set_specs}
 use Rattle.oai_item.proofs.Grammars.{are_set_specs-flagged}
 use Rattle.oai_item.proofs.reductions.reduced.Goals as goal

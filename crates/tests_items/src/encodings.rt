@@ -1,0 +1,134 @@
+//! Items as bytes: the spelling of an item, and bytes that are none. The bytes are typed from the
+//! description of the spelling, and not taken from the program.
+use oai_item::{DecodeFault, Item, MOST_ITEM_BYTES, encoding_law};
+use std::alloc::Global;
+use std::process::Abort;
+use std::test::Fail;
+use tests_samples::item;
+
+/// The live item `oai:a:1` of 2024-01-01T00:00:00Z, without sets, with the title `T` in oai_dc.
+fn spelling() -> [u8; 56] {
+    [
+        0x01, 0x00, 0x00, 0x00, 0x00, 0x65, 0x92, 0x00, 0x80, 0x00, 0x00, 0x00, 0x07, 0x6f, 0x61,
+        0x69, 0x3a, 0x61, 0x3a, 0x31, 0x00, 0x00, 0x00, 0x00, 0x00, 0x00, 0x00, 0x01, 0x00, 0x00,
+        0x00, 0x06, 0x6f, 0x61, 0x69, 0x5f, 0x64, 0x63, 0x00, 0x00, 0x00, 0x01, 0x00, 0x00, 0x00,
+        0x05, 0x74, 0x69, 0x74, 0x6c, 0x65, 0x00, 0x00, 0x00, 0x01, 0x54,
+    ]
+}
+
+/// The deleted item `a:b` of 0000-01-01T00:00:00Z, in the sets `z` and `x:y`, in `jnl` and oai_dc.
+fn deleted_spelling() -> &'static [u8] {
+    b"\x00\xff\xff\xff\xf1\x86\x8b\x84\x00\x00\x00\x00\x03a:b\x00\x00\x00\x02\x00\x00\x00\x01z\x00\x00\x00\x03x:y\x00\x00\x00\x02\x00\x00\x00\x03jnl\x00\x00\x00\x00\x00\x00\x00\x06oai_dc\x00\x00\x00\x00"
+}
+
+/// The spelling of the item, as it is written over other bytes.
+fn encoded(rt: &impl Abort, alloc: Global, item: &Item) -> Result<Vec<u8>, Fail> {
+    let mut bytes = vec![in alloc; 0xaa; MOST_ITEM_BYTES]?;
+    let size = item.encode_into(bytes.as_mut_slice())?;
+    assert_eq!(rt; item.encoded_len(), Ok(size));
+    assert!(rt; bytes.iter().skip(size).all(|byte| *byte == 0xaa));
+    bytes.truncate(size);
+    Ok(bytes)
+}
+
+/// The bytes are the spelling of an item, or Damaged.
+fn assert_no_second_spelling(rt: &impl Abort, alloc: Global, bytes: &[u8]) -> Result<(), Fail> {
+    match Item::decode(alloc, bytes) {
+        Ok(item) => assert_eq!(rt; encoded(rt, alloc, &item)?.as_slice(), bytes),
+        Err(fault) => assert_eq!(rt; fault, DecodeFault::Damaged),
+    }
+    Ok(())
+}
+
+/// Each front of the bytes is Damaged, and so are the bytes and one more.
+fn assert_no_other_length(rt: &impl Abort, alloc: Global, bytes: &[u8]) -> Result<(), Fail> {
+    for len in 0..bytes.len() {
+        assert_eq!(rt;
+            Item::decode(alloc, &bytes[..len]).err(),
+            Some(DecodeFault::Damaged)
+        );
+    }
+    let mut longer = Vec::from_slice(alloc, bytes)?;
+    longer.push(0)?;
+    assert_eq!(rt;
+        Item::decode(alloc, longer.as_slice()).err(),
+        Some(DecodeFault::Damaged)
+    );
+    Ok(())
+}
+
+#[test]
+fn item_as_bytes(rt: HostRuntime) -> Result<(), Fail> {
+    let alloc = rt.alloc();
+    let item = item(alloc, "oai:a:1", 0, &[], "T")?;
+    assert_eq!(rt;
+        encoded(&rt, alloc, &item)?.as_slice(),
+        spelling().as_slice()
+    );
+    assert_eq!(rt;
+        encoded(&rt, alloc, &item.copy(alloc)?)?.as_slice(),
+        spelling().as_slice()
+    );
+    encoding_law();
+    Ok(())
+}
+
+#[test]
+fn bytes_as_item(rt: HostRuntime) -> Result<(), Fail> {
+    let alloc = rt.alloc();
+    let item = Item::decode(alloc, spelling().as_slice())?;
+    assert_eq!(rt; item.identifier().as_str(), "oai:a:1");
+    assert_eq!(rt;
+        (item.stamp(), item.is_live(), item.sets().len()),
+        (1_704_067_200, true, 0)
+    );
+    match item.fields_in("oai_dc") {
+        Some([field]) => {
+            assert_eq!(rt; (field.name.as_str(), field.text.as_str()), ("title", "T"));
+        }
+        _ => panic!(rt; "not one field"),
+    }
+    Ok(())
+}
+
+#[test]
+fn bytes_as_deleted_item(rt: HostRuntime) -> Result<(), Fail> {
+    let alloc = rt.alloc();
+    let item = Item::decode(alloc, deleted_spelling())?;
+    assert_eq!(rt; item.identifier().as_str(), "a:b");
+    assert_eq!(rt;
+        (item.stamp(), item.is_live(), item.sets().len()),
+        (-62_167_219_200, false, 2)
+    );
+    assert!(rt; item.has_record("jnl") && item.has_record("oai_dc"));
+    assert_eq!(rt; encoded(&rt, alloc, &item)?.as_slice(), deleted_spelling());
+    Ok(())
+}
+
+#[test]
+fn each_byte_changed(rt: HostRuntime) -> Result<(), Fail> {
+    for at in 0..56 {
+        for value in 0..=255 {
+            let mut bytes = spelling();
+            bytes[at] = value;
+            assert_no_second_spelling(&rt, rt.alloc(), bytes.as_slice())?;
+        }
+    }
+    Ok(())
+}
+
+#[test]
+fn fronts_and_bytes_left_over(rt: HostRuntime) -> Result<(), Fail> {
+    assert_no_other_length(&rt, rt.alloc(), spelling().as_slice())?;
+    assert_no_other_length(&rt, rt.alloc(), deleted_spelling())
+}
+
+#[test]
+fn texts_of_decode_faults(rt: HostRuntime) -> Result<(), Fail> {
+    let alloc = rt.alloc();
+    let damaged = format!(in alloc; "{}", DecodeFault::Damaged)?;
+    assert_eq!(rt; damaged.as_str(), "the bytes are not those of an item");
+    let refused = format!(in alloc; "{}", DecodeFault::NoMemory)?;
+    assert_eq!(rt; refused.as_str(), "out of memory");
+    Ok(())
+}

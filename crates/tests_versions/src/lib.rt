@@ -1,0 +1,8 @@
+//! Tests of stores of versions (`oai_catalogue`) and of lists that are open (`oai_lists`). It holds
+//! nothing else.
+#![tactic(auto)]
+
+#[cfg(test)]
+mod open_lists;
+#[cfg(test)]
+mod stores;
