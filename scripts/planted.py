@@ -1,4 +1,8 @@
-"""Tries the planted bugs of the crates: see planted.sh."""
+"""Tries the planted bugs of the crates: see planted.sh.
+
+Bugs of different functions share a check, as a batch. Where a function is not proved, a check may pass over those that call it.
+So no function of a batch calls another one of it, and each is judged by its own goals.
+"""
 
 import os
 import re
@@ -10,6 +14,18 @@ import tempfile
 # How many bugs share a check at most: more would print more than a check tells of.
 MOST = 16
 
+# Where an edit may make changes.
+FOLDERS = ("src", "specs", "proofs")
+
+# The head of a function, with its indent and its name.
+FUNCTION = re.compile(r"^( *)(?:pub(?:\([^)]*\))? )?(?:const )?fn (\w+)", re.M)
+
+# A call, with the name of the function.
+CALL = re.compile(r"\b(\w+)(?:::<[^>]*>)?\(")
+
+# The head of an impl: the trait, where it is of one, and the type.
+IMPL = re.compile(r"^impl(?:<[^\n]*?>)? (?:([\w:<>, ]+) for )?(\w+)", re.M)
+
 # What a check says of a proof file that names something which the edit took away.
 TAKEN_AWAY = re.compile(r"has no field|is not in scope|has no `|was not admitted")
 
@@ -17,12 +33,13 @@ TAKEN_AWAY = re.compile(r"has no field|is not in scope|has no `|was not admitted
 class Edit:
     """A planted bug: the changes that it makes, and the functions in which it makes them."""
 
-    def __init__(self, path, crate):
+    def __init__(self, path, texts):
         self.name = os.path.basename(path).removesuffix(".edit")
         self.changes = read_changes(path)
-        self.functions = {function_at(crate, file, old) for file, old, _ in self.changes}
+        self.functions = functions_of(self.changes, texts)
 
-    def is_of_functions(self):
+    def may_share(self):
+        """Whether all that it changes stands in functions, so that it may be tried beside others."""
         return None not in self.functions
 
 
@@ -40,22 +57,41 @@ def read_changes(path):
     return changes
 
 
-def function_at(crate, file, old):
-    """The path of the function that the text stands in, as a check names it; None where it stands in none."""
-    if not file.startswith("src/"):
-        return None
-    with open(f"{crate}/{file}", encoding="utf-8") as source:
-        text = source.read()
+def functions_of(changes, texts):
+    """The functions in which the changes are made, one after the other; None is among them where one is made in no function."""
+    functions, texts = set(), dict(texts)
+    for file, old, new in changes:
+        text = texts.get(file, "")
+        functions.add(function_at(file, text, old))
+        texts[file] = text.replace(old, new)
+    return functions
+
+
+def function_at(file, text, old):
+    """The path of the function of a file that the old text stands in, as a check names it; None where it stands in none."""
     at = text.find(old)
-    begun = [it for it in re.finditer(r"^( *)(?:pub(?:\([^)]*\))? )?fn (\w+)", text, re.M) if it.start() < at + len(old)]
-    if at < 0 or not begun:
+    begun = [it for it in FUNCTION.finditer(text) if it.start() < at + len(old)]
+    if not file.startswith("src/") or at < 0 or not begun:
         return None
-    indent, name = begun[-1][1], begun[-1][2]
+    indent, name = begun[-1].groups()
     if re.search(rf"^{indent}}}$", text[begun[-1].start() : at], re.M):
         return None
     module = [it for it in file.removeprefix("src/").removesuffix(".rt").split("/") if it not in ("lib", "main", "mod")]
-    holder = re.findall(r"^impl(?:<[^\n]*?>)? (?:[\w:<>]+ for )?(\w+)", text[:at], re.M) if indent else []
-    return "::".join([*module, *holder[-1:], name])
+    return "::".join([*module, *holder_at(text[:at], indent), name])
+
+
+def holder_at(text, indent):
+    """The impl that a function behind this text stands in, as a check names it: the type, then the trait and the types that it is of."""
+    heads = IMPL.findall(text)
+    if not indent or not heads:
+        return []
+    trait, kind = heads[-1]
+    words = [it.split("::")[-1] for it in re.findall(r"[\w:]+", trait)]
+    return [kind + "".join(it for it in words if not is_type_parameter(it))]
+
+
+def is_type_parameter(word):
+    return len(word) == 1
 
 
 def applied(texts, edit):
@@ -69,13 +105,44 @@ def applied(texts, edit):
 
 
 def sources_of(crate):
+    """The texts of a crate in which an edit may make changes."""
     texts = {}
-    for folder, _, names in os.walk(f"{crate}/src"):
-        for name in names:
-            path = f"{folder}/{name}"
-            with open(path, encoding="utf-8") as it:
-                texts[os.path.relpath(path, crate)] = it.read()
+    for top in FOLDERS:
+        for folder, _, names in os.walk(f"{crate}/{top}"):
+            for name in names:
+                path = f"{folder}/{name}"
+                with open(path, encoding="utf-8") as it:
+                    texts[os.path.relpath(path, crate)] = it.read()
     return texts
+
+
+def calls_in(texts):
+    """For the name of each function of the sources, the names of those that it may call. Functions of one name are taken for one."""
+    called = {}
+    for file, text in texts.items():
+        if file.startswith("src/"):
+            heads = list(FUNCTION.finditer(text))
+            ends = [it.start() for it in heads[1:]] + [len(text)]
+            for head, end in zip(heads, ends):
+                called.setdefault(head[2], set()).update(CALL.findall(text[head.end() : end]))
+    return {name: words & called.keys() for name, words in called.items()}
+
+
+def reached_from(function, calls):
+    """The names of the functions that a function calls, itself or through others, and its own."""
+    reached, left = set(), [function.split("::")[-1]]
+    while left:
+        name = left.pop()
+        if name not in reached:
+            reached.add(name)
+            left.extend(calls.get(name, ()))
+    return reached
+
+
+def reaches(functions, others, calls):
+    """Whether one of the functions calls one of the others, itself or through others, or is one of them."""
+    names = {it.split("::")[-1] for it in others}
+    return any(reached_from(it, calls) & names for it in functions)
 
 
 def check(crate, texts, before):
@@ -112,18 +179,18 @@ def is_only_named(said, functions):
 
 
 def batches_of(edits, texts):
-    """The edits in batches, of which each makes its changes in functions of its own."""
-    left = list(edits)
+    """The edits that may share a check in batches, with the texts that each makes."""
+    calls = calls_in(texts)
+    left = [it for it in edits if it.may_share() and applied(texts, it)]
     while left:
         batch, changed, used, later = [], texts, set(), []
         for edit in left:
             made = applied(changed, edit)
-            if len(batch) < MOST and made and edit.is_of_functions() and not edit.functions & used:
+            apart = not reaches(edit.functions, used, calls) and not reaches(used, edit.functions, calls)
+            if made and apart and len(batch) < MOST:
                 batch, changed, used = [*batch, edit], made, used | edit.functions
             else:
                 later.append(edit)
-        if not batch:
-            return
         yield batch, changed
         left = later
 
@@ -158,10 +225,10 @@ def try_all(crate, edits, texts):
     return found
 
 
-def planted_in(crate):
+def planted_in(crate, texts):
     folder = f"{crate}/planted"
     names = sorted(os.listdir(folder)) if os.path.isdir(folder) else []
-    return [Edit(f"{folder}/{it}", crate) for it in names if it.endswith(".edit")]
+    return [Edit(f"{folder}/{it}", texts) for it in names if it.endswith(".edit")]
 
 
 def main(names):
@@ -172,7 +239,8 @@ def main(names):
         shutil.copytree(".", copy, ignore=shutil.ignore_patterns(".git"), symlinks=True)
         for name in listed:
             crate = f"{copy}/crates/{name}"
-            edits, texts = planted_in(crate), sources_of(crate)
+            texts = sources_of(crate)
+            edits = planted_in(crate, texts)
             if not edits:
                 continue
             if "logic=proved" not in check(crate, texts, texts):

@@ -1,2 +1,3 @@
+pub mod Builtin
 pub mod Exchange
 pub mod Lines

@@ -1,10 +1,10 @@
-ghost use Rattle.std.specs.Prelude.{◌≡◌, ℕ, ◌+◌, ◌-◌, ◌^◌, ◌≤◌, min, true, [], ◌++◌, length, codes, Err, OnOk};
+ghost use Rattle.std.specs.Prelude.{◌≡◌, ℕ, ◌+◌, ◌-◌, ◌^◌, ◌≤◌, min, true, false, [], ◌++◌, length, codes, Ok, Err, IfErr, OnOk};
 ghost use Rattle.std.specs.Fmt.{signed_decimal};
 ghost use Rattle.std.specs.List.{count_by, position, position_or_len};
 ghost use Rattle.std.specs.Option.{option_map};
 ghost use Rattle.std.specs.Io.KnownBytes.{Appends};
 ghost use Rattle.oaihost.specs.Lines as spec;
-ghost use Rattle.oaihost.specs.declared.stop.Stop.TheVariants.{BadExchange};
+ghost use Rattle.oaihost.specs.declared.stop.Stop.TheVariants.{BadExchange, NoMemory, OutputFault};
 
 use crate::exchange::{Answer, Exchange};
 use crate::served::Served;
@@ -76,7 +76,10 @@ struct Lines {
 }
 
 impl Lines {
-    fn new(alloc: Global) -> Lines {
+    fn new(alloc: Global) -> Lines
+        ensures number { result.ended ≡ 0 }
+        ensures line { result.begun.items ≡ [] }
+    {
         Lines {
             alloc,
             ended: 0,
@@ -108,7 +111,14 @@ impl Lines {
         &mut self,
         served: &mut Served<V>,
         writer: &mut W,
-    ) -> Result<(), Stop> {
+    ) -> Result<(), Stop>
+        ensures number { self.new.ended ≡ min (self.old.ended + 1) (2 ^ 64 - 1) }
+        ensures bad { spec.is_bad self.old.begun.items ≡ true → result
+            ≡ Err (BadExchange self.new.ended) }
+        ensures good { spec.is_bad self.old.begun.items ≡ false → IfErr result (λ stop. stop
+            ≡ OutputFault) }
+        ensures empty { self.old.begun.items ≡ [] → result ≡ Ok tt }
+    {
         self.end(served, writer)
     }
 
@@ -116,6 +126,7 @@ impl Lines {
     fn begin(&mut self, piece: &[u8]) -> Result<(), Stop>
         ensures line { OnOk result (self.new.begun.items ≡ self.old.begun.items ++ piece.now) }
         ensures number { self.new.ended ≡ self.old.ended }
+        ensures err { IfErr result (λ stop. stop ≡ NoMemory) }
     {
         if self.begun.extend_from_slice(piece).is_err() {
             return Err(Stop::NoMemory);
@@ -133,8 +144,9 @@ impl Lines {
         ensures next { OnOk result (self.new.begun.items ≡ []) }
         ensures bad { spec.is_bad self.old.begun.items ≡ true → result
             ≡ Err (BadExchange self.new.ended) }
-        ensures good { (n : ℕ) → result ≡ Err (BadExchange n) → spec.is_bad self.old.begun.items
-            ≡ true }
+        ensures good { spec.is_bad self.old.begun.items ≡ false → IfErr result (λ stop. stop
+            ≡ OutputFault) }
+        ensures empty { self.old.begun.items ≡ [] → result ≡ Ok tt }
     {
         self.ended = self.ended.saturating_add(1);
         if !self.begun.is_empty() {

@@ -1,3 +1,7 @@
+ghost use Rattle.std.specs.Prelude.{◌≡◌, IfOk};
+ghost use Rattle.oai_repo.specs.Settings.{Configures};
+ghost use Rattle.oaihost.specs.Builtin as spec;
+
 use oai_answers::DeletedRecord;
 use oai_names::{Sequence, Text};
 use oai_repo::{ConfigFault, FormatSettings, RepoConfig, Settings};
@@ -5,7 +9,9 @@ use oai_time::Granularity;
 use std::alloc::{AllocError, Global};
 
 /// The configuration of the one repository that the program serves: Archive A, from 2024 on.
-pub fn archive(alloc: Global) -> Result<RepoConfig, ConfigFault> {
+pub fn archive(alloc: Global) -> Result<RepoConfig, ConfigFault>
+    ensures { IfOk result (λ config. Configures spec.archive config) }
+{
     let Ok(settings) = archive_settings(alloc) else {
         return Err(ConfigFault::NoMemory);
     };
@@ -13,7 +19,9 @@ pub fn archive(alloc: Global) -> Result<RepoConfig, ConfigFault> {
 }
 
 /// The settings of that archive.
-fn archive_settings(alloc: Global) -> Result<Settings, AllocError> {
+fn archive_settings(alloc: Global) -> Result<Settings, AllocError>
+    ensures { IfOk result (λ settings. settings ≡ spec.archive) }
+{
     let mut addresses = Vec::new(alloc);
     addresses.push(Text::new(alloc, "a@host.example")?)?;
     let mut formats = Vec::new(alloc);
@@ -35,7 +43,9 @@ fn archive_settings(alloc: Global) -> Result<Settings, AllocError> {
 }
 
 /// The format of that archive for articles of journals, beside Dublin Core.
-fn journal(alloc: Global) -> Result<FormatSettings, AllocError> {
+fn journal(alloc: Global) -> Result<FormatSettings, AllocError>
+    ensures { IfOk result (λ format. format ≡ spec.journal) }
+{
     let mut fields = Vec::new(alloc);
     fields.push(Text::new(alloc, "volume")?)?;
     fields.push(Text::new(alloc, "pages")?)?;

@@ -1,6 +1,12 @@
 //! `oaihost`: a data provider for OAI-PMH 2.0.
 #![tactic(auto)]
 
+ghost use Rattle.std.specs.Prelude.{◌≡◌, IfErr, IfOk};
+ghost use Rattle.std.specs.Process.{exit_status};
+ghost use Rattle.oai_repo.specs.Settings.{Configures};
+ghost use Rattle.oaihost.specs.Builtin as spec;
+ghost use Rattle.oaihost.specs.declared.stop.Stop.TheVariants.{NoMemory};
+
 mod ask;
 mod builtin;
 mod exchange;
@@ -48,7 +54,9 @@ fn is_ask(rt: &(impl Env + AllocGlobal)) -> io::Result<bool> {
 }
 
 /// Says on standard error why the program stopped.
-fn stopped(rt: &impl Eprint, stop: Stop) -> io::Result<ExitCode> {
+fn stopped(rt: &impl Eprint, stop: Stop) -> io::Result<ExitCode>
+    ensures { IfOk result (λ code. exit_status code ≡ 1) }
+{
     eprintln!(rt; "{stop}")?;
     Ok(ExitCode::FAILURE)
 }
@@ -64,7 +72,10 @@ fn run_ask(rt: &(impl Input + Print + AllocGlobal)) -> Result<(), Stop> {
 }
 
 /// The built-in repository, without items, over a store of plain lists.
-fn built_in(alloc: Global) -> Result<Served<PlainVersions>, Stop> {
+fn built_in(alloc: Global) -> Result<Served<PlainVersions>, Stop>
+    ensures configured { IfOk result (λ served. Configures spec.archive served.repo.config) }
+    ensures err { IfErr result (λ stop. stop ≡ NoMemory) }
+{
     let Ok(config) = builtin::archive(alloc) else {
         return Err(Stop::NoMemory);
     };

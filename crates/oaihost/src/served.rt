@@ -1,6 +1,6 @@
 //! What the program serves: a repository, and the store that has its items.
-ghost use Rattle.std.specs.Prelude.{◌≡◌, IsTrue};
-ghost use Rattle.oai_repo.specs.Held.{IsHeld, StandsIn};
+ghost use Rattle.std.specs.Prelude.{◌≡◌, IfOk, IsTrue};
+ghost use Rattle.oai_repo.specs.Held.{IsHeld, IsNew, StandsIn};
 ghost use Rattle.oaihost.specs.Exchange as spec;
 
 use crate::exchange::{Answer, Exchange, perform};
@@ -20,7 +20,10 @@ pub struct Served<V: Versions + Drop> {
 
 impl<V: Versions + Drop> Served<V> {
     /// A repository without items and sets, in the store. Any fault may come.
-    pub fn new(alloc: Global, config: RepoConfig, mut store: V) -> Result<Served<V>, Fault> {
+    pub fn new(alloc: Global, config: RepoConfig, mut store: V) -> Result<Served<V>, Fault>
+        ensures { IfOk result (λ served. IsNew config (V.lists store) served.repo (V.lists
+            served.store)) }
+    {
         let repo = Repo::new(alloc, config, &mut store)?;
         Ok(Served { store, repo })
     }
