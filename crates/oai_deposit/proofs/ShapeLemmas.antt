@@ -1,16 +1,22 @@
 -- The shape of a value is the one that it is written as; and a value that is of none is refused as no command.
-use Rattle.std.proofs.Common.{◌≡◌, ℕ, Bool, ◌&&◌, eqb, true, false, cond, Option, Some, None, List, length, codes, Result, Ok, Err, refl, sym, ap, subst, is_some, ◌∙◌}
+use Rattle.std.proofs.Common.{◌≡◌, ℕ, Bool, ◌&&◌, eqb, true, false, cond, Option, Some, None, List, length, codes, Result, Ok, Err, refl, sym, ap, subst, is_some, ◌∙◌, arith}
 use Rattle.std.specs.Option.{ok_or}
 use Rattle.std.proofs.lemmas.Bool.{eqb-true}
-use Rattle.serde_json.specs.Data.{Data, string}
+use Rattle.std.specs.Ordering.{is_eq, match_ordering, nat_cmp}
+use Rattle.std.specs.Cmp.Lexicographic.{slice_cmp}
+use Rattle.std.specs.declared.cmp.Ordering.{Ordering}
+use Rattle.std.specs.declared.cmp.Ordering.TheVariants.{Less, Equal, Greater}
+use Rattle.std.proofs.lemmas.Map.Text.{is_eq-slice_cmp}
+use Rattle.std.proofs.lemmas.Slice.Eq.{bytes_eq-Decides}
+use Rattle.serde_json.specs.Data.{Data, array, boolean, member, no_members, null, number, object, string}
 use Rattle.serde_json.specs.Find.{get}
 use Rattle.oai_item.specs.declared.refusals.LineRefusal.{LineRefusal}
 use Rattle.oai_item.specs.declared.refusals.LineRefusal.TheVariants.{BadCommand}
 use Rattle.oai_item.specs.Item.{Metadata}
 use Rattle.oai_deposit.specs.Json.{size, has_members, has_each}
-use Rattle.oai_deposit.specs.Lines.{Shape, deposits, deletes, adds_set, text_of, member_of, texts_of, records_of, deposit_shape, deposit_members, deletion_shape, deletion_members, set_shape, set_members, shape_of}
+use Rattle.oai_deposit.specs.Lines.{Shape, deposits, deletes, purges, purge_shape, purge_members, adds_set, text_of, member_of, texts_of, records_of, deposit_shape, deposit_members, deletion_shape, deletion_members, set_shape, set_members, shape_of}
 use Rattle.oai_deposit.specs.Readings.{◌>>=◌}
-use Rattle.oai_deposit.specs.Shapes.{written_texts, written_records, IsDeposit, IsDeletion, IsNewSet, IsShape, ShapeLaw}
+use Rattle.oai_deposit.specs.Shapes.{written_texts, written_records, IsDeposit, IsDeletion, IsPurge, IsNewSet, IsShape, ShapeLaw}
 use Rattle.oai_deposit.proofs.ReaderLemmas.{Only, only_there, only_ok, only_after, Undoes, text, texts, records}
 use Rattle.oai_deposit.proofs.ReadingLemmas.{bind-Ok, Ok-injective}
 
@@ -124,6 +130,58 @@ unfolding deletion_shape
 only_deletion d =
     only_after (member_of (codes "delete") d >>= text_of) _ (only_member (codes "delete") d text_of string text) (λ i. only_ok (deletes i))
 
+-- ---- a purge
+
+purge_takes : (d : Data) (shape : Shape) → size d ≡ 1 → purge_shape d ≡ Ok shape → IsShape shape d
+unfolding purge_shape
+purge_takes d shape one is =
+    let p = bind-Ok (member_of (codes "purge") d >>= text_of) (λ b. Ok (purges b)) shape is in
+    let made : IsPurge p.0 d = record { purge = member_takes (codes "purge") d text_of string p.0 text p.1; no_other = one } in
+    subst (λ (c : Shape). IsShape c d) {x = purges p.0} (Ok-injective (purges p.0) shape p.2) made
+
+purge_again : (d : Data) (b : List ℕ) → IsPurge b d → purge_shape d ≡ Ok (purges b)
+unfolding purge_shape
+purge_again d b is = ap (λ x. x >>= λ b. Ok (purges b)) (member_again (codes "purge") d text_of string b text is.purge)
+
+are_purge : (d : Data) (b : List ℕ) → IsPurge b d → has_members purge_members d ≡ true
+unfolding has_members
+are_purge d b is = one_there (size d) (get (codes "purge") d) _ is.no_other is.purge
+
+only_purge : (d : Data) → Only (purge_shape d)
+unfolding purge_shape
+only_purge d =
+    only_after (member_of (codes "purge") d >>= text_of) _ (only_member (codes "purge") d text_of string text) (λ b. only_ok (purges b))
+
+-- an object of one member has no member of another name
+found_there : (o : Ordering) (x y : Data) → match_ordering o None (Some x) None ≡ Some y → o ≡ Equal
+found_there Less x y is = cc
+found_there Equal x y is = refl
+found_there Greater x y is = cc
+
+name_is : (k l : List ℕ) → slice_cmp nat_cmp k l ≡ Equal → k ≡ l
+name_is k l is = (bytes_eq-Decides k l).0 (sym (is_eq-slice_cmp k l) ∙ ap is_eq is)
+
+no_deletion_member : (d : Data) (x : Data) → size d ≡ 1 → get (codes "purge") d ≡ Some x → get (codes "delete") d ≡ None
+no_deletion_member null x one is = cc
+no_deletion_member (boolean b) x one is = cc
+no_deletion_member (number n) x one is = cc
+no_deletion_member (string s) x one is = cc
+no_deletion_member (array ds) x one is = cc
+no_deletion_member (object no_members) x one is = cc
+no_deletion_member (object (member l e no_members)) x one is =
+    let name : codes "purge" ≡ l = name_is (codes "purge") l (found_there (slice_cmp nat_cmp (codes "purge") l) e x is) in
+    ap (λ (m : List ℕ). match_ordering (slice_cmp nat_cmp (codes "delete") m) None (Some e) None) (sym name)
+no_deletion_member (object (member l e (member k f ms))) x one is = absurd (omega (arith, one))
+
+no_deletion : (d : Data) (b : List ℕ) → IsPurge b d → has_members deletion_members d ≡ false
+unfolding has_members
+no_deletion d b is =
+    ap (λ (o : Option Data). eqb (size d) 1 && (is_some o && true)) (no_deletion_member d (string b) is.no_other is.purge) ∙ none (eqb (size d) 1)
+  where
+    none : (b : Bool) → (b && false) ≡ false
+    none true = refl
+    none false = refl
+
 -- ---- a new set
 
 set_takes : (d : Data) (shape : Shape) → size d ≡ 2 → set_shape d ≡ Ok shape → IsShape shape d
@@ -166,9 +224,12 @@ only_set d =
 abbrev refused : LineRefusal → Result Shape LineRefusal
 refused refusal = Err refusal
 
--- the shapes are tried one after another: those after a deposit, and those after a deletion
+-- the shapes are tried one after another: those after a deposit, those after a deletion, and those after a purge
+abbrev after_purge : Data → Result Shape LineRefusal
+after_purge d = cond (has_members set_members d) (set_shape d) (Err BadCommand)
+
 abbrev after_deletion : Data → Result Shape LineRefusal
-after_deletion d = cond (has_members set_members d) (set_shape d) (Err BadCommand)
+after_deletion d = cond (has_members purge_members d) (purge_shape d) (after_purge d)
 
 abbrev after_deposit : Data → Result Shape LineRefusal
 after_deposit d = cond (has_members deletion_members d) (deletion_shape d) (after_deletion d)
@@ -195,9 +256,11 @@ shape_takes d shape =
     (λ is. deposit_takes d shape (of_size deposit_members d is))
     (if_taken (has_members deletion_members d) (deletion_shape d) (after_deletion d) shape (IsShape shape d)
     (λ is. deletion_takes d shape (of_size deletion_members d is))
+    (if_taken (has_members purge_members d) (purge_shape d) (after_purge d) shape (IsShape shape d)
+    (λ is. purge_takes d shape (of_size purge_members d is))
     (if_taken (has_members set_members d) (set_shape d) (Err BadCommand) shape (IsShape shape d)
     (λ is. set_takes d shape (of_size set_members d is))
-    (λ none. absurd (Err≢Ok shape none))))
+    (λ none. absurd (Err≢Ok shape none)))))
 
 -- it is no deposit, and it is no deletion, as it is of another number of members
 past_deposit : (d : Data) (n : ℕ) → size d ≡ n → eqb n 3 ≡ false → shape_of d ≡ after_deposit d
@@ -209,6 +272,9 @@ past_deletion : (d : Data) (n : ℕ) → size d ≡ n → eqb n 1 ≡ false → 
 past_deletion d n is other =
     not_there (has_members deletion_members d) (deletion_shape d) (after_deletion d) (of_another_size deletion_members d n is other)
 
+past_purge : (d : Data) (n : ℕ) → size d ≡ n → eqb n 1 ≡ false → after_deletion d ≡ after_purge d
+past_purge d n is other = not_there (has_members purge_members d) (purge_shape d) (after_purge d) (of_another_size purge_members d n is other)
+
 shape_again : (d : Data) (shape : Shape) → IsShape shape d → shape_of d ≡ Ok shape
 unfolding shape_of
 shape_again d (deposits i s r) is =
@@ -216,8 +282,12 @@ shape_again d (deposits i s r) is =
 shape_again d (deletes i) is =
     past_deposit d 1 is.no_other refl
     ∙ there (has_members deletion_members d) (deletion_shape d) (after_deletion d) (are_deletion d i is) ∙ deletion_again d i is
+shape_again d (purges b) is =
+    past_deposit d 1 is.no_other refl
+    ∙ not_there (has_members deletion_members d) (deletion_shape d) (after_deletion d) (no_deletion d b is)
+    ∙ there (has_members purge_members d) (purge_shape d) (after_purge d) (are_purge d b is) ∙ purge_again d b is
 shape_again d (adds_set s n) is =
-    past_deposit d 2 is.no_other refl ∙ past_deletion d 2 is.no_other refl
+    past_deposit d 2 is.no_other refl ∙ past_deletion d 2 is.no_other refl ∙ past_purge d 2 is.no_other refl
     ∙ there (has_members set_members d) (set_shape d) (Err BadCommand) (are_new_set d s n is) ∙ set_again d s n is
 
 only_if : (b : Bool) (q others : Result Shape LineRefusal) → Only q → Only others → Only (cond b q others)
@@ -232,7 +302,8 @@ unfolding shape_of
 only_shape d =
     only_if (has_members deposit_members d) (deposit_shape d) (after_deposit d) (only_deposit d)
     (only_if (has_members deletion_members d) (deletion_shape d) (after_deletion d) (only_deletion d)
-    (only_if (has_members set_members d) (set_shape d) (Err BadCommand) (only_set d) no_command))
+    (only_if (has_members purge_members d) (purge_shape d) (after_purge d) (only_purge d)
+    (only_if (has_members set_members d) (set_shape d) (Err BadCommand) (only_set d) no_command)))
 
 -- ---- the law
 

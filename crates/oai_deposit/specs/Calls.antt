@@ -7,7 +7,7 @@ use Rattle.oai_deposit.specs.declared.faults.LineFault.{LineFault}
 use Rattle.oai_deposit.specs.declared.faults.LineFault.TheVariants.{NoMemory, Refused}
 use Rattle.oai_deposit.specs.Json.{has_members}
 use Rattle.oai_deposit.specs.Readings.{◌>>=◌}
-use Rattle.oai_deposit.specs.Lines.{Shape, deposit_members, deletion_members, set_members, asked_change}
+use Rattle.oai_deposit.specs.Lines.{Shape, deposit_members, deletion_members, purge_members, set_members, asked_change}
 
 -- a call that takes no memory answered the reading, seen by the view
 abbrev pub Answers : {A B : Type 0} → (A → B) → Result A LineRefusal → Result B LineRefusal → Type 0
@@ -28,7 +28,7 @@ Anywhere = Unit {0}
 -- an object of exactly the members of some command
 abbrev pub has_command_members : Data → Bool
 has_command_members d =
-    has_members deposit_members d || has_members deletion_members d || has_members set_members d
+    has_members deposit_members d || has_members deletion_members d || has_members purge_members d || has_members set_members d
 
 -- the change that what was read as a shape asks for
 abbrev pub asked_by : Result Shape LineRefusal → Result Change LineRefusal

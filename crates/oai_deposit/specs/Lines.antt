@@ -27,11 +27,12 @@ json_of line = if is_utf8 line then ok_or (read line) BadJson else Err BadJson
 
 -- ---- 2: the shapes
 
--- the texts of a command: of a deposit, the identifier, the setSpecs and the records; of a deletion, the identifier; of a new set,
--- the setSpec and the setName
+-- the texts of a command: of a deposit, the identifier, the setSpecs and the records; of a deletion, the identifier; of a purge, the
+-- bound; of a new set, the setSpec and the setName
 pub data Shape : Type 0 where
   deposits : List ℕ → List (List ℕ) → List Metadata → Shape
   deletes : List ℕ → Shape
+  purges : List ℕ → Shape
   adds_set : List ℕ → List ℕ → Shape
 
 -- a string
@@ -108,6 +109,16 @@ deletion_shape d = do
 abbrev pub deletion_members : List (List ℕ)
 deletion_members = codes "delete" ∷ []
 
+-- {"purge":BOUND}
+unfoldable pub purge_shape : Data → Result Shape LineRefusal
+purge_shape d = do
+  before ← (member_of (codes "purge") d >>= text_of)
+  Ok (purges before)
+
+-- the name of the member of a purge
+abbrev pub purge_members : List (List ℕ)
+purge_members = codes "purge" ∷ []
+
 -- {"set":SPEC,"name":TEXT}
 unfoldable pub set_shape : Data → Result Shape LineRefusal
 set_shape d = do
@@ -124,8 +135,9 @@ unfoldable pub shape_of : Data → Result Shape LineRefusal
 shape_of d =
     if has_members deposit_members d then deposit_shape d
     else (if has_members deletion_members d then deletion_shape d
+    else (if has_members purge_members d then purge_shape d
     else (if has_members set_members d then set_shape d
-    else Err BadCommand))
+    else Err BadCommand)))
 
 -- ---- 3 to 5: the texts
 
@@ -135,7 +147,7 @@ have_xml_texts records =
     list_all (λ metadata. list_all (λ field. is_xml_text field.text) metadata.1) records
 
 -- the change that a command asks for: its identifier, each of its setSpecs, and the texts of its fields or its setName are tested,
--- in this order
+-- in this order. The bound of a purge is for the repository to read, which knows its granularity
 unfoldable pub asked_change : Shape → Result Change LineRefusal
 asked_change (deposits identifier sets records) = do
   identifier ← tested may_be_identifier BadIdentifier identifier
@@ -145,6 +157,7 @@ asked_change (deposits identifier sets records) = do
 asked_change (deletes identifier) = do
   identifier ← tested may_be_identifier BadIdentifier identifier
   Ok (change.Delete identifier)
+asked_change (purges before) = Ok (change.Purge before)
 asked_change (adds_set spec name) = do
   spec ← tested may_be_set_spec BadSetSpec spec
   name ← tested is_short_text BadText name

@@ -7,7 +7,7 @@ use Rattle.oai_item.specs.declared.refusals.LineRefusal.{LineRefusal}
 use Rattle.oai_item.specs.declared.refusals.LineRefusal.TheVariants.{BadCommand}
 use Rattle.oai_item.specs.Item.{Metadata}
 use Rattle.oai_deposit.specs.Json.{size, array_of, object_of}
-use Rattle.oai_deposit.specs.Lines.{Shape, deposits, deletes, adds_set, shape_of}
+use Rattle.oai_deposit.specs.Lines.{Shape, deposits, deletes, purges, adds_set, shape_of}
 
 -- [TEXT,..]
 abbrev pub written_texts : List (List ℕ) → Data
@@ -38,6 +38,11 @@ pub record IsDeletion (identifier : List ℕ) (d : Data) : Type 0 where
   pub delete : get (codes "delete") d ≡ Some (string identifier)
   pub no_other : size d ≡ 1
 
+-- {"purge":BOUND}
+pub record IsPurge (before : List ℕ) (d : Data) : Type 0 where
+  pub purge : get (codes "purge") d ≡ Some (string before)
+  pub no_other : size d ≡ 1
+
 -- {"set":SPEC,"name":TEXT}, its members in any order
 pub record IsNewSet (spec title : List ℕ) (d : Data) : Type 0 where
   pub set : get (codes "set") d ≡ Some (string spec)
@@ -48,6 +53,7 @@ pub record IsNewSet (spec title : List ℕ) (d : Data) : Type 0 where
 abbrev pub IsShape : Shape → Data → Type 0
 IsShape (deposits identifier sets records) d = IsDeposit identifier sets records d
 IsShape (deletes identifier) d = IsDeletion identifier d
+IsShape (purges before) d = IsPurge before d
 IsShape (adds_set spec name) d = IsNewSet spec name d
 
 -- the value is of a shape exactly where it is the object that the shape is written as; where it is so of none, it is refused

@@ -62,6 +62,8 @@ fn read_value(alloc: Global, value: &Value) -> Result<Change, LineFault>
         deposit_of(alloc, value)
     } else if has_members(value, &["delete"]) {
         deletion_of(alloc, value)
+    } else if has_members(value, &["purge"]) {
+        purge_of(alloc, value)
     } else if has_members(value, &["set", "name"]) {
         new_set_of(alloc, value)
     } else {
@@ -123,6 +125,18 @@ fn deletion_from(alloc: Global, identifier: &str) -> Result<Change, LineFault>
 {
     Ok(Change::Delete {
         identifier: identifier_of(alloc, identifier)?,
+    })
+}
+
+/// The purge that an object of its member asks for.
+#[tactic(auto, unfolding(crate::specs::Lines::purge_shape, crate::specs::Lines::asked_change))]
+fn purge_of(alloc: Global, value: &Value) -> Result<Change, LineFault>
+    ensures { Gives (is_ok (lines.purge_shape (view value.now)) ≡ true) result
+        (asked_by (lines.purge_shape (view value.now))) }
+{
+    let before = text_of(member_of(value, "purge")?)?;
+    Ok(Change::Purge {
+        before: Text::new(alloc, before)?,
     })
 }
 

@@ -3,7 +3,7 @@ use Rattle.std.specs.Prelude.{ℕ, List, codes}
 use Rattle.oai_item.specs.declared.refusals.LineRefusal.{LineRefusal}
 use Rattle.oai_item.specs.declared.refusals.LineRefusal.TheVariants.{BadJson, BadCommand, BadIdentifier, BadSetSpec, BadText}
 use Rattle.oai_item.specs.declared.refusals.ChangeRefusal.{ChangeRefusal}
-use Rattle.oai_item.specs.declared.refusals.ChangeRefusal.TheVariants.{UnknownSet, UnknownFormat, NoDc, UnknownField, DropsFormat, TooLarge, TooManyItems, NoSuchItem, AlreadyDeleted, SetExists, NoParent, TooManySets}
+use Rattle.oai_item.specs.declared.refusals.ChangeRefusal.TheVariants.{UnknownSet, UnknownFormat, NoDc, UnknownField, DropsFormat, TooLarge, TooManyItems, NoSuchItem, AlreadyDeleted, NotTransient, BadDate, SetExists, NoParent, TooManySets}
 
 -- a cause lies in the line as it stands, or in what the repository holds
 pub data Cause : Type 0 where
@@ -26,6 +26,8 @@ refusal_line (in_repository TooLarge) = codes "refused 11 too-large"
 refusal_line (in_repository TooManyItems) = codes "refused 12 too-many-items"
 refusal_line (in_repository NoSuchItem) = codes "refused 13 no-such-item"
 refusal_line (in_repository AlreadyDeleted) = codes "refused 14 already-deleted"
+refusal_line (in_repository NotTransient) = codes "refused 15 not-transient"
+refusal_line (in_repository BadDate) = codes "refused 16 bad-date"
 refusal_line (in_repository SetExists) = codes "refused 17 set-exists"
 refusal_line (in_repository NoParent) = codes "refused 18 no-parent"
 refusal_line (in_repository TooManySets) = codes "refused 19 too-many-sets"

@@ -18,6 +18,11 @@ pub enum Change {
         /// The unique identifier.
         identifier: Identifier,
     },
+    /// The end of what is left of deleted items (OAI-PMH 2.0, section 2.5.1).
+    Purge {
+        /// The bound: those go whose datestamps are below its first second.
+        before: Text,
+    },
     /// A new set (OAI-PMH 2.0, section 2.6).
     AddSet {
         /// The setSpec.

@@ -165,7 +165,8 @@ fn read_text(bytes: &[u8]) -> Result<(&str, &[u8]), DecodeFault>
 
 /// An identifier from the front, and the bytes after it.
 fn read_identifier(alloc: Global, bytes: &[u8]) -> Result<(Identifier, &[u8]), DecodeFault>
-    ensures { Reads (λ a. (a.0, a.1.now)) encoded_text (IsNamed may_be_identifier) bytes.now result }
+    ensures { Reads (λ a. (a.0, a.1.now)) encoded_text (IsNamed may_be_identifier)
+        bytes.now result }
 {
     let (text, rest) = read_text(bytes)?;
     let identifier = Identifier::read(alloc, text)?;
@@ -192,7 +193,8 @@ fn read_prefix(alloc: Global, bytes: &[u8]) -> Result<(Prefix, &[u8]), DecodeFau
 
 /// A field from the front, and the bytes after it.
 fn read_field(alloc: Global, bytes: &[u8]) -> Result<(Field, &[u8]), DecodeFault>
-    ensures { Reads (λ a. (a.0, a.1.now)) encoded_field (λ field. is_text_field field ≡ true) bytes.now result }
+    ensures { Reads (λ a. (a.0, a.1.now)) encoded_field (λ field. is_text_field field ≡ true)
+        bytes.now result }
 {
     let (name, rest) = read_text(bytes)?;
     let (text, rest) = read_text(rest)?;
@@ -206,7 +208,8 @@ fn read_record(
     alloc: Global,
     bytes: &[u8],
 ) -> Result<((Prefix, Sequence<Field>), &[u8]), DecodeFault>
-    ensures { Reads (λ a. (a.0, a.1.now)) encoded_record (λ format. is_record format ≡ true) bytes.now result }
+    ensures { Reads (λ a. (a.0, a.1.now)) encoded_record (λ format. is_record format ≡ true)
+        bytes.now result }
 {
     let (prefix, rest) = read_prefix(alloc, bytes)?;
     let (fields, rest) = read_fields(alloc, rest)?;
@@ -215,7 +218,8 @@ fn read_record(
 
 /// A list of sets from the front, and the bytes after it.
 fn read_sets(alloc: Global, bytes: &[u8]) -> Result<(Sequence<SetSpec>, &[u8]), DecodeFault>
-    ensures { Reads (λ a. (a.0, a.1.now)) (encoded_list encoded_text) (λ sets. are_sets sets ≡ true) bytes.now result }
+    ensures { Reads (λ a. (a.0, a.1.now)) (encoded_list encoded_text) (λ sets. are_sets sets ≡ true)
+        bytes.now result }
 {
     let (count, mut rest) = read_count(bytes)?;
     if rest.len() / TEXT_BYTES < count {
@@ -232,7 +236,8 @@ fn read_sets(alloc: Global, bytes: &[u8]) -> Result<(Sequence<SetSpec>, &[u8]), 
 
 /// A list of fields from the front, and the bytes after it.
 fn read_fields(alloc: Global, bytes: &[u8]) -> Result<(Sequence<Field>, &[u8]), DecodeFault>
-    ensures { Reads (λ a. (a.0, a.1.now)) (encoded_list encoded_field) (λ fields. are_fields fields ≡ true) bytes.now result }
+    ensures { Reads (λ a. (a.0, a.1.now)) (encoded_list encoded_field) (λ fields. are_fields fields ≡ true)
+        bytes.now result }
 {
     let (count, mut rest) = read_count(bytes)?;
     if rest.len() / PAIR_BYTES < count {
@@ -252,7 +257,8 @@ fn read_records(
     alloc: Global,
     bytes: &[u8],
 ) -> Result<(Sequence<(Prefix, Sequence<Field>)>, &[u8]), DecodeFault>
-    ensures { Reads (λ a. (a.0, a.1.now)) (encoded_list encoded_record) (λ records. are_records records ≡ true) bytes.now result }
+    ensures { Reads (λ a. (a.0, a.1.now)) (encoded_list encoded_record) (λ records. are_records records ≡ true)
+        bytes.now result }
 {
     let (count, mut rest) = read_count(bytes)?;
     if rest.len() / PAIR_BYTES < count {

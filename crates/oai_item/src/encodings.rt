@@ -28,8 +28,10 @@ pub(crate) fn put_parts(
     sets: &[SetSpec],
     formats: &[(Prefix, Sequence<Field>)],
 ) -> usize
-    requires { length (encoded (item_with live stamp identifier.now sets.now formats.now)) ≤ length out.old }
-    ensures written { Writes (encoded (item_with live stamp identifier.now sets.now formats.now)) out.old result out.new }
+    requires { length (encoded (item_with live stamp identifier.now sets.now formats.now))
+        ≤ length out.old }
+    ensures written { Writes (encoded (item_with live stamp identifier.now sets.now formats.now))
+        out.old result out.new }
     ensures texts { is_text_item (item_with live stamp identifier.now sets.now formats.now) ≡ true }
 {
     let mut at = put_live(out, live);

@@ -71,6 +71,13 @@ pub enum ChangeRefusal {
     /// The item that is to be deleted is deleted. Number 14.
     #[error("the item is deleted already")]
     AlreadyDeleted,
+    /// Deleted items do not go, as the repository keeps all of them or none. Number 15.
+    #[error("the repository does not forget deleted items")]
+    NotTransient,
+    /// What the purge is bounded by is no bound, or a finer one than the repository's datestamps.
+    /// Number 16.
+    #[error("the bound is none, or too fine")]
+    BadDate,
     /// A set of that setSpec is there. Number 17.
     #[error("the set exists")]
     SetExists,
@@ -98,6 +105,8 @@ impl ChangeRefusal {
             ChangeRefusal::TooManyItems => "refused 12 too-many-items",
             ChangeRefusal::NoSuchItem => "refused 13 no-such-item",
             ChangeRefusal::AlreadyDeleted => "refused 14 already-deleted",
+            ChangeRefusal::NotTransient => "refused 15 not-transient",
+            ChangeRefusal::BadDate => "refused 16 bad-date",
             ChangeRefusal::SetExists => "refused 17 set-exists",
             ChangeRefusal::NoParent => "refused 18 no-parent",
             ChangeRefusal::TooManySets => "refused 19 too-many-sets",

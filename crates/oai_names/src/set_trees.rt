@@ -100,7 +100,8 @@ impl SetTree {
     /// lies in it. The time is that of a search in the index, and where the set is there, of a look
     /// along the list.
     pub fn find(&self, spec: &str) -> Option<&SetSpec>
-        ensures found { option_copied result ≡ (if has_set self.now spec.now then Some spec.now else None) }
+        ensures found { option_copied result
+            ≡ (if has_set self.now spec.now then Some spec.now else None) }
         ensures above { HasSetsAbove self.now }
     {
         let sets = self.sets.as_slice();

@@ -34,6 +34,7 @@ IsAsked old before moment arguments reply new after =
 abbrev pub early_refusal : Config → Holdings → Change → Option ChangeRefusal
 early_refusal config holdings (change.Deposit identifier sets records) = deposit_refusal config holdings.sets sets records
 early_refusal config holdings (change.Delete identifier) = missing_refusal (item_named identifier holdings.items)
+early_refusal config holdings (change.Purge before) = purge_refusal config before
 early_refusal config holdings (change.AddSet spec name) = set_refusal holdings.sets spec
 
 -- a change was made or refused: it is what the machine does; or it is a fault, where no early cause refuses the change

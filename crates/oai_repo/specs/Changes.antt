@@ -1,11 +1,14 @@
 -- What a change makes of a repository, or why it is refused. OAI-PMH 2.0, sections 2.3 to 2.7; that a change may be refused is this
 -- repository's own.
-use Rattle.std.specs.Prelude.{ℕ, ℤ, Bool, false, ◌&&◌, not, nat_le, List, [], ◌∷◌, ◌++◌, length, codes, Option, Some, None, is_none, if◌then◌else◌}
+use Rattle.std.specs.Prelude.{ℕ, ℤ, Bool, false, ◌&&◌, not, nat_le, List, [], ◌∷◌, ◌++◌, length, codes, Option, Some, None, is_none, option_and_then, int_lt, filter, if◌then◌else◌}
 use Rattle.std.specs.List.{list_all}
 use Rattle.std.specs.Option.{option_or}
 use Rattle.oai_names.specs.Sets.{has_set, has_parent}
 use Rattle.oai_names.specs.declared.limits.TheConstants.{MOST_SETS}
+use Rattle.oai_time.specs.Bound.{bound_of, is_no_finer_than, lower_of}
 use Rattle.oai_time.specs.Stamp.{stamp_of}
+use Rattle.oai_time.specs.declared.bound.Bound.{Bound}
+use Rattle.oai_time.specs.declared.granularity.Granularity.{Granularity}
 use Rattle.oai_item.specs.Item.{ItemState, Metadata, has_record, live_item, tombstone_of}
 use Rattle.oai_item.specs.Items.{item_named, without, placed}
 use Rattle.oai_item.specs.Known.{has_format, has_known_fields}
@@ -13,7 +16,7 @@ use Rattle.oai_item.specs.Membership.{reduced}
 use Rattle.oai_item.specs.declared.changes.Change.{Change}
 use Rattle.oai_item.specs.declared.changes.Change.TheVariants as change
 use Rattle.oai_item.specs.declared.refusals.ChangeRefusal.{ChangeRefusal}
-use Rattle.oai_item.specs.declared.refusals.ChangeRefusal.TheVariants.{UnknownSet, UnknownFormat, NoDc, UnknownField, DropsFormat, TooLarge, TooManyItems, NoSuchItem, AlreadyDeleted, SetExists, NoParent, TooManySets}
+use Rattle.oai_item.specs.declared.refusals.ChangeRefusal.TheVariants.{UnknownSet, UnknownFormat, NoDc, UnknownField, DropsFormat, TooLarge, TooManyItems, NoSuchItem, AlreadyDeleted, NotTransient, BadDate, SetExists, NoParent, TooManySets}
 use Rattle.oai_answers.specs.declared.identify.DeletedRecord.{DeletedRecord}
 use Rattle.oai_answers.specs.declared.identify.DeletedRecord.TheVariants.{No, Transient, Persistent}
 use Rattle.oai_repo.specs.Config.{Config}
@@ -76,6 +79,41 @@ after_deletion No stamp identifier items = without identifier items
 after_deletion Transient stamp identifier items = with_tombstone stamp (item_named identifier items) items
 after_deletion Persistent stamp identifier items = with_tombstone stamp (item_named identifier items) items
 
+-- ---- a purge
+
+-- the repository forgets deleted items when it is told to (section 2.5.1)
+abbrev pub is_transient : DeletedRecord → Bool
+is_transient No = false
+is_transient Transient = true
+is_transient Persistent = false
+
+-- the first second of a bound that is no finer than the datestamps
+abbrev pub limit_in : Granularity → Bound → Option ℤ
+limit_in granularity bound = if is_no_finer_than bound granularity then Some (lower_of bound) else None
+
+-- and of the text, where it is such a bound (sections 2.7.1 and 3.3)
+abbrev pub limit_of : Granularity → List ℕ → Option ℤ
+limit_of granularity text = option_and_then (limit_in granularity) (bound_of text)
+
+-- why deleted items below the bound may not go: the first cause
+unfoldable pub purge_refusal : Config → List ℕ → Option ChangeRefusal
+purge_refusal config before =
+    if not (is_transient config.deleted) then Some NotTransient
+    else (if is_none (limit_of config.granularity before) then Some BadDate
+    else None)
+
+-- the item is deleted, and its datestamp is below the limit
+abbrev pub is_past : ℤ → ItemState → Bool
+is_past limit item = not item.live && int_lt item.stamp limit
+
+-- the items but those that are past
+unfoldable pub purged : ℤ → List ItemState → List ItemState
+purged limit items = filter (λ item. not (is_past limit item)) items
+
+abbrev pub after_purge : Option ℤ → List ItemState → List ItemState
+after_purge None items = items
+after_purge (Some limit) items = purged limit items
+
 -- ---- a new set
 
 -- why the set may not stand among these: the first cause
@@ -100,13 +138,16 @@ refusal_of config stamp holdings (change.Deposit identifier sets records) = opti
     (item_refusal config (item_named identifier holdings.items) (length holdings.items) (live_item identifier stamp (reduced sets) records))
 refusal_of config stamp holdings (change.Delete identifier) =
     let found = item_named identifier holdings.items in option_or (missing_refusal found) (dead_refusal found)
+refusal_of config stamp holdings (change.Purge before) = purge_refusal config before
 refusal_of config stamp holdings (change.AddSet spec name) = set_refusal holdings.sets spec
 
 -- what is held after a change with that datestamp that is not refused: the items without that identifier, and the new one; or what
--- a deletion leaves of them; or the sets, and the new one behind them
+-- a deletion leaves of them, or a purge; or the sets, and the new one behind them
 unfoldable pub changed : Config → ℤ → Holdings → Change → Holdings
 changed config stamp holdings (change.Deposit identifier sets records) =
     record holdings { items = with_new (live_item identifier stamp (reduced sets) records) holdings.items }
 changed config stamp holdings (change.Delete identifier) =
     record holdings { items = after_deletion config.deleted stamp identifier holdings.items }
+changed config stamp holdings (change.Purge before) =
+    record holdings { items = after_purge (limit_of config.granularity before) holdings.items }
 changed config stamp holdings (change.AddSet spec name) = record holdings { sets = holdings.sets ++ (spec, name) ∷ [] }

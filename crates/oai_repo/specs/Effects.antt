@@ -15,11 +15,12 @@ use Rattle.oai_repo.specs.State.{FrozenList, NamedSet, State}
 -- ---- what is done to a state
 
 -- nothing; an item comes in place of the one of its identifier, if there is one; the item of an identifier goes, and nothing of it is
--- kept; a set comes behind the others; the open list of a number stays open from now on; or a list is opened
+-- kept; the deleted items below a limit go; a set comes behind the others; the open list of a number stays open from now on; or a list is opened
 pub data Effect : Type 0 where
   unchanged : Effect
   item_put : ItemState → Effect
   item_taken : List ℕ → Effect
+  items_purged : ℤ → Effect
   set_added : NamedSet → Effect
   list_renewed : ℕ → Effect
   list_opened : FrozenList → Effect
@@ -33,6 +34,7 @@ abbrev pub effected : Config → State → Effect → State
 effected config state unchanged = state
 effected config state (item_put item) = holding state (with_new item state.holdings.items)
 effected config state (item_taken identifier) = holding state (without identifier state.holdings.items)
+effected config state (items_purged limit) = holding state (purged limit state.holdings.items)
 effected config state (set_added set) = record state { holdings = record state.holdings { sets = state.holdings.sets ++ set ∷ [] } }
 effected config state (list_renewed number) = record state { begun = with_prolonged config state.clock number state.begun }
 effected config state (list_opened list) = record state { begun = with_begun list state.begun }
@@ -63,6 +65,7 @@ abbrev pub IsPossible : Config → State → Effect → Type 0
 IsPossible config state unchanged = Unit {0}
 IsPossible config state (item_put item) = IsPut config state item
 IsPossible config state (item_taken identifier) = config.deleted ≡ No
+IsPossible config state (items_purged limit) = config.deleted ≡ Transient
 IsPossible config state (set_added set) = set_refusal state.holdings.sets set.0 ≡ None
 IsPossible config state (list_renewed number) = Unit {0}
 IsPossible config state (list_opened list) = IsOpened config state list

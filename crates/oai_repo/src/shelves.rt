@@ -41,7 +41,8 @@ impl Model for Shelf {
 
     ghost view = { λ s. record { version = s.version; notes = notes_in s.stamps } };
 
-    ghost invariant = { λ s. (identifier : List ℕ) → IsSome (noted identifier (notes_in s.stamps)) → may_be_identifier identifier ≡ true };
+    ghost invariant = { λ s. (identifier : List ℕ)
+        → IsSome (noted identifier (notes_in s.stamps)) → may_be_identifier identifier ≡ true };
 }
 
 impl Shelf {

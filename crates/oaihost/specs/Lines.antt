@@ -1,5 +1,5 @@
 -- The lines that the program performs, what it writes for each, and what it says where it stops. This repository's own.
-use Rattle.std.specs.Prelude.{ℕ, ◌^◌, ◌==◌, ℤ, pos, neg_ℤ, Bool, ◌&&◌, nat_lt, nat_le, List, [], ◌++◌, length, drop, slice_index, codes, decimal, Option, Some, None, is_none, if◌then◌else◌}
+use Rattle.std.specs.Prelude.{◌≡◌, ℕ, ◌^◌, ◌==◌, ℤ, pos, neg_ℤ, Bool, ◌&&◌, nat_lt, nat_le, List, [], ◌++◌, length, drop, slice_index, codes, decimal, Option, Some, None, is_none, if◌then◌else◌}
 use Rattle.std.specs.List.{before_first, after_first, count_by}
 use Rattle.std.specs.Option.{option_map}
 use Rattle.std.specs.Str.{all_ascii_digits}
@@ -7,6 +7,9 @@ use Rattle.std.specs.Fmt.{signed_decimal}
 use Rattle.std.specs.Str.Parse.{digits_value}
 use Rattle.oai_item.specs.declared.faults.Fault.{Fault}
 use Rattle.oai_item.specs.declared.faults.Fault.TheVariants as fault
+use Rattle.oai_catalogue.specs.Store.{Lists}
+use Rattle.oai_repo.specs.Held.{Held}
+use Rattle.oaihost.specs.Exchange.{IsAnswered, input_of}
 use Rattle.oaihost.specs.declared.exchange.Exchange.{Exchange}
 use Rattle.oaihost.specs.declared.exchange.Answer.{Answer}
 use Rattle.oaihost.specs.declared.exchange.Answer.TheVariants.{Failed, Later, Performed}
@@ -89,6 +92,17 @@ unfoldable pub shown : Answer → List ℕ
 shown (Performed body) = codes "200\n" ++ body
 shown (Later seconds) = codes "503 " ++ signed_decimal seconds ++ codes "\n"
 shown (Failed fault done) = status_of fault ++ shown_done done ++ codes "\n"
+
+-- ---- what a line does
+
+-- the line spells an exchange, which was performed or failed, and its answer was written
+pub record IsLineDone (bytes : List ℕ) (honest : Bool) (old : Held) (before : Lists) (new : Held) (after : Lists) (IsWritten : List ℕ → Type 0) : Type 0 where
+  pub moment : ℤ
+  pub exchange : Exchange
+  pub answer : Answer
+  pub read : spelled bytes ≡ Some (spelled_by (moment, exchange))
+  pub answered : IsAnswered honest old before moment (input_of exchange) answer new after
+  pub written : IsWritten (shown answer)
 
 -- ---- what is said where it stops
 

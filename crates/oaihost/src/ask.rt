@@ -150,17 +150,36 @@ impl Lines {
     {
         self.ended = self.ended.saturating_add(1);
         if !self.begun.is_empty() {
-            let Some((moment, exchange)) = read_exchange(&self.begun) else {
-                return Err(Stop::BadExchange(self.ended));
-            };
-            let answer = served.perform(self.alloc, moment, &exchange);
-            if write_answer(&answer, writer).is_err() {
-                return Err(Stop::OutputFault);
-            }
+            perform_line(self.alloc, served, &self.begun, self.ended, writer)?;
         }
         self.begun.clear();
         Ok(())
     }
+}
+
+/// Performs a line of that number, and writes what it is answered.
+fn perform_line<V: Versions + Drop, W: Write>(
+    alloc: Global,
+    served: &mut Served<V>,
+    line: &[u8],
+    number: u64,
+    writer: &mut W,
+) -> Result<(), Stop>
+    ensures bad { is_none (spec.spelled line.now) ≡ true → result ≡ Err (BadExchange number) }
+    ensures good { is_none (spec.spelled line.now) ≡ false → IfErr result (λ stop. stop
+        ≡ OutputFault) }
+    ensures done { OnOk result (spec.IsLineDone line.now (V.honest served.old.store)
+        served.old.repo (V.lists served.old.store) served.new.repo (V.lists served.new.store)
+        (Appends (W.Write.contents writer.old) (W.Write.contents writer.new))) }
+{
+    let Some((moment, exchange)) = read_exchange(line) else {
+        return Err(Stop::BadExchange(number));
+    };
+    let answer = served.perform(alloc, moment, &exchange);
+    if write_answer(&answer, writer).is_err() {
+        return Err(Stop::OutputFault);
+    }
+    Ok(())
 }
 
 /// Reads a line: three or four parts between single spaces, of which the last goes to the end.
