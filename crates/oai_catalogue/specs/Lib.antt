@@ -1,3 +1,4 @@
 pub mod Store
 pub mod Plain
 pub mod Faulty
+pub mod Changes

@@ -1,8 +1,9 @@
 -- The store of all versions of all repositories' items: lists of items under numbers. This repository's own view of OAI-PMH 2.0, sections
 -- 2.7 and 3.5: a list request is answered from the items as they stood.
-use Rattle.std.specs.Prelude.{◌≡◌, ◌≢◌, ◌⊎◌, ◌<◌, ◌≤◌, ℕ, Bool, true, false, ◌==◌, if◌then◌else◌, List, [], Option, None, Some, unwrap_or, Result, IfErr}
+use Rattle.std.specs.Prelude.{◌≡◌, ◌≢◌, ◌⊎◌, ◌<◌, ◌≤◌, ℕ, Bool, true, false, not, ◌==◌, if◌then◌else◌, List, [], Option, None, Some, filter, unwrap_or, Result, IfErr}
+use Rattle.std.specs.List.{list_any}
 use Rattle.oai_item.specs.Item.{ItemState}
-use Rattle.oai_item.specs.Items.{with_item, without_at}
+use Rattle.oai_item.specs.Items.{is_at, with_item, without_at}
 use Rattle.oai_item.specs.Order.{are_in_order}
 use Rattle.oai_item.specs.declared.faults.Fault.{Fault}
 use Rattle.oai_item.specs.declared.faults.Fault.TheVariants.{Device, Damaged, TooManyPages}
@@ -74,3 +75,13 @@ with_given (Some new) items = with_item new items
 -- the items without the one and with the other, each where it is given
 abbrev pub with_change : Option ItemState → Option ItemState → List ItemState → List ItemState
 with_change gone new items = with_given new (without_given gone items)
+
+-- ---- several items taken out of one list
+
+-- the item has the datestamp and the identifier of one of these
+abbrev pub is_one_of : List ItemState → ItemState → Bool
+is_one_of gone item = list_any (λ (other : ItemState). is_at other.stamp other.identifier item) gone
+
+-- the items but those
+unfoldable pub without_each : List ItemState → List ItemState → List ItemState
+without_each gone items = filter (λ item. not (is_one_of gone item)) items

@@ -1,8 +1,9 @@
-ghost use Rattle.std.specs.Prelude.{◌≡◌, ◌≢◌, ◌≤◌, None, length, IfOk, IfSome, IsSome, IsTrue, OnErr, OnOk};
+ghost use Rattle.std.specs.Prelude.{◌≡◌, ◌≢◌, ◌≤◌, None, if◌then◌else◌, is_ok, length, IfOk, IfSome, IsSome, IsTrue, OnErr, OnOk};
 ghost use Rattle.std.specs.Option.{option_copied};
 ghost use Rattle.oai_item.specs.Encoding.{encoded};
 ghost use Rattle.oai_item.specs.declared.sizes.TheConstants.{MOST_ITEM_BYTES};
-ghost use Rattle.oai_catalogue.specs.Store.{AreRising, ChangesOnly, IsCounted, IsHonest, list_at, with_change, with_given, without_given, without_list};
+ghost use Rattle.oai_catalogue.specs.Store.{AreRising, ChangesOnly, IsCounted, IsHonest, list_at, with_change, with_given, without_each, without_given, without_list};
+ghost use Rattle.oai_catalogue.specs.Changes.{IsKept};
 
 use crate::versions::Versions;
 use oai_item::{Fault, Item};
@@ -31,7 +32,48 @@ pub fn change_item<V: Versions>(
     ensures honesty { IsHonest result (V.honest store.old) (V.honest store.new) }
 {
     let next = store.freeze(v)?;
-    match edit(store, next, gone, new) {
+    let edited = edit(store, next, gone, new);
+    keep_one(store, v, next, edited)
+}
+
+/// Takes items out of a version as a whole or not at all: under a number that was not in use it puts
+/// what `v` holds, without the items of the datestamps and identifiers of `gone`, and lets `v` go. On a
+/// fault each list is as before, and no further number is in use. Any fault may come.
+pub fn remove_items<V: Versions>(store: &mut V, v: u64, gone: &[Item]) -> Result<u64, Fault>
+    requires { IsSome (V.lists store.old v) }
+    ensures unused { IfOk result (λ w. V.lists store.old w ≡ None) }
+    ensures ok { IfOk result
+        (λ w. ChangesOnly w (without_list v (V.lists store.old)) (V.lists store.new)) }
+    ensures list { IfOk result (λ w. IsTrue (V.honest store.old) → list_at (V.lists store.new) w
+        ≡ without_each gone.now (list_at (V.lists store.old) v)) }
+    ensures err { OnErr result (V.lists store.new ≡ V.lists store.old) }
+    ensures rising { OnOk result (AreRising (V.lists store.old) × AreRising (V.lists store.new)) }
+    ensures device { IsCounted result (V.failures store.old) (V.failures store.new) }
+    ensures honesty { IsHonest result (V.honest store.old) (V.honest store.new) }
+{
+    let next = store.freeze(v)?;
+    let edited = take_out_each(store, next, gone);
+    keep_one(store, v, next, edited)
+}
+
+/// Lets `v` go where `next` was edited, and `next` where that failed.
+fn keep_one<V: Versions>(
+    store: &mut V,
+    v: u64,
+    next: u64,
+    edited: Result<(), Fault>,
+) -> Result<u64, Fault>
+    requires old { IsSome (V.lists store.old v) }
+    requires new { IsSome (V.lists store.old next) }
+    ensures kept { V.lists store.new
+        ≡ without_list (if is_ok edited then v else next) (V.lists store.old) }
+    ensures ok { IfOk result (λ w. w ≡ next) }
+    ensures answer { IsKept edited result }
+    ensures count { V.failures store.old ≤ V.failures store.new }
+    ensures honesty { V.honest store.new ≡ V.honest store.old }
+    ensures rising { AreRising (V.lists store.new) }
+{
+    match edited {
         Ok(()) => {
             store.release(v);
             Ok(next)
@@ -41,6 +83,22 @@ pub fn change_item<V: Versions>(
             Err(fault)
         }
     }
+}
+
+/// Takes each of the items out of the list. On a fault the list may have lost some; no other list has
+/// changed.
+fn take_out_each<V: Versions>(store: &mut V, v: u64, gone: &[Item]) -> Result<(), Fault>
+    requires { IsSome (V.lists store.old v) }
+    ensures others { ChangesOnly v (V.lists store.old) (V.lists store.new) }
+    ensures list { OnOk result (IsTrue (V.honest store.old) → list_at (V.lists store.new) v
+        ≡ without_each gone.now (list_at (V.lists store.old) v)) }
+    ensures device { IsCounted result (V.failures store.old) (V.failures store.new) }
+    ensures honesty { IsHonest result (V.honest store.old) (V.honest store.new) }
+{
+    for item in gone {
+        store.remove(v, item.stamp(), item.identifier())?;
+    }
+    Ok(())
 }
 
 /// Takes the one item out of the list and puts the other in, each where it is given. On a fault the

@@ -9,7 +9,7 @@ mod items;
 mod plain;
 mod versions;
 
-pub use changes::change_item;
+pub use changes::{change_item, remove_items};
 pub use faulty::FaultyVersions;
 pub use filters::Filter;
 pub use plain::{LAST_VERSION, PlainVersions};

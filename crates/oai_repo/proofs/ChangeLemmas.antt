@@ -1,14 +1,21 @@
 -- A change that is made, refused or fails in a part of what is held, as the definition of changes says it.
-use Rattle.std.proofs.Common.{◌≡◌, ◌≢◌, true, ℕ, List, [], ◌∷◌, ◌++◌, length, Option, Some, None, Result, Ok, Err, ℤ, refl, ap, ◌∙◌}
+use Rattle.std.proofs.Common.{◌≡◌, ◌≢◌, ◌&&◌, true, not, ℕ, List, [], ◌∷◌, ◌++◌, length, Option, Some, None, Result, Ok, Err, ℤ, pos, neg_ℤ, refl, ap, subst, sym, ◌∙◌, arith}
+use Rattle.std.proofs.lemmas.Int.{ints}
+use Rattle.std.specs.Prelude.{int_le}
+use Rattle.std.specs.List.{list_all}
 use Rattle.std.specs.Option.{option_or}
-use Rattle.oai_item.specs.Item.{ItemState, Metadata, has_record, record_named, live_item}
-use Rattle.oai_item.specs.Items.{item_named}
+use Rattle.oai_answers.specs.declared.identify.DeletedRecord.{DeletedRecord}
+use Rattle.oai_answers.specs.declared.identify.DeletedRecord.TheVariants.{No, Transient, Persistent}
+use Rattle.oai_item.specs.Item.{IsStamp, ItemState, Metadata, has_record, record_named, live_item, tombstone_of}
+use Rattle.oai_item.specs.Items.{item_named, without}
+use Rattle.oai_item.proofs.OrderLemmas.{all-filter, all-placed}
+use Rattle.oai_repo.specs.Held.{is_dated}
 use Rattle.oai_item.specs.Membership.{reduced}
 use Rattle.oai_item.specs.Refusals.{in_repository}
 use Rattle.oai_item.specs.declared.changes.Change.{Change}
 use Rattle.oai_item.specs.declared.changes.Change.TheVariants as change
 use Rattle.oai_item.specs.declared.refusals.ChangeRefusal.{ChangeRefusal}
-use Rattle.oai_repo.specs.Changes.{refusal_of, after_deletion, dead_refusal, missing_refusal, deposit_refusal, item_refusal, set_refusal, changed, stamp_at, with_new}
+use Rattle.oai_repo.specs.Changes.{refusal_of, after_deletion, after_purge, limit_of, purge_refusal, dead_refusal, missing_refusal, deposit_refusal, item_refusal, set_refusal, changed, is_past, purged, stamp_at, with_new, with_tombstone}
 use Rattle.oai_repo.specs.Config.{Config}
 use Rattle.oai_repo.specs.Kept.{AreKept}
 use Rattle.oai_repo.specs.Machine.{act, act_on_change, accepted, changing, refused}
@@ -16,7 +23,7 @@ use Rattle.oai_repo.specs.State.{Holdings, NamedSet, OpenLists}
 use Rattle.oai_repo.specs.Workings.{IsDone, IsMade}
 use Rattle.oai_repo.specs.declared.refusals.Refusal.{Refusal}
 use Rattle.oai_repo.specs.declared.refusals.Refusal.TheVariants as refusal
-use Rattle.oai_repo.proofs.KeptLemmas.{kept-changed}
+use Rattle.oai_repo.proofs.KeptLemmas.{kept-changed, well-without}
 
 -- where there is a record of some prefix, there is a record
 pub carries : (prefix : List ℕ) (records : List Metadata) → has_record prefix records ≡ true → records ≢ []
@@ -58,6 +65,17 @@ deletion_done config stamp items new sets identifier (Err (refusal.Refused cause
 deletion_done config stamp items new sets identifier (Err (refusal.Fault fault)) done =
     (done.0, ap (λ (xs : List ItemState). held xs sets) done.1)
 
+-- a purge, made or not
+pub purge_done : (config : Config) (stamp : ℤ) (items new : List ItemState) (sets : List NamedSet) (before : List ℕ) (r : Result (Unit {0}) Refusal)
+    → IsDone (purge_refusal config before) None items (after_purge (limit_of config.granularity before) items) r new
+    → IsMade config stamp (held items sets) (change.Purge before) r (held new sets)
+unfolding refusal_of changed
+purge_done config stamp items new sets before (Ok _) done = (no_later (purge_refusal config before) ∙ done.0, ap (λ (xs : List ItemState). held xs sets) done.1)
+purge_done config stamp items new sets before (Err (refusal.Refused cause)) done =
+    (no_later (purge_refusal config before) ∙ done.0, ap (λ (xs : List ItemState). held xs sets) done.1)
+purge_done config stamp items new sets before (Err (refusal.Fault fault)) done =
+    (done.0, ap (λ (xs : List ItemState). held xs sets) done.1)
+
 -- a new set, added or not
 pub set_done : (config : Config) (stamp : ℤ) (items : List ItemState) (sets new : List NamedSet) (set name : List ℕ) (r : Result (Unit {0}) Refusal)
     → IsDone (set_refusal sets set) None sets (sets ++ (set, name) ∷ []) r new
@@ -78,6 +96,44 @@ pub kept-made : (config : Config) (stamp : ℤ) (old : Holdings) (asked : Change
 kept-made config stamp old asked (Ok _) new made kept = rw made.1 (kept-changed config stamp old asked made.0 kept)
 kept-made config stamp old asked (Err (refusal.Refused cause)) new made kept = rw made.1 kept
 kept-made config stamp old asked (Err (refusal.Fault fault)) new made kept = rw made.1 kept
+
+-- ---- the datestamps
+
+dated_at : (stamp : ℤ) → IsStamp stamp → (int_le (neg_ℤ (pos 62_167_219_200)) stamp && int_le stamp (pos 253_402_300_799)) ≡ true
+dated_at stamp is = grind (arith, ints, is.0, is.1)
+
+dated_new : (item : ItemState) (items : List ItemState) → is_dated item ≡ true → list_all is_dated items ≡ true → list_all is_dated (with_new item items) ≡ true
+dated_new item items one all = all-placed is_dated item (without item.identifier items) one (well-without is_dated item.identifier items all)
+
+dated_buried : (stamp : ℤ) (found : Option ItemState) (items : List ItemState) → IsStamp stamp → list_all is_dated items ≡ true → list_all is_dated (with_tombstone stamp found items) ≡ true
+dated_buried stamp None items is all = all
+dated_buried stamp (Some item) items is all = dated_new (tombstone_of stamp item) items (dated_at stamp is) all
+
+dated_deleted : (policy : DeletedRecord) (stamp : ℤ) (identifier : List ℕ) (items : List ItemState) → IsStamp stamp → list_all is_dated items ≡ true
+    → list_all is_dated (after_deletion policy stamp identifier items) ≡ true
+dated_deleted No stamp identifier items is all = well-without is_dated identifier items all
+dated_deleted Transient stamp identifier items is all = dated_buried stamp (item_named identifier items) items is all
+dated_deleted Persistent stamp identifier items is all = dated_buried stamp (item_named identifier items) items is all
+
+dated_purged : (limit : Option ℤ) (items : List ItemState) → list_all is_dated items ≡ true → list_all is_dated (after_purge limit items) ≡ true
+unfolding purged
+dated_purged None items all = all
+dated_purged (Some limit) items all = all-filter is_dated (λ item. not (is_past limit item)) items all
+
+dated_changed : (config : Config) (stamp : ℤ) (holdings : Holdings) (asked : Change) → IsStamp stamp → list_all is_dated holdings.items ≡ true
+    → list_all is_dated (changed config stamp holdings asked).items ≡ true
+unfolding changed
+dated_changed config stamp holdings (change.Deposit identifier sets records) is all = dated_new (live_item identifier stamp (reduced sets) records) holdings.items (dated_at stamp is) all
+dated_changed config stamp holdings (change.Delete identifier) is all = dated_deleted config.deleted stamp identifier holdings.items is all
+dated_changed config stamp holdings (change.Purge before) is all = dated_purged (limit_of config.granularity before) holdings.items all
+dated_changed config stamp holdings (change.AddSet spec name) is all = all
+
+-- each item has a datestamp that can be written after a change, made or not
+pub dated-made : (config : Config) (stamp : ℤ) (old : Holdings) (asked : Change) (result : Result (Unit {0}) Refusal) (new : Holdings)
+    → IsMade config stamp old asked result new → IsStamp stamp → list_all is_dated old.items ≡ true → list_all is_dated new.items ≡ true
+dated-made config stamp old asked (Ok _) new made is all = subst (λ (h : Holdings). list_all is_dated h.items ≡ true) (sym made.1) (dated_changed config stamp old asked is all)
+dated-made config stamp old asked (Err (refusal.Refused cause)) new made is all = subst (λ (h : Holdings). list_all is_dated h.items ≡ true) (sym made.1) all
+dated-made config stamp old asked (Err (refusal.Fault fault)) new made is all = subst (λ (h : Holdings). list_all is_dated h.items ≡ true) (sym made.1) all
 
 -- ---- the machine
 

@@ -24,6 +24,7 @@ use Rattle.oai_item.specs.declared.changes.Change.{Change}
 use Rattle.oai_item.specs.declared.changes.Change.TheVariants as change
 use Rattle.oai_item.specs.declared.formats.Format.{Format}
 use Rattle.oai_item.specs.declared.refusals.ChangeRefusal.{ChangeRefusal}
+use Rattle.oai_item.specs.declared.refusals.ChangeRefusal.TheVariants.{NotTransient, BadDate}
 use Rattle.oai_item.proofs.Named.{found_name, of_found}
 use Rattle.oai_item.proofs.OrderLemmas.{all-weaker, all-placed, in_order-changed, apart-changed}
 use Rattle.oai_args.specs.Asks.{AskOrError, asks, bad_verb, bad_argument}
@@ -31,14 +32,14 @@ use Rattle.oai_args.specs.declared.requests.Ask.TheVariants as ask
 use Rattle.oai_answers.specs.declared.identify.DeletedRecord.{DeletedRecord}
 use Rattle.oai_answers.specs.declared.identify.DeletedRecord.TheVariants.{No, Transient, Persistent}
 use Rattle.oai_repo.specs.Answers.{filter_of}
-use Rattle.oai_repo.specs.Changes.{after_deletion, changed, deposit_refusal, drops_format, is_one_too_many, item_refusal, refusal_of, stamp_at, with_new, with_tombstone}
+use Rattle.oai_repo.specs.Changes.{after_deletion, after_purge, changed, deposit_refusal, drops_format, is_one_too_many, is_transient, item_refusal, limit_of, purge_refusal, purged, refusal_of, stamp_at, with_new, with_tombstone}
 use Rattle.oai_repo.specs.Config.{Config}
-use Rattle.oai_repo.specs.Effects.{Effect, is_formed, is_well_formed, IsEffected, IsPossible, IsPut, IsSound, effected, holding, is_given, item_put, item_taken, list_opened, list_renewed, set_added, unchanged}
+use Rattle.oai_repo.specs.Effects.{Effect, is_formed, is_well_formed, IsEffected, IsPossible, IsPut, IsSound, effected, holding, is_given, item_put, item_taken, items_purged, list_opened, list_renewed, set_added, unchanged}
 use Rattle.oai_repo.specs.Kept.{AreKept, is_too_large, is_well_kept}
 use Rattle.oai_repo.specs.Listing.{Said, answer_to, begins, continues, has_no_sets, list_answer, list_begun, list_continued, prolonged_at, told_in, told_items, token_answer, wait_at}
 use Rattle.oai_repo.specs.Machine.{Command, act, act_on_change, asking, changing, refusing}
 use Rattle.oai_repo.specs.State.{FrozenList, Holdings, NamedSet, OpenLists, State, empty_state, is_open_at, moved}
-use Rattle.oai_repo.proofs.KeptLemmas.{emptied-record, few-new, fits, kept-none, no_cause, set_kept, stands, taken, well-deposited, well-tombstone, well-without}
+use Rattle.oai_repo.proofs.KeptLemmas.{emptied-record, few-new, fits, kept-none, no_cause, purged_kept, set_kept, stands, taken, well-deposited, well-tombstone, well-without}
 
 -- ---- a sound state stays sound
 
@@ -143,6 +144,7 @@ pub sound_effected : (config : Config) (state : State) (effect : Effect) → IsP
 sound_effected config state unchanged possible sound = sound
 sound_effected config state (item_put item) possible sound = record { kept = put_kept config state item possible sound.kept; given = sound.given; formed = sound.formed; few = sound.few }
 sound_effected config state (item_taken identifier) possible sound = record { kept = taken config state.holdings identifier sound.kept; given = sound.given; formed = sound.formed; few = sound.few }
+sound_effected config state (items_purged limit) possible sound = record { kept = purged_kept config state.holdings limit sound.kept; given = sound.given; formed = sound.formed; few = sound.few }
 sound_effected config state (set_added set) possible sound = record { kept = set_kept config state.holdings set sound.kept; given = sound.given; formed = sound.formed; few = sound.few }
 sound_effected config state (list_renewed number) possible sound = record {
   kept = sound.kept;
@@ -316,6 +318,28 @@ deposited_by config state identifier sets records first later =
       room = fit.room;
     }
 
+of_transient : (policy : DeletedRecord) → is_transient policy ≡ true → policy ≡ Transient
+of_transient No h = cc
+of_transient Transient h = refl
+of_transient Persistent h = cc
+
+not_not : (b : Bool) → not b ≡ false → b ≡ true
+not_not true h = refl
+not_not false h = cc
+
+purged_by : (config : Config) (state : State) (limit : Option ℤ) → config.deleted ≡ Transient → is_none limit ≡ false
+    → IsEffected config state (holding state (after_purge limit state.holdings.items))
+purged_by config state None policy some = cc
+purged_by config state (Some limit) policy some = record { effect = items_purged limit; possible = policy; done = refl }
+
+purge_by : (config : Config) (state : State) (before : List ℕ) → purge_refusal config before ≡ None
+    → IsEffected config state (holding state (after_purge (limit_of config.granularity before) state.holdings.items))
+unfolding purge_refusal
+purge_by config state before none =
+    let first = passed (not (is_transient config.deleted)) NotTransient _ none in
+    let later = passed (is_none (limit_of config.granularity before)) BadDate _ first.1 in
+    purged_by config state (limit_of config.granularity before) (of_transient config.deleted (not_not (is_transient config.deleted) first.0)) later.0
+
 changed_by : (config : Config) (state : State) (asked : Change) → refusal_of config (stamp_at config state.clock) state.holdings asked ≡ None → AreKept config state.holdings
     → IsChangedBy config state (changed config (stamp_at config state.clock) state.holdings asked)
 unfolding refusal_of changed
@@ -324,6 +348,7 @@ changed_by config state (change.Deposit identifier sets records) none kept =
     let causes = no_cause (deposit_refusal config state.holdings.sets sets records) (item_refusal config (item_named identifier state.holdings.items) (length state.holdings.items) item) none in
     record { effect = item_put item; possible = deposited_by config state identifier sets records causes.0 causes.1; done = refl }
 changed_by config state (change.Delete identifier) none kept = deleted_by config state identifier config.deleted refl kept
+changed_by config state (change.Purge before) none kept = purge_by config state before none
 changed_by config state (change.AddSet spec name) none kept = record { effect = set_added (spec, name); possible = none; done = refl }
 
 acted_by : (config : Config) (state : State) (asked : Change) (refusal : Option ChangeRefusal) → refusal_of config (stamp_at config state.clock) state.holdings asked ≡ refusal → AreKept config state.holdings

@@ -8,7 +8,7 @@ use Rattle.std.proofs.lemmas.List.{map-append}
 use Rattle.std.proofs.lemmas.List.Elements.{filter-append}
 use Rattle.oai_lists.specs.declared.lists.TheConstants.{LAST_NUMBER}
 use Rattle.oai_repo.specs.Config.{Config}
-use Rattle.oai_repo.specs.Effects.{Effect, IsPossible, IsSound, effected, is_given, item_put, item_taken, list_opened, list_renewed, set_added, unchanged}
+use Rattle.oai_repo.specs.Effects.{Effect, IsPossible, IsSound, effected, is_given, item_put, item_taken, items_purged, list_opened, list_renewed, set_added, unchanged}
 use Rattle.oai_repo.specs.Listing.{prolonged_at, with_prolonged}
 use Rattle.oai_repo.specs.Runs.{Exchange, Throughout, Timed, are_never_last, are_rising, given_in, is_one_of, numbers_given, numbers_open, performed, run}
 use Rattle.oai_repo.specs.State.{FrozenList, State, empty_state, moved}
@@ -95,6 +95,7 @@ given_by : (config : Config) (state : State) (effect : Effect) → IsPossible co
 given_by config state unchanged possible sound = inl (none_given (numbers_open state.begun) (numbers_open state.begun) refl, refl)
 given_by config state (item_put item) possible sound = inl (none_given (numbers_open state.begun) (numbers_open state.begun) refl, refl)
 given_by config state (item_taken identifier) possible sound = inl (none_given (numbers_open state.begun) (numbers_open state.begun) refl, refl)
+given_by config state (items_purged limit) possible sound = inl (none_given (numbers_open state.begun) (numbers_open state.begun) refl, refl)
 given_by config state (set_added set) possible sound = inl (none_given (numbers_open state.begun) (numbers_open state.begun) refl, refl)
 given_by config state (list_renewed number) possible sound = inl (
   none_given (numbers_open state.begun) (numbers_open (with_prolonged config state.clock number state.begun)) (renewed_numbers config state.clock number state.begun.lists),

@@ -28,7 +28,7 @@ use Rattle.oai_item.specs.declared.refusals.ChangeRefusal.TheVariants.{UnknownSe
 use Rattle.oai_item.proofs.Lengths.{length-encoded, length-encoded_list, length-encoded_record}
 use Rattle.oai_item.proofs.Named.{found_name, of_found}
 use Rattle.oai_item.proofs.OrderLemmas.{all-weaker, all-filter, all-placed, placed-cons, placed-nil, in_order-changed, apart-changed, in_order-filter, apart-filter}
-use Rattle.oai_repo.specs.Changes.{after_deletion, with_tombstone, deposit_refusal, item_refusal, refusal_of, changed, drops_format, is_one_too_many, with_new}
+use Rattle.oai_repo.specs.Changes.{after_deletion, after_purge, with_tombstone, deposit_refusal, item_refusal, is_past, limit_of, purged, refusal_of, changed, drops_format, is_one_too_many, with_new}
 use Rattle.oai_answers.specs.declared.identify.DeletedRecord.{DeletedRecord}
 use Rattle.oai_answers.specs.declared.identify.DeletedRecord.TheVariants.{No, Transient, Persistent}
 use Rattle.oai_repo.specs.Config.{Config}
@@ -297,6 +297,22 @@ deleted config holdings identifier stamp No kept = taken config holdings identif
 deleted config holdings identifier stamp Transient kept = buried config holdings identifier stamp (item_named identifier holdings.items) refl kept
 deleted config holdings identifier stamp Persistent kept = buried config holdings identifier stamp (item_named identifier holdings.items) refl kept
 
+-- ---- a purge
+
+-- fewer items stand, in their order, and each is as it was
+pub purged_kept : (config : Config) (holdings : Holdings) (limit : ℤ) → AreKept config holdings → AreKept config (record holdings { items = purged limit holdings.items })
+unfolding purged
+purged_kept config holdings limit kept = record {
+  ordered = in_order-filter (λ item. not (is_past limit item)) holdings.items kept.ordered;
+  apart = apart-filter (λ item. not (is_past limit item)) holdings.items kept.apart;
+  few = let less = at_most (λ item. not (is_past limit item)) holdings.items in omega (arith, kept.few);
+  well = all-filter (is_well_kept config holdings.sets) (λ item. not (is_past limit item)) holdings.items kept.well;
+}
+
+after_purge_kept : (config : Config) (holdings : Holdings) (limit : Option ℤ) → AreKept config holdings → AreKept config (record holdings { items = after_purge limit holdings.items })
+after_purge_kept config holdings None kept = kept
+after_purge_kept config holdings (Some limit) kept = purged_kept config holdings limit kept
+
 -- ---- a new set
 
 still_there : (set : NamedSet) (sets : List NamedSet) (spec : List ℕ) → has_set sets spec ≡ true → has_set (sets ++ set ∷ []) spec ≡ true
@@ -335,6 +351,7 @@ kept-changed config stamp holdings (change.Deposit identifier sets records) none
     let causes = no_cause (deposit_refusal config holdings.sets sets records) (item_refusal config (item_named identifier holdings.items) (length holdings.items) item) none in
     deposited config holdings identifier stamp sets records (stands config holdings.sets sets records causes.0) (fits config (item_named identifier holdings.items) (length holdings.items) item causes.1) kept
 kept-changed config stamp holdings (change.Delete identifier) none kept = deleted config holdings identifier stamp config.deleted kept
+kept-changed config stamp holdings (change.Purge before) none kept = after_purge_kept config holdings (limit_of config.granularity before) kept
 kept-changed config stamp holdings (change.AddSet spec name) none kept = set_kept config holdings (spec, name) kept
 
 -- nothing is held, and all of it is as it should be

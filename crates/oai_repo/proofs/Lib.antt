@@ -11,6 +11,7 @@ pub mod EndLemmas
 pub mod BegunLemmas
 pub mod MoveLemmas
 pub mod PartLemmas
+pub mod PurgeLemmas
 pub mod EarliestLemmas
 pub mod CutLemmas
 pub mod TokenLemmas

@@ -2,6 +2,7 @@
 use Rattle.std.proofs.Common.{◌≡◌, ◌∙◌, ◌+◌, inl, inr, ℕ, ℤ, Bool, true, false, not, eqb, cond, List, [], ◌∷◌, length, map, Option, None, Some, IsSome, is_some, Result, Ok, Err, OnOk, refl, sym, ap, subst, arith}
 use Rattle.std.specs.Prelude.{find}
 use Rattle.std.specs.BTreeMap.{BTreeMap, UpdatesBy, get_by_text, insert_entry, is_at}
+use Rattle.std.specs.List.{list_all}
 use Rattle.std.specs.Map.{lookup, remove_entry}
 use Rattle.std.specs.Cmp.Lexicographic.{slice_cmp}
 use Rattle.std.specs.Option.{option_map}
@@ -24,7 +25,7 @@ use Rattle.oai_catalogue.proofs.ListsLemmas.{list_at-with, same_lists, stands-wi
 use Rattle.oai_lists.specs.OpenLists.{Table}
 use Rattle.oai_repo.specs.Changes.{with_new}
 use Rattle.oai_repo.specs.Config.{Config}
-use Rattle.oai_repo.specs.Held.{AreInUse, AreNoted, IsNew, IsShelved, Shelf}
+use Rattle.oai_repo.specs.Held.{AreInUse, AreNoted, IsNew, IsShelved, Shelf, is_dated}
 use Rattle.oai_repo.specs.Kept.{AreKept}
 use Rattle.oai_repo.specs.Notes.{Notes, noted, notes_in}
 use Rattle.oai_repo.specs.State.{NamedSet, State, none_begun}
@@ -299,6 +300,7 @@ new_held config v before after listed =
     record {
       agrees = subst (λ (items : List ItemState). AreNoted [] items) (sym none) nothing_noted;
       kept = subst (λ (items : List ItemState). AreKept config (record { items = items; sets = [] })) (sym none) (kept-none config);
+      dated = ap (list_all is_dated) none;
     }
 
 -- the number alone is in use

@@ -9,7 +9,7 @@ use Rattle.std.proofs.lemmas.Int.{ints}
 use Rattle.std.proofs.lemmas.List.Folds.{find-append}
 use Rattle.oai_time.specs.Clock.{tick}
 use Rattle.oai_repo.specs.Config.{Config}
-use Rattle.oai_repo.specs.Effects.{Effect, IsSound, effected, is_given, item_put, item_taken, list_opened, list_renewed, set_added, unchanged}
+use Rattle.oai_repo.specs.Effects.{Effect, IsSound, effected, is_given, item_put, item_taken, items_purged, list_opened, list_renewed, set_added, unchanged}
 use Rattle.oai_repo.specs.Listing.{has_number, prolonged, prolonged_at, with_begun, with_prolonged}
 use Rattle.oai_repo.specs.State.{FrozenList, OpenLists, State, is_open_at, moved}
 use Rattle.oai_repo.proofs.EffectLemmas.{same_number}
@@ -136,6 +136,7 @@ pub stands_effected : (config : Config) (list : FrozenList) (state : State) (eff
 stands_effected config list state unchanged stands = stands
 stands_effected config list state (item_put item) stands = record { soon = stands.soon; there = stands.there }
 stands_effected config list state (item_taken identifier) stands = record { soon = stands.soon; there = stands.there }
+stands_effected config list state (items_purged limit) stands = record { soon = stands.soon; there = stands.there }
 stands_effected config list state (set_added set) stands = record { soon = stands.soon; there = stands.there }
 stands_effected config list state (list_renewed number) stands = record {
   soon = stands.soon;

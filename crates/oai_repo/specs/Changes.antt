@@ -1,6 +1,6 @@
 -- What a change makes of a repository, or why it is refused. OAI-PMH 2.0, sections 2.3 to 2.7; that a change may be refused is this
 -- repository's own.
-use Rattle.std.specs.Prelude.{ℕ, ℤ, Bool, false, ◌&&◌, not, nat_le, List, [], ◌∷◌, ◌++◌, length, codes, Option, Some, None, is_none, option_and_then, int_lt, filter, if◌then◌else◌}
+use Rattle.std.specs.Prelude.{ℕ, ℤ, Bool, true, false, ◌&&◌, not, nat_le, List, [], ◌∷◌, ◌++◌, length, codes, Option, Some, None, is_none, option_and_then, int_lt, filter, if◌then◌else◌}
 use Rattle.std.specs.List.{list_all}
 use Rattle.std.specs.Option.{option_or}
 use Rattle.oai_names.specs.Sets.{has_set, has_parent}

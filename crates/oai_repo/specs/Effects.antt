@@ -1,12 +1,12 @@
 -- What a command can do to a state, and what is true of every state that commands lead to. This repository's own.
-use Rattle.std.specs.Prelude.{◌≡◌, ◌≤◌, ℕ, pos, ◌+ℤ◌, Bool, true, false, ◌&&◌, List, [], ◌∷◌, ◌++◌, length, None, nat_lt}
+use Rattle.std.specs.Prelude.{◌≡◌, ◌≤◌, ℕ, ℤ, pos, ◌+ℤ◌, Bool, true, false, ◌&&◌, List, [], ◌∷◌, ◌++◌, length, None, nat_lt}
 use Rattle.std.specs.List.{list_all}
 use Rattle.oai_lists.specs.declared.lists.TheConstants.{LAST_NUMBER}
 use Rattle.oai_item.specs.Item.{ItemState}
 use Rattle.oai_item.specs.Items.{item_named, without}
 use Rattle.oai_item.specs.Known.{has_format, has_known_fields}
-use Rattle.oai_answers.specs.declared.identify.DeletedRecord.TheVariants.{No}
-use Rattle.oai_repo.specs.Changes.{drops_format, is_one_too_many, set_refusal, stamp_at, with_new}
+use Rattle.oai_answers.specs.declared.identify.DeletedRecord.TheVariants.{No, Transient}
+use Rattle.oai_repo.specs.Changes.{drops_format, is_one_too_many, purged, set_refusal, stamp_at, with_new}
 use Rattle.oai_repo.specs.Config.{Config}
 use Rattle.oai_repo.specs.Kept.{AreKept, is_well_kept}
 use Rattle.oai_repo.specs.Listing.{wait_at, with_begun, with_prolonged}

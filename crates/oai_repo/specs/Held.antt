@@ -1,6 +1,6 @@
 -- What a `Repo` keeps, and the state that it stands for with the lists of its store. This repository's own view of OAI-PMH 2.0,
 -- sections 2.3 to 2.7.
-use Rattle.std.specs.Prelude.{◌≡◌, ℕ, ℤ, Bool, true, false, not, ◌==◌, ◌&&◌, List, [], ◌∷◌, length, map, None, is_some}
+use Rattle.std.specs.Prelude.{◌≡◌, ℕ, ℤ, pos, neg_ℤ, int_le, Bool, true, false, not, ◌==◌, ◌&&◌, List, [], ◌∷◌, length, map, None, is_some}
 use Rattle.std.specs.List.{list_all, list_any}
 use Rattle.std.specs.Option.{option_map}
 use Rattle.oai_item.specs.Item.{ItemState}
@@ -68,10 +68,15 @@ pub record AreNoted (notes : Notes) (items : List ItemState) : Type 0 where
   pub each : (identifier : List ℕ) → noted identifier notes ≡ option_map (λ (item : ItemState). item.stamp) (item_named identifier items)
   pub many : length notes ≡ length items
 
--- the items are those of the notes, and as the repository keeps them
+-- the datestamp of the item is of the years 0000 to 9999
+abbrev pub is_dated : ItemState → Bool
+is_dated item = int_le (neg_ℤ (pos 62_167_219_200)) item.stamp && int_le item.stamp (pos 253_402_300_799)
+
+-- the items are those of the notes, as the repository keeps them, and each has a datestamp that can be written
 pub record IsShelved (config : Config) (shelf : Shelf) (sets : List NamedSet) (lists : Lists) : Type 0 where
   pub agrees : AreNoted shelf.notes (items_on shelf lists)
   pub kept : AreKept config (holdings_of shelf sets lists)
+  pub dated : list_all is_dated (items_on shelf lists) ≡ true
 
 -- the size that is kept of a list is that of its selection
 abbrev pub is_counted : Lists → OpenList → Bool

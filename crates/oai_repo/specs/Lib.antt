@@ -20,3 +20,4 @@ pub mod Inside
 pub mod Tables
 pub mod Found
 pub mod Workings
+pub mod Purges

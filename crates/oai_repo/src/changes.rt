@@ -1,4 +1,4 @@
-//! Changes of a repository: deposits, deletions and new sets.
+//! Changes of a repository: deposits, deletions, purges and new sets.
 ghost use Rattle.std.specs.Prelude.{◌≡◌, ◌≤◌, ◌++◌, [], ◌∷◌, None, IfErr, IsSome, IsTrue, OnErr};
 ghost use Rattle.oai_item.specs.Item.{IsStamp};
 ghost use Rattle.oai_item.specs.declared.faults.Fault.TheVariants as fault;
@@ -11,6 +11,7 @@ ghost use Rattle.oai_repo.specs.Workings.{IsDone, IsMade, IsMoved};
 use crate::config::RepoConfig;
 use crate::deletions::delete;
 use crate::deposits::{Deposit, put_deposit};
+use crate::purges::purge;
 use crate::refusals::Refusal;
 use crate::shelves::Shelf;
 use oai_catalogue::Versions;
@@ -62,6 +63,7 @@ pub(crate) fn make<V: Versions>(
         Change::Delete { identifier } => {
             delete(alloc, config.deleted(), stamp, store, shelf, identifier)
         }
+        Change::Purge { before } => purge(alloc, config, store, shelf, before.as_str()),
         Change::AddSet { spec, name } => add_set(sets, spec, name.as_str()),
     }
 }

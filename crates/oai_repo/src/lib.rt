@@ -11,6 +11,7 @@ mod deposits;
 mod laws;
 mod listings;
 mod parts;
+mod purges;
 mod refusals;
 mod replies;
 mod repo;

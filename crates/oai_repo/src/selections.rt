@@ -17,7 +17,7 @@ use oai_time::{lower, upper};
 use std::alloc::{AllocError, Global};
 
 /// The first second of the years 0000 to 9999.
-const FIRST_SECOND: i64 = -62_167_219_200;
+pub(crate) const FIRST_SECOND: i64 = -62_167_219_200;
 
 /// The last second of these years.
 const LAST_SECOND: i64 = 253_402_300_799;

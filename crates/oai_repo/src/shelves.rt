@@ -9,13 +9,18 @@ ghost use Rattle.oai_item.specs.Encoding.{encoded};
 ghost use Rattle.oai_item.specs.Items.{item_named, without};
 ghost use Rattle.oai_item.specs.declared.faults.Fault.TheVariants as fault;
 ghost use Rattle.oai_item.specs.declared.sizes.TheConstants.{MOST_ITEM_BYTES};
-ghost use Rattle.oai_catalogue.specs.Store.{IsCounted, IsHonest};
-ghost use Rattle.oai_repo.specs.Changes.{with_new};
-ghost use Rattle.oai_repo.specs.Held.{AreNoted, items_on};
+ghost use Rattle.oai_catalogue.specs.Store.{IsCounted, IsHonest, without_each};
+ghost use Rattle.oai_repo.specs.Changes.{purged, with_new};
+ghost use Rattle.oai_repo.specs.Held.{AreNoted, is_dated, items_on};
+ghost use Rattle.oai_repo.specs.Purges.{AreTaken, is_in_core};
+ghost use Rattle.oai_time.specs.Stamp.{IsWritable};
+ghost use Rattle.oai_item.specs.Item.{ItemState};
+ghost use Rattle.std.specs.List.{list_all};
 ghost use Rattle.oai_repo.specs.Notes.{noted};
 ghost use Rattle.oai_repo.specs.Workings.{IsMoved, IsNoting};
 
-use oai_catalogue::{Versions, change_item};
+use crate::purges::deleted_below;
+use oai_catalogue::{Versions, change_item, remove_items};
 use oai_item::{Fault, Item};
 use oai_names::{Identifier, NameFault};
 use std::alloc::Global;
@@ -265,6 +270,55 @@ impl Shelf {
         store.remove(self.version, item.stamp(), item.identifier())?;
         self.forget(item.identifier().as_str());
         Ok(())
+    }
+
+    /// Takes out the deleted items of datestamps below the limit, in seconds from 1970 on, by a change of
+    /// a version of its own. Where there is none, nothing changes. A fault leaves everything as it was.
+    /// It reads each item of a datestamp below the limit once.
+    pub(crate) fn purge<V: Versions>(
+        &mut self,
+        alloc: Global,
+        store: &mut V,
+        limit: i64,
+    ) -> Result<(), Fault>
+        requires stands { IsSome (V.lists store.old self.old.version) }
+        requires limit { IsWritable limit }
+        requires agrees { IsTrue (V.honest store.old)
+            → AreNoted self.old.notes (items_on self.old (V.lists store.old)) }
+        requires core { IsTrue (V.honest store.old)
+            → list_all is_in_core (items_on self.old (V.lists store.old)) ≡ true }
+        requires dated { IsTrue (V.honest store.old)
+            → list_all is_dated (items_on self.old (V.lists store.old)) ≡ true }
+        ensures list { OnOk result (IsTrue (V.honest store.old)
+            → items_on self.new (V.lists store.new)
+            ≡ purged limit (items_on self.old (V.lists store.old))) }
+        ensures agrees { OnOk result (IsTrue (V.honest store.old)
+            → AreNoted self.new.notes (items_on self.new (V.lists store.new))) }
+        ensures moved { IsMoved self.old.version (V.lists store.old) self.new.version
+            (V.lists store.new) }
+        ensures err { OnErr result (self.new ≡ self.old) }
+        ensures err_lists { OnErr result (V.lists store.new ≡ V.lists store.old) }
+        ensures device { IsCounted result (V.failures store.old) (V.failures store.new) }
+        ensures honesty { IsHonest result (V.honest store.old) (V.honest store.new) }
+    {
+        let gone = deleted_below(alloc, store, self.version, limit, self.stamps.len())?;
+        if gone.is_empty() {
+            return Ok(());
+        }
+        self.version = remove_items(store, self.version, gone.as_slice())?;
+        self.forget_each(gone.as_slice());
+        Ok(())
+    }
+
+    /// Notes no datestamps under the identifiers of the items any more. It takes no memory.
+    fn forget_each(&mut self, gone: &[Item])
+        ensures version { self.new.version ≡ self.old.version }
+        ensures agrees { (items : List ItemState) → AreNoted self.old.notes items
+            → AreTaken gone.now items → AreNoted self.new.notes (without_each gone.now items) }
+    {
+        for item in gone {
+            self.forget(item.identifier().as_str());
+        }
     }
 
     /// Notes no datestamp under the identifier any more. It takes no memory.
