@@ -14,7 +14,7 @@ use Rattle.oai_catalogue.proofs.ListsLemmas.{list_at-with}
 use Rattle.oai_lists.specs.OpenLists.{Table, is_numbered, is_open, list_numbered, open_numbered, open_ones, renewed, renewed_one, with_list as opening}
 use Rattle.oai_lists.specs.declared.open_lists.OpenList.{OpenList}
 use Rattle.oai_repo.specs.Config.{Config}
-use Rattle.oai_repo.specs.Held.{AreInUse, AreNoted, IsShelved, KeepsOthers, Shelf, are_counted, are_different, begun_of, frozen_in, has, is_counted, versions_in}
+use Rattle.oai_repo.specs.Held.{AreInUse, AreNoted, IsShelved, KeepsOthers, Shelf, are_counted, are_different, begun_of, frozen_in, has, is_counted, is_dated, versions_in}
 use Rattle.oai_repo.specs.Kept.{AreKept}
 use Rattle.oai_repo.specs.Listing.{has_number, prolonged, prolonged_at, with_begun, with_prolonged}
 use Rattle.oai_repo.specs.State.{FrozenList, NamedSet, OpenLists, is_open_at, still_open}
@@ -157,6 +157,7 @@ pub shelved_at : (config : Config) (shelf : Shelf) (sets : List NamedSet) (a b :
 shelved_at config shelf sets a b items held = record {
   agrees = subst (λ (xs : List ItemState). AreNoted shelf.notes xs) (sym items) held.agrees;
   kept = subst (λ (xs : List ItemState). AreKept config (record { items = xs; sets = sets })) (sym items) held.kept;
+  dated = ap (list_all is_dated) items ∙ held.dated;
 }
 
 pub shelved_same : (config : Config) (shelf : Shelf) (sets : List NamedSet) (a b : Lists) → b shelf.version ≡ a shelf.version → IsShelved config shelf sets a → IsShelved config shelf sets b

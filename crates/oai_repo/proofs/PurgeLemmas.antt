@@ -1,16 +1,16 @@
 -- What a purge reads of the items, what it takes out, and what is left and noted then.
-use Rattle.std.proofs.Common.{◌≡◌, ◌∙◌, ◌+◌, ◌-◌, ◌<◌, ◌≤◌, ◌≤ℤ◌, ◌-ℤ◌, inl, inr, ℕ, ℤ, pos, Bool, true, false, not, ◌&&◌, ◌||◌, cond, eqb, List, [], ◌∷◌, ◌++◌, length, take, drop, get_or, Option, None, Some, IsSome, refl, sym, ap, subst, arith, rules}
-use Rattle.std.specs.Prelude.{filter, find, int_le, int_lt, min}
+use Rattle.std.proofs.Common.{◌≡◌, ◌∙◌, ◌+◌, ◌<◌, ◌-ℤ◌, inl, inr, ℕ, ℤ, pos, Bool, true, false, not, ◌&&◌, cond, List, [], ◌∷◌, ◌++◌, length, take, drop, get_or, None, Some, IsSome, refl, sym, ap, subst, arith}
+use Rattle.std.specs.Prelude.{filter, int_le, int_lt}
 use Rattle.std.specs.List.{list_all}
 use Rattle.std.specs.Ordering.{int_eq}
 use Rattle.std.specs.Str.{bytes_eq}
-use Rattle.std.proofs.lemmas.Bool.{and_parts, cases_Bool, cond-true, cond-false, eqb-true}
+use Rattle.std.proofs.lemmas.Bool.{and_parts, cases_Bool, cond-true, cond-false}
 use Rattle.std.proofs.lemmas.Int.{ints}
 use Rattle.std.proofs.lemmas.List.{drop_more, drop-take, take-append-drop, take-take, take_all}
 use Rattle.std.proofs.lemmas.List.Elements.{filter-append}
 use Rattle.std.proofs.lemmas.Slice.Eq.{bytes_eq-Decides}
 use Rattle.oai_item.specs.Item.{ItemState}
-use Rattle.oai_item.specs.Items.{are_apart, is_apart, is_at, is_named, item_named, without_at}
+use Rattle.oai_item.specs.Items.{are_apart, is_apart, is_at, item_named, without_at}
 use Rattle.oai_item.specs.Selection.{passes, selected}
 use Rattle.oai_item.proofs.Named.{without_at-none}
 use Rattle.oai_item.proofs.OrderLemmas.{all-filter}
@@ -118,7 +118,7 @@ taken_behind x (g ∷ gone) items apart taken =
     let other : bytes_eq x.identifier g.identifier ≡ false = not_named x g parts.0 in
     let here : item_named g.identifier (x ∷ items) ≡ item_named g.identifier items = cond-false (bytes_eq x.identifier g.identifier) (Some x) (item_named g.identifier items) other in
     let left : without_at g.stamp g.identifier (x ∷ items) ≡ x ∷ without_at g.stamp g.identifier items =
-        cond-true (not (is_at g.stamp g.identifier x)) (x ∷ without_at g.stamp g.identifier items) (without_at g.stamp g.identifier items) (ap not (not_at x g.stamp g.identifier other)) in
+    cond-true (not (is_at g.stamp g.identifier x)) (x ∷ without_at g.stamp g.identifier items) (without_at g.stamp g.identifier items) (ap not (not_at x g.stamp g.identifier other)) in
     (here ∙ taken.0, subst (λ (xs : List ItemState). AreTaken gone xs) (sym left) (taken_behind x gone (without_at g.stamp g.identifier items) parts.1 taken.1))
 
 itself : (x : ItemState) → bytes_eq x.identifier x.identifier ≡ true
@@ -187,9 +187,9 @@ forgotten_next old now next gone i d within so_far noting many items agrees take
 
 -- ---- a purge
 
-pub empty : (items : List ItemState) → eqb (length items) 0 ≡ true → items ≡ []
+pub empty : (items : List ItemState) → length items ≡ 0 → items ≡ []
 empty [] h = refl
-empty (x ∷ items) h = let none : length (x ∷ items) ≡ 0 = eqb-true (length (x ∷ items)) 0 h in absurd (omega (arith, none))
+empty (x ∷ items) h = absurd (omega (arith, h))
 
 -- what is left where those that were read, up to all, are taken out
 abbrev pub IsPurge : ℤ → Notes → List ItemState → List ItemState → Type 0

@@ -57,6 +57,20 @@ pub fn archive_b() -> Told<'static> {
     }
 }
 
+/// Archive C: seconds, deleted records until they are purged, oai_dc alone, and at most two items.
+pub fn archive_c() -> Told<'static> {
+    Told {
+        name: "c",
+        repository_name: "Archive C",
+        address: "c@host.example",
+        earliest: "2024-01-01T00:00:00Z",
+        deleted: DeletedRecord::Transient,
+        granularity: Granularity::Second,
+        items: Some(2),
+        ..archive_b()
+    }
+}
+
 /// The settings of which that is told.
 pub fn settings_of(alloc: Global, told: Told<'_>) -> Result<Settings, AllocError> {
     Ok(Settings {

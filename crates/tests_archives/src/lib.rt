@@ -7,7 +7,7 @@ mod lying;
 mod shared;
 mod stocked;
 
-pub use archives::{Told, archive_a, archive_b, settings_of};
+pub use archives::{Told, archive_a, archive_b, archive_c, settings_of};
 pub use lying::LyingVersions;
 pub use shared::{Shared, Which};
 pub use stocked::Stocked;

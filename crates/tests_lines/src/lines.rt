@@ -79,6 +79,17 @@ fn reads_a_deletion(rt: HostRuntime) -> Result<(), Fail> {
     Ok(())
 }
 
+/// The bound is as it was given: the repository looks at it.
+#[test]
+fn reads_a_purge(rt: HostRuntime) -> Result<(), Fail> {
+    let change = read_line(rt.alloc(), br#"{"purge":"2024-02-30"}"#)?;
+    let Change::Purge { before } = &change else {
+        panic!(rt; "no purge")
+    };
+    assert_eq!(rt; before.as_str(), "2024-02-30");
+    Ok(())
+}
+
 #[test]
 fn reads_a_new_set(rt: HostRuntime) -> Result<(), Fail> {
     let change = read_line(rt.alloc(), br#"{"set":"x:y","name":"X & Y"}"#)?;
@@ -113,6 +124,9 @@ fn lines_and_answers() -> &'static str {
 {"delete":"x"} => refused 3 bad-identifier
 {"delete":"oai:a:1"} => read
 {"delete":"oai:a:1","x":1} => refused 2 bad-command
+{"purge":1} => refused 2 bad-command
+{"purge":"x"} => read
+{"purge":"x","delete":"oai:a:1"} => refused 2 bad-command
 {"set":"x","name":"X","y":0} => refused 2 bad-command
 {"set":"x:","name":""} => refused 4 bad-set-spec
 {"set":"x","name":""} => refused 5 bad-text

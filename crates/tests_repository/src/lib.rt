@@ -5,4 +5,8 @@
 #[cfg(test)]
 mod chains;
 #[cfg(test)]
+mod purges;
+#[cfg(test)]
 mod repository;
+#[cfg(test)]
+mod transcripts;

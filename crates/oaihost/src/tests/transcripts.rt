@@ -114,7 +114,19 @@ refused 9 unknown-field
 ok 2024-01-01T00:00:00Z
 > 1704067200 POST /deposit/a {"deposit":"oai:a:2","sets":[],"records":{"oai_dc":[]}}
 200
-refused 10 drops-format"#
+refused 10 drops-format
+> 1704067200 POST /deposit/a {"delete":"x"}
+200
+refused 3 bad-identifier
+> 1704067200 POST /deposit/a {"deposit":"oai:a:3","sets":["x:"],"records":{"oai_dc":[]}}
+200
+refused 4 bad-set-spec
+> 1704067200 POST /deposit/a {"deposit":"oai:a:3","sets":[],"records":{"oai_dc":[["title","\u0001"]]}}
+200
+refused 5 bad-text
+> 1704067200 POST /deposit/a {"purge":"2024-02-30"}
+200
+refused 15 not-transient"#
 }
 
 pub(super) fn sets() -> &'static str {

@@ -1,6 +1,6 @@
 -- Each turn reads a part more.
 use Rattle.std.proofs.Common.{◌≡◌, ◌∙◌, ◌++◌, FitsSigned, List, ap, arith, drop, take, w64}
-use Rattle.std.specs.Prelude.{filter, min}
+use Rattle.std.specs.Prelude.{filter}
 use Rattle.std.proofs.lemmas.Int.{to_z-of_z}
 use Rattle.oai_item.specs.Item.{ItemState}
 use Rattle.oai_item.specs.Selection.{Filter, selected}
@@ -20,9 +20,9 @@ loop-start-preserved g c = record {
       let asked : c.in_ok-asked.asked ≡ below c.args.limit = simp to_z-of_z at c.in_ok-asked.ensures.ok in
       let so_far = at.invariant in
       let part : c.in_ok-part.part ≡ take some (drop at.start (selected (below c.args.limit) items)) =
-          c.in_ok-part.ensures.part (so_far.honesty ∙ honest)
-          ∙ ap (λ (f : Filter). take some (drop at.start (selected f (list_at (V.lists at.store) c.args.v)))) asked
-          ∙ ap (λ lists. take some (drop at.start (selected (below c.args.limit) (list_at lists c.args.v)))) so_far.same in
+      c.in_ok-part.ensures.part (so_far.honesty ∙ honest)
+      ∙ ap (λ (f : Filter). take some (drop at.start (selected f (list_at (V.lists at.store) c.args.v)))) asked
+      ∙ ap (λ lists. take some (drop at.start (selected (below c.args.limit) (list_at lists c.args.v)))) so_far.same in
       let read = simp to_z-of_z at (so_far.read honest) in
       simp to_z-of_z
       (c.in_ok-add_deleted.ensures

@@ -1,5 +1,5 @@
 -- Each turn forgets one of them.
-use Rattle.std.proofs.Common.{◌≡◌, ◌∙◌, ◌+◌, List, None, IsSome, get_or, length, refl, subst}
+use Rattle.std.proofs.Common.{◌≡◌, ◌∙◌, ◌+◌, List, None, IsSome, length, refl, subst}
 use Rattle.oai_item.specs.Item.{ItemState}
 use Rattle.oai_repo.specs.Notes.{noted}
 use Rattle.oai_repo.specs.Workings.{IsNoting}

@@ -1,0 +1,161 @@
+//! Transcripts of one repository: lines that begin with `> ` are a moment and what is asked at it, the
+//! others are answered. 1704067200 is 2024-01-01T00:00:00Z; the repositories tell two records in an
+//! answer, and keep two lists open, each for a minute.
+use oai_catalogue::{PlainVersions, Versions};
+use oai_deposit::read_line;
+use oai_item::{Change, Fault};
+use oai_repo::{Refusal, Reply, RepoConfig};
+use std::alloc::{AllocError, Global};
+use std::io::Write;
+use std::process::Abort;
+use std::test::Fail;
+use tests_archives::{Stocked, Told, settings_of};
+
+/// What every document begins with.
+fn head() -> &'static str {
+    "<?xml version=\"1.0\" encoding=\"UTF-8\"?>\n<OAI-PMH xmlns=\"http://www.openarchives.org/OAI/2.0/\" xmlns:xsi=\"http://www.w3.org/2001/XMLSchema-instance\" xsi:schemaLocation=\"http://www.openarchives.org/OAI/2.0/ http://www.openarchives.org/OAI/2.0/OAI-PMH.xsd\">"
+}
+
+/// The start tag of a record in oai_dc.
+fn dublin_core() -> &'static str {
+    "<oai_dc:dc xmlns:oai_dc=\"http://www.openarchives.org/OAI/2.0/oai_dc/\" xmlns:dc=\"http://purl.org/dc/elements/1.1/\" xmlns:xsi=\"http://www.w3.org/2001/XMLSchema-instance\" xsi:schemaLocation=\"http://www.openarchives.org/OAI/2.0/oai_dc/ http://www.openarchives.org/OAI/2.0/oai_dc.xsd\">"
+}
+
+/// The repository of which that is told, over the store, with room for two open lists.
+fn repository<V: Versions + Drop>(
+    alloc: Global,
+    told: Told<'_>,
+    store: V,
+) -> Result<Stocked<V>, Fail> {
+    let told = Told {
+        lists: Some(2),
+        ..told
+    };
+    let config = RepoConfig::new(alloc, settings_of(alloc, told)?)?;
+    Ok(Stocked::new(alloc, config, store)?)
+}
+
+/// Makes the change, and makes it again where the store fails.
+fn changed<V: Versions + Drop>(
+    repo: &mut Stocked<V>,
+    moment: i64,
+    change: &Change,
+) -> Result<i64, Refusal> {
+    match repo.change(moment, change) {
+        Err(Refusal::Fault(Fault::Device)) => repo.change(moment, change),
+        answer => answer,
+    }
+}
+
+/// Asks the query, and asks it again where the store fails.
+fn asked<V: Versions + Drop>(
+    repo: &mut Stocked<V>,
+    moment: i64,
+    query: &[u8],
+) -> Result<Reply, Fault> {
+    match repo.ask(moment, query) {
+        Err(Fault::Device) => repo.ask(moment, query),
+        answer => answer,
+    }
+}
+
+/// Writes what a change is answered.
+fn write_change(changed: Result<i64, Refusal>, output: &mut Vec<u8>) -> Result<(), Fail> {
+    match changed {
+        Ok(stamp) => Ok(writeln!(output, "ok {stamp}")?),
+        Err(Refusal::Refused(cause)) => Ok(writeln!(output, "{}", cause.answer())?),
+        Err(Refusal::Fault(fault)) => Err(Fail::from(fault)),
+    }
+}
+
+/// Writes what a request is answered.
+fn write_reply(asked: Result<Reply, Fault>, output: &mut Vec<u8>) -> Result<(), Fail> {
+    match asked? {
+        Reply::Page(page) => Ok(output.extend_from_slice(page.as_slice())?),
+        Reply::Later(seconds) => Ok(writeln!(output, "later {seconds}")?),
+    }
+}
+
+/// Performs a deposit line or a query at the moment, and writes what it is answered; or moves the clock
+/// there, and writes nothing.
+fn write_answer<V: Versions + Drop>(
+    alloc: Global,
+    repo: &mut Stocked<V>,
+    moment: i64,
+    text: &str,
+    output: &mut Vec<u8>,
+) -> Result<(), Fail> {
+    if text == "advance" {
+        repo.advance(moment);
+        return Ok(());
+    }
+    if text.starts_with('{') {
+        let change = read_line(alloc, text.as_bytes())?;
+        return write_change(changed(repo, moment, &change), output);
+    }
+    write_reply(asked(repo, moment, text.as_bytes()), output)
+}
+
+/// Performs a line: a moment, a space, and what is asked at it.
+fn write_line<V: Versions + Drop>(
+    rt: &impl Abort,
+    alloc: Global,
+    repo: &mut Stocked<V>,
+    line: &str,
+    output: &mut Vec<u8>,
+) -> Result<(), Fail> {
+    match line.split_once(' ') {
+        Some((moment, text)) => write_answer(alloc, repo, moment.parse::<i64>()?, text, output),
+        None => panic!(rt; "no moment: {line}"),
+    }
+}
+
+/// Adds a line of what is wanted: `DOC` stands for what every document begins with, and `{dc}` for the
+/// start tag of a record in oai_dc.
+fn push_wanted(line: &str, wanted: &mut String) -> Result<(), AllocError> {
+    let line = match line.strip_prefix("DOC ") {
+        Some(rest) => {
+            wanted.push_str(head())?;
+            rest
+        }
+        None => line,
+    };
+    for (place, piece) in line.split("{dc}").enumerate() {
+        if place > 0 {
+            wanted.push_str(dublin_core())?;
+        }
+        wanted.push_str(piece)?;
+    }
+    wanted.push('\n')
+}
+
+/// A new repository of which that is told answers the transcript's lines as it says.
+pub(crate) fn assert_transcript(
+    rt: &impl Abort,
+    alloc: Global,
+    told: Told<'_>,
+    transcript: &str,
+) -> Result<(), Fail> {
+    assert_transcript_over(rt, alloc, told, PlainVersions::new(alloc), transcript)
+}
+
+/// A new repository of which that is told, over the store, answers the transcript's lines as it says.
+pub(crate) fn assert_transcript_over<V: Versions + Drop>(
+    rt: &impl Abort,
+    alloc: Global,
+    told: Told<'_>,
+    store: V,
+    transcript: &str,
+) -> Result<(), Fail> {
+    let mut repo = repository(alloc, told, store)?;
+    let mut output = Vec::new(alloc);
+    let mut wanted = String::new(alloc);
+    for line in transcript.lines() {
+        match line.strip_prefix("> ") {
+            Some(asked) => write_line(rt, alloc, &mut repo, asked, &mut output)?,
+            None => push_wanted(line, &mut wanted)?,
+        }
+    }
+    assert_eq!(rt; output.as_slice(), wanted.as_bytes(), "{transcript}");
+    Ok(())
+}
