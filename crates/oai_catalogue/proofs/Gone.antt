@@ -26,7 +26,7 @@ unfolding without_each without_at
 without_each-next gone x [] = refl
 without_each-next gone x (item ∷ items) =
     let test : is_one_of (gone ++ x ∷ []) item ≡ (is_one_of gone item || is_at x.stamp x.identifier item) =
-        list_any-append (λ (other : ItemState). is_at other.stamp other.identifier item) gone (x ∷ []) ∙ either (is_one_of gone item) (is_at x.stamp x.identifier item) in
+    list_any-append (λ (other : ItemState). is_at other.stamp other.identifier item) gone (x ∷ []) ∙ either (is_one_of gone item) (is_at x.stamp x.identifier item) in
     ap (λ (b : Bool). cond (not b) (item ∷ new) new) test ∙ by_test (is_one_of gone item) (is_at x.stamp x.identifier item) refl (without_each-next gone x items)
   where
     new : List ItemState

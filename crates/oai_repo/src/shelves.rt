@@ -316,8 +316,8 @@ impl Shelf {
         ensures agrees { (items : List ItemState) → AreNoted self.old.notes items
             → AreTaken gone.now items → AreNoted self.new.notes (without_each gone.now items) }
     {
-        for item in gone {
-            self.forget(item.identifier().as_str());
+        for deleted in gone {
+            self.forget(deleted.identifier().as_str());
         }
     }
 

@@ -1,9 +1,9 @@
 -- Each turn takes one of them out.
-use Rattle.std.proofs.Common.{◌≡◌, ◌∙◌, ◌+◌, FitsSigned, IsTrue, List, ap, arith, get_or, refl, subst, sym, take, w64}
+use Rattle.std.proofs.Common.{◌≡◌, ◌∙◌, FitsSigned, List, ap, arith, refl, sym, take, w64}
 use Rattle.std.proofs.lemmas.Int.{to_z-of_z}
 use Rattle.oai_item.specs.Item.{ItemState}
 use Rattle.oai_item.specs.Items.{without_at}
-use Rattle.oai_catalogue.specs.Store.{Lists, list_at, with_list, without_each}
+use Rattle.oai_catalogue.specs.Store.{list_at, with_list, without_each}
 use Rattle.oai_catalogue.proofs.Gone.{without_each-at, without_each-none}
 use Rattle.oai_catalogue.proofs.ListsLemmas.{with_own, with_twice}
 use Rattle.oai_catalogue.proofs.changes.take_out_each.Goals as goal

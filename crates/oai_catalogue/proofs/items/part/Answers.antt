@@ -1,8 +1,8 @@
 -- Each item is left out, passed over or taken; at the end nothing is to come.
-use Rattle.std.proofs.Common.{◌≡◌, ◌∙◌, ℕ, ◌+◌, ◌-◌, ◌<◌, Bool, true, false, List, [], ◌∷◌, ◌++◌, ap, append-nil, append_assoc, arith, drop, get_or, length, sym, take}
+use Rattle.std.proofs.Common.{◌≡◌, ◌∙◌, ℕ, ◌+◌, ◌-◌, ◌<◌, Bool, List, [], ◌∷◌, ◌++◌, ap, append-nil, append_assoc, arith, drop, get_or, sym}
 use Rattle.std.proofs.lemmas.List.{at_drop_all}
 use Rattle.oai_item.specs.Item.{ItemState}
-use Rattle.oai_item.specs.Selection.{Filter, passes, selected}
+use Rattle.oai_item.specs.Selection.{passes, selected}
 use Rattle.oai_catalogue.proofs.Parts.{fails-next, nothing, over-next, taken-next, to_come}
 use Rattle.oai_catalogue.proofs.items.part.Goals as goal
 use Rattle.oai_catalogue.proofs.items.part.Goals.{then-passes+then-before-eq0+in_ok-copy+in_ok-push, then-passes+else-before-eq0, else-passes, else-loop-item-test, then-loop-item-test+then-left-eq0}

@@ -1,4 +1,4 @@
-use Rattle.std.proofs.Common.{◌≡◌, ◌∙◌, FitsSigned, Ok, Err, Some, ap, get_or, sym, w64}
+use Rattle.std.proofs.Common.{◌∙◌, FitsSigned, Ok, Err, Some, ap, get_or, sym, w64}
 use Rattle.std.proofs.lemmas.Int.{to_z-of_z}
 use Rattle.oai_item.specs.Item.{ItemState}
 use Rattle.oai_item.specs.Order.{IsPlace}

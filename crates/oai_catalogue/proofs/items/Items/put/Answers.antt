@@ -1,5 +1,5 @@
 -- What is put in at the place that was found is what the definition puts in.
-use Rattle.std.proofs.Common.{◌≡◌, ◌∙◌, FitsSigned, Ok, Err, ap, sym, true, w64}
+use Rattle.std.proofs.Common.{◌∙◌, FitsSigned, Ok, Err, ap, sym, w64}
 use Rattle.std.proofs.lemmas.Int.{to_z-of_z}
 use Rattle.oai_item.specs.Items.{with_item}
 use Rattle.oai_item.specs.Order.{IsPlace, are_in_order}

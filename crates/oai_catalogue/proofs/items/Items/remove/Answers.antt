@@ -1,7 +1,6 @@
 -- What is taken out at the place that was found is what the definition takes out.
-use Rattle.std.proofs.Common.{◌≡◌, ◌∙◌, FitsSigned, Ok, Err, List, ap, is_some, sym, true, w64}
+use Rattle.std.proofs.Common.{◌≡◌, ◌∙◌, FitsSigned, Ok, Err, ap, is_some, sym, w64}
 use Rattle.std.proofs.lemmas.Int.{to_z-of_z}
-use Rattle.oai_item.specs.Item.{ItemState}
 use Rattle.oai_item.specs.Items.{without_at}
 use Rattle.oai_item.specs.Order.{IsPlace, are_in_order}
 use Rattle.oai_item.proofs.Around.{item_at-found, item_at-missing, without_at-found, without_at-missing}
