@@ -1,0 +1,146 @@
+-- Which repository an exchange is for, and what is answered where it is none's.
+use Rattle.std.proofs.Common.{◌≡◌, ◌∙◌, ℕ, zero, suc, Bool, true, false, not, ◌&&◌, List, [], ◌∷◌, ◌++◌, map, Option, None, Some, refl, sym, ap, subst}
+use Rattle.std.specs.List.{list_all, list_any, slice_get}
+use Rattle.std.specs.Str.{bytes_eq}
+use Rattle.std.proofs.lemmas.Bool.{and_parts, false_from_ne_true, not-true, or_from, or_parts}
+use Rattle.oai_catalogue.specs.Store.{Lists}
+use Rattle.oai_item.specs.Rules.{has_repeat}
+use Rattle.oai_host.specs.Configs.{AreNamed, Hosted, names_of}
+use Rattle.oai_host.specs.Hosts.{Each, IsAnswered, IsStep, Repository, begun, is_of_none, refused}
+use Rattle.oai_host.specs.Housed.{housed_names, place_in, repositories_of, repository_of}
+use Rattle.oai_repo.specs.Config.{is_repository_name}
+use Rattle.oai_host.specs.Targets.{front_of, leads_to_repository, path_of}
+use Rattle.oai_host.specs.Workings.{IsPlace, LeadsNowhere}
+use Rattle.oai_host.specs.declared.exchanges.Answer.{Answer}
+use Rattle.oai_host.specs.declared.exchanges.Call.{Call}
+use Rattle.oai_host.specs.declared.housed.Housed.{Housed}
+use Rattle.oai_host.specs.declared.routes.Kind.{Kind}
+use Rattle.oai_host.proofs.PlaceLemmas.{bytes_same, bytes_turned, clash, leads_by, leads_there, nothing_there, place_none, place_there, same_one}
+
+-- a path that is none of the two
+pub nowhere_path : (housed : List Housed) (target : List ℕ) → list_all is_repository_name (housed_names housed) ≡ true → ((kind : Kind) (name : List ℕ) → is_repository_name name ≡ true → path_of target ≡ front_of kind ++ name → ⊥)
+    → LeadsNowhere housed target
+nowhere_path [] target named never = tt
+nowhere_path (x ∷ housed) target named never =
+    let parts = and_parts (is_repository_name x.name) (list_all is_repository_name (housed_names housed)) named in
+    (false_from_ne_true (leads_to_repository x.name target) (λ leads. let by = leads_by x.name target leads in never by.0 x.name parts.0 by.1), nowhere_path housed target parts.1 never)
+
+-- a name that none has
+nowhere_among : (housed : List Housed) (target name : List ℕ) → list_all is_repository_name (housed_names housed) ≡ true → list_any (λ (one : List ℕ). bytes_eq one name) (housed_names housed) ≡ false
+    → ((kind : Kind) (other : List ℕ) → is_repository_name other ≡ true → path_of target ≡ front_of kind ++ other → name ≡ other) → LeadsNowhere housed target
+nowhere_among [] target name named none only = tt
+nowhere_among (x ∷ housed) target name named none only =
+    let parts = and_parts (is_repository_name x.name) (list_all is_repository_name (housed_names housed)) named in
+    let apart = or_parts (bytes_eq x.name name) (list_any (λ (one : List ℕ). bytes_eq one name) (housed_names housed)) none in (
+      false_from_ne_true (leads_to_repository x.name target) (λ leads.
+          let by = leads_by x.name target leads in
+          clash (bytes_eq x.name name) (ap (bytes_eq x.name) (only by.0 x.name parts.0 by.1) ∙ bytes_same x.name) apart.0),
+      nowhere_among housed target name parts.1 apart.1 only,
+    )
+
+pub nowhere_name : (housed : List Housed) (target name : List ℕ) → list_all is_repository_name (housed_names housed) ≡ true → place_in (housed_names housed) name ≡ None
+    → ((kind : Kind) (other : List ℕ) → is_repository_name other ≡ true → path_of target ≡ front_of kind ++ other → name ≡ other) → LeadsNowhere housed target
+nowhere_name housed target name named none only = nowhere_among housed target name named (place_none (housed_names housed) name none) only
+
+pub place_found : (housed : List Housed) (target name : List ℕ) (place : ℕ) (kind : Kind) → place_in (housed_names housed) name ≡ Some place → path_of target ≡ front_of kind ++ name → IsPlace housed place kind target
+place_found housed target name place kind found path =
+    let there = place_there housed name place found in
+    record { one = there.0; there = there.1; path = path ∙ ap (λ (n : List ℕ). front_of kind ++ n) (sym there.2) }
+
+-- ---- answers
+
+-- the exchange is a repository's
+owned : {P : Type 0} (housed : List Housed) (i : ℕ) (one : Housed) (lists : Lists) (call : Call) → slice_get housed i ≡ Some one → leads_to_repository one.name call.target ≡ true
+    → is_of_none (repositories_of housed lists) call ≡ true → P
+owned [] i one lists call there leads none = nothing_there one there
+owned (x ∷ housed) zero one lists call there leads none =
+    let parts = and_parts (not (leads_to_repository x.name call.target)) (is_of_none (repositories_of housed lists) call) none in
+    clash (leads_to_repository x.name call.target) (ap (λ (y : Housed). leads_to_repository y.name call.target) (same_one x one there) ∙ leads) (not-true (leads_to_repository x.name call.target) parts.0)
+owned (x ∷ housed) (suc i) one lists call there leads none =
+    owned housed i one lists call there leads (and_parts (not (leads_to_repository x.name call.target)) (is_of_none (repositories_of housed lists) call) none).1
+
+pub answered_there : (housed : List Housed) (i : ℕ) (kind : Kind) (lists : Lists) (call : Call) (answer : Answer) (after : List Repository) → IsPlace housed i kind call.target
+    → Each (IsStep call answer) (repositories_of housed lists) after → IsAnswered call answer (repositories_of housed lists) after
+answered_there housed i kind lists call answer after place each = record {
+  each = each;
+  none = λ none. owned housed i place.one lists call place.there (leads_there kind place.one.name call.target place.path) none;
+}
+
+none_steps : (housed : List Housed) (lists : Lists) (call : Call) (answer : Answer) → LeadsNowhere housed call.target → Each (IsStep call answer) (repositories_of housed lists) (repositories_of housed lists)
+none_steps [] lists call answer nowhere = tt
+none_steps (x ∷ housed) lists call answer nowhere =
+    (record { name = refl; config = refl; own = λ leads. clash (leads_to_repository x.name call.target) leads nowhere.0; other = λ _. refl }, none_steps housed lists call answer nowhere.1)
+
+pub answered_nowhere : (housed : List Housed) (lists : Lists) (call : Call) (answer : Answer) → LeadsNowhere housed call.target → answer ≡ refused call
+    → IsAnswered call answer (repositories_of housed lists) (repositories_of housed lists)
+answered_nowhere housed lists call answer nowhere is = record { each = none_steps housed lists call answer nowhere; none = λ _. is }
+
+-- ---- those that begin
+
+begun_names : (housed : List Housed) (lists : Lists) → map (λ (r : Repository). r.name) (repositories_of housed lists) ≡ housed_names housed
+begun_names [] lists = refl
+begun_names (x ∷ housed) lists = ap (λ (names : List (List ℕ)). x.name ∷ names) (begun_names housed lists)
+
+configured_names : (front : List Hosted) → map (λ (r : Repository). r.name) (map begun front) ≡ names_of front
+configured_names [] = refl
+configured_names (x ∷ front) = ap (λ (names : List (List ℕ)). x.name ∷ names) (configured_names front)
+
+same_names : (housed : List Housed) (lists : Lists) (front : List Hosted) → repositories_of housed lists ≡ map begun front → housed_names housed ≡ names_of front
+same_names housed lists front same = sym (begun_names housed lists) ∙ ap (map (λ (r : Repository). r.name)) same ∙ configured_names front
+
+none_apart : (name : List ℕ) (front rest : List Hosted) (one : Hosted) → list_any (bytes_eq name) (names_of (front ++ one ∷ rest)) ≡ false → bytes_eq name one.name ≡ false
+none_apart name [] rest one none = (or_parts (bytes_eq name one.name) (list_any (bytes_eq name) (names_of rest)) none).0
+none_apart name (x ∷ front) rest one none = none_apart name front rest one (or_parts (bytes_eq name x.name) (list_any (bytes_eq name) (names_of (front ++ one ∷ rest))) none).1
+
+unused_name : (front rest : List Hosted) (one : Hosted) → has_repeat (names_of (front ++ one ∷ rest)) ≡ false → list_any (bytes_eq one.name) (names_of front) ≡ false
+unused_name [] rest one distinct = refl
+unused_name (x ∷ front) rest one distinct =
+    let parts = or_parts (list_any (bytes_eq x.name) (names_of (front ++ one ∷ rest))) (has_repeat (names_of (front ++ one ∷ rest))) distinct in
+    or_from (bytes_eq one.name x.name) (list_any (bytes_eq one.name) (names_of front))
+    (bytes_turned x.name one.name (none_apart x.name front rest one parts.0))
+    (unused_name front rest one parts.1)
+
+named_one : (front rest : List Hosted) (one : Hosted) → list_all is_repository_name (names_of (front ++ one ∷ rest)) ≡ true → is_repository_name one.name ≡ true
+named_one [] rest one all = (and_parts (is_repository_name one.name) (list_all is_repository_name (names_of rest)) all).0
+named_one (x ∷ front) rest one all = named_one front rest one (and_parts (is_repository_name x.name) (list_all is_repository_name (names_of (front ++ one ∷ rest))) all).1
+
+-- the next of the repositories that are to begin has a name of its own
+pub next_named : (all front rest : List Hosted) (one : Hosted) → AreNamed (names_of all) → all ≡ front ++ one ∷ rest → is_repository_name one.name ≡ true
+next_named all front rest one named is = named_one front rest one (subst (λ (hs : List Hosted). list_all is_repository_name (names_of hs) ≡ true) is named.named)
+
+pub next_unused : (all front rest : List Hosted) (one : Hosted) (housed : List Housed) (lists : Lists) → AreNamed (names_of all) → all ≡ front ++ one ∷ rest → repositories_of housed lists ≡ map begun front
+    → list_any (bytes_eq one.name) (housed_names housed) ≡ false
+next_unused all front rest one housed lists named is same =
+    ap (list_any (bytes_eq one.name)) (same_names housed lists front same) ∙ unused_name front rest one (subst (λ (hs : List Hosted). has_repeat (names_of hs) ≡ false) is named.distinct)
+
+join_hosted : (front rest : List Hosted) (one : Hosted) → front ++ one ∷ rest ≡ (front ++ one ∷ []) ++ rest
+join_hosted [] rest one = refl
+join_hosted (x ∷ front) rest one = ap (λ (hs : List Hosted). x ∷ hs) (join_hosted front rest one)
+
+map_begun : (front : List Hosted) (one : Hosted) → map begun (front ++ one ∷ []) ≡ map begun front ++ begun one ∷ []
+map_begun [] one = refl
+map_begun (x ∷ front) one = ap (λ (rs : List Repository). begun x ∷ rs) (map_begun front one)
+
+-- the repositories that have begun, and the configurations of those that are to begin
+pub record AreBegun (all rest : List Hosted) (repositories : List Repository) : Type 0 where
+  pub front : List Hosted
+  pub whole : all ≡ front ++ rest
+  pub begun_so : repositories ≡ map begun front
+
+pub begun_none : (all : List Hosted) → AreBegun all all []
+begun_none all = record { front = []; whole = refl; begun_so = refl }
+
+pub begun_more : (all rest : List Hosted) (one : Hosted) (before after : List Repository) → AreBegun all (one ∷ rest) before → after ≡ before ++ begun one ∷ [] → AreBegun all rest after
+begun_more all rest one before after so_far is = record {
+  front = so_far.front ++ one ∷ [];
+  whole = so_far.whole ∙ join_hosted so_far.front rest one;
+  begun_so = is ∙ ap (λ (rs : List Repository). rs ++ begun one ∷ []) so_far.begun_so ∙ sym (map_begun so_far.front one);
+}
+
+all_front : (front : List Hosted) → front ++ [] ≡ front
+all_front [] = refl
+all_front (x ∷ front) = ap (λ (hs : List Hosted). x ∷ hs) (all_front front)
+
+pub begun_all : (all rest : List Hosted) (repositories : List Repository) → AreBegun all rest repositories → rest ≡ [] → repositories ≡ map begun all
+begun_all all rest repositories so_far none =
+    so_far.begun_so ∙ ap (map begun) (sym (so_far.whole ∙ ap (λ (hs : List Hosted). so_far.front ++ hs) none ∙ all_front so_far.front))

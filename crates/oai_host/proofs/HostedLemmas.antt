@@ -1,0 +1,214 @@
+-- The repositories of a configuration, as a loop makes them one after another; and the rules that they then keep.
+use Rattle.std.proofs.Common.{◌≡◌, ℕ, suc, Bool, true, false, not, ◌||◌, ◌==◌, Option, Some, None, List, [], ◌∷◌, ◌++◌, length, Ok, Err, refl, sym, ap, ◌∙◌, subst, append-nil, append_assoc, arith}
+use Rattle.std.specs.Prelude.{nat_lt}
+use Rattle.std.specs.List.{list_all, list_any}
+use Rattle.std.proofs.lemmas.Bool.{or_parts, not-false, and_from}
+use Rattle.std.proofs.lemmas.Bool.Decides.{nat_tests}
+use Rattle.std.proofs.lemmas.List.Folds.{list_any-append}
+use Rattle.oai_names.specs.Characters.{is_between}
+use Rattle.oai_item.specs.Rules.{has_repeat}
+use Rattle.oai_repo.specs.declared.settings.ConfigFault.{ConfigFault}
+use Rattle.oai_repo.specs.declared.settings.ConfigFault.TheVariants as alone
+use Rattle.oai_repo.specs.declared.settings.Settings.{Settings}
+use Rattle.oai_repo.specs.Config.{is_repository_name}
+use Rattle.oai_repo.specs.Settings.{IsConfigured, config_fault, has_number}
+use Rattle.oai_host.specs.declared.faults.ReadFault.{ReadFault}
+use Rattle.oai_host.specs.declared.faults.ReadFault.TheVariants.{BadJson, BadShape, BadName, DuplicateName, BadFormat, BadDate, BadNumber, TooMany, NoMemory}
+use Rattle.oai_host.specs.declared.readings.told.Told.{Told}
+use Rattle.oai_host.specs.Configs.{Hosted, IsHostConfig, is_cache, names_of}
+use Rattle.oai_host.specs.Reading.{IsHosted, AreHosted, IsLowest}
+use Rattle.oai_host.specs.Causes.{is_wrong_alone, is_wrong_together, names_told}
+use Rattle.oai_host.specs.ReadingWork.{AreMade, IsHostedOr, IsLowestOf, IsMade, fault_of, first_together, lower, or_alone}
+use Rattle.oai_host.proofs.CauseLemmas.{IsLowestBy, lowest_alone, lowest_of_two, lowest_together, same_lowest, same_lowest_of}
+
+-- ---- one repository
+
+found_alone : (s : Settings) (o : Option ConfigFault) → config_fault s ≡ o → IsLowestBy fault_of (λ cause. is_wrong_alone cause s) o
+found_alone s o is = subst (λ o. IsLowestBy fault_of (λ cause. is_wrong_alone cause s) o) is (lowest_alone s)
+
+pub fault_alone : (s : Settings) (fault : ConfigFault) → IsConfigured s (Err fault) → IsHostedOr s (Err (fault_of fault))
+fault_alone s alone.BadShape is = found_alone s (Some alone.BadShape) is
+fault_alone s alone.BadName is = found_alone s (Some alone.BadName) is
+fault_alone s alone.BadFormat is = found_alone s (Some alone.BadFormat) is
+fault_alone s alone.BadDate is = found_alone s (Some alone.BadDate) is
+fault_alone s alone.BadNumber is = found_alone s (Some alone.BadNumber) is
+fault_alone s alone.NoMemory is = tt
+
+-- the fault that was found is the lowest, unless it is want of memory
+pub is_lowest : (s : Settings) (fault : ReadFault) → (fault ≡ NoMemory → ⊥) → IsHostedOr s (Err fault) → IsLowest (λ cause. is_wrong_alone cause s) fault
+is_lowest s BadJson other is = is
+is_lowest s BadShape other is = is
+is_lowest s BadName other is = is
+is_lowest s DuplicateName other is = is
+is_lowest s BadFormat other is = is
+is_lowest s BadDate other is = is
+is_lowest s BadNumber other is = is
+is_lowest s TooMany other is = is
+is_lowest s NoMemory other is = absurd (other refl)
+
+-- ---- one after another
+
+more_hosted : (settings : List Settings) (hosted : List Hosted) (s : Settings) (h : Hosted) → AreHosted settings hosted → IsHosted s h → AreHosted (settings ++ s ∷ []) (hosted ++ h ∷ [])
+more_hosted [] [] s h are is = (is, tt)
+more_hosted [] (y ∷ hosted) s h are is = absurd are
+more_hosted (x ∷ settings) [] s h are is = absurd are
+more_hosted (x ∷ settings) (y ∷ hosted) s h are is = (are.0, more_hosted settings hosted s h are.1 is)
+
+or_last : (a b c : Bool) → (a || (b || (c || false))) ≡ ((a || b) || c)
+or_last true b c = refl
+or_last false true c = refl
+or_last false false true = refl
+or_last false false false = refl
+
+or_none : (a : Bool) → (a || false) ≡ a
+or_none true = refl
+or_none false = refl
+
+-- the causes in one repository more
+or_alone-push : (causes : ReadFault → Bool) (settings : List Settings) (s : Settings) (cause : ReadFault)
+    → or_alone causes (settings ++ s ∷ []) cause ≡ (or_alone causes settings cause || is_wrong_alone cause s)
+or_alone-push causes settings s cause =
+    ap (λ b. causes cause || b) (list_any-append (is_wrong_alone cause) settings (s ∷ []))
+    ∙ or_last (causes cause) (list_any (is_wrong_alone cause) settings) (is_wrong_alone cause s)
+
+-- so far: the settings that were taken and those that are left, the lowest fault in what was found and in those taken, and their
+-- repositories, where they have no fault
+pub record IsSoFar (found lowest : Option ReadFault) (hosted : List Hosted) (whole taken left : List Settings) : Type 0 where
+  pub split : whole ≡ taken ++ left
+  pub lowest_is : (causes : ReadFault → Bool) → IsLowestOf causes found → IsLowestOf (or_alone causes taken) lowest
+  pub hosted_are : lowest ≡ None → AreHosted taken hosted
+
+pub at_first : (found : Option ReadFault) (whole : List Settings) → IsSoFar found found [] whole [] whole
+at_first found whole = record {
+  split = refl;
+  lowest_is = λ causes is. same_lowest_of causes (or_alone causes []) found (λ cause. sym (or_none (causes cause))) is;
+  hosted_are = λ none. tt;
+}
+
+one_less : (whole taken left rest : List Settings) (s : Settings) → whole ≡ taken ++ left → left ≡ s ∷ rest → whole ≡ (taken ++ s ∷ []) ++ rest
+one_less whole taken left rest s split is = split ∙ ap (λ l. taken ++ l) is ∙ sym (append_assoc taken (s ∷ []) rest)
+
+pub with_good : (found lowest : Option ReadFault) (hosted : List Hosted) (whole taken left rest : List Settings) (s : Settings) (h : Hosted)
+    → IsSoFar found lowest hosted whole taken left → left ≡ s ∷ rest → IsHosted s h
+    → IsSoFar found lowest (hosted ++ h ∷ []) whole (taken ++ s ∷ []) rest
+with_good found lowest hosted whole taken left rest s h so_far is good =
+    let faultless : (cause : ReadFault) → is_wrong_alone cause s ≡ false = found_alone s None good.config.faultless in
+    record {
+      split = one_less whole taken left rest s so_far.split is;
+      lowest_is = λ causes first.
+          same_lowest_of (or_alone causes taken) (or_alone causes (taken ++ s ∷ [])) lowest
+          (λ cause. sym (or_alone-push causes taken s cause ∙ ap (λ b. or_alone causes taken cause || b) (faultless cause) ∙ or_none (or_alone causes taken cause)))
+          (so_far.lowest_is causes first);
+      hosted_are = λ none. more_hosted taken hosted s h (so_far.hosted_are none) good;
+    }
+
+Some≢None : (fault : ReadFault) → Some fault ≡ None → ⊥
+Some≢None fault is = absurd cc
+
+pub with_bad : (found lowest : Option ReadFault) (hosted : List Hosted) (whole taken left rest : List Settings) (s : Settings) (fault : ReadFault)
+    → IsSoFar found lowest hosted whole taken left → left ≡ s ∷ rest → IsLowest (λ cause. is_wrong_alone cause s) fault
+    → IsSoFar found (Some (lower lowest fault)) hosted whole (taken ++ s ∷ []) rest
+with_bad found lowest hosted whole taken left rest s fault so_far is bad = record {
+  split = one_less whole taken left rest s so_far.split is;
+  lowest_is = λ causes first.
+      same_lowest (λ cause. or_alone causes taken cause || is_wrong_alone cause s) (or_alone causes (taken ++ s ∷ [])) (lower lowest fault)
+      (λ cause. sym (or_alone-push causes taken s cause))
+      (lowest_of_two (or_alone causes taken) (λ cause. is_wrong_alone cause s) lowest fault (so_far.lowest_is causes first) bad);
+  hosted_are = λ none. absurd (Some≢None (lower lowest fault) none);
+}
+
+-- the fault is no want of memory, or that is what is answered
+as_fault : (causes : ReadFault → Bool) (settings : List Settings) (fault : ReadFault) → IsLowest (or_alone causes settings) fault → AreMade causes settings (Err fault)
+as_fault causes settings BadJson is = is
+as_fault causes settings BadShape is = is
+as_fault causes settings BadName is = is
+as_fault causes settings DuplicateName is = is
+as_fault causes settings BadFormat is = is
+as_fault causes settings BadDate is = is
+as_fault causes settings BadNumber is = is
+as_fault causes settings TooMany is = is
+as_fault causes settings NoMemory is = tt
+
+all_taken : (found lowest : Option ReadFault) (hosted : List Hosted) (whole taken left : List Settings) → IsSoFar found lowest hosted whole taken left → left ≡ [] → whole ≡ taken
+all_taken found lowest hosted whole taken left so_far none = so_far.split ∙ ap (λ l. taken ++ l) none ∙ append-nil taken
+
+pub at_last_bad : (found : Option ReadFault) (fault : ReadFault) (hosted : List Hosted) (whole taken left : List Settings)
+    → IsSoFar found (Some fault) hosted whole taken left → left ≡ [] → (causes : ReadFault → Bool) → IsLowestOf causes found → AreMade causes whole (Err fault)
+at_last_bad found fault hosted whole taken left so_far none causes first =
+    subst (λ settings. AreMade causes settings (Err fault)) (sym (all_taken _ _ _ _ _ _ so_far none))
+    (as_fault causes taken fault (so_far.lowest_is causes first))
+
+pub at_last_good : (found : Option ReadFault) (hosted : List Hosted) (whole taken left : List Settings)
+    → IsSoFar found None hosted whole taken left → left ≡ [] → (causes : ReadFault → Bool) → IsLowestOf causes found → AreMade causes whole (Ok hosted)
+at_last_good found hosted whole taken left so_far none causes first =
+    let P : List Settings → Type 0 = λ settings. AreMade causes settings (Ok hosted) in
+    subst P (sym (all_taken _ _ _ _ _ _ so_far none))
+    (so_far.lowest_is causes first, so_far.hosted_are refl)
+
+-- ---- the rules
+
+names_same : (settings : List Settings) (hosted : List Hosted) → AreHosted settings hosted → names_of hosted ≡ names_told settings
+names_same [] [] are = refl
+names_same [] (h ∷ hosted) are = absurd are
+names_same (s ∷ settings) [] are = absurd are
+names_same (s ∷ settings) (h ∷ hosted) are = ap (λ name. name ∷ names_of hosted) are.0.name ∙ ap (λ names. s.name ∷ names) (names_same settings hosted are.1)
+
+as_many : (settings : List Settings) (hosted : List Hosted) → AreHosted settings hosted → length hosted ≡ length settings
+as_many [] [] are = refl
+as_many [] (h ∷ hosted) are = absurd are
+as_many (s ∷ settings) [] are = absurd are
+as_many (s ∷ settings) (h ∷ hosted) are = ap suc (as_many settings hosted are.1)
+
+all_named : (settings : List Settings) → list_any (is_wrong_alone BadName) settings ≡ false → list_all is_repository_name (names_told settings) ≡ true
+all_named [] none = refl
+all_named (s ∷ settings) none =
+    let parts = or_parts (not (is_repository_name s.name)) (list_any (is_wrong_alone BadName) settings) none in
+    and_from _ _ (not-false _ parts.0) (all_named settings parts.1)
+
+in_range : (n : ℕ) → (n == 0) ≡ false → nat_lt 1_000 n ≡ false → is_between 1 1_000 n ≡ true
+in_range n some few = grind (arith, nat_tests)
+
+there : (cache : Option ℕ) (n : ℕ) → cache ≡ Some n → has_number is_cache cache ≡ true → is_cache n ≡ true
+there cache n is passes = sym (ap (has_number is_cache) is) ∙ passes
+
+pub keeps_rules : (cache : Option ℕ) (settings : List Settings) (n : ℕ) (hosted : List Hosted) → cache ≡ Some n
+    → ((cause : ReadFault) → or_alone (λ cause. is_wrong_together cause cache settings) settings cause ≡ false) → AreHosted settings hosted
+    → IsHostConfig (record { cache = n; repositories = hosted })
+keeps_rules cache settings n hosted is none are =
+    let whole : (cause : ReadFault) → is_wrong_together cause cache settings ≡ false = λ cause. (or_parts _ _ (none cause)).0 in
+    let each : (cause : ReadFault) → list_any (is_wrong_alone cause) settings ≡ false = λ cause. (or_parts _ _ (none cause)).1 in
+    record {
+      cached = there cache n is (not-false _ (whole BadNumber));
+      counted = ap (is_between 1 1_000) (as_many settings hosted are) ∙ in_range (length settings) (whole BadShape) (whole TooMany);
+      named = record {
+        named = ap (list_all is_repository_name) (names_same settings hosted are) ∙ all_named settings (each BadName);
+        distinct = ap has_repeat (names_same settings hosted are) ∙ whole DuplicateName;
+      };
+    }
+
+-- ---- the whole
+
+pub made_or : (told : Told) (fault : ReadFault) → AreMade (λ cause. is_wrong_together cause told.cache told.repositories) told.repositories (Err fault) → IsMade told (Err fault)
+made_or told BadJson is = is
+made_or told BadShape is = is
+made_or told BadName is = is
+made_or told DuplicateName is = is
+made_or told BadFormat is = is
+made_or told BadDate is = is
+made_or told BadNumber is = is
+made_or told TooMany is = is
+made_or told NoMemory is = tt
+
+pub found_together : (cache : Option ℕ) (settings slice : List Settings) (found : Option ReadFault) → found ≡ first_together cache slice → slice ≡ settings
+    → IsLowestOf (λ cause. is_wrong_together cause cache settings) found
+found_together cache settings slice found is same =
+    subst (IsLowestOf (λ cause. is_wrong_together cause cache settings)) (sym (is ∙ ap (first_together cache) same)) (lowest_together cache settings)
+
+true≢false : true ≡ false → ⊥
+true≢false is = absurd cc
+
+-- where nothing is wrong, a number of pages is told
+pub cache_told : (cache : Option ℕ) (settings : List Settings) → cache ≡ None
+    → ((cause : ReadFault) → or_alone (λ cause. is_wrong_together cause cache settings) settings cause ≡ false) → ⊥
+cache_told cache settings missing faultless =
+    true≢false (sym (ap (λ n. not (has_number is_cache n)) missing) ∙ (or_parts _ _ (faultless BadNumber)).0)

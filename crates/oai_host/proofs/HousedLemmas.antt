@@ -1,0 +1,245 @@
+-- One of many repositories changes, and the others stay as they were.
+use Rattle.std.proofs.Common.{◌≡◌, ◌∙◌, inl, inr, ℕ, zero, suc, Bool, true, false, not, ◌||◌, ◌&&◌, eqb, List, [], ◌∷◌, ◌++◌, map, Option, None, Some, unwrap_or, slice_set, IsTrue, refl, sym, ap, subst}
+use Rattle.std.specs.List.{list_any, slice_get}
+use Rattle.std.specs.Str.{bytes_eq}
+use Rattle.std.proofs.lemmas.Bool.{and_parts, cond-false, eqb-true, false_from_ne_true, not-true, not_from_false, or_from, or_left, or_parts, or_right}
+use Rattle.oai_item.specs.Item.{ItemState}
+use Rattle.oai_catalogue.specs.Store.{Lists}
+use Rattle.oai_repo.specs.Config.{Config}
+use Rattle.oai_repo.specs.Held.{Held, IsHeld, IsNew, KeepsOthers, StandsIn, begun_of, has, items_on, numbers_of, state_of, versions_in}
+use Rattle.oai_repo.specs.State.{OpenLists, State, empty_state}
+use Rattle.oai_repo.proofs.BegunLemmas.{begun_same}
+use Rattle.oai_repo.proofs.NeighbourLemmas.{apart_turned, held_where, stands_where, still_apart, still_held, still_stands}
+use Rattle.oai_repo.proofs.NumberLemmas.{same_number, turned, unused_lacks}
+use Rattle.oai_host.specs.Alone.{IsExchange, IsTried}
+use Rattle.oai_item.specs.Rules.{has_repeat}
+use Rattle.oai_host.specs.Configs.{AreNamed, Hosted}
+use Rattle.oai_host.specs.Hosts.{Each, IsStep, Repository, begun}
+use Rattle.oai_host.specs.Housed.{AllApart, AllHeld, AllStand, AreApart, AreHoused, IsApart, IsKept, housed_names, repositories_of, repository_of}
+use Rattle.oai_repo.specs.Config.{is_repository_name}
+use Rattle.oai_host.specs.Targets.{front_of, leads_to_repository, path_of}
+use Rattle.oai_host.specs.Tasks.{task_in, task_of}
+use Rattle.oai_host.specs.declared.exchanges.Answer.{Answer}
+use Rattle.oai_host.specs.declared.exchanges.Call.{Call}
+use Rattle.oai_host.specs.declared.housed.Housed.{Housed}
+use Rattle.oai_host.specs.declared.routes.Kind.{Kind}
+use Rattle.oai_host.proofs.PlaceLemmas.{bytes_turned, clash, kind_is, leads_not, leads_there, named_last, names_last, names_set, nothing_there, same_one}
+
+-- ---- another one stands for what it stood for
+
+state_same : (other : Held) (before after : Lists) → ((n : ℕ) → has (numbers_of other) n ≡ true → after n ≡ before n) → state_of other after ≡ state_of other before
+state_same other before after same =
+    let v : ℕ = other.shelf.version in
+    let items : items_on other.shelf after ≡ items_on other.shelf before =
+    ap (λ (o : Option (List ItemState)). unwrap_or o []) (same v (or_left (eqb v v) (has (versions_in other.table) v) (same_number v)))
+    in
+    let open_ones : begun_of other.clock other.table after ≡ begun_of other.clock other.table before =
+    begun_same other.clock other.table before after (λ n there. same n (or_right (eqb v n) (has (versions_in other.table) n) there))
+    in
+    let with : List ItemState → OpenLists → State = λ xs b. record { clock = other.clock; holdings = record { items = xs; sets = other.sets }; begun = b } in
+    ap (λ (xs : List ItemState). with xs (begun_of other.clock other.table after)) items ∙ ap (with (items_on other.shelf before)) open_ones
+
+module _ (old new : Held) (before after : Lists) (kept : KeepsOthers (numbers_of old) before (numbers_of new) after) where
+  same_lists : (other : Held) → StandsIn other before → AreApart other old → (n : ℕ) → has (numbers_of other) n ≡ true → after n ≡ before n
+  same_lists other stands apart n there = kept.others n (apart n there) (still_apart old new other before after kept stands apart n there)
+
+  -- ---- those behind it
+
+  rest_stand : (others : List Housed) → AllStand others before → IsApart old others → AllStand others after
+  rest_stand [] stand apart = tt
+  rest_stand (x ∷ others) stand apart = (still_stands old new x.repo before after kept stand.0 (apart_turned old x.repo apart.0), rest_stand others stand.1 apart.1)
+
+  rest_held : (others : List Housed) → AllStand others before → IsApart old others → AllHeld others before → AllHeld others after
+  rest_held [] stand apart held = tt
+  rest_held (x ∷ others) stand apart held =
+      (still_held old new x.repo before after kept stand.0 (apart_turned old x.repo apart.0) held.0, rest_held others stand.1 apart.1 held.1)
+
+  rest_apart : (others : List Housed) → AllStand others before → IsApart old others → IsApart new others
+  rest_apart [] stand apart = tt
+  rest_apart (x ∷ others) stand apart =
+      (apart_turned x.repo new (still_apart old new x.repo before after kept stand.0 (apart_turned old x.repo apart.0)), rest_apart others stand.1 apart.1)
+
+  other_step : (call : Call) (answer : Answer) (x : Housed) → StandsIn x.repo before → AreApart x.repo old → leads_to_repository x.name call.target ≡ false
+      → IsStep call answer (repository_of before x) (repository_of after x)
+  other_step call answer x stands apart elsewhere = record {
+    name = refl;
+    config = refl;
+    own = λ leads. clash (leads_to_repository x.name call.target) leads elsewhere;
+    other = λ _. state_same x.repo before after (same_lists x.repo stands apart);
+  }
+
+  rest_steps : (call : Call) (answer : Answer) (kind : Kind) (name : List ℕ) (others : List Housed) → AllStand others before → IsApart old others
+      → path_of call.target ≡ front_of kind ++ name → list_any (bytes_eq name) (housed_names others) ≡ false
+      → Each (IsStep call answer) (repositories_of others before) (repositories_of others after)
+  rest_steps call answer kind name [] stand apart path unused = tt
+  rest_steps call answer kind name (x ∷ others) stand apart path unused =
+      let parts = or_parts (bytes_eq name x.name) (list_any (bytes_eq name) (housed_names others)) unused in (
+        other_step call answer x stand.0 (apart_turned old x.repo apart.0) (leads_not kind name x.name call.target path parts.0),
+        rest_steps call answer kind name others stand.1 apart.1 path parts.1,
+      )
+
+-- ---- the one at a place
+
+apart_at : (a : Held) (housed : List Housed) (i : ℕ) (one : Housed) → slice_get housed i ≡ Some one → IsApart a housed → AreApart a one.repo
+apart_at a [] i one there apart = nothing_there one there
+apart_at a (x ∷ housed) zero one there apart = subst (λ (y : Housed). AreApart a y.repo) (same_one x one there) apart.0
+apart_at a (x ∷ housed) (suc i) one there apart = apart_at a housed i one there apart.1
+
+apart_set : (a : Held) (housed : List Housed) (i : ℕ) (other : Housed) → IsApart a housed → AreApart a other.repo → IsApart a (slice_set housed i other)
+apart_set a [] i other apart new = tt
+apart_set a (x ∷ housed) zero other apart new = (new, apart.1)
+apart_set a (x ∷ housed) (suc i) other apart new = (apart.0, apart_set a housed i other apart.1 new)
+
+pub stands_at : (housed : List Housed) (i : ℕ) (one : Housed) (lists : Lists) → slice_get housed i ≡ Some one → AllStand housed lists → StandsIn one.repo lists
+stands_at [] i one lists there stand = nothing_there one there
+stands_at (x ∷ housed) zero one lists there stand = subst (λ (y : Housed). StandsIn y.repo lists) (same_one x one there) stand.0
+stands_at (x ∷ housed) (suc i) one lists there stand = stands_at housed i one lists there stand.1
+
+pub held_at : (housed : List Housed) (i : ℕ) (one : Housed) (lists : Lists) → slice_get housed i ≡ Some one → AllHeld housed lists → IsHeld one.repo lists
+held_at [] i one lists there held = nothing_there one there
+held_at (x ∷ housed) zero one lists there held = subst (λ (y : Housed). IsHeld y.repo lists) (same_one x one there) held.0
+held_at (x ∷ housed) (suc i) one lists there held = held_at housed i one lists there held.1
+
+unused_at : (name : List ℕ) (housed : List Housed) (i : ℕ) (one : Housed) → slice_get housed i ≡ Some one → list_any (bytes_eq name) (housed_names housed) ≡ false → bytes_eq name one.name ≡ false
+unused_at name [] i one there unused = nothing_there one there
+unused_at name (x ∷ housed) zero one there unused =
+    subst (λ (y : Housed). bytes_eq name y.name ≡ false) (same_one x one there) (or_parts (bytes_eq name x.name) (list_any (bytes_eq name) (housed_names housed)) unused).0
+unused_at name (x ∷ housed) (suc i) one there unused = unused_at name housed i one there (or_parts (bytes_eq name x.name) (list_any (bytes_eq name) (housed_names housed)) unused).1
+
+module _ (one : Housed) (new : Held) (before after : Lists) (kept : KeepsOthers (numbers_of one.repo) before (numbers_of new) after) where
+  abbrev changed : Housed
+  changed = record { name = one.name; repo = new }
+
+  set_stand : (housed : List Housed) (i : ℕ) → slice_get housed i ≡ Some one → AllStand housed before → AllApart housed → StandsIn new after → AllStand (slice_set housed i changed) after
+  set_stand [] i there stand apart stands = tt
+  set_stand (x ∷ housed) zero there stand apart stands =
+      (stands, rest_stand one.repo new before after kept housed stand.1 (subst (λ (y : Housed). IsApart y.repo housed) (same_one x one there) apart.0))
+  set_stand (x ∷ housed) (suc i) there stand apart stands =
+      (still_stands one.repo new x.repo before after kept stand.0 (apart_at x.repo housed i one there apart.0), set_stand housed i there stand.1 apart.1 stands)
+
+  set_held : (housed : List Housed) (i : ℕ) → slice_get housed i ≡ Some one → AllStand housed before → AllApart housed → AllHeld housed before → IsHeld new after → AllHeld (slice_set housed i changed) after
+  set_held [] i there stand apart held holds = tt
+  set_held (x ∷ housed) zero there stand apart held holds =
+      (holds, rest_held one.repo new before after kept housed stand.1 (subst (λ (y : Housed). IsApart y.repo housed) (same_one x one there) apart.0) held.1)
+  set_held (x ∷ housed) (suc i) there stand apart held holds =
+      (still_held one.repo new x.repo before after kept stand.0 (apart_at x.repo housed i one there apart.0) held.0, set_held housed i there stand.1 apart.1 held.1 holds)
+
+  set_apart : (housed : List Housed) (i : ℕ) → slice_get housed i ≡ Some one → AllStand housed before → AllApart housed → AllApart (slice_set housed i changed)
+  set_apart [] i there stand apart = tt
+  set_apart (x ∷ housed) zero there stand apart =
+      (rest_apart one.repo new before after kept housed stand.1 (subst (λ (y : Housed). IsApart y.repo housed) (same_one x one there) apart.0), apart.1)
+  set_apart (x ∷ housed) (suc i) there stand apart =
+      (apart_set x.repo housed i changed apart.0 (still_apart one.repo new x.repo before after kept stand.0 (apart_at x.repo housed i one there apart.0)), set_apart housed i there stand.1 apart.1)
+
+  set_steps : (call : Call) (answer : Answer) (kind : Kind) (housed : List Housed) (i : ℕ) → slice_get housed i ≡ Some one → AllStand housed before → AllApart housed
+      → has_repeat (housed_names housed) ≡ false → path_of call.target ≡ front_of kind ++ one.name
+      → IsStep call answer (repository_of before one) (repository_of after changed)
+      → Each (IsStep call answer) (repositories_of housed before) (repositories_of (slice_set housed i changed) after)
+  set_steps call answer kind [] i there stand apart distinct path step = nothing_there one there
+  set_steps call answer kind (x ∷ housed) zero there stand apart distinct path step =
+      let same = same_one x one there in
+      let parts = or_parts (list_any (bytes_eq x.name) (housed_names housed)) (has_repeat (housed_names housed)) distinct in (
+        subst (λ (y : Housed). IsStep call answer (repository_of before y) (repository_of after changed)) (sym same) step,
+        rest_steps one.repo new before after kept call answer kind one.name housed stand.1 (subst (λ (y : Housed). IsApart y.repo housed) same apart.0) path
+            (subst (λ (y : Housed). list_any (bytes_eq y.name) (housed_names housed) ≡ false) same parts.0),
+      )
+  set_steps call answer kind (x ∷ housed) (suc i) there stand apart distinct path step =
+      let parts = or_parts (list_any (bytes_eq x.name) (housed_names housed)) (has_repeat (housed_names housed)) distinct in
+      let differ = unused_at x.name housed i one there parts.0 in (
+        other_step one.repo new before after kept call answer x stand.0 (apart_at x.repo housed i one there apart.0) (leads_not kind one.name x.name call.target path (bytes_turned x.name one.name differ)),
+        set_steps call answer kind housed i there stand.1 apart.1 parts.1 path step,
+      )
+
+-- all of it
+pub housed_set : (was is : Bool) (housed : List Housed) (i : ℕ) (one : Housed) (new : Held) (before after : Lists) → is ≡ was → slice_get housed i ≡ Some one → AreHoused was housed before
+    → IsKept was one.repo before new after → AreHoused is (slice_set housed i (record { name = one.name; repo = new })) after
+housed_set was is housed i one new before after same there old kept = record {
+  named = subst (λ (names : List (List ℕ)). AreNamed names) (sym (names_set housed i one new there)) old.named;
+  stand = set_stand one new before after kept.others housed i there old.stand old.apart kept.stands;
+  held = λ honest. let then_too = subst (λ (b : Bool). IsTrue b) same honest in set_held one new before after kept.others housed i there old.stand old.apart (old.held then_too) (kept.held then_too);
+  apart = set_apart one new before after kept.others housed i there old.stand old.apart;
+}
+
+pub steps_set : (was : Bool) (call : Call) (answer : Answer) (kind : Kind) (housed : List Housed) (i : ℕ) (one : Housed) (new : Held) (before after : Lists) → slice_get housed i ≡ Some one → AreHoused was housed before
+    → IsKept was one.repo before new after → has_repeat (housed_names housed) ≡ false → path_of call.target ≡ front_of kind ++ one.name
+    → IsTried one.repo.config (state_of one.repo before) call.moment (task_in kind call) answer (state_of new after)
+    → Each (IsStep call answer) (repositories_of housed before) (repositories_of (slice_set housed i (record { name = one.name; repo = new })) after)
+steps_set was call answer kind housed i one new before after there old kept distinct path tried =
+    set_steps one new before after kept.others call answer kind housed i there old.stand old.apart distinct path (record {
+      name = refl;
+      config = kept.config;
+      own = λ _. subst (λ (k : Kind). IsTried one.repo.config (state_of one.repo before) call.moment (task_in k call) answer (state_of new after)) (sym (kind_is kind one.name call.target path)) tried;
+      other = λ elsewhere. clash (leads_to_repository one.name call.target) (leads_there kind one.name call.target path) (not-true (leads_to_repository one.name call.target) elsewhere);
+    })
+
+-- ---- one more
+
+-- each of those that were there stays as it was, where a new number is taken
+module _ (w : ℕ) (before after : Lists) (free : before w ≡ None) (listed : (n : ℕ) → eqb n w ≡ false → after n ≡ before n) where
+  untouched : (other : Held) → StandsIn other before → (n : ℕ) → has (numbers_of other) n ≡ true → after n ≡ before n
+  untouched other stands n there =
+      listed n (false_from_ne_true (eqb n w) (λ same. clash (has (numbers_of other) n) there (ap (has (numbers_of other)) (eqb-true n w same) ∙ unused_lacks (numbers_of other) before w stands.used free)))
+
+  fresh_stand : (housed : List Housed) → AllStand housed before → AllStand housed after
+  fresh_stand [] stand = tt
+  fresh_stand (x ∷ housed) stand = (stands_where x.repo before after (untouched x.repo stand.0) stand.0, fresh_stand housed stand.1)
+
+  fresh_held : (housed : List Housed) → AllStand housed before → AllHeld housed before → AllHeld housed after
+  fresh_held [] stand held = tt
+  fresh_held (x ∷ housed) stand held = (held_where x.repo before after (untouched x.repo stand.0) held.0, fresh_held housed stand.1 held.1)
+
+  fresh_same : (housed : List Housed) → AllStand housed before → repositories_of housed after ≡ repositories_of housed before
+  fresh_same [] stand = refl
+  fresh_same (x ∷ housed) stand =
+      ap (λ (s : State). record { name = x.name; config = x.repo.config; state = s } ∷ repositories_of housed after) (state_same x.repo before after (untouched x.repo stand.0))
+      ∙ ap (λ (rs : List Repository). repository_of before x ∷ rs) (fresh_same housed stand.1)
+
+  fresh_apart : (x : Held) (new : Held) → numbers_of new ≡ w ∷ [] → StandsIn x before → AreApart x new
+  fresh_apart x new alone stands n there =
+      ap (λ (numbers : List ℕ). has numbers n) alone
+      ∙ or_from (eqb w n) false (turned n w (false_from_ne_true (eqb n w) (λ same. clash (has (numbers_of x) n) there (ap (has (numbers_of x)) (eqb-true n w same) ∙ unused_lacks (numbers_of x) before w stands.used free)))) refl
+
+  fresh_all_apart : (housed : List Housed) (one : Housed) → numbers_of one.repo ≡ w ∷ [] → AllStand housed before → AllApart housed → AllApart (housed ++ one ∷ [])
+  fresh_all_apart [] one alone stand apart = (tt, tt)
+  fresh_all_apart (x ∷ housed) one alone stand apart = (apart_last x.repo housed one apart.0 (fresh_apart x.repo one.repo alone stand.0), fresh_all_apart housed one alone stand.1 apart.1)
+    where
+      apart_last : (a : Held) (others : List Housed) (one : Housed) → IsApart a others → AreApart a one.repo → IsApart a (others ++ one ∷ [])
+      apart_last a [] one others_apart new = (new, tt)
+      apart_last a (y ∷ others) one others_apart new = (others_apart.0, apart_last a others one others_apart.1 new)
+
+stand_last : (housed : List Housed) (one : Housed) (lists : Lists) → AllStand housed lists → StandsIn one.repo lists → AllStand (housed ++ one ∷ []) lists
+stand_last [] one lists stand stands = (stands, tt)
+stand_last (x ∷ housed) one lists stand stands = (stand.0, stand_last housed one lists stand.1 stands)
+
+held_last : (housed : List Housed) (one : Housed) (lists : Lists) → AllHeld housed lists → IsHeld one.repo lists → AllHeld (housed ++ one ∷ []) lists
+held_last [] one lists held holds = (holds, tt)
+held_last (x ∷ housed) one lists held holds = (held.0, held_last housed one lists held.1 holds)
+
+repositories_last : (housed : List Housed) (one : Housed) (lists : Lists) → repositories_of (housed ++ one ∷ []) lists ≡ repositories_of housed lists ++ repository_of lists one ∷ []
+repositories_last [] one lists = refl
+repositories_last (x ∷ housed) one lists = ap (λ (rs : List Repository). repository_of lists x ∷ rs) (repositories_last housed one lists)
+
+elsewhere : (config : Config) (before after : Lists) (new : Held) → IsNew config before new after → (n : ℕ) → eqb n new.shelf.version ≡ false → after n ≡ before n
+elsewhere config before after new is_new n other = ap (λ (lists : Lists). lists n) is_new.listed ∙ cond-false (eqb n new.shelf.version) (Some []) (before n) other
+
+pub housed_last : (was is : Bool) (housed : List Housed) (name : List ℕ) (config : Config) (new : Held) (before after : Lists) → is ≡ was → AreHoused was housed before → is_repository_name name ≡ true → list_any (bytes_eq name) (housed_names housed) ≡ false
+    → IsNew config before new after → AreHoused is (housed ++ record { name = name; repo = new } ∷ []) after
+housed_last was is housed name config new before after same old named unused is_new =
+    let one : Housed = record { name = name; repo = new } in
+    let w : ℕ = new.shelf.version in
+    let listed = elsewhere config before after new is_new in
+    record {
+      named = subst (λ (names : List (List ℕ)). AreNamed names) (sym (names_last housed one)) (named_last (housed_names housed) name old.named named unused);
+      stand = stand_last housed one after (fresh_stand w before after is_new.unused listed housed old.stand) is_new.stands;
+      held = λ honest. held_last housed one after (fresh_held w before after is_new.unused listed housed old.stand (old.held (subst (λ (b : Bool). IsTrue b) same honest))) is_new.held;
+      apart = fresh_all_apart w before after is_new.unused listed housed one (ap (λ (numbers : List ℕ). w ∷ numbers) is_new.alone) old.stand old.apart;
+    }
+
+pub begun_last : (was : Bool) (housed : List Housed) (hosted : Hosted) (new : Held) (before after : Lists) → AreHoused was housed before → IsNew hosted.config before new after
+    → repositories_of (housed ++ record { name = hosted.name; repo = new } ∷ []) after ≡ repositories_of housed before ++ begun hosted ∷ []
+begun_last was housed hosted new before after old is_new =
+    let one : Housed = record { name = hosted.name; repo = new } in
+    repositories_last housed one after
+    ∙ ap (λ (rs : List Repository). rs ++ repository_of after one ∷ []) (fresh_same new.shelf.version before after is_new.unused (elsewhere hosted.config before after new is_new) housed old.stand)
+    ∙ ap (λ (c : Config). repositories_of housed before ++ record { name = hosted.name; config = c; state = state_of new after } ∷ []) is_new.configured
+    ∙ ap (λ (s : State). repositories_of housed before ++ record { name = hosted.name; config = hosted.config; state = s } ∷ []) is_new.empty

@@ -1,0 +1,17 @@
+pub mod ReadingLemmas
+pub mod JsonLemmas
+pub mod SettingsLemmas
+pub mod CauseLemmas
+pub mod HostedLemmas
+pub mod TextLemmas
+pub mod MemberLemmas
+pub mod WordLemmas
+pub mod ShapeLemmas
+pub mod InkLemmas
+pub mod RouteLemmas
+pub mod PlaceLemmas
+pub mod HousedLemmas
+pub mod HostLemmas
+pub mod RunLemmas
+pub mod DepositLemmas
+pub mod LineLemmas

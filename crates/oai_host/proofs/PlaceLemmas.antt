@@ -1,0 +1,184 @@
+-- Names, and the repositories under them.
+use Rattle.std.proofs.Common.{◌≡◌, ◌∙◌, ◌<◌, inl, inr, ℕ, zero, suc, Bool, true, false, not, ◌&&◌, ◌||◌, List, [], ◌∷◌, ◌++◌, length, take, map, Option, None, Some, is_some, unwrap_or, cond, slice_set, refl, sym, ap, subst, arith}
+use Rattle.std.specs.List.{list_all, list_any, slice_get}
+use Rattle.std.specs.Option.{option_map}
+use Rattle.std.specs.Str.{bytes_eq}
+use Rattle.std.proofs.lemmas.Bool.{and_from, and_parts, cases_Bool, cond-true, cond-false, eq-eqb, eqb-true, false≢true, false_from_ne_true, not-true, not_from_false, or_from, or_left, or_parts, or_right}
+use Rattle.oai_repo.specs.Held.{Held}
+use Rattle.oai_item.specs.Rules.{has_repeat}
+use Rattle.oai_host.specs.Configs.{AreNamed}
+use Rattle.oai_host.specs.Housed.{housed_names, place_in}
+use Rattle.oai_repo.specs.Config.{is_repository_name}
+use Rattle.oai_host.specs.Targets.{front_of, leads_to_repository, path_of}
+use Rattle.oai_host.specs.Tasks.{kind_of}
+use Rattle.oai_host.specs.declared.housed.Housed.{Housed}
+use Rattle.oai_host.specs.declared.routes.Kind.{Kind}
+use Rattle.oai_host.specs.declared.routes.Kind.TheVariants.{Deposits, Requests}
+
+pub clash : {P : Type 0} (b : Bool) → b ≡ true → b ≡ false → P
+clash b is lacks = absurd (false≢true (sym lacks ∙ is))
+
+-- ---- equal names
+
+pub bytes_same : (xs : List ℕ) → bytes_eq xs xs ≡ true
+bytes_same [] = refl
+bytes_same (x ∷ xs) = and_from _ (bytes_eq xs xs) (eq-eqb x x refl) (bytes_same xs)
+
+pub bytes_equal : (xs ys : List ℕ) → bytes_eq xs ys ≡ true → xs ≡ ys
+bytes_equal [] [] h = refl
+bytes_equal [] (y ∷ ys) h = absurd (false≢true h)
+bytes_equal (x ∷ xs) [] h = absurd (false≢true h)
+bytes_equal (x ∷ xs) (y ∷ ys) h =
+    let parts = and_parts _ (bytes_eq xs ys) h in
+    ap (λ (z : ℕ). z ∷ xs) (eqb-true x y parts.0) ∙ ap (λ (zs : List ℕ). y ∷ zs) (bytes_equal xs ys parts.1)
+
+pub bytes_turned : (xs ys : List ℕ) → bytes_eq xs ys ≡ false → bytes_eq ys xs ≡ false
+bytes_turned xs ys h = false_from_ne_true (bytes_eq ys xs) (λ same. clash (bytes_eq xs ys) (ap (bytes_eq xs) (bytes_equal ys xs same) ∙ bytes_same xs) h)
+
+-- ---- where a path leads
+
+-- the path of one repository is not another's
+leads_other : (kind k : Kind) (one other : List ℕ) → bytes_eq one other ≡ false → bytes_eq (front_of kind ++ one) (front_of k ++ other) ≡ false
+leads_other Requests Requests one other h = h
+leads_other Requests Deposits one other h = refl
+leads_other Deposits Requests one other h = refl
+leads_other Deposits Deposits one other h = h
+
+pub leads_not : (kind : Kind) (one other target : List ℕ) → path_of target ≡ front_of kind ++ one → bytes_eq one other ≡ false → leads_to_repository other target ≡ false
+leads_not kind one other target path apart =
+    or_from (bytes_eq (path_of target) (front_of Requests ++ other)) (bytes_eq (path_of target) (front_of Deposits ++ other))
+    (ap (λ (p : List ℕ). bytes_eq p (front_of Requests ++ other)) path ∙ leads_other kind Requests one other apart)
+    (ap (λ (p : List ℕ). bytes_eq p (front_of Deposits ++ other)) path ∙ leads_other kind Deposits one other apart)
+
+leads_own : (kind : Kind) (one : List ℕ) → (bytes_eq (front_of kind ++ one) (front_of Requests ++ one) || bytes_eq (front_of kind ++ one) (front_of Deposits ++ one)) ≡ true
+leads_own Requests one = or_left (bytes_eq one one) false (bytes_same one)
+leads_own Deposits one = bytes_same one
+
+pub leads_there : (kind : Kind) (one target : List ℕ) → path_of target ≡ front_of kind ++ one → leads_to_repository one target ≡ true
+leads_there kind one target path = ap (λ (p : List ℕ). bytes_eq p (front_of Requests ++ one) || bytes_eq p (front_of Deposits ++ one)) path ∙ leads_own kind one
+
+-- a path that leads there is one of the two
+pub leads_by : (one target : List ℕ) → leads_to_repository one target ≡ true → (kind : Kind) × (path_of target ≡ front_of kind ++ one)
+leads_by one target leads = elim (cases_Bool (bytes_eq (path_of target) (front_of Requests ++ one))) [
+  | inl asks ↦ (Requests, bytes_equal (path_of target) (front_of Requests ++ one) asks)
+  | inr not_so ↦ (Deposits, bytes_equal (path_of target) (front_of Deposits ++ one) (sym (ap (λ b. b || bytes_eq (path_of target) (front_of Deposits ++ one)) not_so) ∙ leads))
+]
+
+kind_there : (kind : Kind) (one : List ℕ) → cond (bytes_eq (take 9 (front_of kind ++ one)) (front_of Deposits)) Deposits Requests ≡ kind
+kind_there Requests one = refl
+kind_there Deposits one = refl
+
+pub kind_is : (kind : Kind) (one target : List ℕ) → path_of target ≡ front_of kind ++ one → kind_of target ≡ kind
+kind_is kind one target path = ap (λ (p : List ℕ). cond (bytes_eq (take 9 p) (front_of Deposits)) Deposits Requests) path ∙ kind_there kind one
+
+-- ---- places
+
+pub same_one : (x y : Housed) → Some x ≡ Some y → x ≡ y
+same_one x y h = ap (λ (o : Option Housed). unwrap_or o x) h
+
+same_place : (x y : ℕ) → Some x ≡ Some y → x ≡ y
+same_place x y h = ap (λ (o : Option ℕ). unwrap_or o x) h
+
+pub nothing_there : {P : Type 0} {A : Type 0} (x : A) → None ≡ Some x → P
+nothing_there {P} {A} x h = absurd (false≢true (ap (λ (o : Option A). is_some o) h))
+
+-- a repository in place of the one of its name
+pub names_set : (housed : List Housed) (i : ℕ) (one : Housed) (repo : Held) → slice_get housed i ≡ Some one → housed_names (slice_set housed i (record { name = one.name; repo = repo })) ≡ housed_names housed
+names_set [] i one repo there = nothing_there one there
+names_set (x ∷ housed) zero one repo there = ap (λ (y : Housed). y.name ∷ housed_names housed) (sym (same_one x one there))
+names_set (x ∷ housed) (suc i) one repo there = ap (λ (names : List (List ℕ)). x.name ∷ names) (names_set housed i one repo there)
+
+mapped : (o : Option ℕ) (i : ℕ) → option_map suc o ≡ Some i → (j : ℕ) × (o ≡ Some j) × (suc j ≡ i)
+mapped None i h = nothing_there i h
+mapped (Some j) i h = (j, refl, same_place (suc j) i h)
+
+-- at the place of a name stands the repository of that name
+pub place_there : (housed : List Housed) (name : List ℕ) (i : ℕ) → place_in (housed_names housed) name ≡ Some i → (one : Housed) × (slice_get housed i ≡ Some one) × (one.name ≡ name)
+place_there [] name i h = nothing_there i h
+place_there (x ∷ housed) name i h = elim (cases_Bool (bytes_eq x.name name)) [
+  | inl same ↦
+      let first : 0 ≡ i = same_place 0 i (sym (cond-true (bytes_eq x.name name) (Some 0) (option_map suc (place_in (housed_names housed) name)) same) ∙ h) in
+      (x, ap (λ (n : ℕ). slice_get (x ∷ housed) n) (sym first), bytes_equal x.name name same)
+  | inr other ↦
+      let later = mapped (place_in (housed_names housed) name) i (sym (cond-false (bytes_eq x.name name) (Some 0) (option_map suc (place_in (housed_names housed) name)) other) ∙ h) in
+      let there = place_there housed name later.0 later.1 in
+      (there.0, ap (λ (n : ℕ). slice_get (x ∷ housed) n) (sym later.2) ∙ there.1, there.2)
+]
+
+mapped_none : (o : Option ℕ) → option_map suc o ≡ None → o ≡ None
+mapped_none None h = refl
+mapped_none (Some j) h = nothing_there (suc j) (sym h)
+
+-- a name without a place is none of these
+pub place_none : (names : List (List ℕ)) (name : List ℕ) → place_in names name ≡ None → list_any (λ (one : List ℕ). bytes_eq one name) names ≡ false
+place_none [] name h = refl
+place_none (one ∷ names) name h = elim (cases_Bool (bytes_eq one name)) [
+  | inl same ↦ nothing_there 0 (sym (sym (cond-true (bytes_eq one name) (Some 0) (option_map suc (place_in names name)) same) ∙ h))
+  | inr other ↦ or_from (bytes_eq one name) (list_any (λ (one : List ℕ). bytes_eq one name) names) other
+      (place_none names name (mapped_none (place_in names name) (sym (cond-false (bytes_eq one name) (Some 0) (option_map suc (place_in names name)) other) ∙ h)))
+]
+
+-- ---- a further name
+
+map_cond : (b : Bool) (x : Option ℕ) (n : ℕ) → option_map suc (cond b (Some n) x) ≡ cond b (Some (suc n)) (option_map suc x)
+map_cond true x n = refl
+map_cond false x n = refl
+
+swapped : (a b : Bool) (x y z : Option ℕ) → (a ≡ true → b ≡ false) → cond a x (cond b y z) ≡ cond b y (cond a x z)
+swapped true true x y z h = absurd (false≢true (sym (h refl)))
+swapped true false x y z h = refl
+swapped false true x y z h = refl
+swapped false false x y z h = refl
+
+pub place_last : (names : List (List ℕ)) (new name : List ℕ) → list_any (bytes_eq new) names ≡ false
+    → place_in (names ++ new ∷ []) name ≡ cond (bytes_eq new name) (Some (length names)) (place_in names name)
+place_last [] new name unused = refl
+place_last (one ∷ names) new name unused =
+    let parts = or_parts (bytes_eq new one) (list_any (bytes_eq new) names) unused in
+    let alone : bytes_eq one name ≡ true → bytes_eq new name ≡ false = λ same. subst (λ (n : List ℕ). bytes_eq new n ≡ false) (bytes_equal one name same) parts.0 in
+    ap (λ (o : Option ℕ). cond (bytes_eq one name) (Some 0) (option_map suc o)) (place_last names new name parts.1)
+    ∙ ap (λ (o : Option ℕ). cond (bytes_eq one name) (Some 0) o) (map_cond (bytes_eq new name) (place_in names name) (length names))
+    ∙ swapped (bytes_eq one name) (bytes_eq new name) (Some 0) (Some (suc (length names))) (option_map suc (place_in names name)) alone
+
+any_last : (names : List (List ℕ)) (one new : List ℕ) → bytes_eq one new ≡ false → list_any (bytes_eq one) names ≡ false → list_any (bytes_eq one) (names ++ new ∷ []) ≡ false
+any_last [] one new apart none = or_from (bytes_eq one new) false apart refl
+any_last (x ∷ names) one new apart none =
+    let parts = or_parts (bytes_eq one x) (list_any (bytes_eq one) names) none in
+    or_from (bytes_eq one x) (list_any (bytes_eq one) (names ++ new ∷ [])) parts.0 (any_last names one new apart parts.1)
+
+distinct_last : (names : List (List ℕ)) (new : List ℕ) → has_repeat names ≡ false → list_any (bytes_eq new) names ≡ false → has_repeat (names ++ new ∷ []) ≡ false
+distinct_last [] new distinct unused = refl
+distinct_last (one ∷ names) new distinct unused =
+    let old = or_parts (list_any (bytes_eq one) names) (has_repeat names) distinct in
+    let parts = or_parts (bytes_eq new one) (list_any (bytes_eq new) names) unused in
+    or_from (list_any (bytes_eq one) (names ++ new ∷ [])) (has_repeat (names ++ new ∷ []))
+    (any_last names one new (bytes_turned new one parts.0) old.0)
+    (distinct_last names new old.1 parts.1)
+
+all_last : (names : List (List ℕ)) (new : List ℕ) → list_all is_repository_name names ≡ true → is_repository_name new ≡ true → list_all is_repository_name (names ++ new ∷ []) ≡ true
+all_last [] new all named = and_from (is_repository_name new) true named refl
+all_last (one ∷ names) new all named =
+    let parts = and_parts (is_repository_name one) (list_all is_repository_name names) all in
+    and_from (is_repository_name one) (list_all is_repository_name (names ++ new ∷ [])) parts.0 (all_last names new parts.1 named)
+
+pub named_last : (names : List (List ℕ)) (new : List ℕ) → AreNamed names → is_repository_name new ≡ true → list_any (bytes_eq new) names ≡ false → AreNamed (names ++ new ∷ [])
+named_last names new old named unused = record { named = all_last names new old.named named; distinct = distinct_last names new old.distinct unused }
+
+pub names_last : (housed : List Housed) (one : Housed) → housed_names (housed ++ one ∷ []) ≡ housed_names housed ++ one.name ∷ []
+names_last [] one = refl
+names_last (x ∷ housed) one = ap (λ (names : List (List ℕ)). x.name ∷ names) (names_last housed one)
+
+names_len : (housed : List Housed) → length (housed_names housed) ≡ length housed
+names_len [] = refl
+names_len (x ∷ housed) = ap suc (names_len housed)
+
+-- one more repository, with its name in the index
+pub place_added : (housed : List Housed) (one : Housed) (was is : List ℕ → Option ℕ) (n : ℕ) → ((name : List ℕ) → was name ≡ place_in (housed_names housed) name)
+    → list_any (bytes_eq one.name) (housed_names housed) ≡ false → n ≡ length housed → ((name : List ℕ) → is name ≡ cond (bytes_eq one.name name) (Some n) (was name))
+    → (name : List ℕ) → is name ≡ place_in (housed_names (housed ++ one ∷ [])) name
+place_added housed one was is n old unused last updates name =
+    updates name
+    ∙ ap (λ (o : Option ℕ). cond (bytes_eq one.name name) (Some n) o) (old name)
+    ∙ ap (λ (m : ℕ). cond (bytes_eq one.name name) (Some m) (place_in (housed_names housed) name)) (last ∙ sym (names_len housed))
+    ∙ sym (place_last (housed_names housed) one.name name unused)
+    ∙ ap (λ (names : List (List ℕ)). place_in names name) (sym (names_last housed one))

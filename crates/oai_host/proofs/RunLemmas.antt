@@ -1,0 +1,196 @@
+-- Exchanges one after the other: what they do to each repository, and that it is what they would do to it alone.
+use Rattle.std.proofs.Common.{◌≡◌, ◌∙◌, ◌<◌, ◌≤◌, inl, inr, ℕ, zero, suc, Bool, true, false, not, ◌&&◌, List, [], ◌∷◌, ◌++◌, length, take, get_or, filter, cond, Option, None, Some, is_none, refl, sym, ap, subst, arith}
+use Rattle.std.specs.List.{list_all}
+use Rattle.std.proofs.lemmas.List.{take_all}
+use Rattle.std.proofs.lemmas.Bool.{and_from, and_parts, cases_Bool, cond-true, cond-false, not_from_false}
+use Rattle.oai_item.specs.declared.faults.Fault.{Fault}
+use Rattle.oai_item.specs.declared.faults.Fault.TheVariants.{Damaged, Device, NoMemory, TooManyPages}
+use Rattle.oai_repo.specs.Config.{Config}
+use Rattle.oai_repo.specs.State.{State}
+use Rattle.oai_host.specs.Alone.{HasFailed, IsExchange, IsRun, answers_alone, exchanged_alone, own_answers, own_calls}
+use Rattle.oai_host.specs.Answers.{failed}
+use Rattle.oai_host.specs.Hosts.{AreAnswered, AreAsAlone, AreRefused, Each, IsAnswered, IsAsAlone, IsOwnRun, IsStep, Repository, is_of_none, none_failed, refused}
+use Rattle.oai_host.specs.Targets.{leads_to_repository}
+use Rattle.oai_host.specs.Tasks.{Task, asking, depositing, refusing, task_of}
+use Rattle.oai_host.specs.declared.exchanges.Answer.{Answer}
+use Rattle.oai_host.specs.declared.exchanges.Call.{Call}
+use Rattle.oai_host.proofs.PlaceLemmas.{clash}
+
+-- ---- one more exchange
+
+run_last : (config : Config) (state between after : State) (calls : List Call) (answers : List Answer) (call : Call) (answer : Answer) → IsRun config state calls answers between
+    → IsExchange config between call answer after → IsRun config state (calls ++ call ∷ []) (answers ++ answer ∷ []) after
+run_last config state between after [] [] call answer run last = (after, subst (λ (s : State). IsExchange config s call answer after) run last, refl)
+run_last config state between after [] (a ∷ answers) call answer run last = absurd run
+run_last config state between after (c ∷ calls) [] call answer run last = absurd run
+run_last config state between after (c ∷ calls) (a ∷ answers) call answer run last = (run.0, run.1, run_last config run.0 between after calls answers call answer run.2 last)
+
+own_call_last : (name : List ℕ) (calls : List Call) (call : Call) → leads_to_repository name call.target ≡ true → own_calls name (calls ++ call ∷ []) ≡ own_calls name calls ++ call ∷ []
+own_call_last name [] call leads = cond-true (leads_to_repository name call.target) (call ∷ []) [] leads
+own_call_last name (c ∷ calls) call leads = elim (cases_Bool (leads_to_repository name c.target)) [
+  | inl own ↦
+      cond-true (leads_to_repository name c.target) (c ∷ own_calls name (calls ++ call ∷ [])) (own_calls name (calls ++ call ∷ [])) own
+      ∙ ap (λ (cs : List Call). c ∷ cs) (own_call_last name calls call leads)
+      ∙ ap (λ (cs : List Call). cs ++ call ∷ []) (sym (cond-true (leads_to_repository name c.target) (c ∷ own_calls name calls) (own_calls name calls) own))
+  | inr other ↦
+      cond-false (leads_to_repository name c.target) (c ∷ own_calls name (calls ++ call ∷ [])) (own_calls name (calls ++ call ∷ [])) other
+      ∙ own_call_last name calls call leads
+      ∙ ap (λ (cs : List Call). cs ++ call ∷ []) (sym (cond-false (leads_to_repository name c.target) (c ∷ own_calls name calls) (own_calls name calls) other))
+]
+
+other_call_last : (name : List ℕ) (calls : List Call) (call : Call) → leads_to_repository name call.target ≡ false → own_calls name (calls ++ call ∷ []) ≡ own_calls name calls
+other_call_last name [] call leads = cond-false (leads_to_repository name call.target) (call ∷ []) [] leads
+other_call_last name (c ∷ calls) call leads = ap (λ (cs : List Call). cond (leads_to_repository name c.target) (c ∷ cs) cs) (other_call_last name calls call leads)
+
+own_answer_last : (repositories : List Repository) (name : List ℕ) (calls : List Call) (answers : List Answer) (call : Call) (answer : Answer) → AreRefused repositories calls answers
+    → leads_to_repository name call.target ≡ true → own_answers name (calls ++ call ∷ []) (answers ++ answer ∷ []) ≡ own_answers name calls answers ++ answer ∷ []
+own_answer_last rs name [] [] call answer same leads = cond-true (leads_to_repository name call.target) (answer ∷ []) [] leads
+own_answer_last rs name [] (a ∷ answers) call answer same leads = absurd same
+own_answer_last rs name (c ∷ calls) [] call answer same leads = absurd same
+own_answer_last rs name (c ∷ calls) (a ∷ answers) call answer same leads =
+    let rest = own_answers name (calls ++ call ∷ []) (answers ++ answer ∷ []) in
+    elim (cases_Bool (leads_to_repository name c.target)) [
+      | inl own ↦
+          cond-true (leads_to_repository name c.target) (a ∷ rest) rest own
+          ∙ ap (λ (xs : List Answer). a ∷ xs) (own_answer_last rs name calls answers call answer same.1 leads)
+          ∙ ap (λ (xs : List Answer). xs ++ answer ∷ []) (sym (cond-true (leads_to_repository name c.target) (a ∷ own_answers name calls answers) (own_answers name calls answers) own))
+      | inr other ↦
+          cond-false (leads_to_repository name c.target) (a ∷ rest) rest other
+          ∙ own_answer_last rs name calls answers call answer same.1 leads
+          ∙ ap (λ (xs : List Answer). xs ++ answer ∷ []) (sym (cond-false (leads_to_repository name c.target) (a ∷ own_answers name calls answers) (own_answers name calls answers) other))
+    ]
+
+other_answer_last : (repositories : List Repository) (name : List ℕ) (calls : List Call) (answers : List Answer) (call : Call) (answer : Answer) → AreRefused repositories calls answers
+    → leads_to_repository name call.target ≡ false → own_answers name (calls ++ call ∷ []) (answers ++ answer ∷ []) ≡ own_answers name calls answers
+other_answer_last rs name [] [] call answer same leads = cond-false (leads_to_repository name call.target) (answer ∷ []) [] leads
+other_answer_last rs name [] (a ∷ answers) call answer same leads = absurd same
+other_answer_last rs name (c ∷ calls) [] call answer same leads = absurd same
+other_answer_last rs name (c ∷ calls) (a ∷ answers) call answer same leads =
+    ap (λ (xs : List Answer). cond (leads_to_repository name c.target) (a ∷ xs) xs) (other_answer_last rs name calls answers call answer same.1 leads)
+
+own_run_last : (repositories : List Repository) (calls : List Call) (answers : List Answer) (call : Call) (answer : Answer) (before between after : Repository) → AreRefused repositories calls answers
+    → IsOwnRun calls answers before between → IsStep call answer between after → IsOwnRun (calls ++ call ∷ []) (answers ++ answer ∷ []) before after
+own_run_last rs calls answers call answer before between after same run step = record {
+  name = step.name ∙ run.name;
+  config = step.config ∙ run.config;
+  run =
+      let own = subst (λ (name : List ℕ). leads_to_repository name call.target ≡ true → IsExchange between.config between.state call answer after.state) run.name step.own in
+      let other = subst (λ (name : List ℕ). not (leads_to_repository name call.target) ≡ true → after.state ≡ between.state) run.name step.other in
+      elim (cases_Bool (leads_to_repository before.name call.target)) [
+        | inl leads ↦
+            subst (λ (p : List Call × List Answer). IsRun before.config before.state p.0 p.1 after.state)
+            (ap (λ (cs : List Call). (cs, own_answers before.name calls answers ++ answer ∷ [])) (sym (own_call_last before.name calls call leads))
+            ∙ ap (λ (xs : List Answer). (own_calls before.name (calls ++ call ∷ []), xs)) (sym (own_answer_last rs before.name calls answers call answer same leads)))
+            (run_last before.config before.state between.state after.state (own_calls before.name calls) (own_answers before.name calls answers) call answer run.run
+            (subst (λ (config : Config). IsExchange config between.state call answer after.state) run.config (own leads)))
+        | inr elsewhere ↦
+            subst (λ (p : List Call × List Answer). IsRun before.config before.state p.0 p.1 after.state)
+            (ap (λ (cs : List Call). (cs, own_answers before.name calls answers)) (sym (other_call_last before.name calls call elsewhere))
+            ∙ ap (λ (xs : List Answer). (own_calls before.name (calls ++ call ∷ []), xs)) (sym (other_answer_last rs before.name calls answers call answer same elsewhere)))
+            (subst (λ (s : State). IsRun before.config before.state (own_calls before.name calls) (own_answers before.name calls answers) s) (sym (other (not_from_false (leads_to_repository before.name call.target) elsewhere))) run.run)
+      ];
+}
+
+each_last : (repositories : List Repository) (calls : List Call) (answers : List Answer) (call : Call) (answer : Answer) (before between after : List Repository) → AreRefused repositories calls answers
+    → Each (IsOwnRun calls answers) before between → Each (IsStep call answer) between after → Each (IsOwnRun (calls ++ call ∷ []) (answers ++ answer ∷ [])) before after
+each_last rs calls answers call answer [] [] [] same runs steps = tt
+each_last rs calls answers call answer [] [] (z ∷ after) same runs steps = absurd steps
+each_last rs calls answers call answer [] (y ∷ between) after same runs steps = absurd runs
+each_last rs calls answers call answer (x ∷ before) [] after same runs steps = absurd runs
+each_last rs calls answers call answer (x ∷ before) (y ∷ between) [] same runs steps = absurd steps
+each_last rs calls answers call answer (x ∷ before) (y ∷ between) (z ∷ after) same runs steps =
+    (own_run_last rs calls answers call answer x y z same runs.0 steps.0, each_last rs calls answers call answer before between after same runs.1 steps.1)
+
+-- the names stay
+none_same : (calls : List Call) (answers : List Answer) (call : Call) (before between : List Repository) → Each (IsOwnRun calls answers) before between → is_of_none before call ≡ is_of_none between call
+none_same calls answers call [] [] runs = refl
+none_same calls answers call [] (y ∷ between) runs = absurd runs
+none_same calls answers call (x ∷ before) [] runs = absurd runs
+none_same calls answers call (x ∷ before) (y ∷ between) runs =
+    ap (λ (name : List ℕ). not (leads_to_repository name call.target) && is_of_none before call) (sym runs.0.name)
+    ∙ ap (λ (b : Bool). not (leads_to_repository y.name call.target) && b) (none_same calls answers call before between runs.1)
+
+refused_last : (repositories : List Repository) (calls : List Call) (answers : List Answer) (call : Call) (answer : Answer) → AreRefused repositories calls answers
+    → (is_of_none repositories call ≡ true → answer ≡ refused call) → AreRefused repositories (calls ++ call ∷ []) (answers ++ answer ∷ [])
+refused_last rs [] [] call answer all last = (last, tt)
+refused_last rs [] (a ∷ answers) call answer all last = absurd all
+refused_last rs (c ∷ calls) [] call answer all last = absurd all
+refused_last rs (c ∷ calls) (a ∷ answers) call answer all last = (all.0, refused_last rs calls answers call answer all.1 last)
+
+pub answered_last : (calls : List Call) (answers : List Answer) (call : Call) (answer : Answer) (before between after : List Repository) → AreAnswered calls answers before between
+    → IsAnswered call answer between after → AreAnswered (calls ++ call ∷ []) (answers ++ answer ∷ []) before after
+answered_last calls answers call answer before between after so_far last = record {
+  each = each_last before calls answers call answer before between after so_far.none so_far.each last.each;
+  none = refused_last before calls answers call answer so_far.none (λ none. last.none (sym (none_same calls answers call before between so_far.each) ∙ none));
+}
+
+-- ---- no exchange
+
+none_yet : (repositories : List Repository) → Each (IsOwnRun [] []) repositories repositories
+none_yet [] = tt
+none_yet (x ∷ repositories) = (record { name = refl; config = refl; run = refl }, none_yet repositories)
+
+pub answered_none : (repositories : List Repository) → AreAnswered [] [] repositories repositories
+answered_none repositories = record { each = none_yet repositories; none = tt }
+
+pub take_more : (calls : List Call) (i : ℕ) (d : Call) → i < length calls → take (suc i) calls ≡ take i calls ++ get_or calls i d ∷ []
+take_more [] i d within = absurd (omega (arith, within))
+take_more (c ∷ calls) zero d within = refl
+take_more (c ∷ calls) (suc i) d within = ap (λ (cs : List Call). c ∷ cs) (take_more calls i d (omega (arith, within)))
+
+-- ---- without failures
+
+failed_fault : (fault : Fault) (lines : Option ℕ) → is_none (failed fault lines).fault ≡ false
+failed_fault NoMemory lines = refl
+failed_fault TooManyPages lines = refl
+failed_fault Device lines = refl
+failed_fault Damaged lines = refl
+
+failed_told : (config : Config) (before : State) (moment : _) (task : Task) (answer : Answer) (after : State) → HasFailed config before moment task answer after → is_none answer.fault ≡ false
+failed_told config before moment (refusing status) answer after failure = absurd failure
+failed_told config before moment (asking arguments) answer after failure = ap (λ (a : Answer). is_none a.fault) failure.1 ∙ failed_fault failure.0 None
+failed_told config before moment (depositing lines) answer after failure = ap (λ (a : Answer). is_none a.fault) failure.3 ∙ failed_fault failure.0 (Some failure.1)
+
+-- a run without failures is what the repository alone answers
+alone_from : (config : Config) (before after : State) (calls : List Call) (answers : List Answer) → IsRun config before calls answers after → none_failed answers ≡ true → answers ≡ answers_alone config before calls
+alone_from config before after [] [] run none = refl
+alone_from config before after [] (answer ∷ answers) run none = absurd run
+alone_from config before after (call ∷ calls) [] run none = absurd run
+alone_from config before after (call ∷ calls) (answer ∷ answers) run none =
+    let parts = and_parts (is_none answer.fault) (none_failed answers) none in
+    elim run.1 [
+      | inl done ↦
+          ap (λ (xs : List Answer). answer ∷ xs) (alone_from config run.0 after calls answers run.2 parts.1)
+          ∙ ap (λ (p : Answer × State). p.0 ∷ answers_alone config p.1 calls) (sym done)
+      | inr failure ↦ clash (is_none answer.fault) parts.0 (failed_told config before call.moment (task_of call) answer run.0 failure)
+    ]
+
+own_none_failed : (name : List ℕ) (calls : List Call) (answers : List Answer) → none_failed answers ≡ true → none_failed (own_answers name calls answers) ≡ true
+own_none_failed name [] answers none = refl
+own_none_failed name (call ∷ calls) [] none = refl
+own_none_failed name (call ∷ calls) (answer ∷ answers) none =
+    let parts = and_parts (is_none answer.fault) (none_failed answers) none in
+    let others = own_none_failed name calls answers parts.1 in
+    elim (cases_Bool (leads_to_repository name call.target)) [
+      | inl own ↦
+          ap none_failed (cond-true (leads_to_repository name call.target) (answer ∷ own_answers name calls answers) (own_answers name calls answers) own)
+          ∙ and_from (is_none answer.fault) (none_failed (own_answers name calls answers)) parts.0 others
+      | inr other ↦ ap none_failed (cond-false (leads_to_repository name call.target) (answer ∷ own_answers name calls answers) (own_answers name calls answers) other) ∙ others
+    ]
+
+each_alone : (calls : List Call) (answers : List Answer) (before after : List Repository) → Each (IsOwnRun calls answers) before after → none_failed answers ≡ true → AreAsAlone calls answers before
+each_alone calls answers [] after runs none = tt
+each_alone calls answers (x ∷ before) [] runs none = absurd runs
+each_alone calls answers (x ∷ before) (y ∷ after) runs none =
+    (alone_from x.config x.state y.state (own_calls x.name calls) (own_answers x.name calls answers) runs.0.run (own_none_failed x.name calls answers none), each_alone calls answers before after runs.1 none)
+
+pub all_alone : (calls : List Call) (answers : List Answer) (before after : List Repository) → AreAnswered calls answers before after → none_failed answers ≡ true → AreAsAlone calls answers before
+all_alone calls answers before after answered none = each_alone calls answers before after answered.each none
+
+pub one_longer : (answers : List Answer) (answer : Answer) (n : ℕ) → length answers ≡ n → length (answers ++ answer ∷ []) ≡ suc n
+one_longer [] answer n h = ap suc h
+one_longer (a ∷ answers) answer zero h = absurd (omega (arith, h))
+one_longer (a ∷ answers) answer (suc n) h = ap suc (one_longer answers answer n (omega (arith, h)))
+
+pub take_whole : (calls : List Call) (n : ℕ) → length calls ≤ n → take n calls ≡ calls
+take_whole calls n h = take_all n calls h

@@ -1,0 +1,33 @@
+-- What is written is what the step tells.
+use Rattle.std.proofs.Common.{◌≡◌, ◌∙◌, ℤ, ◌∷◌, [], ◌++◌, codes, Ok, Err, refl, ap, sym, FitsSigned, w64}
+use Rattle.std.proofs.lemmas.Int.{to_z-of_z}
+use Rattle.oai_time.specs.TimeTexts.{datestamp_text}
+use Rattle.oai_item.specs.Refusals.{in_repository, refusal_line}
+use Rattle.oai_repo.specs.Config.{Config}
+use Rattle.oai_repo.specs.Machine.{accepted, refused, written}
+use Rattle.oai_repo.specs.declared.refusals.Refusal.TheVariants as refusal
+use Rattle.oai_host.proofs.DepositLemmas.{told_line}
+use Rattle.oai_host.proofs.deposits.perform_change.Goals as goal
+
+pub returns-in-Ok-clause-ok : goal.returns-in-Ok-clause-ok
+unfolding written
+returns-in-Ok-clause-ok g c = λ honest.
+    let lists = g.V.Versions.lists in
+    let fits : FitsSigned w64 c.args.moment = c.ranges.moment in
+    let acted = rw c.in-Ok.is at (simp to_z-of_z at (c.change.ensures.changed honest)) in
+    told_line c.args.repo.now (lists c.args.store.now) c.args.moment c.args.change.now (accepted c.in-Ok.stamp) c.change.new.self (lists c.change.new.store) c.args.told.now.items c.put_stamp.new.out.items
+    ((codes "ok " ++ datestamp_text c.args.repo.now.config.granularity c.in-Ok.stamp) ++ 10 ∷ []) acted refl
+    (let range = rw c.in-Ok.is at c.change.type_inv in let kept = rw c.in-Ok.is at c.change.ensures.left in
+    let stamp : FitsSigned w64 c.in-Ok.stamp = record { sfits = range.1.1.1.1.0.1 } in
+    let granularity : c.granularity.result ≡ c.args.repo.now.config.granularity = c.granularity.ensures ∙ ap (λ (config : Config). config.granularity) (c.config.ensures ∙ kept.1) in
+    rw granularity at (simp to_z-of_z at c.put_stamp.ensures))
+
+pub returns-in-Err-Refused-clause-ok : goal.returns-in-Err-Refused-clause-ok
+unfolding written
+returns-in-Err-Refused-clause-ok g c = λ honest.
+    let lists = g.V.Versions.lists in
+    let fits : FitsSigned w64 c.args.moment = c.ranges.moment in
+    let cause : c.change.result ≡ Err (refusal.Refused c.in-Err-Refused.cause) = c.in-Err-Refused.is ∙ ap (λ r. Err r) c.in-Err-Refused.field-0-is in
+    let acted = rw cause at (simp to_z-of_z at (c.change.ensures.changed honest)) in
+    told_line c.args.repo.now (lists c.args.store.now) c.args.moment c.args.change.now (refused (in_repository c.in-Err-Refused.cause)) c.change.new.self (lists c.change.new.store) c.args.told.now.items c.put_line.new.out.items
+    (refusal_line (in_repository c.in-Err-Refused.cause) ++ 10 ∷ []) acted refl (rw c.answer.ensures.line at c.put_line.ensures)

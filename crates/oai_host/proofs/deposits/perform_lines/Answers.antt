@@ -1,0 +1,41 @@
+-- Each line that was performed is one more of those that were, and a fault ends them.
+use Rattle.std.proofs.Common.{◌≡◌, ◌∙◌, ◌∷◌, FitsSigned, w64, Bool, IsTrue, List, ℕ, arith, subst, sym}
+use Rattle.std.proofs.lemmas.Int.{to_z-of_z}
+use Rattle.oai_host.specs.Bodies.{lines_in}
+use Rattle.oai_host.specs.Housed.{IsKept}
+use Rattle.oai_host.proofs.DepositLemmas.{AreDone, line_failed, one_done}
+use Rattle.oai_host.proofs.deposits.perform_lines.Goals as goal
+
+pub loop-text-preserved : goal.loop-text-preserved
+loop-text-preserved g c =
+    let V = g.V.Versions in
+    let fits : FitsSigned w64 c.args.moment = c.ranges.moment in
+    let old = c.args.repo.now in
+    let before = V.lists c.args.store.now in
+    let mid = c.loop-text.repo in
+    let between = V.lists c.loop-text.store in
+    let new = c.perform_line.new.repo in
+    let after = V.lists c.perform_line.new.store in
+    let same = c.loop-text.invariant.honesty in
+    let next : c.loop-text.lines ≡ c.in-Some.text.now ∷ c.next.new.self = rw c.in-Some.is at c.next.ensures in
+    let so_far = rw next at (simp to_z-of_z at c.loop-text.invariant.lines) in
+    let done = rw c.in-Ok.is at (simp to_z-of_z at c.perform_line.ensures.ok) in
+    let kept = subst (λ (honest : Bool). IsKept honest mid between new after) same c.perform_line.ensures.kept in
+    record {
+      lines = simp to_z-of_z (one_done (V.honest c.args.store.now) old mid new before between after c.args.moment (lines_in c.args.body.now) c.next.new.self c.in-Some.text.now c.loop-text.told.items c.perform_line.new.told.items c.loop-text.done
+          so_far (λ honest. done (subst (λ (b : Bool). IsTrue b) (sym same) honest)) kept);
+      count = omega (arith, c.loop-text.invariant.count, c.perform_line.ensures.device.count);
+      honesty = c.perform_line.ensures.honesty.same ∙ same;
+    }
+
+pub returns-in-Err-clause-tried : goal.returns-in-Err-clause-tried
+returns-in-Err-clause-tried g c = λ honest.
+    let V = g.V.Versions in
+    let fits : FitsSigned w64 c.args.moment = c.ranges.moment in
+    let next : c.loop-text.lines ≡ c.in-Some.text.now ∷ c.next.new.self = rw c.in-Some.is at c.next.ensures in
+    let so_far = rw next at (simp to_z-of_z at c.loop-text.invariant.lines) in
+    let repo = rw c.in-Err.is at c.perform_line.ensures.err in
+    let lists = rw c.in-Err.is at c.perform_line.ensures.err_lists in
+    rw (c.of_fault.ensures, repo, lists)
+    (line_failed (V.honest c.args.store.now) c.args.repo.now c.loop-text.repo (V.lists c.args.store.now) (V.lists c.loop-text.store) c.args.moment (lines_in c.args.body.now) c.next.new.self c.in-Some.text.now c.loop-text.told.items c.loop-text.done c.in-Err.fault
+    so_far honest)

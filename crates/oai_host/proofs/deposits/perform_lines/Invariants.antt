@@ -1,0 +1,17 @@
+use Rattle.std.proofs.Common.{◌≡◌, ◌≤◌, length}
+use Rattle.oai_host.specs.Bodies.{lines_in}
+use Rattle.oai_host.proofs.DepositLemmas.{AreDone}
+use Rattle.oai_host.proofs.deposits.perform_lines.Given as goal
+
+-- some lines were performed, and the others are left
+abbrev pub invariant-loop-text : goal.invariant-loop-text
+invariant-loop-text g l =
+    let V = g.V.Versions in
+    record {
+      lines : AreDone (V.honest l.initial.store) l.initial.repo (V.lists l.initial.store) l.moment (lines_in l.body) l.lines l.told.items l.done l.repo (V.lists l.store);
+      count : V.failures l.initial.store ≤ V.failures l.store;
+      honesty : V.honest l.store ≡ V.honest l.initial.store;
+    }
+
+abbrev pub decreases-loop-text : goal.decreases-loop-text
+decreases-loop-text g l = length l.lines

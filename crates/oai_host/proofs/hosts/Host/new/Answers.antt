@@ -1,0 +1,57 @@
+-- Each repository of the configuration begins beside those that have begun.
+use Rattle.std.proofs.Common.{◌≡◌, ◌∙◌, ◌∷◌, arith, refl, rules}
+use Rattle.std.specs.Vec.Iter.{into_iter_items}
+use Rattle.oai_host.specs.Housed.{repositories_of}
+use Rattle.oai_host.proofs.HostLemmas.{begun_more, begun_none, next_named, next_unused}
+use Rattle.oai_host.proofs.hosts.Host.new.Goals as goal
+
+pub loop-hosted-init : goal.loop-hosted-init
+loop-hosted-init g c =
+    let items : into_iter_items c.into_iter-hosted-iterator.result ≡ c.args.config.repositories = search rules in
+    record {
+      begun = rw (items, c.new-repositories.ensures) (begun_none c.args.config.repositories);
+      housed = rw c.new-repositories.ensures (record { named = record { named = refl; distinct = refl }; stand = tt; held = λ _. tt; apart = tt });
+      count = omega arith;
+      honesty = refl;
+      named = c.into_repositories.ensures.named;
+    }
+
+pub begin-requires-clause-named : goal.begin-requires-clause-named
+begin-requires-clause-named g c =
+    let next : into_iter_items c.loop-hosted.hosted-iterator ≡ c.in-Some.hosted ∷ into_iter_items c.next.new.self = c.in-Some.ensures.steps.0 in
+    let so_far = rw next at c.loop-hosted.invariant.begun in
+    next_named c.args.config.repositories so_far.front (into_iter_items c.next.new.self) c.in-Some.hosted c.loop-hosted.invariant.named so_far.whole
+
+pub begin-requires-clause-unused : goal.begin-requires-clause-unused
+begin-requires-clause-unused g c =
+    let V = g.V.Versions in
+    let next : into_iter_items c.loop-hosted.hosted-iterator ≡ c.in-Some.hosted ∷ into_iter_items c.next.new.self = c.in-Some.ensures.steps.0 in
+    let so_far = rw next at c.loop-hosted.invariant.begun in
+    next_unused c.args.config.repositories so_far.front (into_iter_items c.next.new.self) c.in-Some.hosted c.loop-hosted.repositories (V.lists c.loop-hosted.store) c.loop-hosted.invariant.named so_far.whole so_far.begun_so
+
+pub loop-hosted-preserved : goal.loop-hosted-preserved
+loop-hosted-preserved g c =
+    let V = g.V.Versions in
+    let next : into_iter_items c.loop-hosted.hosted-iterator ≡ c.in-Some.hosted ∷ into_iter_items c.next.new.self = c.in-Some.ensures.steps.0 in
+    let so_far = rw next at c.loop-hosted.invariant.begun in
+    record {
+      begun = begun_more c.args.config.repositories (into_iter_items c.next.new.self) c.in-Some.hosted (repositories_of c.loop-hosted.repositories (V.lists c.loop-hosted.store)) (repositories_of c.begin.new.self (V.lists c.begin.new.store))
+          so_far c.in_ok-begin.ensures.begun;
+      housed = c.in_ok-begin.ensures.housed;
+      count = omega (arith, c.loop-hosted.invariant.count, c.begin.ensures.device.count);
+      honesty = c.begin.ensures.honesty.same ∙ c.loop-hosted.invariant.honesty;
+      named = c.loop-hosted.invariant.named;
+    }
+
+pub returns-clause-cause : goal.returns-clause-cause
+returns-clause-cause g c = record {
+  last = c.loop-hosted.store;
+  device = record { count = c.loop-hosted.invariant.count; device = tt };
+  honesty = record { same = c.loop-hosted.invariant.honesty; damaged = tt };
+}
+
+pub returns-in_err-routes-clause-cause : goal.returns-in_err-routes-clause-cause
+returns-in_err-routes-clause-cause g c = record { last = c.args.store; device = search rules; honesty = search rules }
+
+pub returns-in_err-begin-clause-cause : goal.returns-in_err-begin-clause-cause
+returns-in_err-begin-clause-cause g c = record { last = c.begin.new.store; device = search rules; honesty = search rules }

@@ -1,0 +1,48 @@
+-- One more exchange is answered, and in the end all are; those of each repository without failures are those that it alone answers.
+use Rattle.std.proofs.Common.{◌≡◌, ◌∙◌, ◌+◌, ◌∷◌, ◌++◌, [], suc, take, List, Bool, IsTrue, arith, rules, refl, sym, ap, subst}
+use Rattle.oai_host.specs.declared.exchanges.Call.{Call}
+use Rattle.oai_host.proofs.RunLemmas.{all_alone, answered_last, answered_none, one_longer, take_more, take_whole}
+use Rattle.oai_host.proofs.hosts.Host.run.Goals as goal
+
+pub loop-call-init : goal.loop-call-init
+loop-call-init g c =
+    let items : c.in_ok-answers.answers.items ≡ [] = c.in_ok-answers.ensures.items in
+    record {
+      answered = λ _. rw items (answered_none c.args.self.now.repositories);
+      many = rw items refl;
+      room = search rules;
+      count = omega arith;
+      honesty = refl;
+    }
+
+pub loop-call-preserved : goal.loop-call-preserved
+loop-call-preserved g c =
+    let at = c.loop-call.call-index in
+    let calls = c.args.calls.now in
+    let call = c.call-item.result in
+    let next : at + 1 ≡ suc at = omega arith in
+    let item : call ≡ _ = c.call-item.is in
+    let more : take (suc at) calls ≡ take at calls ++ call ∷ [] = take_more calls at call c.loop-call-test.true ∙ ap (λ (x : Call). take at calls ++ x ∷ []) (sym item) in
+    let items : c.push.new.self.items ≡ c.loop-call.answers.items ++ c.perform-answer.result ∷ [] = rw c.unwrap.ensures at c.push.ensures.items in
+    record {
+      answered = λ honest.
+          rw (next, more, items)
+          (answered_last (take at calls) c.loop-call.answers.items call c.perform-answer.result c.args.self.now.repositories c.loop-call.self.repositories
+          c.perform-answer.new.self.repositories (c.loop-call.invariant.answered honest) (c.perform-answer.ensures.answered (subst (λ (b : Bool). IsTrue b) (sym c.loop-call.invariant.honesty) honest)));
+      many = rw (next, items) (one_longer c.loop-call.answers.items c.perform-answer.result at c.loop-call.invariant.many);
+      room = search rules;
+      count = omega (arith, c.loop-call.invariant.count, c.perform-answer.ensures.count);
+      honesty = c.perform-answer.ensures.honesty ∙ c.loop-call.invariant.honesty;
+    }
+
+pub returns-clause-answered : goal.returns-clause-answered
+returns-clause-answered g c = λ honest.
+    let whole = take_whole c.args.calls.now c.loop-call.call-index c.loop-call-test.false in
+    rw c.new.ensures (rw whole at (c.loop-call.invariant.answered honest))
+
+pub returns-clause-alone : goal.returns-clause-alone
+returns-clause-alone g c = λ honest none.
+    let whole = take_whole c.args.calls.now c.loop-call.call-index c.loop-call-test.false in
+    let answered = rw whole at (c.loop-call.invariant.answered honest) in
+    let none_so = rw c.new.ensures at none in
+    rw c.new.ensures (all_alone c.args.calls.now c.loop-call.answers.items c.args.self.now.repositories c.loop-call.self.repositories answered none_so)

@@ -1,0 +1,15 @@
+-- What the exchange asks for is what is performed.
+use Rattle.std.proofs.Common.{◌≡◌, FitsSigned, w64, inl, refl}
+use Rattle.std.proofs.lemmas.Int.{to_z-of_z}
+use Rattle.oai_host.proofs.performances.perform.Goals as goal
+
+pub returns-in-Ok-clause-tried : goal.returns-in-Ok-clause-tried
+returns-in-Ok-clause-tried g c = λ honest.
+    let fits : FitsSigned w64 c.args.moment = c.ranges.moment in
+    let task = rw c.in-Ok.is at (c.arguments_of.ensures c.args.moment) in
+    rw (c.in-Requests.is, task) (simp to_z-of_z at (c.perform_request.ensures.tried honest))
+
+pub returns-in-Err-clause-tried : goal.returns-in-Err-clause-tried
+returns-in-Err-clause-tried g c = λ honest.
+    let task = rw c.in-Err.is at (c.arguments_of.ensures c.args.moment) in
+    rw (c.in-Requests.is, task, c.of_status.ensures) (inl refl)

@@ -1,0 +1,56 @@
+-- The repository at the place changes, and the others stay as they were.
+use Rattle.std.proofs.Common.{◌≡◌, ◌∙◌, FitsSigned, w64, sym, ap}
+use Rattle.std.proofs.lemmas.Int.{to_z-of_z}
+use Rattle.std.proofs.lemmas.Option.{get_or_from_slice_get}
+use Rattle.oai_host.specs.Workings.{call_of}
+use Rattle.oai_host.specs.declared.housed.Housed.{Housed}
+use Rattle.oai_host.proofs.HousedLemmas.{held_at, housed_set, stands_at, steps_set}
+use Rattle.oai_host.proofs.PlaceLemmas.{names_set}
+use Rattle.oai_host.proofs.repositories.Repositories.perform.Goals as goal
+
+pub perform-requires-clause-stands : goal.perform-requires-clause-stands
+perform-requires-clause-stands g c =
+    let p = c.requires.place in
+    let there = rw (← c.self.view_is) at p.there in
+    let one : c.index_mut.result.now ≡ p.one = c.index_mut.ensures.value ∙ get_or_from_slice_get c.self.inside.housed.items c.args.place p.one c.index_mut.result.now there in
+    rw one (stands_at c.args.self.now c.args.place p.one (g.V.Versions.lists c.args.store.now) p.there c.requires.housed.stand)
+
+pub perform-requires-clause-held : goal.perform-requires-clause-held
+perform-requires-clause-held g c = λ honest.
+    let p = c.requires.place in
+    let there = rw (← c.self.view_is) at p.there in
+    let one : c.index_mut.result.now ≡ p.one = c.index_mut.ensures.value ∙ get_or_from_slice_get c.self.inside.housed.items c.args.place p.one c.index_mut.result.now there in
+    rw one (held_at c.args.self.now c.args.place p.one (g.V.Versions.lists c.args.store.now) p.there (c.requires.housed.held honest))
+
+pub invariant_of-self : goal.invariant_of-self
+invariant_of-self g c =
+    let p = c.requires.place in
+    let there = rw (← c.self.view_is) at p.there in
+    let one : c.index_mut.result.now ≡ p.one = c.index_mut.ensures.value ∙ get_or_from_slice_get c.self.inside.housed.items c.args.place p.one c.index_mut.result.now there in
+    rw (one, names_set c.self.inside.housed.items c.args.place p.one c.perform.new.repo there) c.self.invariant
+
+pub returns-clause-steps : goal.returns-clause-steps
+returns-clause-steps g c = λ honest.
+    let V = g.V.Versions in
+    let fits : FitsSigned w64 c.args.moment = c.ranges.moment in
+    let p = c.requires.place in
+    let inside = c.self.inside.housed.items in
+    let there = rw (← c.self.view_is) at p.there in
+    let one : c.index_mut.result.now ≡ p.one = c.index_mut.ensures.value ∙ get_or_from_slice_get inside c.args.place p.one c.index_mut.result.now there in
+    let housed = rw (← c.self.view_is) at c.requires.housed in
+    let kept = rw one at c.perform.ensures.kept in
+    let tried = rw one at (simp to_z-of_z at (c.perform.ensures.tried honest)) in
+    rw (← c.self.view_is, one)
+    (steps_set (V.honest c.args.store.now) (call_of c.args.moment c.args.exchange.now) c.perform.result c.args.kind inside c.args.place p.one c.perform.new.repo (V.lists c.args.store.now) (V.lists c.perform.new.store) there housed kept
+    housed.named.distinct p.path tried)
+
+pub returns-clause-housed : goal.returns-clause-housed
+returns-clause-housed g c =
+    let V = g.V.Versions in
+    let p = c.requires.place in
+    let inside = c.self.inside.housed.items in
+    let there = rw (← c.self.view_is) at p.there in
+    let one : c.index_mut.result.now ≡ p.one = c.index_mut.ensures.value ∙ get_or_from_slice_get inside c.args.place p.one c.index_mut.result.now there in
+    let housed = rw (← c.self.view_is) at c.requires.housed in
+    let kept = rw one at c.perform.ensures.kept in
+    rw one (housed_set (V.honest c.args.store.now) (V.honest c.perform.new.store) inside c.args.place p.one c.perform.new.repo (V.lists c.args.store.now) (V.lists c.perform.new.store) c.perform.ensures.honesty.same there housed kept)

@@ -1,0 +1,84 @@
+-- One repository alone: what it is answered to its own exchanges, one after the other. This repository's own, over the machine of OAI-PMH 2.0.
+use Rattle.std.specs.Prelude.{◌≡◌, ◌⊎◌, ◌<◌, ℕ, ℤ, Bool, if◌then◌else◌, List, [], ◌∷◌, ◌++◌, length, take, filter, Option, None, Some}
+use Rattle.oai_deposit.specs.Lines.{line_of}
+use Rattle.oai_item.specs.declared.faults.Fault.{Fault}
+use Rattle.oai_repo.specs.Config.{Config}
+use Rattle.oai_repo.specs.Machine.{Told, bytes, line, query, step, wait}
+use Rattle.oai_repo.specs.State.{State}
+use Rattle.oai_host.specs.Answers.{answer_of, answered, answered_with, failed}
+use Rattle.oai_host.specs.Targets.{leads_to_repository}
+use Rattle.oai_host.specs.Tasks.{Task, asking, depositing, refusing, task_of}
+use Rattle.oai_host.specs.declared.exchanges.Answer.{Answer}
+use Rattle.oai_host.specs.declared.exchanges.Call.{Call}
+
+-- ---- the machine alone
+
+-- a line of a deposit is answered a line: the same with its end
+abbrev pub with_end : Told → List ℕ
+with_end (bytes text) = text ++ 10 ∷ []
+with_end (wait seconds) = []
+
+-- one line, at that moment: what it is answered, and the state that it leaves
+abbrev pub after_line : Config → ℤ → State → List ℕ → List ℕ × State
+after_line config moment state text = let done = step config state moment (line (line_of text)) in (with_end done.0, done.1)
+
+-- lines, one after the other, at one moment
+abbrev pub after_lines : Config → ℤ → State → List (List ℕ) → List ℕ × State
+after_lines config moment state [] = ([], state)
+after_lines config moment state (text ∷ lines) =
+    let first = after_line config moment state text in
+    let others = after_lines config moment first.1 lines in
+    (first.0 ++ others.0, others.1)
+
+-- what is asked of the repository is done: a request is one step, a deposit is its lines
+abbrev pub done_alone : Config → State → ℤ → Task → Answer × State
+done_alone config state moment (refusing status) = (answered status, state)
+done_alone config state moment (asking arguments) = let done = step config state moment (query arguments) in (answer_of done.0, done.1)
+done_alone config state moment (depositing lines) = let done = after_lines config moment state lines in (answered_with done.0, done.1)
+
+-- an exchange: its answer, and the state that it leaves
+abbrev pub exchanged_alone : Config → State → Call → Answer × State
+exchanged_alone config state call = done_alone config state call.moment (task_of call)
+
+-- the answers to exchanges, one after the other
+abbrev pub answers_alone : Config → State → List Call → List Answer
+answers_alone config state [] = []
+answers_alone config state (call ∷ calls) = let done = exchanged_alone config state call in done.0 ∷ answers_alone config done.1 calls
+
+-- ---- what is a repository's own
+
+-- its exchanges: those whose path is its own
+abbrev pub own_calls : List ℕ → List Call → List Call
+own_calls name calls = filter (λ (call : Call). leads_to_repository name call.target) calls
+
+-- the answers to these
+abbrev pub own_answers : List ℕ → List Call → List Answer → List Answer
+own_answers name [] answers = []
+own_answers name (call ∷ calls) [] = []
+own_answers name (call ∷ calls) (answer ∷ answers) =
+    if leads_to_repository name call.target then answer ∷ own_answers name calls answers else own_answers name calls answers
+
+-- ---- with failures
+
+-- it failed. Of a request nothing was done; of a deposit some of its lines, from the first on, but not all
+abbrev pub HasFailed : Config → State → ℤ → Task → Answer → State → Type 0
+HasFailed config before moment (refusing status) answer after = ⊥
+HasFailed config before moment (asking arguments) answer after = (fault : Fault) × (answer ≡ failed fault None) × (after ≡ before)
+HasFailed config before moment (depositing lines) answer after =
+    (fault : Fault) × (done : ℕ) × (done < length lines) × (answer ≡ failed fault (Some done)) × (after ≡ (after_lines config moment before (take done lines)).1)
+
+-- it was done, or it failed
+abbrev pub IsTried : Config → State → ℤ → Task → Answer → State → Type 0
+IsTried config before moment task answer after = (done_alone config before moment task ≡ (answer, after)) ⊎ HasFailed config before moment task answer after
+
+-- an exchange, from a state to a state
+abbrev pub IsExchange : Config → State → Call → Answer → State → Type 0
+IsExchange config before call answer after = IsTried config before call.moment (task_of call) answer after
+
+-- exchanges, one after the other
+abbrev pub IsRun : Config → State → List Call → List Answer → State → Type 0
+IsRun config before [] [] after = after ≡ before
+IsRun config before [] (answer ∷ answers) after = ⊥
+IsRun config before (call ∷ calls) [] after = ⊥
+IsRun config before (call ∷ calls) (answer ∷ answers) after =
+    (between : State) × IsExchange config before call answer between × IsRun config between calls answers after

@@ -1,0 +1,17 @@
+-- What is left of a body whose lines are taken one after the other.
+use Rattle.std.specs.Prelude.{ℕ, suc, List, [], ◌∷◌, length, Option, None, Some, if◌then◌else◌}
+use Rattle.oai_host.specs.Bodies.{is_blank, lines_in}
+
+-- the lines of what stands behind the last line end that was met; none where none was met at the last
+abbrev pub lines_left : Option (List ℕ) → List (List ℕ)
+lines_left None = []
+lines_left (Some rest) = lines_in rest
+
+-- the lines from this one on, which may be blank
+abbrev pub from_line : List ℕ → List (List ℕ) → List (List ℕ)
+from_line line lines = if is_blank line then lines else line ∷ lines
+
+-- how much is left
+abbrev pub bytes_left : Option (List ℕ) → ℕ
+bytes_left None = 0
+bytes_left (Some rest) = suc (length rest)

@@ -1,0 +1,91 @@
+-- Many repositories, and what exchanges with their host do to each. This repository's own.
+use Rattle.std.specs.Prelude.{◌≡◌, ℕ, Bool, true, not, ◌&&◌, is_none, if◌then◌else◌, List, [], ◌∷◌, map}
+use Rattle.std.specs.List.{list_all}
+use Rattle.oai_repo.specs.Config.{Config}
+use Rattle.oai_repo.specs.State.{State, empty_state}
+use Rattle.oai_host.specs.Alone.{IsExchange, IsRun, answers_alone, own_answers, own_calls}
+use Rattle.oai_host.specs.Answers.{answered}
+use Rattle.oai_host.specs.Configs.{Hosted}
+use Rattle.oai_host.specs.Targets.{is_rooted, leads_to_repository}
+use Rattle.oai_host.specs.declared.exchanges.Answer.{Answer}
+use Rattle.oai_host.specs.declared.exchanges.Call.{Call}
+use Rattle.oai_host.specs.declared.statuses.Status.TheVariants as status
+
+-- a repository of a host: its name, its configuration and its state
+pub record Repository : Type 0 where
+  pub name : List ℕ
+  pub config : Config
+  pub state : State
+
+-- as it begins
+abbrev pub begun : Hosted → Repository
+begun hosted = record { name = hosted.name; config = hosted.config; state = empty_state hosted.config }
+
+-- of each of the one list and that of the other at its place
+abbrev pub Each : {A : Type 0} → (A → A → Type 0) → List A → List A → Type 0
+Each P [] [] = Unit {0}
+Each P [] (y ∷ ys) = ⊥
+Each P (x ∷ xs) [] = ⊥
+Each P (x ∷ xs) (y ∷ ys) = P x y × Each P xs ys
+
+-- a host: its repositories, whether the device of its store gives back what was written to it, and how often that has failed
+pub record Hosting : Type 0 where
+  pub repositories : List Repository
+  pub honest : Bool
+  pub failures : ℕ
+
+-- ---- one exchange
+
+-- what an exchange does to a repository: where it is its own, it is done or fails; any other leaves it as it was
+pub record IsStep (call : Call) (answer : Answer) (before after : Repository) : Type 0 where
+  pub name : after.name ≡ before.name
+  pub config : after.config ≡ before.config
+  pub own : leads_to_repository before.name call.target ≡ true → IsExchange before.config before.state call answer after.state
+  pub other : not (leads_to_repository before.name call.target) ≡ true → after.state ≡ before.state
+
+-- the exchange is no repository's
+abbrev pub is_of_none : List Repository → Call → Bool
+is_of_none repositories call = list_all (λ (repository : Repository). not (leads_to_repository repository.name call.target)) repositories
+
+-- what such an exchange is answered
+abbrev pub refused : Call → Answer
+refused call = answered (if is_rooted call.target then status.NotFound else status.BadRequest)
+
+-- an exchange with the host
+pub record IsAnswered (call : Call) (answer : Answer) (before after : List Repository) : Type 0 where
+  pub each : Each (IsStep call answer) before after
+  pub none : is_of_none before call ≡ true → answer ≡ refused call
+
+-- ---- exchanges one after the other
+
+-- what exchanges do to a repository: its own do to it what they would do if there were no others, and the others nothing
+pub record IsOwnRun (calls : List Call) (answers : List Answer) (before after : Repository) : Type 0 where
+  pub name : after.name ≡ before.name
+  pub config : after.config ≡ before.config
+  pub run : IsRun before.config before.state (own_calls before.name calls) (own_answers before.name calls answers) after.state
+
+-- each exchange that is no repository's is refused
+abbrev pub AreRefused : List Repository → List Call → List Answer → Type 0
+AreRefused repositories [] [] = Unit {0}
+AreRefused repositories [] (answer ∷ answers) = ⊥
+AreRefused repositories (call ∷ calls) [] = ⊥
+AreRefused repositories (call ∷ calls) (answer ∷ answers) = (is_of_none repositories call ≡ true → answer ≡ refused call) × AreRefused repositories calls answers
+
+-- exchanges with the host, each with its answer
+pub record AreAnswered (calls : List Call) (answers : List Answer) (before after : List Repository) : Type 0 where
+  pub each : Each (IsOwnRun calls answers) before after
+  pub none : AreRefused before calls answers
+
+-- no exchange failed
+abbrev pub none_failed : List Answer → Bool
+none_failed answers = list_all (λ (answer : Answer). is_none answer.fault) answers
+
+-- the answers at the repository are those that it alone would give to its own exchanges
+abbrev pub IsAsAlone : List Call → List Answer → Repository → Type 0
+IsAsAlone calls answers repository =
+    own_answers repository.name calls answers ≡ answers_alone repository.config repository.state (own_calls repository.name calls)
+
+-- at each of them
+abbrev pub AreAsAlone : List Call → List Answer → List Repository → Type 0
+AreAsAlone calls answers [] = Unit {0}
+AreAsAlone calls answers (repository ∷ repositories) = IsAsAlone calls answers repository × AreAsAlone calls answers repositories

@@ -1,0 +1,53 @@
+-- What reading a configuration answers: the configuration, or the lowest cause that applies anywhere in the text.
+use Rattle.std.specs.Prelude.{◌≡◌, ◌<◌, ℕ, Bool, true, false, List, [], ◌∷◌, codes, Some, Result, Ok, Err}
+use Rattle.oai_deposit.specs.Lines.{TakesMemory}
+use Rattle.oai_repo.specs.declared.settings.Settings.{Settings}
+use Rattle.oai_repo.specs.Settings.{Configures}
+use Rattle.oai_host.specs.declared.faults.ReadFault.{ReadFault}
+use Rattle.oai_host.specs.declared.faults.ReadFault.TheVariants.{BadJson, BadShape, BadName, DuplicateName, BadFormat, BadDate, BadNumber, TooMany, NoMemory}
+use Rattle.oai_host.specs.declared.readings.told.Told.{Told}
+use Rattle.oai_host.specs.Configs.{Hosted, HostConfig}
+use Rattle.oai_host.specs.Causes.{applies, number_of}
+use Rattle.oai_host.specs.Shapes.{told_in}
+
+-- the repository is of that name, and configured as is told
+pub record IsHosted (settings : Settings) (hosted : Hosted) : Type 0 where
+  pub name : hosted.name ≡ settings.name
+  pub config : Configures settings hosted.config
+
+-- so is each, in the order of the text
+abbrev pub AreHosted : List Settings → List Hosted → Type 0
+AreHosted [] [] = Unit {0}
+AreHosted (s ∷ settings) (h ∷ hosted) = IsHosted s h × AreHosted settings hosted
+AreHosted [] (h ∷ hosted) = ⊥
+AreHosted (s ∷ settings) [] = ⊥
+
+-- no cause applies, and the configuration is what the text tells
+pub record IsConfigOf (text : List ℕ) (told : Told) (config : HostConfig) : Type 0 where
+  pub faultless : (fault : ReadFault) → applies fault text ≡ false
+  pub tells : told_in text ≡ Some told
+  pub cache : told.cache ≡ Some config.cache
+  pub repositories : AreHosted told.repositories config.repositories
+
+-- of the causes the fault applies, and none of a lower number
+pub record IsLowest (causes : ReadFault → Bool) (fault : ReadFault) : Type 0 where
+  pub applies : causes fault ≡ true
+  pub lowest : (other : ReadFault) → number_of other < number_of fault → causes other ≡ false
+
+-- what reading a text answers; memory may be refused where some is taken, for a text in UTF-8 that is not empty
+abbrev pub IsRead : List ℕ → Result HostConfig ReadFault → Type 0
+IsRead text (Ok config) = (told : Told) × IsConfigOf text told config
+IsRead text (Err NoMemory) = TakesMemory text
+IsRead text (Err fault) = IsLowest (λ cause. applies cause text) fault
+
+-- the number and the name of a fault
+abbrev pub fault_text : ReadFault → List ℕ
+fault_text BadJson = codes "1 BadJson"
+fault_text BadShape = codes "2 BadShape"
+fault_text BadName = codes "3 BadName"
+fault_text DuplicateName = codes "4 DuplicateName"
+fault_text BadFormat = codes "5 BadFormat"
+fault_text BadDate = codes "6 BadDate"
+fault_text BadNumber = codes "7 BadNumber"
+fault_text TooMany = codes "8 TooMany"
+fault_text NoMemory = codes "9 NoMemory"

@@ -1,0 +1,100 @@
+-- What the calls answer that the reading of a text is made of: words that the contract of the whole needs none of.
+use Rattle.std.specs.Prelude.{◌≡◌, ◌||◌, ℕ, Bool, false, nat_le, if◌then◌else◌, List, Option, Some, None, is_none, Result, Ok, Err}
+use Rattle.std.specs.List.{list_any}
+use Rattle.serde_json.specs.View.{view}
+use Rattle.serde_json.specs.declared.value.Value.{Value}
+use Rattle.oai_deposit.specs.Lines.{TakesMemory}
+use Rattle.oai_repo.specs.declared.settings.ConfigFault.{ConfigFault}
+use Rattle.oai_repo.specs.declared.settings.ConfigFault.TheVariants as alone
+use Rattle.oai_repo.specs.declared.settings.Settings.{Settings}
+use Rattle.oai_host.specs.declared.faults.ReadFault.{ReadFault}
+use Rattle.oai_host.specs.declared.faults.ReadFault.TheVariants.{BadJson, BadShape, BadName, DuplicateName, BadFormat, BadDate, BadNumber, TooMany, NoMemory}
+use Rattle.oai_host.specs.declared.readings.told.Told.{Told}
+use Rattle.oai_host.specs.Configs.{Hosted, HostConfig}
+use Rattle.oai_host.specs.Shapes.{json_in, told_in}
+use Rattle.oai_host.specs.Causes.{is_wrong_alone, is_wrong_together, is_wrong, number_of}
+use Rattle.oai_host.specs.Reading.{IsHosted, AreHosted, IsLowest}
+
+-- ---- the shape
+
+-- a call that takes no memory answered the reading, seen by the view
+abbrev pub Answers : {A B : Type 0} → (A → B) → Result A ReadFault → Option B → Type 0
+Answers view (Ok x) reading = reading ≡ Some (view x)
+Answers view (Err BadShape) reading = reading ≡ None
+Answers view (Err fault) reading = ⊥
+
+-- a call answered the reading, or memory was refused
+abbrev pub Gives : {A : Type 0} → Result A ReadFault → Option A → Type 0
+Gives (Ok x) reading = reading ≡ Some x
+Gives (Err BadShape) reading = reading ≡ None
+Gives (Err NoMemory) reading = Unit {0}
+Gives (Err fault) reading = ⊥
+
+-- the value of the text
+abbrev pub IsJson : List ℕ → Result Value ReadFault → Type 0
+IsJson text (Ok value) = json_in text ≡ Some (view value)
+IsJson text (Err BadJson) = json_in text ≡ None
+IsJson text (Err NoMemory) = TakesMemory text
+IsJson text (Err fault) = ⊥
+
+-- what the text tells
+abbrev pub IsText : List ℕ → Result Told ReadFault → Type 0
+IsText text (Ok told) = told_in text ≡ Some told
+IsText text (Err BadJson) = json_in text ≡ None
+IsText text (Err BadShape) = (is_none (json_in text) ≡ false) × (told_in text ≡ None)
+IsText text (Err NoMemory) = TakesMemory text
+IsText text (Err fault) = ⊥
+
+-- ---- the causes
+
+-- a fault of a repository alone is one of the text
+abbrev pub fault_of : ConfigFault → ReadFault
+fault_of alone.BadShape = BadShape
+fault_of alone.BadName = BadName
+fault_of alone.BadFormat = BadFormat
+fault_of alone.BadDate = BadDate
+fault_of alone.BadNumber = BadNumber
+fault_of alone.NoMemory = NoMemory
+
+-- the first cause that lies in the whole, in the order of the numbers
+unfoldable pub first_together : Option ℕ → List Settings → Option ReadFault
+first_together cache repositories =
+    if is_wrong_together BadShape cache repositories then Some BadShape
+    else (if is_wrong_together DuplicateName cache repositories then Some DuplicateName
+    else (if is_wrong_together BadNumber cache repositories then Some BadNumber
+    else (if is_wrong_together TooMany cache repositories then Some TooMany
+    else None)))
+
+-- of the causes this is the lowest that applies; none does, where there is none
+abbrev pub IsLowestOf : (ReadFault → Bool) → Option ReadFault → Type 0
+IsLowestOf causes (Some fault) = IsLowest causes fault
+IsLowestOf causes None = (fault : ReadFault) → causes fault ≡ false
+
+-- the fault, or the one before it where that is not higher
+abbrev pub lower : Option ReadFault → ReadFault → ReadFault
+lower None fault = fault
+lower (Some lowest) fault = if nat_le (number_of lowest) (number_of fault) then lowest else fault
+
+-- the repository that is told, or the lowest fault in it
+abbrev pub IsHostedOr : Settings → Result Hosted ReadFault → Type 0
+IsHostedOr settings (Ok hosted) = IsHosted settings hosted
+IsHostedOr settings (Err NoMemory) = Unit {0}
+IsHostedOr settings (Err fault) = IsLowest (λ cause. is_wrong_alone cause settings) fault
+
+-- causes, and those that lie in any repository
+abbrev pub or_alone : (ReadFault → Bool) → List Settings → ReadFault → Bool
+or_alone causes settings cause = causes cause || list_any (is_wrong_alone cause) settings
+
+-- the repositories that are told, where there are no causes; or the lowest of those and of the faults in any repository
+abbrev pub AreMade : (ReadFault → Bool) → List Settings → Result (List Hosted) ReadFault → Type 0
+AreMade causes settings (Ok hosted) = ((fault : ReadFault) → or_alone causes settings fault ≡ false) × AreHosted settings hosted
+AreMade causes settings (Err NoMemory) = Unit {0}
+AreMade causes settings (Err fault) = IsLowest (or_alone causes settings) fault
+
+-- the configuration that is told, or the lowest fault
+abbrev pub IsMade : Told → Result HostConfig ReadFault → Type 0
+IsMade told (Ok config) =
+    ((fault : ReadFault) → is_wrong fault told ≡ false)
+    × (told.cache ≡ Some config.cache) × AreHosted told.repositories config.repositories
+IsMade told (Err NoMemory) = Unit {0}
+IsMade told (Err fault) = IsLowest (λ cause. is_wrong cause told) fault

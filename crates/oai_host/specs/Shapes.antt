@@ -1,0 +1,150 @@
+-- What the JSON object of a configuration tells, where its members are of their kinds (RFC 8259, sections 3 to 7). The members are this
+-- repository's own.
+use Rattle.std.specs.Prelude.{ℕ, if◌then◌else◌, List, [], ◌∷◌, codes, Option, Some, None, option_map}
+use Rattle.std.specs.Str.{bytes_eq, is_utf8}
+use Rattle.serde_json.specs.Data.{Data}
+use Rattle.serde_json.specs.Read.{read}
+use Rattle.serde_json.specs.Find.{get, as_number, as_str, as_array, as_u64}
+use Rattle.oai_time.specs.declared.granularity.Granularity.{Granularity}
+use Rattle.oai_time.specs.declared.granularity.Granularity.TheVariants.{Day, Second}
+use Rattle.oai_item.specs.ShortTexts.{is_short_text}
+use Rattle.oai_answers.specs.declared.identify.DeletedRecord.{DeletedRecord}
+use Rattle.oai_answers.specs.declared.identify.DeletedRecord.TheVariants.{No, Transient, Persistent}
+use Rattle.oai_deposit.specs.Json.{elements_in, has_members}
+use Rattle.oai_repo.specs.declared.settings.FormatSettings.{FormatSettings}
+use Rattle.oai_repo.specs.declared.settings.Settings.{Settings}
+use Rattle.oai_host.specs.declared.readings.told.Told.{Told}
+use Rattle.oai_host.specs.Readings.{◌>>=◌, each_of, tested}
+
+-- ---- a member of an object, of a kind
+
+-- a string
+unfoldable pub text_at : List ℕ → Data → Option (List ℕ)
+text_at name d = get name d >>= as_str
+
+-- a number: none in it, where it is not of 64 bits, whole and not negative
+unfoldable pub number_at : List ℕ → Data → Option (Option ℕ)
+number_at name d = option_map as_u64 (get name d >>= as_number)
+
+-- a list
+unfoldable pub elements_at : List ℕ → Data → Option (List Data)
+elements_at name d = option_map elements_in (get name d >>= as_array)
+
+-- a list of strings
+unfoldable pub texts_at : List ℕ → Data → Option (List (List ℕ))
+texts_at name d = elements_at name d >>= each_of as_str
+
+-- ---- a format
+
+-- the members of a format
+abbrev pub format_members : List (List ℕ)
+format_members = codes "prefix" ∷ codes "schema" ∷ codes "namespace" ∷ codes "root" ∷ codes "fields" ∷ []
+
+-- {"prefix":TEXT,"schema":TEXT,"namespace":TEXT,"root":TEXT,"fields":[TEXT,..]}, and no other member
+unfoldable pub format_of : Data → Option FormatSettings
+format_of d = do
+  d ← tested (has_members format_members) d
+  prefix ← text_at (codes "prefix") d
+  schema ← text_at (codes "schema") d
+  namespace ← text_at (codes "namespace") d
+  root ← text_at (codes "root") d
+  fields ← texts_at (codes "fields") d
+  Some (record { prefix = prefix; schema = schema; namespace = namespace; root = root; fields = fields })
+
+-- ---- a repository
+
+-- what is kept of deleted records (OAI-PMH 2.0, section 2.5.1)
+unfoldable pub deleted_of : List ℕ → Option DeletedRecord
+deleted_of text =
+    if bytes_eq text (codes "no") then Some No
+    else (if bytes_eq text (codes "transient") then Some Transient
+    else (if bytes_eq text (codes "persistent") then Some Persistent
+    else None))
+
+-- .. as the member of it tells
+unfoldable pub deleted_at : Data → Option DeletedRecord
+deleted_at d = text_at (codes "deletedRecord") d >>= deleted_of
+
+-- how fine the datestamps are (OAI-PMH 2.0, section 2.7.1)
+unfoldable pub granularity_of : List ℕ → Option Granularity
+granularity_of text =
+    if bytes_eq text (codes "days") then Some Day
+    else (if bytes_eq text (codes "seconds") then Some Second
+    else None)
+
+-- .. as the member of it tells
+unfoldable pub granularity_at : Data → Option Granularity
+granularity_at d = text_at (codes "granularity") d >>= granularity_of
+
+-- the formats, as the member of them tells
+unfoldable pub formats_at : Data → Option (List FormatSettings)
+formats_at d = elements_at (codes "formats") d >>= each_of format_of
+
+-- the members of a repository
+abbrev pub repository_members : List (List ℕ)
+repository_members =
+    codes "name" ∷ codes "repositoryName" ∷ codes "adminEmail" ∷ codes "earliestDatestamp" ∷ codes "deletedRecord"
+    ∷ codes "granularity" ∷ codes "chunk" ∷ codes "lifetime" ∷ codes "lists" ∷ codes "items" ∷ codes "formats" ∷ []
+
+-- the object of these members, which tells the settings of a repository below the base
+unfoldable pub settings_of : List ℕ → Data → Option Settings
+settings_of base d = do
+  d ← tested (has_members repository_members) d
+  name ← text_at (codes "name") d
+  repository_name ← text_at (codes "repositoryName") d
+  addresses ← texts_at (codes "adminEmail") d
+  earliest ← text_at (codes "earliestDatestamp") d
+  deleted ← deleted_at d
+  granularity ← granularity_at d
+  chunk ← number_at (codes "chunk") d
+  lifetime ← number_at (codes "lifetime") d
+  lists ← number_at (codes "lists") d
+  items ← number_at (codes "items") d
+  formats ← formats_at d
+  Some (record {
+    base = base;
+    name = name;
+    repository_name = repository_name;
+    addresses = addresses;
+    earliest = earliest;
+    deleted = deleted;
+    granularity = granularity;
+    chunk = chunk;
+    lifetime = lifetime;
+    lists = lists;
+    items = items;
+    formats = formats;
+  })
+
+-- ---- the host
+
+-- the base of all base URLs: 1 to 512 bytes, of characters that a document may hold (XML 1.0, section 2.2)
+unfoldable pub base_at : Data → Option (List ℕ)
+base_at d = text_at (codes "base") d >>= tested is_short_text
+
+-- the repositories below the base
+unfoldable pub repositories_at : List ℕ → Data → Option (List Settings)
+repositories_at base d = elements_at (codes "repositories") d >>= each_of (settings_of base)
+
+-- the members of a configuration
+abbrev pub host_members : List (List ℕ)
+host_members = codes "base" ∷ codes "cache" ∷ codes "repositories" ∷ []
+
+-- {"base":TEXT,"cache":NUMBER,"repositories":[REPOSITORY,..]}, and no other member
+unfoldable pub told_of : Data → Option Told
+told_of d = do
+  d ← tested (has_members host_members) d
+  base ← base_at d
+  cache ← number_at (codes "cache") d
+  repositories ← repositories_at base d
+  Some (record { cache = cache; repositories = repositories })
+
+-- ---- the text
+
+-- the value of a JSON text in UTF-8 (RFC 8259, sections 2 and 8.1)
+unfoldable pub json_in : List ℕ → Option Data
+json_in text = if is_utf8 text then read text else None
+
+-- what the text tells, where it is JSON of the shape
+unfoldable pub told_in : List ℕ → Option Told
+told_in text = json_in text >>= told_of

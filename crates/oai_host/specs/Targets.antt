@@ -1,0 +1,35 @@
+-- Where a target leads: RFC 3986, sections 3.3 and 3.4. The two paths of a repository are this repository's own.
+use Rattle.std.specs.Prelude.{ℕ, Bool, ◌==◌, ◌||◌, List, ◌++◌, take, codes}
+use Rattle.std.specs.List.{after_first, before_first}
+use Rattle.std.specs.Str.{bytes_eq}
+use Rattle.oai_host.specs.declared.routes.Kind.{Kind}
+use Rattle.oai_host.specs.declared.routes.Kind.TheVariants.{Deposits, Requests}
+
+-- the byte is `?`
+abbrev pub is_question_mark : ℕ → Bool
+is_question_mark b = b == 63
+
+-- the path: the bytes before the first `?`
+abbrev pub path_of : List ℕ → List ℕ
+path_of target = before_first is_question_mark target
+
+-- the query: the bytes behind it
+abbrev pub query_of : List ℕ → List ℕ
+query_of target = after_first is_question_mark target
+
+-- the target begins with `/`
+abbrev pub is_rooted : List ℕ → Bool
+is_rooted target = bytes_eq (take 1 target) (codes "/")
+
+-- what stands before the name of a repository, in the path of its requests and in that of its deposits
+abbrev pub front_of : Kind → List ℕ
+front_of Requests = codes "/oai/"
+front_of Deposits = codes "/deposit/"
+
+-- the path of the target is that of the repository's requests, or of its deposits
+abbrev pub leads_to : Kind → List ℕ → List ℕ → Bool
+leads_to kind name target = bytes_eq (path_of target) (front_of kind ++ name)
+
+-- it is one of the two
+abbrev pub leads_to_repository : List ℕ → List ℕ → Bool
+leads_to_repository name target = leads_to Requests name target || leads_to Deposits name target

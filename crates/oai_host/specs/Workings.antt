@@ -1,0 +1,41 @@
+-- Words that tie the code to the definitions.
+use Rattle.std.specs.Prelude.{◌≡◌, ℕ, ℤ, false, List, [], ◌∷◌, ◌++◌, Result, Some}
+use Rattle.std.specs.List.{slice_get}
+use Rattle.std.specs.Option.{option_copied}
+use Rattle.oai_item.specs.declared.changes.Change.{Change}
+use Rattle.oai_item.specs.declared.refusals.LineRefusal.{LineRefusal}
+use Rattle.oai_catalogue.specs.Store.{Lists}
+use Rattle.oai_repo.specs.Held.{Held, state_of}
+use Rattle.oai_repo.specs.Machine.{line, step}
+use Rattle.oai_host.specs.Alone.{with_end}
+use Rattle.oai_host.specs.Targets.{front_of, leads_to_repository, path_of}
+use Rattle.oai_host.specs.declared.exchanges.Call.{Call}
+use Rattle.oai_host.specs.declared.exchanges.Exchange.{Exchange}
+use Rattle.oai_host.specs.declared.housed.Housed.{Housed}
+use Rattle.oai_host.specs.declared.routes.Kind.{Kind}
+
+-- an exchange that comes at that moment
+abbrev pub call_of : ℤ → Exchange → Call
+call_of moment exchange = record {
+  moment = moment;
+  method = exchange.method.now;
+  target = exchange.target.now;
+  content_type = option_copied exchange.content_type;
+  body = exchange.body.now;
+}
+
+-- a line was performed, as it was read, and the line for it stands behind the others
+pub record IsLineDone (old : Held) (before : Lists) (moment : ℤ) (read : Result Change LineRefusal) (was : List ℕ) (new : Held) (after : Lists) (is : List ℕ) : Type 0 where
+  pub told : is ≡ was ++ with_end (step old.config (state_of old before) moment (line read)).0
+  pub state : state_of new after ≡ (step old.config (state_of old before) moment (line read)).1
+
+-- the path of the exchange is of that kind and ends with the name of the repository at the place
+pub record IsPlace (housed : List Housed) (place : ℕ) (kind : Kind) (target : List ℕ) : Type 0 where
+  pub one : Housed
+  pub there : slice_get housed place ≡ Some one
+  pub path : path_of target ≡ front_of kind ++ one.name
+
+-- the path of the target is no repository's
+abbrev pub LeadsNowhere : List Housed → List ℕ → Type 0
+LeadsNowhere [] target = Unit {0}
+LeadsNowhere (one ∷ others) target = (leads_to_repository one.name target ≡ false) × LeadsNowhere others target

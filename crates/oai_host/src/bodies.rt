@@ -1,0 +1,91 @@
+//! What the bodies of messages are.
+ghost use Rattle.std.specs.Prelude.{◌≡◌, ◌≤◌, length};
+ghost use Rattle.std.specs.List.{position_or_len};
+ghost use Rattle.std.specs.Option.{option_copied};
+ghost use Rattle.oai_host.specs.Bodies as spec;
+
+/// The type of a body that is a form.
+const FORM: &[u8] = b"application/x-www-form-urlencoded";
+
+/// Whether a body is a form, by the value of the field Content-Type.
+pub(crate) fn is_form(content_type: Option<&[u8]>) -> bool
+    ensures { result ≡ spec.is_form (option_copied content_type.entry) }
+{
+    match content_type {
+        Some(value) => is_form_type(value),
+        None => false,
+    }
+}
+
+/// Whether it is the type of a form, whatever its parameters.
+fn is_form_type(value: &[u8]) -> bool
+    ensures { result ≡ spec.is_form_type value.now }
+{
+    media_type(value).eq_ignore_ascii_case(FORM)
+}
+
+/// The type without its parameters.
+fn media_type(value: &[u8]) -> &[u8]
+    ensures { result.now ≡ spec.media_type value.now }
+{
+    trimmed(&value[..type_len(value)])
+}
+
+/// How many bytes stand before the first `;`.
+fn type_len(value: &[u8]) -> usize
+    ensures length { result ≡ position_or_len spec.is_semicolon value.now }
+    ensures within { result ≤ length value.now }
+{
+    for (at, b) in value.iter().enumerate() {
+        if *b == b';' {
+            return at;
+        }
+    }
+    value.len()
+}
+
+/// The text without the spaces and tabs at its begin and its end.
+fn trimmed(text: &[u8]) -> &[u8]
+    ensures { result.now ≡ spec.trimmed text.now }
+{
+    to_ink(from_ink(text))
+}
+
+/// The text from its first byte on that is no space and no tab.
+fn from_ink(text: &[u8]) -> &[u8]
+    ensures { result.now ≡ spec.from_ink text.now }
+{
+    for (at, b) in text.iter().enumerate() {
+        if !is_space(*b) {
+            return &text[at..];
+        }
+    }
+    &[]
+}
+
+/// The text up to its last byte that is no space and no tab.
+fn to_ink(text: &[u8]) -> &[u8]
+    ensures { result.now ≡ spec.to_ink text.now }
+{
+    let mut end = 0;
+    for (at, b) in text.iter().enumerate() {
+        if !is_space(*b) {
+            end = at + 1;
+        }
+    }
+    &text[..end]
+}
+
+/// Whether the byte is a space or a tab.
+fn is_space(b: u8) -> bool
+    ensures { result ≡ spec.is_space b }
+{
+    b == b' ' || b == b'\t'
+}
+
+/// Whether it is a line of nothing but spaces, tabs and CR.
+pub(crate) fn is_blank(text: &[u8]) -> bool
+    ensures { result ≡ spec.is_blank text.now }
+{
+    text.iter().all(|b| matches!(*b, b' ' | b'\t' | b'\r'))
+}

@@ -1,0 +1,108 @@
+ghost use Rattle.std.specs.Prelude.{◌≡◌, length};
+ghost use Rattle.oai_host.specs.Configs.{AreNamed, IsHostConfig, names_of};
+ghost use Rattle.oai_host.specs.Reading.{IsRead};
+ghost use Rattle.oai_host.specs.ReadingWork.{IsMade};
+
+use crate::faults::ReadFault;
+use crate::readings::causes::{each_hosted, fault_together};
+use crate::readings::told::{Told, told_in};
+use oai_names::{Sequence, Text};
+use oai_repo::RepoConfig;
+use std::alloc::Global;
+use std::marker::Model;
+
+/// The configuration of one of the repositories of a host.
+#[derive(Debug, Drop)]
+pub struct HostedConfig {
+    /// The repository's name in its base URL, and in the paths of requests and deposits.
+    pub name: Text,
+    /// Its configuration.
+    pub config: RepoConfig,
+}
+
+impl Model for HostedConfig {
+    ghost use Rattle.oai_host.specs.Configs.{Hosted};
+
+    ghost Value = { Hosted };
+
+    ghost view = { λ h. record { name = h.name; config = h.config } };
+}
+
+/// The configuration of a host: the pages that its cache holds, 1 to 65,536, and 1 to 1,000
+/// repositories, no two of which have one name.
+#[derive(Debug, Drop)]
+pub struct Config {
+    cache: u64,
+    repositories: Sequence<HostedConfig>,
+}
+
+impl Model for Config {
+    ghost use Rattle.oai_host.specs.Configs.{HostConfig, IsHostConfig};
+
+    ghost Value = { HostConfig };
+
+    ghost use Rattle.oai_host.specs.ConfigInside.{config_in};
+
+    ghost view = { config_in };
+
+    ghost invariant = { λ c. IsHostConfig (config_in c) };
+}
+
+impl Config {
+    /// The configuration that the text tells, a JSON object (RFC 8259) of just its members. Of the
+    /// faults 1 to 8 that apply anywhere in the text the lowest is the error; or it is `NoMemory`,
+    /// which may come in place of any other, but not for a text that is empty or not in UTF-8. Of
+    /// two members of one name the last counts.
+    #[tactic(auto, unfolding(crate::specs::Shapes::told_in))]
+    pub fn read(alloc: Global, text: &[u8]) -> Result<Config, ReadFault>
+        ensures { IsRead text.now result }
+    {
+        let told = told_in(alloc, text)?;
+        Config::of(alloc, told)
+    }
+
+    /// The configuration of what is told.
+    fn of(alloc: Global, told: Told) -> Result<Config, ReadFault>
+        ensures { IsMade told result }
+    {
+        let Told {
+            cache,
+            repositories,
+        } = told;
+        let found = fault_together(alloc, cache, repositories.as_slice())?;
+        let repositories = each_hosted(alloc, found, repositories)?;
+        match cache {
+            Some(cache) => Ok(Config {
+                cache,
+                repositories,
+            }),
+            None => Err(ReadFault::BadNumber),
+        }
+    }
+
+    /// How many repositories there are: 1 to 1,000.
+    pub fn len(&self) -> usize
+        ensures number { result ≡ length self.now.repositories }
+        ensures valid { IsHostConfig self.now }
+    {
+        self.repositories.as_slice().len()
+    }
+
+    /// How many pages the cache holds: 1 to 65,536.
+    pub fn cache(&self) -> u64
+        ensures number { result ≡ self.now.cache }
+        ensures valid { IsHostConfig self.now }
+    {
+        self.cache
+    }
+
+    /// The repositories, in the order of the text. It takes no memory.
+    pub fn into_repositories(self) -> Sequence<HostedConfig>
+        ensures repositories { result ≡ self.repositories }
+        ensures named { AreNamed (names_of self.repositories) }
+        ensures valid { IsHostConfig self }
+    {
+        let Config { repositories, .. } = self;
+        repositories
+    }
+}

@@ -1,0 +1,177 @@
+//! Deposits: lines, each of which is performed and answered in a line of its own.
+ghost use Rattle.std.specs.Prelude.{◌≡◌, ◌≤◌, ◌+◌, ◌++◌, [], ◌∷◌, length, vec_len, vec_capacity, codes, IsTrue, OnErr, OnOk};
+ghost use Rattle.oai_time.specs.Stamp.{IsWritable};
+ghost use Rattle.oai_time.specs.TimeTexts.{datestamp_text};
+ghost use Rattle.oai_deposit.specs.Lines.{line_of};
+ghost use Rattle.oai_catalogue.specs.Store.{IsCounted, IsHonest};
+ghost use Rattle.oai_repo.specs.Held.{IsHeld, StandsIn, state_of};
+ghost use Rattle.oai_repo.specs.Machine.{line};
+ghost use Rattle.oai_host.specs.Alone.{IsTried};
+ghost use Rattle.oai_host.specs.Answers.{failure_in};
+ghost use Rattle.oai_host.specs.Bodies.{lines_in};
+ghost use Rattle.oai_host.specs.Housed.{IsKept};
+ghost use Rattle.oai_host.specs.Tasks.{depositing};
+ghost use Rattle.oai_host.specs.Workings.{IsLineDone};
+
+use crate::exchanges::Answer;
+use crate::lines::Lines;
+use oai_catalogue::Versions;
+use oai_deposit::{LineFault, read_line};
+use oai_item::{Change, Fault, LineRefusal};
+use oai_names::Sequence;
+use oai_repo::{Refusal, Repo};
+use oai_time::{Granularity, write_datestamp};
+use std::alloc::Global;
+
+/// The most bytes of the line that answers a line, its end included.
+const MOST_LINE: usize = 32;
+
+/// Performs the lines of a deposit at the moment, in seconds from 1970 on, one after the other, and
+/// answers them; a fault ends them. Room for the answer to a line is taken before it is performed, so a
+/// line that was performed is answered or counted.
+pub(crate) fn perform_lines<V: Versions>(
+    alloc: Global,
+    repo: &mut Repo,
+    store: &mut V,
+    moment: i64,
+    body: &[u8],
+) -> Answer
+    requires stands { StandsIn repo.old (V.lists store.old) }
+    requires held { IsTrue (V.honest store.old) → IsHeld repo.old (V.lists store.old) }
+    ensures tried { IsTrue (V.honest store.old)
+        → IsTried repo.old.config (state_of repo.old (V.lists store.old)) moment
+        (depositing (lines_in body.now)) result (state_of repo.new (V.lists store.new)) }
+    ensures kept { IsKept (V.honest store.old) repo.old (V.lists store.old) repo.new
+        (V.lists store.new) }
+    ensures device { IsCounted (failure_in result) (V.failures store.old) (V.failures store.new) }
+    ensures honesty { IsHonest (failure_in result) (V.honest store.old) (V.honest store.new) }
+{
+    let mut lines = Lines::new(body);
+    let mut told = Vec::new(alloc);
+    let mut done = 0;
+    while let Some(text) = lines.next() {
+        match perform_line(alloc, repo, store, moment, text, &mut told) {
+            Ok(()) => done += 1,
+            Err(fault) => return Answer::of_fault(alloc, fault, Some(done)),
+        }
+    }
+    Answer::with_body(Sequence::new(told))
+}
+
+/// Performs a line and writes the line for it. Room for that is taken first. A fault leaves everything
+/// as it was.
+fn perform_line<V: Versions>(
+    alloc: Global,
+    repo: &mut Repo,
+    store: &mut V,
+    moment: i64,
+    text: &[u8],
+    told: &mut Vec<u8>,
+) -> Result<(), Fault>
+    requires stands { StandsIn repo.old (V.lists store.old) }
+    requires held { IsTrue (V.honest store.old) → IsHeld repo.old (V.lists store.old) }
+    ensures ok { OnOk result (IsTrue (V.honest store.old)
+        → IsLineDone repo.old (V.lists store.old) moment (line_of text.now) told.old.items repo.new
+        (V.lists store.new) told.new.items) }
+    ensures err { OnErr result (repo.new ≡ repo.old) }
+    ensures err_lists { OnErr result (V.lists store.new ≡ V.lists store.old) }
+    ensures kept { IsKept (V.honest store.old) repo.old (V.lists store.old) repo.new
+        (V.lists store.new) }
+    ensures device { IsCounted result (V.failures store.old) (V.failures store.new) }
+    ensures honesty { IsHonest result (V.honest store.old) (V.honest store.new) }
+{
+    told.reserve(MOST_LINE)?;
+    match read_line(alloc, text) {
+        Ok(change) => perform_change(repo, store, moment, &change, told),
+        Err(LineFault::Refused(cause)) => {
+            refuse_line(repo, store, moment, cause, told);
+            Ok(())
+        }
+        Err(LineFault::NoMemory) => Err(Fault::NoMemory),
+    }
+}
+
+/// Performs a change and writes the line for it, in the room that is there.
+#[tactic(auto, unfolding(oai_repo::specs::Machine::written))]
+fn perform_change<V: Versions>(
+    repo: &mut Repo,
+    store: &mut V,
+    moment: i64,
+    change: &Change,
+    told: &mut Vec<u8>,
+) -> Result<(), Fault>
+    requires room { vec_len told.old + 32 ≤ vec_capacity told.old }
+    requires stands { StandsIn repo.old (V.lists store.old) }
+    requires held { IsTrue (V.honest store.old) → IsHeld repo.old (V.lists store.old) }
+    ensures ok { OnOk result (IsTrue (V.honest store.old)
+        → IsLineDone repo.old (V.lists store.old) moment (Ok change.now) told.old.items repo.new
+        (V.lists store.new) told.new.items) }
+    ensures err { OnErr result (repo.new ≡ repo.old) }
+    ensures err_lists { OnErr result (V.lists store.new ≡ V.lists store.old) }
+    ensures kept { IsKept (V.honest store.old) repo.old (V.lists store.old) repo.new
+        (V.lists store.new) }
+    ensures device { IsCounted result (V.failures store.old) (V.failures store.new) }
+    ensures honesty { IsHonest result (V.honest store.old) (V.honest store.new) }
+{
+    match repo.change(store, moment, change) {
+        Ok(stamp) => put_stamp(repo.config().granularity(), stamp, told),
+        Err(Refusal::Refused(cause)) => put_line(cause.answer(), told),
+        Err(Refusal::Fault(fault)) => return Err(fault),
+    }
+    Ok(())
+}
+
+/// Moves the clock for a line that is refused as it stands and writes the line for it, in the room that
+/// is there.
+#[tactic(auto, unfolding(oai_repo::specs::Machine::written, oai_repo::specs::Machine::act))]
+fn refuse_line<V: Versions>(
+    repo: &mut Repo,
+    store: &mut V,
+    moment: i64,
+    cause: LineRefusal,
+    told: &mut Vec<u8>,
+)
+    requires room { vec_len told.old + 32 ≤ vec_capacity told.old }
+    requires stands { StandsIn repo.old (V.lists store.old) }
+    requires held { IsTrue (V.honest store.old) → IsHeld repo.old (V.lists store.old) }
+    ensures done { IsLineDone repo.old (V.lists store.old) moment (Err cause) told.old.items repo.new
+        (V.lists store.new) told.new.items }
+    ensures kept { IsKept (V.honest store.old) repo.old (V.lists store.old) repo.new
+        (V.lists store.new) }
+    ensures count { V.failures store.old ≤ V.failures store.new }
+    ensures honesty { V.honest store.new ≡ V.honest store.old }
+{
+    repo.advance(store, moment);
+    put_line(cause.answer(), told);
+}
+
+/// Writes `ok`, the datestamp and a line end.
+fn put_stamp(granularity: Granularity, stamp: i64, out: &mut Vec<u8>)
+    requires writable { IsWritable stamp }
+    requires room { vec_len out.old + 32 ≤ vec_capacity out.old }
+    ensures { out.new.items ≡ out.old.items
+        ++ ((codes "ok " ++ datestamp_text granularity stamp) ++ 10 ∷ []) }
+{
+    put(b"ok ", out);
+    put(write_datestamp(granularity, stamp).as_bytes(), out);
+    put(b"\n", out);
+}
+
+/// Writes the text and a line end.
+fn put_line(text: &str, out: &mut Vec<u8>)
+    requires { vec_len out.old + length text.now + 1 ≤ vec_capacity out.old }
+    ensures { out.new.items ≡ out.old.items ++ (text.now ++ 10 ∷ []) }
+{
+    put(text.as_bytes(), out);
+    put(b"\n", out);
+}
+
+/// Writes into room that is there.
+fn put(bytes: &[u8], out: &mut Vec<u8>)
+    requires { vec_len out.old + length bytes.now ≤ vec_capacity out.old }
+    ensures items { out.new.items ≡ out.old.items ++ bytes.now }
+    ensures len { vec_len out.new ≡ vec_len out.old + length bytes.now }
+    ensures room { vec_capacity out.old ≤ vec_capacity out.new }
+{
+    out.extend_from_slice(bytes).unwrap()
+}

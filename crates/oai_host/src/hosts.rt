@@ -1,0 +1,142 @@
+//! A host of repositories.
+ghost use Rattle.std.specs.Prelude.{◌≡◌, ◌≤◌, true, map, if◌then◌else◌, IfOk, IfSome, IsTrue, OnErr};
+ghost use Rattle.std.specs.List.{list_all};
+ghost use Rattle.std.specs.Option.{IfNone};
+ghost use Rattle.oai_repo.specs.Config.{is_repository_name};
+ghost use Rattle.oai_catalogue.specs.Store.{IsCounted, IsHonest};
+ghost use Rattle.oai_host.specs.Answers.{failure_in};
+ghost use Rattle.oai_host.specs.Faults.{HasCause};
+ghost use Rattle.oai_host.specs.Hosts.{AreAnswered, AreAsAlone, IsAnswered, begun, none_failed};
+ghost use Rattle.oai_host.specs.Housed.{AreHoused, housed_names};
+ghost use Rattle.oai_host.specs.Props.{housed_props};
+ghost use Rattle.oai_host.specs.Targets as spec;
+ghost use Rattle.oai_host.specs.declared.statuses.Status.TheVariants as status;
+ghost use Rattle.oai_host.specs.Workings.{IsPlace, LeadsNowhere, call_of};
+
+use crate::config::Config;
+use crate::exchanges::{Answer, Call, Exchange};
+use crate::repositories::Repositories;
+use crate::routes::{Kind, Routes, is_rooted, path_of};
+use crate::statuses::Status;
+use oai_catalogue::Versions;
+use oai_item::Fault;
+use oai_names::Sequence;
+use std::alloc::{AllocError, Global};
+use std::marker::Model;
+
+/// A host: repositories, each reached by its name, and the store that has the items of all of them.
+///
+/// What happens at one repository cannot be seen at another: what is answered at each is what it alone
+/// would answer to its own exchanges, whatever comes between them. The numbers under which two
+/// repositories keep their items in the store are never the same.
+#[derive(Drop)]
+pub struct Host<V: Versions + Drop> {
+    alloc: Global,
+    routes: Routes,
+    repositories: Repositories,
+    store: V,
+    ghost housed: { AreHoused (V.honest store) repositories (V.lists store) } by { Prim.hlevel housed_props },
+}
+
+impl<V: Versions + Drop> Model for Host<V> {
+    ghost use Rattle.oai_host.specs.Hosts.{Hosting};
+    ghost use Rattle.oai_host.specs.Housed.{repositories_of};
+
+    ghost Value = { Hosting };
+
+    ghost view = { λ h. record {
+      repositories = repositories_of h.repositories (V.lists h.store);
+      honest = V.honest h.store;
+      failures = V.failures h.store;
+    } };
+}
+
+impl<V: Versions + Drop> Host<V> {
+    /// The repositories of the configuration, each without items and sets, in the store. What grows in
+    /// them takes its memory from `alloc`. Any fault but `Damaged` may come over an honest store.
+    pub fn new(alloc: Global, config: Config, mut store: V) -> Result<Host<V>, Fault>
+        ensures begun { IfOk result (λ host. host.repositories ≡ map begun config.repositories) }
+        ensures honesty { IfOk result (λ host. host.honest ≡ V.honest store) }
+        ensures cause { HasCause V.failures V.honest store result }
+    {
+        let routes = Routes::new(alloc)?;
+        let mut repositories = Repositories::new(alloc);
+        for hosted in config.into_repositories().into_vec() {
+            repositories.begin(hosted, &mut store)?;
+        }
+        Ok(Host {
+            alloc,
+            routes,
+            repositories,
+            store,
+        })
+    }
+
+    /// Performs an exchange at the moment, in seconds from 1970 on, and answers it. Want of memory is
+    /// told inside the answer.
+    pub fn exchange(&mut self, moment: i64, exchange: &Exchange<'_>) -> Answer
+        ensures answered { IsTrue self.old.honest → IsAnswered (call_of moment exchange.now) result
+            self.old.repositories self.new.repositories }
+        ensures device { IsCounted (failure_in result) self.old.failures self.new.failures }
+        ensures honesty { IsHonest (failure_in result) self.old.honest self.new.honest }
+    {
+        match find(&self.routes, &self.repositories, exchange.target) {
+            Some((kind, place)) => {
+                self.repositories
+                    .perform(&mut self.store, place, kind, moment, exchange)
+            }
+            None => Answer::of_status(self.alloc, status_of(exchange.target)),
+        }
+    }
+
+    /// The same of a call.
+    fn perform(&mut self, call: &Call) -> Answer
+        ensures answered { IsTrue self.old.honest → IsAnswered call.now result self.old.repositories
+            self.new.repositories }
+        ensures count { self.old.failures ≤ self.new.failures }
+        ensures honesty { self.new.honest ≡ self.old.honest }
+    {
+        self.exchange(call.moment, &call.exchange())
+    }
+
+    /// Performs exchanges, one after the other, and answers them in their order. The error is want of
+    /// memory for the list of the answers; nothing was performed then.
+    pub fn run(&mut self, calls: &[Call]) -> Result<Sequence<Answer>, AllocError>
+        ensures answered { IfOk result (λ answers. IsTrue self.old.honest
+            → AreAnswered calls.now answers self.old.repositories self.new.repositories) }
+        ensures alone { IfOk result (λ answers. IsTrue self.old.honest → none_failed answers ≡ true
+            → AreAsAlone calls.now answers self.old.repositories) }
+        ensures err { OnErr result (self.new ≡ self.old) }
+        ensures count { self.old.failures ≤ self.new.failures }
+        ensures honesty { self.new.honest ≡ self.old.honest }
+    {
+        let mut answers = Vec::with_capacity(self.alloc, calls.len())?;
+        for call in calls {
+            let answer = self.perform(call);
+            answers.push(answer).unwrap();
+        }
+        Ok(Sequence::new(answers))
+    }
+}
+
+/// What the path of the target is for, and the place of the repository whose it is.
+fn find(routes: &Routes, repositories: &Repositories, target: &[u8]) -> Option<(Kind, usize)>
+    requires { list_all is_repository_name (housed_names repositories.now) ≡ true }
+    ensures place { IfSome result (λ found. IsPlace repositories.now found.1 found.0 target.now) }
+    ensures nowhere { IfNone result (LeadsNowhere repositories.now target.now) }
+{
+    let (kind, name) = routes.find(path_of(target))?;
+    let place = repositories.place_of(name)?;
+    Some((kind, place))
+}
+
+/// The status for a target that is no repository's.
+fn status_of(target: &[u8]) -> Status
+    ensures { result ≡ (if spec.is_rooted target.now then status.NotFound else status.BadRequest) }
+{
+    if is_rooted(target) {
+        Status::NotFound
+    } else {
+        Status::BadRequest
+    }
+}

@@ -1,0 +1,52 @@
+//! What exchanges ask of a repository, performed.
+ghost use Rattle.std.specs.Prelude.{◌≡◌, IsTrue};
+ghost use Rattle.oai_catalogue.specs.Store.{IsCounted, IsHonest};
+ghost use Rattle.oai_repo.specs.Held.{IsHeld, StandsIn, state_of};
+ghost use Rattle.oai_host.specs.Alone.{IsTried};
+ghost use Rattle.oai_host.specs.Answers.{failure_in};
+ghost use Rattle.oai_host.specs.Housed.{IsKept};
+ghost use Rattle.oai_host.specs.Tasks.{task_in};
+ghost use Rattle.oai_host.specs.Workings.{call_of};
+
+use crate::deposits::perform_lines;
+use crate::exchanges::{Answer, Exchange};
+use crate::requests::{arguments_of, is_post, perform_request};
+use crate::routes::Kind;
+use crate::statuses::Status;
+use oai_catalogue::Versions;
+use oai_repo::Repo;
+use std::alloc::Global;
+
+/// Performs what the exchange asks of the repository, by what its path is for.
+pub(crate) fn perform<V: Versions>(
+    alloc: Global,
+    repo: &mut Repo,
+    store: &mut V,
+    moment: i64,
+    kind: Kind,
+    exchange: &Exchange<'_>,
+) -> Answer
+    requires stands { StandsIn repo.old (V.lists store.old) }
+    requires held { IsTrue (V.honest store.old) → IsHeld repo.old (V.lists store.old) }
+    ensures tried { IsTrue (V.honest store.old)
+        → IsTried repo.old.config (state_of repo.old (V.lists store.old)) moment
+        (task_in kind (call_of moment exchange.now)) result (state_of repo.new (V.lists store.new)) }
+    ensures kept { IsKept (V.honest store.old) repo.old (V.lists store.old) repo.new
+        (V.lists store.new) }
+    ensures device { IsCounted (failure_in result) (V.failures store.old) (V.failures store.new) }
+    ensures honesty { IsHonest (failure_in result) (V.honest store.old) (V.honest store.new) }
+{
+    match kind {
+        Kind::Requests => match arguments_of(exchange) {
+            Ok(arguments) => perform_request(alloc, repo, store, moment, arguments),
+            Err(status) => Answer::of_status(alloc, status),
+        },
+        Kind::Deposits => {
+            if is_post(exchange.method) {
+                perform_lines(alloc, repo, store, moment, exchange.body)
+            } else {
+                Answer::of_status(alloc, Status::MethodNotAllowed)
+            }
+        }
+    }
+}

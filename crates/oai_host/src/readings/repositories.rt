@@ -1,0 +1,139 @@
+ghost use Rattle.std.specs.Prelude.{◌≡◌, map};
+ghost use Rattle.oai_deposit.specs.Json.{has_members};
+ghost use Rattle.serde_json.specs.View.{view};
+ghost use Rattle.oai_host.specs.Readings.{each_of};
+ghost use Rattle.oai_host.specs.Shapes as shape;
+ghost use Rattle.oai_host.specs.ReadingWork.{Answers, Gives};
+
+use crate::faults::ReadFault;
+use crate::readings::formats::each_format;
+use crate::readings::members::{copy_at, elements_at, has_members, number_at, text_at, texts_at};
+use oai_answers::DeletedRecord;
+use oai_names::{Sequence, Text};
+use oai_repo::{FormatSettings, Settings};
+use oai_time::Granularity;
+use serde_json::Value;
+use std::alloc::Global;
+
+/// The settings of the repositories below the base, as the member of them tells.
+#[tactic(auto, unfolding(crate::specs::Shapes::repositories_at))]
+pub(super) fn repositories_at(
+    alloc: Global,
+    base: &str,
+    value: &Value,
+) -> Result<Sequence<Settings>, ReadFault>
+    ensures { Gives result (shape.repositories_at base.now (view value.now)) }
+{
+    each_repository(alloc, base, elements_at(value, "repositories")?)
+}
+
+/// The settings that each value tells of a repository below the base, in order; `BadShape` at the
+/// first that tells none.
+#[tactic(auto, using(crate::proofs::ReadingLemmas::starts))]
+fn each_repository(
+    alloc: Global,
+    base: &str,
+    values: &[Value],
+) -> Result<Sequence<Settings>, ReadFault>
+    ensures { Gives result (each_of (shape.settings_of base.now) (map view values.now)) }
+{
+    let mut repositories = Vec::new(alloc);
+    for value in values {
+        repositories.push(settings_of(alloc, base, value)?)?;
+    }
+    Ok(Sequence::new(repositories))
+}
+
+/// The settings that an object of exactly the members of a repository tells; `BadShape` at any
+/// other value.
+#[tactic(auto, unfolding(crate::specs::Shapes::settings_of))]
+fn settings_of(alloc: Global, base: &str, value: &Value) -> Result<Settings, ReadFault>
+    ensures { Gives result (shape.settings_of base.now (view value.now)) }
+{
+    if !is_repository(value) {
+        return Err(ReadFault::BadShape);
+    }
+    Ok(Settings {
+        base: Text::new(alloc, base)?,
+        name: copy_at(alloc, value, "name")?,
+        repository_name: copy_at(alloc, value, "repositoryName")?,
+        addresses: texts_at(alloc, value, "adminEmail")?,
+        earliest: copy_at(alloc, value, "earliestDatestamp")?,
+        deleted: deleted_at(value)?,
+        granularity: granularity_at(value)?,
+        chunk: number_at(value, "chunk")?,
+        lifetime: number_at(value, "lifetime")?,
+        lists: number_at(value, "lists")?,
+        items: number_at(value, "items")?,
+        formats: formats_at(alloc, value)?,
+    })
+}
+
+/// Whether the value is an object of exactly the members of a repository.
+fn is_repository(value: &Value) -> bool
+    ensures { result ≡ has_members shape.repository_members (view value.now) }
+{
+    has_members(
+        value,
+        &[
+            "name",
+            "repositoryName",
+            "adminEmail",
+            "earliestDatestamp",
+            "deletedRecord",
+            "granularity",
+            "chunk",
+            "lifetime",
+            "lists",
+            "items",
+            "formats",
+        ],
+    )
+}
+
+/// What is kept of deleted records, as the member of it tells.
+#[tactic(auto, unfolding(crate::specs::Shapes::deleted_at))]
+fn deleted_at(value: &Value) -> Result<DeletedRecord, ReadFault>
+    ensures { Answers (λ deleted. deleted) result (shape.deleted_at (view value.now)) }
+{
+    deleted_of(text_at(value, "deletedRecord")?)
+}
+
+#[tactic(auto, unfolding(crate::specs::Shapes::deleted_of))]
+fn deleted_of(text: &str) -> Result<DeletedRecord, ReadFault>
+    ensures { Answers (λ deleted. deleted) result (shape.deleted_of text.now) }
+{
+    match text {
+        "no" => Ok(DeletedRecord::No),
+        "transient" => Ok(DeletedRecord::Transient),
+        "persistent" => Ok(DeletedRecord::Persistent),
+        _ => Err(ReadFault::BadShape),
+    }
+}
+
+/// How fine the datestamps are, as the member of it tells.
+#[tactic(auto, unfolding(crate::specs::Shapes::granularity_at))]
+fn granularity_at(value: &Value) -> Result<Granularity, ReadFault>
+    ensures { Answers (λ granularity. granularity) result (shape.granularity_at (view value.now)) }
+{
+    granularity_of(text_at(value, "granularity")?)
+}
+
+#[tactic(auto, unfolding(crate::specs::Shapes::granularity_of))]
+fn granularity_of(text: &str) -> Result<Granularity, ReadFault>
+    ensures { Answers (λ granularity. granularity) result (shape.granularity_of text.now) }
+{
+    match text {
+        "days" => Ok(Granularity::Day),
+        "seconds" => Ok(Granularity::Second),
+        _ => Err(ReadFault::BadShape),
+    }
+}
+
+/// The formats, as the member of them tells.
+#[tactic(auto, unfolding(crate::specs::Shapes::formats_at))]
+fn formats_at(alloc: Global, value: &Value) -> Result<Sequence<FormatSettings>, ReadFault>
+    ensures { Gives result (shape.formats_at (view value.now)) }
+{
+    each_format(alloc, elements_at(value, "formats")?)
+}

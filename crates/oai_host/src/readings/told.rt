@@ -1,0 +1,81 @@
+ghost use Rattle.serde_json.specs.View.{view};
+ghost use Rattle.oai_host.specs.Shapes as shape;
+ghost use Rattle.oai_host.specs.ReadingWork.{Answers, Gives, IsJson, IsText};
+ghost use Rattle.oai_host.specs.Written.{ShapeLaw};
+
+use crate::faults::ReadFault;
+use crate::readings::members::{has_members, number_at, text_at};
+use crate::readings::repositories::repositories_at;
+use oai_item::is_short_text;
+use oai_names::Sequence;
+use oai_repo::Settings;
+use serde_json::Value;
+use std::alloc::Global;
+
+/// What is told of a host, before it is looked at.
+#[derive(Debug, Drop)]
+pub(crate) struct Told {
+    /// The pages that the cache holds: 1 to 65,536. None where a number is told that is none of 64
+    /// bits, whole and not negative.
+    pub cache: Option<u64>,
+    /// What is told of each repository, in the order of the text: 1 to 1,000 of them.
+    pub repositories: Sequence<Settings>,
+}
+
+/// The law of the shape: what is told of a host is told by the JSON object that it is written as, on
+/// some base, and by no other value. The contract is the law; the call does nothing.
+pub fn shape_law()
+    ensures { ShapeLaw }
+{}
+
+/// What the text tells: `BadJson` where it is no JSON text, `BadShape` where that is not of the
+/// shape of a configuration.
+pub(crate) fn told_in(alloc: Global, text: &[u8]) -> Result<Told, ReadFault>
+    ensures { IsText text.now result }
+{
+    let value = json_in(alloc, text)?;
+    told_of(alloc, &value)
+}
+
+/// The JSON value that the text is.
+#[tactic(auto, unfolding(crate::specs::Shapes::json_in))]
+fn json_in(alloc: Global, text: &[u8]) -> Result<Value, ReadFault>
+    ensures { IsJson text.now result }
+{
+    let Ok(text) = str::from_utf8(text) else {
+        return Err(ReadFault::BadJson);
+    };
+    match Value::from_str(alloc, text) {
+        Ok(value) => Ok(value),
+        Err(error) if error.is_memory() => Err(ReadFault::NoMemory),
+        Err(_) => Err(ReadFault::BadJson),
+    }
+}
+
+/// What an object of exactly the members of a configuration tells; `BadShape` at any other value.
+#[tactic(auto, unfolding(crate::specs::Shapes::told_of))]
+fn told_of(alloc: Global, value: &Value) -> Result<Told, ReadFault>
+    ensures { Gives result (shape.told_of (view value.now)) }
+{
+    if !has_members(value, &["base", "cache", "repositories"]) {
+        return Err(ReadFault::BadShape);
+    }
+    let base = base_at(value)?;
+    Ok(Told {
+        cache: number_at(value, "cache")?,
+        repositories: repositories_at(alloc, base, value)?,
+    })
+}
+
+/// The base, as the member of it tells: it is tested before it is copied for each repository.
+#[tactic(auto, unfolding(crate::specs::Shapes::base_at))]
+fn base_at(value: &Value) -> Result<&str, ReadFault>
+    ensures { Answers (λ base. base.now) result (shape.base_at (view value.now)) }
+{
+    let base = text_at(value, "base")?;
+    if is_short_text(base) {
+        Ok(base)
+    } else {
+        Err(ReadFault::BadShape)
+    }
+}

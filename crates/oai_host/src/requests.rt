@@ -1,0 +1,67 @@
+//! Requests of OAI-PMH, as messages ask them.
+ghost use Rattle.std.specs.Prelude.{◌≡◌, ℤ, IsTrue, MatchResult};
+ghost use Rattle.oai_catalogue.specs.Store.{IsCounted, IsHonest};
+ghost use Rattle.oai_repo.specs.Held.{IsHeld, StandsIn, state_of};
+ghost use Rattle.oai_host.specs.Alone.{IsTried};
+ghost use Rattle.oai_host.specs.Answers.{failure_in};
+ghost use Rattle.oai_host.specs.Housed.{IsKept};
+ghost use Rattle.oai_host.specs.Tasks as spec;
+ghost use Rattle.oai_host.specs.Workings.{call_of};
+
+use crate::bodies::is_form;
+use crate::exchanges::{Answer, Exchange};
+use crate::routes::query_of;
+use crate::statuses::Status;
+use oai_catalogue::Versions;
+use oai_repo::{Reply, Repo};
+use std::alloc::Global;
+
+/// The arguments of the request that the exchange makes, still encoded: the query of a GET, the body of
+/// a POST that is a form. Else the status that the exchange is answered.
+pub(crate) fn arguments_of<'a>(exchange: &Exchange<'a>) -> Result<&'a [u8], Status>
+    ensures { (moment : ℤ) → MatchResult result
+        (λ arguments. spec.request_in (call_of moment exchange.now) ≡ spec.asking arguments.now)
+        (λ status. spec.request_in (call_of moment exchange.now) ≡ spec.refusing status) }
+{
+    if exchange.method == b"GET".as_slice() {
+        Ok(query_of(exchange.target))
+    } else if !is_post(exchange.method) {
+        Err(Status::MethodNotAllowed)
+    } else if is_form(exchange.content_type) {
+        Ok(exchange.body)
+    } else {
+        Err(Status::UnsupportedMediaType)
+    }
+}
+
+/// Whether the method is POST.
+pub(crate) fn is_post(method: &[u8]) -> bool
+    ensures { result ≡ spec.is_post method.now }
+{
+    method == b"POST".as_slice()
+}
+
+/// Performs a request at the moment, in seconds from 1970 on, by its arguments, and answers it.
+pub(crate) fn perform_request<V: Versions>(
+    alloc: Global,
+    repo: &mut Repo,
+    store: &mut V,
+    moment: i64,
+    arguments: &[u8],
+) -> Answer
+    requires stands { StandsIn repo.old (V.lists store.old) }
+    requires held { IsTrue (V.honest store.old) → IsHeld repo.old (V.lists store.old) }
+    ensures tried { IsTrue (V.honest store.old)
+        → IsTried repo.old.config (state_of repo.old (V.lists store.old)) moment
+        (spec.asking arguments.now) result (state_of repo.new (V.lists store.new)) }
+    ensures kept { IsKept (V.honest store.old) repo.old (V.lists store.old) repo.new
+        (V.lists store.new) }
+    ensures device { IsCounted (failure_in result) (V.failures store.old) (V.failures store.new) }
+    ensures honesty { IsHonest (failure_in result) (V.honest store.old) (V.honest store.new) }
+{
+    match repo.ask(store, moment, arguments) {
+        Ok(Reply::Page(page)) => Answer::with_body(page),
+        Ok(Reply::Later(seconds)) => Answer::to_wait(alloc, seconds),
+        Err(fault) => Answer::of_fault(alloc, fault, None),
+    }
+}

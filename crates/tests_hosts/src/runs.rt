@@ -1,0 +1,211 @@
+//! Exchanges one after the other, as one call.
+use crate::transcripts::{Told, body_of, push_wanted, told_in, write_answer};
+use crate::worked::host;
+use oai_catalogue::{FaultyVersions, PlainVersions, Versions};
+use oai_host::{Answer, Call};
+use oai_names::Sequence;
+use std::alloc::{AllocError, Global};
+use std::process::Abort;
+use std::test::Fail;
+
+// ---- calls
+
+fn bytes_of(alloc: Global, text: &str) -> Result<Sequence<u8>, AllocError> {
+    let mut bytes = Vec::new(alloc);
+    bytes.extend_from_slice(text.as_bytes())?;
+    Ok(Sequence::new(bytes))
+}
+
+/// A call of that moment, method, target, type and body.
+pub(crate) fn call(
+    alloc: Global,
+    moment: i64,
+    method: &str,
+    target: &str,
+    content_type: Option<&str>,
+    body: &str,
+) -> Result<Call, AllocError> {
+    Ok(Call {
+        moment,
+        method: bytes_of(alloc, method)?,
+        target: bytes_of(alloc, target)?,
+        content_type: match content_type {
+            Some(value) => Some(bytes_of(alloc, value)?),
+            None => None,
+        },
+        body: bytes_of(alloc, body)?,
+    })
+}
+
+/// The call of which that is told.
+fn call_of(alloc: Global, told: Told<'_>) -> Result<Call, AllocError> {
+    let body = body_of(alloc, told)?;
+    let Told {
+        moment,
+        method,
+        target,
+        content_type,
+        ..
+    } = told;
+    call(alloc, moment, method, target, content_type, body.as_str())
+}
+
+/// The exchanges of the transcript.
+fn calls_in(rt: &impl Abort, alloc: Global, transcript: &str) -> Result<Vec<Call>, Fail> {
+    let mut calls = Vec::new(alloc);
+    for line in transcript.lines() {
+        if let Some(asked) = line.strip_prefix("> ") {
+            calls.push(call_of(alloc, told_in(rt, asked)?)?)?;
+        }
+    }
+    Ok(calls)
+}
+
+// ---- their answers
+
+/// What a new host over the store answers to them.
+pub(crate) fn answers_to<V: Versions + Drop>(
+    alloc: Global,
+    store: V,
+    calls: &[Call],
+) -> Result<Sequence<Answer>, Fail> {
+    let mut host = host(alloc, store)?;
+    Ok(host.run(calls)?)
+}
+
+/// The answers, written one after the other.
+fn written(alloc: Global, answers: &[Answer]) -> Result<Vec<u8>, Fail> {
+    let mut output = Vec::new(alloc);
+    for answer in answers {
+        write_answer(answer, &mut output)?;
+    }
+    Ok(output)
+}
+
+/// What the transcript says of the answers.
+fn wanted_in(alloc: Global, transcript: &str) -> Result<String, AllocError> {
+    let mut wanted = String::new(alloc);
+    for line in transcript.lines() {
+        if !line.starts_with("> ") {
+            push_wanted(line, &mut wanted)?;
+        }
+    }
+    Ok(wanted)
+}
+
+/// A new host over the store answers the exchanges of the transcript, as one run, as it says.
+fn assert_run<V: Versions + Drop>(
+    rt: &impl Abort,
+    alloc: Global,
+    store: V,
+    transcript: &str,
+) -> Result<(), Fail> {
+    let calls = calls_in(rt, alloc, transcript)?;
+    let answers = answers_to(alloc, store, &calls)?;
+    let output = written(alloc, answers.as_slice())?;
+    let wanted = wanted_in(alloc, transcript)?;
+    assert_eq!(rt; output.as_slice(), wanted.as_bytes(), "{transcript}");
+    Ok(())
+}
+
+// ---- runs
+
+fn first_deposit() -> &'static str {
+    r#"> 1704067200 POST /deposit/a | - | {"deposit":"oai:a:1","sets":[],"records":{"oai_dc":[["title","A & B < \"C\" é"]]}}
+200
+ok 2024-01-01T00:00:00Z
+> 1704067200 GET /oai/a?verb=GetRecord&identifier=oai:a:1&metadataPrefix=oai_dc
+200
+DOC <responseDate>2024-01-01T00:00:00Z</responseDate><request verb="GetRecord" identifier="oai:a:1" metadataPrefix="oai_dc">http://host.example/oai/a</request><GetRecord><record><header><identifier>oai:a:1</identifier><datestamp>2024-01-01T00:00:00Z</datestamp></header><metadata>{dc}<dc:title>A &amp; B &lt; "C" é</dc:title></oai_dc:dc></metadata></record></GetRecord></OAI-PMH>"#
+}
+
+/// Two items that one answer tells, and three that two answers tell.
+fn token() -> &'static str {
+    r#"> 1704067200 POST /deposit/a | - | {"deposit":"oai:a:1","sets":[],"records":{"oai_dc":[]}}
+200
+ok 2024-01-01T00:00:00Z
+> 1704067200 POST /deposit/a | text/plain | {"deposit":"oai:a:2","sets":[],"records":{"oai_dc":[]}}
+200
+ok 2024-01-01T00:00:00Z
+> 1704067200 GET /oai/a?verb=ListIdentifiers&metadataPrefix=oai_dc
+200
+DOC <responseDate>2024-01-01T00:00:00Z</responseDate><request verb="ListIdentifiers" metadataPrefix="oai_dc">http://host.example/oai/a</request><ListIdentifiers><header><identifier>oai:a:1</identifier><datestamp>2024-01-01T00:00:00Z</datestamp></header><header><identifier>oai:a:2</identifier><datestamp>2024-01-01T00:00:00Z</datestamp></header></ListIdentifiers></OAI-PMH>
+> 1704067201 POST /deposit/a | - | {"deposit":"oai:a:3","sets":[],"records":{"oai_dc":[]}}
+200
+ok 2024-01-01T00:00:01Z
+> 1704067201 GET /oai/a?verb=ListIdentifiers&metadataPrefix=oai_dc
+200
+DOC <responseDate>2024-01-01T00:00:01Z</responseDate><request verb="ListIdentifiers" metadataPrefix="oai_dc">http://host.example/oai/a</request><ListIdentifiers><header><identifier>oai:a:1</identifier><datestamp>2024-01-01T00:00:00Z</datestamp></header><header><identifier>oai:a:2</identifier><datestamp>2024-01-01T00:00:00Z</datestamp></header><resumptionToken expirationDate="2024-01-01T00:01:01Z" completeListSize="3" cursor="0">1.2</resumptionToken></ListIdentifiers></OAI-PMH>
+> 1704067202 POST /oai/a | application/x-www-form-urlencoded | verb=ListIdentifiers&resumptionToken=1.2
+200
+DOC <responseDate>2024-01-01T00:00:02Z</responseDate><request verb="ListIdentifiers" resumptionToken="1.2">http://host.example/oai/a</request><ListIdentifiers><header><identifier>oai:a:3</identifier><datestamp>2024-01-01T00:00:01Z</datestamp></header><resumptionToken completeListSize="3" cursor="2"></resumptionToken></ListIdentifiers></OAI-PMH>
+> 1704067203 GET /oai/a?verb=ListRecords&metadataPrefix=oai_dc
+503 after 59
+> 1704067203 POST /oai/a | text/plain | verb=ListIdentifiers&resumptionToken=1.2
+415
+> 1704067203 GET /oai/z
+404"#
+}
+
+#[test]
+fn runs(rt: HostRuntime) -> Result<(), Fail> {
+    let alloc = rt.alloc();
+    assert_run(&rt, alloc, PlainVersions::new(alloc), first_deposit())?;
+    assert_run(&rt, alloc, PlainVersions::new(alloc), token())
+}
+
+/// A run goes on after an exchange that failed, of which nothing is seen.
+fn failing() -> &'static str {
+    r#"> 1704067200 POST /deposit/a | - | {"deposit":"oai:a:1","sets":[],"records":{"oai_dc":[]}}
+200
+ok 2024-01-01T00:00:00Z
+> 1704067207 POST /deposit/a | - | {"deposit":"oai:a:2","sets":[],"records":{"oai_dc":[]}}
+500 done 0 for Device
+> 1704067201 POST /deposit/a | - | {"deposit":"oai:a:3","sets":[],"records":{"oai_dc":[]}}
+200
+ok 2024-01-01T00:00:01Z
+> 1704067201 GET /oai/a?verb=ListIdentifiers&metadataPrefix=oai_dc
+200
+DOC <responseDate>2024-01-01T00:00:01Z</responseDate><request verb="ListIdentifiers" metadataPrefix="oai_dc">http://host.example/oai/a</request><ListIdentifiers><header><identifier>oai:a:1</identifier><datestamp>2024-01-01T00:00:00Z</datestamp></header><header><identifier>oai:a:3</identifier><datestamp>2024-01-01T00:00:01Z</datestamp></header></ListIdentifiers></OAI-PMH>"#
+}
+
+/// Of the calls of the store the fifth fails: each repository makes one when it begins, and each new
+/// item one.
+#[test]
+fn run_with_a_failure(rt: HostRuntime) -> Result<(), Fail> {
+    let alloc = rt.alloc();
+    let store = FaultyVersions::new(PlainVersions::new(alloc), 5);
+    assert_run(&rt, alloc, store, failing())
+}
+
+/// A run of no exchanges is answered by none, and a run after it begins where it began.
+fn assert_runs_in_turn<V: Versions + Drop>(
+    rt: &impl Abort,
+    alloc: Global,
+    store: V,
+) -> Result<(), Fail> {
+    let mut host = host(alloc, store)?;
+    assert_eq!(rt; host.run(&[])?.as_slice().len(), 0);
+    let first = host.run(&calls_in(rt, alloc, first_deposit())?)?;
+    assert_eq!(rt; first.as_slice().len(), 2);
+    let second = host.run(&calls_in(rt, alloc, deposited_again())?)?;
+    let output = written(alloc, second.as_slice())?;
+    let wanted = wanted_in(alloc, deposited_again())?;
+    assert_eq!(rt; output.as_slice(), wanted.as_bytes());
+    Ok(())
+}
+
+/// What comes after the first deposit, at an earlier moment.
+fn deposited_again() -> &'static str {
+    r#"> 1704060000 POST /deposit/a | - | {"deposit":"oai:a:1","sets":[],"records":{"oai_dc":[]}}¶{"delete":"oai:a:1"}¶{"delete":"oai:a:1"}
+200
+ok 2024-01-01T00:00:00Z
+ok 2024-01-01T00:00:00Z
+refused 14 already-deleted"#
+}
+
+#[test]
+fn runs_in_turn(rt: HostRuntime) -> Result<(), Fail> {
+    let alloc = rt.alloc();
+    assert_runs_in_turn(&rt, alloc, PlainVersions::new(alloc))
+}

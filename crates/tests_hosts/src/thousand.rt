@@ -1,0 +1,65 @@
+//! A host of as many repositories as there may be.
+use crate::transcripts::assert_answers;
+use oai_catalogue::{PlainVersions, Versions};
+use oai_host::{Config, Host};
+use std::alloc::{AllocError, Global};
+use std::test::Fail;
+
+/// The repository `r` and that number.
+fn push_repository(text: &mut String, number: usize) -> Result<(), AllocError> {
+    let alloc = *text.allocator();
+    let repository = format!(in alloc;
+        "{{\"name\":\"r{number}\",\"repositoryName\":\"R\",\"adminEmail\":[\"r@host.example\"],\"earliestDatestamp\":\"2024-01-01\",\"deletedRecord\":\"no\",\"granularity\":\"days\",\"chunk\":2,\"lifetime\":60,\"lists\":1,\"items\":1,\"formats\":[]}}"
+    )?;
+    text.push_str(repository.as_str())
+}
+
+/// A configuration of `r0` to `r999`.
+fn configuration(alloc: Global) -> Result<String, AllocError> {
+    let mut text = String::from_str(
+        alloc,
+        r#"{"base":"http://host.example","cache":1,"repositories":["#,
+    )?;
+    push_repository(&mut text, 0)?;
+    for number in 1..1_000 {
+        text.push(',')?;
+        push_repository(&mut text, number)?;
+    }
+    text.push_str("]}")?;
+    Ok(text)
+}
+
+fn host_of<V: Versions + Drop>(alloc: Global, store: V) -> Result<Host<V>, Fail> {
+    let text = configuration(alloc)?;
+    Ok(Host::new(alloc, Config::read(alloc, text.as_bytes())?, store)?)
+}
+
+/// The first and the last are there, each with its own sets and its own clock.
+fn first_and_last() -> &'static str {
+    r#"> 1704067200 GET /oai/r0?verb=Identify
+200
+DOC <responseDate>2024-01-01T00:00:00Z</responseDate><request verb="Identify">http://host.example/oai/r0</request><Identify><repositoryName>R</repositoryName><baseURL>http://host.example/oai/r0</baseURL><protocolVersion>2.0</protocolVersion><adminEmail>r@host.example</adminEmail><earliestDatestamp>2024-01-01</earliestDatestamp><deletedRecord>no</deletedRecord><granularity>YYYY-MM-DD</granularity></Identify></OAI-PMH>
+> 1704067260 POST /deposit/r999 | - | {"set":"x","name":"X"}
+200
+ok 2024-01-01
+> 1704067200 GET /oai/r999?verb=ListSets
+200
+DOC <responseDate>2024-01-01T00:01:00Z</responseDate><request verb="ListSets">http://host.example/oai/r999</request><ListSets><set><setSpec>x</setSpec><setName>X</setName></set></ListSets></OAI-PMH>
+> 1704067201 GET /oai/r0?verb=ListSets
+200
+DOC <responseDate>2024-01-01T00:00:01Z</responseDate><request verb="ListSets">http://host.example/oai/r0</request><error code="noSetHierarchy">The repository has no sets.</error></OAI-PMH>
+> 1704067202 GET /oai/r99?verb=ListSets
+200
+DOC <responseDate>2024-01-01T00:00:02Z</responseDate><request verb="ListSets">http://host.example/oai/r99</request><error code="noSetHierarchy">The repository has no sets.</error></OAI-PMH>
+> 1704067202 GET /oai/r1000?verb=ListSets
+404
+> 1704067202 POST /deposit/r | - | {"set":"x","name":"X"}
+404"#
+}
+
+#[test]
+fn thousand_repositories(rt: HostRuntime) -> Result<(), Fail> {
+    let alloc = rt.alloc();
+    let mut host = host_of(alloc, PlainVersions::new(alloc))?;
+    assert_answers(&rt, alloc, &mut host, first_and_last())
+}

@@ -1,0 +1,175 @@
+//! Transcripts of a host: lines that begin with `> ` are exchanges, the others are answered. An exchange
+//! is a moment, the method and the target with a space between, and behind each of two ` | ` the type of
+//! the body, `-` where there is none, and the body; `¶` in a body is a line end. An answer is the number of
+//! its status, what else it has, each with a word before it, a line end, and its body. 1704067200 is
+//! 2024-01-01T00:00:00Z.
+use crate::worked::host;
+use oai_catalogue::{PlainVersions, Versions};
+use oai_host::{Answer, Exchange, Host};
+use oai_item::Fault;
+use std::alloc::{AllocError, Global};
+use std::io::{self, Write};
+use std::process::Abort;
+use std::test::Fail;
+
+/// What every document begins with.
+fn head() -> &'static str {
+    "<?xml version=\"1.0\" encoding=\"UTF-8\"?>\n<OAI-PMH xmlns=\"http://www.openarchives.org/OAI/2.0/\" xmlns:xsi=\"http://www.w3.org/2001/XMLSchema-instance\" xsi:schemaLocation=\"http://www.openarchives.org/OAI/2.0/ http://www.openarchives.org/OAI/2.0/OAI-PMH.xsd\">"
+}
+
+/// The start tag of a record in oai_dc.
+fn dublin_core() -> &'static str {
+    "<oai_dc:dc xmlns:oai_dc=\"http://www.openarchives.org/OAI/2.0/oai_dc/\" xmlns:dc=\"http://purl.org/dc/elements/1.1/\" xmlns:xsi=\"http://www.w3.org/2001/XMLSchema-instance\" xsi:schemaLocation=\"http://www.openarchives.org/OAI/2.0/oai_dc/ http://www.openarchives.org/OAI/2.0/oai_dc.xsd\">"
+}
+
+// ---- exchanges
+
+/// An exchange and its moment, as a line tells them.
+#[derive(Clone, Copy)]
+pub(crate) struct Told<'a> {
+    pub(crate) moment: i64,
+    pub(crate) method: &'a str,
+    pub(crate) target: &'a str,
+    pub(crate) content_type: Option<&'a str>,
+    pub(crate) body: &'a str,
+}
+
+/// What the line tells.
+pub(crate) fn told_in<'a>(rt: &impl Abort, line: &'a str) -> Result<Told<'a>, Fail> {
+    let mut parts = line.split(" | ");
+    let mut words = parts.next().unwrap_or("").split(' ');
+    let moment = words.next().unwrap_or("").parse::<i64>()?;
+    let Some(method) = words.next() else {
+        panic!(rt; "no method: {line}")
+    };
+    let content_type = match parts.next() {
+        Some("-") => None,
+        other => other,
+    };
+    Ok(Told {
+        moment,
+        method,
+        target: words.next().unwrap_or(""),
+        content_type,
+        body: parts.next().unwrap_or(""),
+    })
+}
+
+/// The body, in which each `¶` is a line end.
+pub(crate) fn body_of(alloc: Global, told: Told<'_>) -> Result<String, AllocError> {
+    told.body.replace(alloc, "¶", "\n")
+}
+
+/// What the host answers to it, with that body.
+fn answer_to<V: Versions + Drop>(host: &mut Host<V>, told: Told<'_>, body: &str) -> Answer {
+    let exchange = Exchange {
+        method: told.method.as_bytes(),
+        target: told.target.as_bytes(),
+        content_type: match told.content_type {
+            Some(value) => Some(value.as_bytes()),
+            None => None,
+        },
+        body: body.as_bytes(),
+    };
+    host.exchange(told.moment, &exchange)
+}
+
+// ---- answers
+
+/// What a fault is called.
+fn name_of(fault: Fault) -> &'static str {
+    match fault {
+        Fault::NoMemory => "NoMemory",
+        Fault::Device => "Device",
+        Fault::Damaged => "Damaged",
+        Fault::TooManyPages => "TooManyPages",
+    }
+}
+
+/// Writes an answer.
+pub(crate) fn write_answer(answer: &Answer, output: &mut Vec<u8>) -> io::Result<()> {
+    write!(output, "{}", answer.status.number())?;
+    if let Some(seconds) = answer.seconds {
+        write!(output, " after {seconds}")?;
+    }
+    if let Some(done) = answer.done {
+        write!(output, " done {done}")?;
+    }
+    if let Some(fault) = answer.fault {
+        write!(output, " for {}", name_of(fault))?;
+    }
+    output.write_all(b"\n")?;
+    output.write_all(answer.body.as_slice())
+}
+
+/// Performs an exchange, and writes what it is answered.
+fn write_line<V: Versions + Drop>(
+    alloc: Global,
+    host: &mut Host<V>,
+    told: Told<'_>,
+    output: &mut Vec<u8>,
+) -> Result<(), Fail> {
+    let body = body_of(alloc, told)?;
+    let answer = answer_to(host, told, body.as_str());
+    Ok(write_answer(&answer, output)?)
+}
+
+// ---- transcripts
+
+/// Adds a line of what is wanted: `DOC` stands for what every document begins with, and `{dc}` for the
+/// start tag of a record in oai_dc.
+pub(crate) fn push_wanted(line: &str, wanted: &mut String) -> Result<(), AllocError> {
+    let line = match line.strip_prefix("DOC ") {
+        Some(rest) => {
+            wanted.push_str(head())?;
+            rest
+        }
+        None => line,
+    };
+    for (place, piece) in line.split("{dc}").enumerate() {
+        if place > 0 {
+            wanted.push_str(dublin_core())?;
+        }
+        wanted.push_str(piece)?;
+    }
+    wanted.push('\n')
+}
+
+/// The host answers the transcript's lines as it says.
+pub(crate) fn assert_answers<V: Versions + Drop>(
+    rt: &impl Abort,
+    alloc: Global,
+    host: &mut Host<V>,
+    transcript: &str,
+) -> Result<(), Fail> {
+    let mut output = Vec::new(alloc);
+    let mut wanted = String::new(alloc);
+    for line in transcript.lines() {
+        match line.strip_prefix("> ") {
+            Some(asked) => write_line(alloc, host, told_in(rt, asked)?, &mut output)?,
+            None => push_wanted(line, &mut wanted)?,
+        }
+    }
+    assert_eq!(rt; output.as_slice(), wanted.as_bytes(), "{transcript}");
+    Ok(())
+}
+
+/// A new host of the worked configuration over the store answers the transcript's lines as it says.
+pub(crate) fn assert_transcript_over<V: Versions + Drop>(
+    rt: &impl Abort,
+    alloc: Global,
+    store: V,
+    transcript: &str,
+) -> Result<(), Fail> {
+    let mut host = host(alloc, store)?;
+    assert_answers(rt, alloc, &mut host, transcript)
+}
+
+/// The same over a store of plain lists.
+pub(crate) fn assert_transcript(
+    rt: &impl Abort,
+    alloc: Global,
+    transcript: &str,
+) -> Result<(), Fail> {
+    assert_transcript_over(rt, alloc, PlainVersions::new(alloc), transcript)
+}
