@@ -1,0 +1,33 @@
+-- What the parts of a connection make of it.
+use Rattle.std.proofs.Common.{◌≡◌, ℕ, ℤ, List, [], ◌++◌, ap₂}
+use Rattle.std.specs.Prelude.{Result, Ok, Err}
+use Rattle.oai_front.specs.Connections.{Connection, IsGoneOver, IsTakenIn, bytes_with, connection_at}
+use Rattle.oai_front.specs.Messages.{End, IsClosing, closes, faults, waits}
+use Rattle.oai_front.specs.Performing.{Steps}
+use Rattle.oai_front.specs.declared.faults.PieceFault.{PieceFault}
+use Rattle.oai_front.specs.declared.faults.PieceFault.TheVariants.{NoSuchConnection, NoMemory, Unfinished}
+use Rattle.oai_front.specs.declared.stages.Stage.{Stage}
+use Rattle.oai_front.specs.declared.stages.Stage.TheVariants.{Closed}
+
+-- a connection of these parts
+abbrev pub made : ℕ → List ℕ → List ℕ → Stage → Connection
+made number rest output stage = record { number = number; rest = rest; output = output; stage = stage }
+
+pub connection_of : (number : ℕ) (rest more output written : List ℕ) (stage : Stage) → rest ≡ more → output ≡ written
+    → made number rest output stage ≡ made number more written stage
+connection_of number rest more output written stage e f = ap₂ (λ (r o : List ℕ). made number r o stage) e f
+
+-- one that is closed
+pub connection_closed : (number : ℕ) (before rest output now written : List ℕ) (stage : Stage) (end : End) → IsClosing end → rest ≡ [] → now ≡ output ++ written
+    → made number rest now Closed ≡ connection_at (made number before output stage) end written
+connection_closed number before rest output now written stage (waits bytes) closing e f = absurd closing
+connection_closed number before rest output now written stage closes closing e f = connection_of number rest [] now (output ++ written) Closed e f
+connection_closed number before rest output now written stage (faults status) closing e f = connection_of number rest [] now (output ++ written) Closed e f
+
+-- a piece was read, and then all was gone over
+pub taken_in : {H : Type 0} (step : Steps H) (moment : ℤ) (piece : List ℕ) (c d : Connection) (old new : H) (result : Result Unit PieceFault)
+    → IsGoneOver step moment (record c { rest = bytes_with c piece }) old result d new → IsTakenIn step moment piece c old result d new
+taken_in step moment piece c d old new (Ok done) g = g
+taken_in step moment piece c d old new (Err NoMemory) g = absurd g
+taken_in step moment piece c d old new (Err Unfinished) g = g
+taken_in step moment piece c d old new (Err NoSuchConnection) g = g

@@ -1,0 +1,9 @@
+pub mod HeadLemmas
+pub mod QueueLemmas
+pub mod MessageLemmas
+pub mod ConnectionLemmas
+pub mod Numbered
+pub mod FrontLemmas
+pub mod StreamLemmas
+pub mod RunLemmas
+pub mod HostRunLemmas

@@ -1,0 +1,91 @@
+-- What the fields of a request's head say of its message: RFC 9112, sections 3.2, 6.1, 6.2, 6.3, 9.3 and 9.6. A field is a name and a
+-- value, without the white space around it.
+use Rattle.std.specs.Prelude.{ℕ, Bool, not, ◌&&◌, ◌||◌, ◌==◌, nat_le, nat_lt, if◌then◌else◌, List, [], ◌∷◌, length, map, filter, codes, Option, None, Some}
+use Rattle.std.specs.Char.{is_ascii_digit}
+use Rattle.std.specs.List.{list_all, list_any, slice_split}
+use Rattle.std.specs.Str.{str_eq_ignore_ascii_case}
+use Rattle.std.specs.Str.Parse.{digits_value}
+use Rattle.httparse.specs.Ascii.{comma}
+use Rattle.httparse.specs.Grammar.{trim_ows}
+use Rattle.oai_host.specs.declared.statuses.Status.TheVariants.{BadRequest, ContentTooLarge, NotImplemented}
+use Rattle.oai_front.specs.declared.plans.Plan.{Plan}
+use Rattle.oai_front.specs.declared.plans.Plan.TheVariants.{Refused, Followed}
+use Rattle.oai_front.specs.declared.plans.TheConstants.{MOST_BODY_BYTES, MOST_LENGTH_DIGITS}
+
+-- the texts differ at most in the case of ASCII letters
+unfoldable pub is_alike : List ℕ → List ℕ → Bool
+is_alike a b = str_eq_ignore_ascii_case a b
+
+-- the field has that name, without regard to case: RFC 9110, section 5.1
+abbrev pub is_named : List ℕ → List ℕ × List ℕ → Bool
+is_named name field = is_alike field.0 name
+
+-- the values of the fields of that name, in order
+unfoldable pub values_named : List ℕ → List (List ℕ × List ℕ) → List (List ℕ)
+values_named name fields = map (λ field. field.1) (filter (is_named name) fields)
+
+-- the first value, where there is one
+abbrev pub first_value : List (List ℕ) → Option (List ℕ)
+first_value [] = None
+first_value (value ∷ values) = Some value
+
+-- so many fields Host may stand in a head of HTTP/1.1, and of HTTP/1.0: RFC 9112, section 3.2
+abbrev pub is_host_count : ℕ → ℕ → Bool
+is_host_count minor hosts = if minor == 0 then nat_le hosts 1 else hosts == 1
+
+-- the number that a Content-Length writes, 1 to 19 digits: RFC 9110, section 8.6
+abbrev pub are_digits : List ℕ → Bool
+are_digits value = list_all is_ascii_digit value
+
+unfoldable pub length_written : List ℕ → Option ℕ
+length_written value =
+    if nat_le 1 (length value) && nat_le (length value) MOST_LENGTH_DIGITS && are_digits value
+    then Some (digits_value 10 value) else None
+
+-- the length of the body that the fields Content-Length give: none where there is no field, and no length where there are several or one
+-- that is no number. RFC 9112, section 6.3
+abbrev pub length_first : Option (List ℕ) → Option ℕ
+length_first None = Some 0
+length_first (Some value) = length_written value
+
+abbrev pub length_given : List (List ℕ) → Option ℕ
+length_given values = if nat_lt 1 (length values) then None else length_first (first_value values)
+
+-- the element of a list is the option `close`, whatever its case: RFC 9110, section 7.6.1
+abbrev pub is_close : List ℕ → Bool
+is_close element = is_alike (trim_ows element) (codes "close")
+
+-- a comma parts the elements: RFC 9110, section 5.6.1
+abbrev pub is_comma : ℕ → Bool
+is_comma b = b == comma
+
+-- the value of a field Connection lists `close`
+unfoldable pub lists_close : List ℕ → Bool
+lists_close value = list_any is_close (slice_split is_comma value)
+
+-- the field is Connection and lists `close`
+abbrev pub is_closing : List ℕ × List ℕ → Bool
+is_closing field = is_named (codes "Connection") field && lists_close field.1
+
+-- a field Connection lists `close`
+unfoldable pub list_close : List (List ℕ × List ℕ) → Bool
+list_close fields = list_any is_closing fields
+
+-- the connection is closed after the message: RFC 9112, section 9.3; after one of HTTP/1.0 it always is
+abbrev pub is_last : ℕ → List (List ℕ × List ℕ) → Bool
+is_last minor fields = minor == 0 || list_close fields
+
+-- what comes behind a head that says that a body of that size follows
+abbrev pub plan_sized : ℕ → Bool → Plan
+plan_sized size last = if nat_lt MOST_BODY_BYTES size then Refused ContentTooLarge else Followed size last
+
+abbrev pub plan_by : Option ℕ → Bool → Plan
+plan_by None last = Refused BadRequest
+plan_by (Some size) last = plan_sized size last
+
+-- what comes behind a head of HTTP/1.minor with these fields: the first fault, or the body of a message. RFC 9112, sections 3.2, 6.1 and 6.3
+unfoldable pub plan_of : ℕ → List (List ℕ × List ℕ) → Plan
+plan_of minor fields =
+    if not (is_host_count minor (length (values_named (codes "Host") fields))) then Refused BadRequest
+    else (if nat_lt 0 (length (values_named (codes "Transfer-Encoding") fields)) then Refused NotImplemented
+    else plan_by (length_given (values_named (codes "Content-Length") fields)) (is_last minor fields))

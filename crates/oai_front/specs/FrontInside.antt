@@ -1,0 +1,9 @@
+-- What contracts see of the fields of a `Front`, and what is true of them.
+use Rattle.oai_front.specs.Fronts.{IsTable, State}
+use Rattle.oai_front.specs.declared.fronts.Front.TheInside.{Inside}
+
+abbrev pub state_in : {H : Type 0} → Inside H → State H
+state_in f = record { handler = f.handler; limit = f.limit; last = f.last; connections = f.connections.items }
+
+abbrev pub IsHeld : {H : Type 0} → Inside H → Type 0
+IsHeld f = IsTable f.connections.items f.last

@@ -1,0 +1,112 @@
+-- The bytes of an answer: RFC 9112, sections 4 and 5; RFC 9110, sections 8.3, 8.6, 10.2.1, 10.2.3 and 7.6.1. Which fields stand in a head,
+-- and in which order, is this repository's own, and so is X-Lines-Done.
+use Rattle.std.specs.Prelude.{ℕ, ℤ, Bool, true, ◌||◌, ◌==◌, if◌then◌else◌, List, [], ◌++◌, length, take, codes, Option, Some, None}
+use Rattle.std.specs.Fmt.{decimal, signed_decimal}
+use Rattle.std.specs.Str.{bytes_eq}
+use Rattle.oai_host.specs.Statuses.{number_of, phrase_of}
+use Rattle.oai_host.specs.declared.exchanges.Answer.{Answer}
+use Rattle.oai_host.specs.declared.statuses.Status.{Status}
+use Rattle.oai_front.specs.declared.heads.Place.{Place}
+use Rattle.oai_front.specs.declared.heads.Place.TheVariants.{Requests, Deposits, Elsewhere}
+use Rattle.oai_front.specs.declared.heads.AnswerHead.{AnswerHead}
+
+-- bytes as they stand
+unfoldable pub plain : List ℕ → List ℕ
+plain bytes = bytes
+
+-- a field: its name, a colon, a space, its value and a line end: RFC 9112, section 5
+unfoldable pub field : List ℕ → List ℕ → List ℕ
+field name value = plain name ++ plain (codes ": ") ++ value ++ plain (codes "\r\n")
+
+-- the protocol, the number of the status and its phrase: RFC 9112, section 4
+unfoldable pub status_line : Status → List ℕ
+status_line status =
+    plain (codes "HTTP/1.1 ") ++ decimal (number_of status) ++ plain (codes " ") ++ phrase_of status ++ plain (codes "\r\n")
+
+-- what stands at a target: the requests or the deposits of a repository, by how the path begins
+abbrev pub place_of : List ℕ → Place
+place_of target =
+    if bytes_eq (take 5 target) (codes "/oai/") then Requests
+    else (if bytes_eq (take 9 target) (codes "/deposit/") then Deposits
+    else Elsewhere)
+
+-- RFC 9110, section 8.3: the type of a 200
+abbrev pub type_at : Place → List ℕ
+type_at Requests = field (codes "Content-Type") (plain (codes "text/xml"))
+type_at Deposits = field (codes "Content-Type") (plain (codes "text/plain; charset=utf-8"))
+type_at Elsewhere = []
+
+unfoldable pub type_field : Place → Status → List ℕ
+type_field place status = if number_of status == 200 then type_at place else []
+
+-- RFC 9110, section 10.2.1: the methods of a target that was asked with another
+abbrev pub allow_at : Place → List ℕ
+allow_at Requests = field (codes "Allow") (plain (codes "GET, POST"))
+allow_at Deposits = field (codes "Allow") (plain (codes "POST"))
+allow_at Elsewhere = []
+
+unfoldable pub allow_field : Place → Status → List ℕ
+allow_field place status = if number_of status == 405 then allow_at place else []
+
+-- RFC 9110, section 10.2.3: after how many seconds to ask again
+abbrev pub retry_after : Option ℤ → List ℕ
+retry_after None = []
+retry_after (Some seconds) = field (codes "Retry-After") (signed_decimal seconds)
+
+unfoldable pub retry_field : Status → Option ℤ → List ℕ
+retry_field status seconds = if number_of status == 503 then retry_after seconds else []
+
+-- how many lines of a deposit were done before it failed
+unfoldable pub lines_field : Option ℕ → List ℕ
+lines_field None = []
+lines_field (Some lines) = field (codes "X-Lines-Done") (decimal lines)
+
+abbrev pub lines_at : Place → Option ℕ → List ℕ
+lines_at Deposits lines = lines_field lines
+lines_at Requests lines = []
+lines_at Elsewhere lines = []
+
+abbrev pub has_failed : Status → Bool
+has_failed status = number_of status == 500 || number_of status == 503
+
+unfoldable pub done_field : Place → Status → Option ℕ → List ℕ
+done_field place status done = if has_failed status then lines_at place done else []
+
+-- RFC 9110, section 7.6.1: the connection is closed after the answer
+unfoldable pub close_field : Bool → List ℕ
+close_field last = if last then field (codes "Connection") (plain (codes "close")) else []
+
+-- RFC 9110, section 8.6
+unfoldable pub length_field : ℕ → List ℕ
+length_field size = field (codes "Content-Length") (decimal size)
+
+-- the head of an answer, with the empty line behind it
+unfoldable pub answer_head : AnswerHead → List ℕ
+answer_head head =
+    status_line head.status
+    ++ type_field head.place head.status
+    ++ allow_field head.place head.status
+    ++ retry_field head.status head.seconds
+    ++ done_field head.place head.status head.done
+    ++ close_field head.last
+    ++ length_field head.size
+    ++ plain (codes "\r\n")
+
+-- what the head of an answer to that target tells, where the connection is closed after it or not
+abbrev pub head_told : List ℕ → Bool → Answer → AnswerHead
+head_told target last answer = record {
+  place = place_of target;
+  status = answer.status;
+  seconds = answer.seconds;
+  done = answer.done;
+  last = last;
+  size = length answer.body;
+}
+
+-- an answer: its head and its body
+unfoldable pub answer_bytes : List ℕ → Bool → Answer → List ℕ
+answer_bytes target last answer = answer_head (head_told target last answer) ++ answer.body
+
+-- the answer to a connection fault, after which the connection is closed
+unfoldable pub fault_bytes : Status → List ℕ
+fault_bytes status = answer_head (record { place = Elsewhere; status = status; seconds = None; done = None; last = true; size = 0 })

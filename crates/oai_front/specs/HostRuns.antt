@@ -1,0 +1,62 @@
+-- What comes of pieces, on any number of connections, where a host performs the messages. This repository's own.
+use Rattle.std.specs.Prelude.{◌≡◌, ◌≤◌, ℕ, ℤ, true, IsTrue, List, map, take}
+use Rattle.oai_catalogue.specs.Store.{IsCounted, IsHonest}
+use Rattle.oai_host.specs.Answers.{failure_in}
+use Rattle.oai_host.specs.Hosts.{AreAnswered, AreAsAlone, Hosting, IsAnswered, none_failed}
+use Rattle.oai_host.specs.declared.exchanges.Answer.{Answer}
+use Rattle.oai_host.specs.declared.exchanges.Call.{Call}
+use Rattle.oai_front.specs.Connections.{Connection}
+use Rattle.oai_front.specs.Fronts.{State}
+use Rattle.oai_front.specs.Messages.{Asked}
+use Rattle.oai_front.specs.Performing.{Done}
+use Rattle.oai_front.specs.Runs.{AreMessages, IsOwn, IsReading, Piece, Served, all_served, bytes_on, done_on}
+
+-- ---- one message
+
+-- what is asked at a moment, as a call of the host
+abbrev pub call_at : ℤ → Asked → Call
+call_at moment asked = record {
+  moment = moment;
+  method = asked.method;
+  target = asked.target;
+  content_type = asked.content_type;
+  body = asked.body;
+}
+
+-- what a host does: over a store that gives back what was written to it, the call is answered as an exchange with the host is; that a device
+-- failed is told only where it did, and that something is damaged only where the store does not give back what was written
+pub record IsExchanged (old : Hosting) (moment : ℤ) (asked : Asked) (answer : Answer) (new : Hosting) : Type 0 where
+  pub answered : IsTrue old.honest → IsAnswered (call_at moment asked) answer old.repositories new.repositories
+  pub device : IsCounted (failure_in answer) old.failures new.failures
+  pub honesty : IsHonest (failure_in answer) old.honest new.honest
+
+-- ---- all messages
+
+-- the messages that were performed, as calls of the host, and their answers
+abbrev pub call_in : Served → Call
+call_in s = call_at s.moment s.done.message.asked
+
+abbrev pub calls_in : List Served → List Call
+calls_in served = map call_in served
+
+abbrev pub answers_in : List Served → List Answer
+answers_in served = map (λ s. s.done.answer) served
+
+-- pieces came, and messages were performed: `each` says with which piece which. `calls` are all of them, one after the other, as calls of the
+-- host, and `answers` are theirs. At each repository what is answered is a run of its own exchanges, whatever came between them, on the same
+-- connection or on others; where none failed, it is what that repository alone answers. On each connection just the messages of its own
+-- bytes were performed, each with the piece that brought its last byte, and just their answers, in order, and that to a fault, were put
+-- behind its output
+pub record AreHosted (old new : State Hosting) (pieces : List Piece) : Type 0 where
+  pub each : List (List Done)
+  pub calls : List Call
+  pub calls_are : calls ≡ calls_in (all_served pieces each)
+  pub answers : List Answer
+  pub answers_are : answers ≡ answers_in (all_served pieces each)
+  pub answered : AreAnswered calls answers old.handler.repositories new.handler.repositories
+  pub alone : none_failed answers ≡ true → AreAsAlone calls answers old.handler.repositories
+  pub own : (number : ℕ) (c : Connection) → IsReading number old c → IsOwn number new c (bytes_on number pieces) (done_on number (all_served pieces each))
+  pub prompt : (count number : ℕ) (c : Connection) → IsReading number old c
+      → AreMessages c (bytes_on number (take count pieces)) (done_on number (all_served (take count pieces) each))
+  pub honesty : new.handler.honest ≡ old.handler.honest
+  pub count : old.handler.failures ≤ new.handler.failures

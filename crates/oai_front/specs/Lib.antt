@@ -1,0 +1,14 @@
+pub mod Fields
+pub mod Messages
+pub mod Heads
+pub mod Performing
+pub mod Workings
+pub mod Queues
+pub mod Stages
+pub mod Connections
+pub mod Inside
+pub mod Fronts
+pub mod Places
+pub mod FrontInside
+pub mod Runs
+pub mod HostRuns

@@ -1,0 +1,116 @@
+-- The messages of a connection: RFC 9112, sections 2, 3, 6 and 9. The bytes that come are one message behind the other, and then what
+-- belongs to none. A head is one of the grammar of `httparse`.
+use Rattle.std.specs.Prelude.{◌≡◌, ℕ, ◌<◌, ◌≤◌, ◌⊎◌, Bool, true, false, List, [], ◌∷◌, ◌++◌, length, map, codes, Option, ⊤}
+use Rattle.httparse.specs.Grammar.{ReadsRequest, RequestHead, print_request}
+use Rattle.httparse.specs.Spans.{name_and_value}
+use Rattle.oai_host.specs.declared.statuses.Status.{Status}
+use Rattle.oai_host.specs.declared.statuses.Status.TheVariants.{BadRequest}
+use Rattle.oai_front.specs.Fields.{first_value, plan_of, values_named}
+use Rattle.oai_front.specs.declared.plans.Plan.{Plan}
+use Rattle.oai_front.specs.declared.plans.Plan.TheVariants.{Followed, Refused}
+use Rattle.oai_front.specs.declared.beginnings.TheConstants.{MOST_FIELDS, MOST_HEAD_BYTES}
+
+-- what a message asks: its method, its target, the value of its first field Content-Type, and its body
+pub record Asked : Type 0 where
+  pub method : List ℕ
+  pub target : List ℕ
+  pub content_type : Option (List ℕ)
+  pub body : List ℕ
+
+-- a message, and whether the connection is closed after it
+pub record Message : Type 0 where
+  pub asked : Asked
+  pub last : Bool
+
+-- the fields of a head, each its name and its value
+abbrev pub fields_of : RequestHead → List (List ℕ × List ℕ)
+fields_of head = map name_and_value head.fields
+
+-- what comes behind a head
+unfoldable pub plan_behind : RequestHead → Plan
+plan_behind head = plan_of head.minor (fields_of head)
+
+-- the bytes are a head of at most so many bytes and fields, and then `behind`
+pub record Begins (bytes : List ℕ) (head : RequestHead) (behind : List ℕ) : Type 0 where
+  pub reads : ReadsRequest bytes head behind
+  pub short : length (print_request head) ≤ MOST_HEAD_BYTES
+  pub few : length head.fields ≤ MOST_FIELDS
+
+-- the bytes do not begin with such a head
+abbrev pub HasNoHead : List ℕ → Type 0
+HasNoHead bytes = (head : RequestHead) (behind : List ℕ) → ¬ (Begins bytes head behind)
+
+-- nor do they, whatever bytes follow
+abbrev pub NeverHasHead : List ℕ → Type 0
+NeverHasHead bytes = (more : List ℕ) → HasNoHead (bytes ++ more)
+
+-- the bytes are this message and then `after`: a head, and a body of the length that it gives
+pub record Reads (bytes : List ℕ) (message : Message) (after : List ℕ) : Type 0 where
+  pub head : RequestHead
+  pub begins : Begins bytes head (message.asked.body ++ after)
+  pub plan : plan_behind head ≡ Followed (length message.asked.body) message.last
+  pub method : message.asked.method ≡ head.method
+  pub target : message.asked.target ≡ head.target
+  pub content_type : message.asked.content_type ≡ first_value (values_named (codes "Content-Type") (fields_of head))
+
+-- the bytes begin with a head whose fields are refused so
+pub record IsRefused (bytes : List ℕ) (status : Status) : Type 0 where
+  pub head : RequestHead
+  pub behind : List ℕ
+  pub begins : Begins bytes head behind
+  pub plan : plan_behind head ≡ Refused status
+
+-- no message can come of the bytes: no head ever stands at their front, or the one that does is refused
+abbrev pub IsFault : List ℕ → Status → Type 0
+IsFault bytes status = (NeverHasHead bytes × (status ≡ BadRequest)) ⊎ IsRefused bytes status
+
+-- nothing whole stands at the front of the bytes: no message and no head that is refused; and a head that is not whole has fewer bytes than
+-- a head may have
+pub record IsUnfinished (bytes : List ℕ) : Type 0 where
+  pub message : (message : Message) (after : List ℕ) → ¬ (Reads bytes message after)
+  pub fault : (status : Status) → ¬ (IsRefused bytes status)
+  pub short : HasNoHead bytes → length bytes < MOST_HEAD_BYTES
+
+-- a message or a fault stands at the front of the bytes
+abbrev pub HasWhole : List ℕ → Type 0
+HasWhole bytes = ((message : Message) × (after : List ℕ) × Reads bytes message after) ⊎ ((status : Status) × IsFault bytes status)
+
+-- ---- the whole stream
+
+-- how a stream ends: with bytes that wait for others, with a message after which the connection is closed, or with a fault
+pub data End : Type 0 where
+  waits : (rest : List ℕ) → End
+  closes : End
+  faults : (status : Status) → End
+
+-- the bytes are these messages, after none of which the connection is closed, and then the rest
+abbrev pub Splits : List ℕ → List Message → List ℕ → Type 0
+Splits bytes [] rest = bytes ≡ rest
+Splits bytes (message ∷ messages) rest =
+    (after : List ℕ) × Reads bytes message after × (message.last ≡ false) × Splits after messages rest
+
+-- the connection is closed at that end
+abbrev pub IsClosing : End → Type 0
+IsClosing (waits rest) = ⊥
+IsClosing closes = ⊤
+IsClosing (faults status) = ⊤
+
+-- the messages of the bytes, and how they end. No bytes have two lists of messages: `split_law`
+abbrev pub Stream : List ℕ → List Message → End → Type 0
+Stream bytes messages (waits rest) = Splits bytes messages rest × IsUnfinished rest
+Stream bytes messages (faults status) = (rest : List ℕ) × Splits bytes messages rest × IsFault rest status
+Stream bytes messages closes =
+    (front : List Message) × (rest : List ℕ) × (message : Message) × (after : List ℕ)
+    × Splits bytes front rest × Reads rest message after × (message.last ≡ true) × (messages ≡ front ++ message ∷ [])
+
+-- two ends are alike: they are equal, but that the 400 for bytes in which a head never comes may have to wait for more of them
+abbrev pub AreAlike : End → End → Type 0
+AreAlike (waits rest) (waits other) = rest ≡ other
+AreAlike (waits rest) (faults status) = status ≡ BadRequest
+AreAlike (waits rest) closes = ⊥
+AreAlike (faults status) (waits rest) = status ≡ BadRequest
+AreAlike (faults status) (faults other) = status ≡ other
+AreAlike (faults status) closes = ⊥
+AreAlike closes closes = ⊤
+AreAlike closes (waits rest) = ⊥
+AreAlike closes (faults status) = ⊥

@@ -1,0 +1,62 @@
+-- What comes of the bytes of a connection: its messages are performed in order, and their answers are written behind each other. This
+-- repository's own.
+use Rattle.std.specs.Prelude.{◌≡◌, ℕ, ℤ, List, [], ◌∷◌, ◌++◌, map}
+use Rattle.std.specs.List.{flat_map}
+use Rattle.std.specs.Option.{option_copied}
+use Rattle.oai_host.specs.declared.exchanges.Answer.{Answer}
+use Rattle.oai_host.specs.declared.exchanges.Exchange.{Exchange}
+use Rattle.oai_front.specs.Heads.{answer_bytes, fault_bytes}
+use Rattle.oai_front.specs.Messages.{Asked, End, Message, Splits, Stream, waits, closes, faults}
+
+-- what an exchange asks, as plain data
+abbrev pub asked_by : Exchange → Asked
+asked_by exchange = record {
+  method = exchange.method.now;
+  target = exchange.target.now;
+  content_type = option_copied exchange.content_type;
+  body = exchange.body.now;
+}
+
+-- what a handler does: from what it was, at a moment, it may give that answer to what is asked, and go on as what it then is
+abbrev pub Steps : Type 0 → Type 1
+Steps H = H → ℤ → Asked → Answer → H → Type 0
+
+-- a message with its answer
+pub record Done : Type 0 where
+  pub message : Message
+  pub answer : Answer
+
+abbrev pub messages_of : List Done → List Message
+messages_of done = map (λ d. d.message) done
+
+-- the bytes of the answers, in order
+abbrev pub done_bytes : Done → List ℕ
+done_bytes d = answer_bytes d.message.asked.target d.message.last d.answer
+
+unfoldable pub answers_of : List Done → List ℕ
+answers_of done = flat_map done_bytes done
+
+-- the messages are performed in order, at one moment, and answered so
+abbrev pub Run : {H : Type 0} → Steps H → ℤ → H → List Done → H → Type 0
+Run step moment old [] new = new ≡ old
+Run {H} step moment old (d ∷ done) new = (mid : H) × step old moment d.message.asked d.answer mid × Run step moment mid done new
+
+-- what is answered at the end of the messages: nothing, or the connection fault
+abbrev pub end_bytes : End → List ℕ
+end_bytes (waits rest) = []
+end_bytes closes = []
+end_bytes (faults status) = fault_bytes status
+
+-- messages at the front of the bytes were performed, up to the rest, and that was written
+pub record Performs {H : Type 0} (step : Steps H) (moment : ℤ) (old new : H) (bytes rest written : List ℕ) : Type 0 where
+  pub done : List Done
+  pub splits : Splits bytes (messages_of done) rest
+  pub run : Run step moment old done new
+  pub told : written ≡ answers_of done
+
+-- all messages of the bytes were performed, and that was written: their answers, and behind them the answer to a fault
+pub record Completes {H : Type 0} (step : Steps H) (moment : ℤ) (old new : H) (bytes : List ℕ) (end : End) (written : List ℕ) : Type 0 where
+  pub done : List Done
+  pub stream : Stream bytes (messages_of done) end
+  pub run : Run step moment old done new
+  pub told : written ≡ answers_of done ++ end_bytes end

@@ -1,0 +1,27 @@
+-- What waits to be written, as buffers in order. No definition of a connection rests on it.
+use Rattle.std.specs.Prelude.{◌≡◌, ℕ, ◌<◌, Bool, true, nat_lt, List, [], ◌∷◌, ◌++◌, length}
+use Rattle.std.specs.List.{list_all}
+
+-- the buffer holds something
+abbrev pub is_filled : List ℕ → Bool
+is_filled bytes = nat_lt 0 (length bytes)
+
+-- each does
+abbrev pub AreFilled : List (List ℕ) → Type 0
+AreFilled buffers = list_all is_filled buffers ≡ true
+
+-- so many bytes of the first buffer are taken, and not all of it
+abbrev pub IsTaken : ℕ → List (List ℕ) → Type 0
+IsTaken taken [] = taken ≡ 0
+IsTaken taken (first ∷ buffers) = taken < length first
+
+-- how many bytes the first buffer has
+abbrev pub first_len : List (List ℕ) → ℕ
+first_len [] = 0
+first_len (first ∷ buffers) = length first
+
+-- the bytes are the front of these, and there are none only where these are none
+pub record IsFrontOf (bytes all : List ℕ) : Type 0 where
+  pub later : List ℕ
+  pub front : all ≡ bytes ++ later
+  pub some : bytes ≡ [] → all ≡ []

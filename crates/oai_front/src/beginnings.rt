@@ -1,0 +1,110 @@
+ghost use Rattle.std.specs.Prelude.{◌≡◌, ◌≤◌, length, take};
+ghost use Rattle.httparse.specs.Spans.{IsRequestOf, IsRequestWithin};
+ghost use Rattle.oai_front.specs.Workings.{IsBeginning, IsKept, beginning_unless_full};
+
+use crate::fields::first_named;
+use crate::plans::{Plan, plan_of};
+use httparse::spans::{EMPTY_HEADER_SPAN, HeaderSpan, RequestSpans, Span, parse_request};
+use httparse::{Error, Status as Parsed};
+use oai_host::Status;
+
+/// The longest head, in bytes. Empty lines before it count.
+pub const MOST_HEAD_BYTES: usize = 16_384;
+
+/// The most fields of a head.
+pub const MOST_FIELDS: usize = 64;
+
+/// A head that is whole: where its parts are among the bytes that begin with it, and what comes behind
+/// it.
+#[derive(Clone, Copy, Debug)]
+pub struct Head {
+    /// The method.
+    pub method: Span,
+    /// The target.
+    pub target: Span,
+    /// The value of the first field Content-Type, where there is one.
+    pub content_type: Option<Span>,
+    /// How many bytes the head has; the body begins behind them.
+    pub start: usize,
+    /// How many bytes the body has.
+    pub size: usize,
+    /// Whether the connection is closed after the message.
+    pub last: bool,
+}
+
+/// What stands at the front of bytes that came.
+#[derive(Clone, Copy, Debug)]
+pub enum Beginning {
+    /// No head that is whole; one may come.
+    Unknown,
+    /// What is answered with that status, since no message can come of it.
+    Fault(Status),
+    /// A head.
+    Whole(Head),
+}
+
+/// What stands at the front of the bytes (RFC 9112, sections 2 and 3). Of a head that is not whole at most
+/// the first 16,384 bytes are read.
+pub(crate) fn read_beginning(bytes: &[u8]) -> Beginning
+    ensures { IsBeginning bytes.now result }
+{
+    read_within(bytes, MOST_HEAD_BYTES)
+}
+
+/// The same, with the longest head as a number.
+fn read_within(bytes: &[u8], most: usize) -> Beginning
+    requires { most ≡ MOST_HEAD_BYTES }
+    ensures { IsBeginning bytes.now result }
+{
+    let mut headers = [EMPTY_HEADER_SPAN; MOST_FIELDS];
+    let front = front_of(bytes, most);
+    match parse_request(front, &mut headers) {
+        Ok(Parsed::Complete(spans)) => kept_of(front, &spans, &headers),
+        Ok(Parsed::Partial) => unless_full(bytes, most),
+        Err(Error::TooManyHeaders) => unless_full(bytes, most),
+        Err(_) => Beginning::Fault(Status::BadRequest),
+    }
+}
+
+/// The first `most` bytes, or all where there are fewer.
+fn front_of(bytes: &[u8], most: usize) -> &[u8]
+    ensures { result.now ≡ take most bytes.now }
+{
+    if bytes.len() <= most {
+        return bytes;
+    }
+    &bytes[..most]
+}
+
+/// What is said of bytes that do not begin with a head: a fault, once they are as many as one may have.
+fn unless_full(bytes: &[u8], most: usize) -> Beginning
+    ensures { result ≡ beginning_unless_full most bytes.now }
+{
+    if bytes.len() < most {
+        Beginning::Unknown
+    } else {
+        Beginning::Fault(Status::BadRequest)
+    }
+}
+
+/// What is kept of a head that was read, or why it is refused.
+fn kept_of(bytes: &[u8], spans: &RequestSpans, headers: &[HeaderSpan]) -> Beginning
+    requires short { length bytes.now ≤ MOST_HEAD_BYTES }
+    requires few { length headers.now ≤ MOST_FIELDS }
+    requires within { IsRequestWithin bytes.now headers.now spans.now }
+    requires read { IsRequestOf bytes.now headers.now spans.now }
+    ensures { IsKept bytes.now result }
+{
+    let fields = &headers[..spans.headers];
+    match plan_of(bytes, spans.version, fields) {
+        Plan::Refused(status) => Beginning::Fault(status),
+        Plan::Followed(size, last) => Beginning::Whole(Head {
+            method: spans.method,
+            target: spans.path,
+            content_type: first_named(bytes, fields, b"Content-Type"),
+            start: spans.len,
+            size,
+            last,
+        }),
+    }
+}

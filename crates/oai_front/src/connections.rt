@@ -1,0 +1,166 @@
+ghost use Rattle.std.specs.Prelude.{◌≡◌, ◌≤◌, length, drop, OnErr, OnOk};
+ghost use Rattle.oai_front.specs.Connections.{IsEnded, IsGoneOver, IsTakenIn, bytes_with, fresh};
+ghost use Rattle.oai_front.specs.Stages.{is_closing};
+ghost use Rattle.oai_front.specs.Queues.{IsFrontOf};
+
+use crate::beginnings::Head;
+use crate::faults::PieceFault;
+use crate::handlers::Handler;
+use crate::messages::{Left, Next, next_in, perform_all};
+use crate::queues::{drop_front, drop_taken, left_of};
+use crate::stages::Stage;
+use oai_names::Sequence;
+use std::alloc::{AllocError, Global};
+use std::collections::VecDeque;
+use std::marker::Model;
+
+/// A connection: the bytes that came and belong to no message that was performed, what is known of the
+/// head at their front, and the buffers that wait to be written, of the first of which `taken` bytes are.
+#[derive(Debug, Drop)]
+pub struct Connection {
+    number: u64,
+    bytes: Vec<u8>,
+    head: Option<Head>,
+    queue: VecDeque<Sequence<u8>>,
+    taken: usize,
+    stage: Stage,
+}
+
+impl Model for Connection {
+    ghost use Rattle.oai_front.specs.Connections.{Connection};
+
+    ghost Value = { Connection };
+
+    ghost use Rattle.oai_front.specs.Inside.{IsConnection, connection_in};
+
+    ghost view = { connection_in };
+
+    ghost invariant = { IsConnection };
+}
+
+impl Connection {
+    /// A connection that was opened just now. It takes no memory.
+    pub(crate) fn new(alloc: Global, number: u64) -> Connection
+        ensures { result ≡ fresh number }
+    {
+        Connection {
+            number,
+            bytes: Vec::new(alloc),
+            head: None,
+            queue: VecDeque::new(alloc),
+            taken: 0,
+            stage: Stage::Reading,
+        }
+    }
+
+    /// Its number.
+    pub(crate) fn number(&self) -> u64
+        ensures { result ≡ self.now.number }
+    {
+        self.number
+    }
+
+    /// Whether nothing that comes is read any more.
+    pub(crate) fn is_closing(&self) -> bool
+        ensures { result ≡ is_closing self.now.stage }
+    {
+        self.stage.is_closing()
+    }
+
+    /// What is to be written next.
+    pub(crate) fn output(&self) -> &[u8]
+        ensures { IsFrontOf result.now self.now.output }
+    {
+        left_of(&self.queue, self.taken)
+    }
+
+    /// Drops the first bytes of what is to be written.
+    pub(crate) fn take(&mut self, count: usize)
+        requires { count ≤ length self.old.output }
+        ensures { self.new ≡ record self.old { output = drop count self.old.output } }
+    {
+        self.taken = drop_taken(&mut self.queue, self.taken, count);
+    }
+
+    /// Takes note that no more bytes come. What has come of a message that is not whole is dropped.
+    pub(crate) fn end(&mut self, alloc: Global)
+        ensures { IsEnded self.old self.new }
+    {
+        match next_in(self.bytes.as_slice(), self.head) {
+            Next::Unfinished(_) => {
+                self.bytes = Vec::new(alloc);
+                self.head = None;
+                self.stage = self.stage.ended();
+            }
+            Next::Faulty(_) => self.stage = self.stage.ended(),
+            Next::Message(_) => self.stage = self.stage.ended(),
+        }
+    }
+
+    /// Takes a piece, and performs at the moment all messages that are whole. The errors are those of
+    /// `PieceFault`, the first apart.
+    pub(crate) fn piece<H: Handler>(
+        &mut self,
+        alloc: Global,
+        handler: &mut H,
+        moment: i64,
+        piece: &[u8],
+    ) -> Result<(), PieceFault>
+        ensures { IsTakenIn H.step moment piece.now self.old handler.old result self.new handler.new }
+    {
+        match self.read(piece) {
+            Ok(()) => self.perform(alloc, handler, moment),
+            Err(_) => Err(PieceFault::NoMemory),
+        }
+    }
+
+    /// Puts a piece behind the bytes, where it is still read. The error is want of memory; nothing changes
+    /// then.
+    fn read(&mut self, piece: &[u8]) -> Result<(), AllocError>
+        ensures ok { OnOk result (self.new ≡ record self.old { rest = bytes_with self.old piece.now }) }
+        ensures err { OnErr result (self.new ≡ self.old) }
+    {
+        match self.stage {
+            Stage::Reading => self.bytes.extend_from_slice(piece),
+            Stage::Ended => Ok(()),
+            Stage::Closed => Ok(()),
+        }
+    }
+
+    /// Performs at the moment all messages that are whole.
+    fn perform<H: Handler>(
+        &mut self,
+        alloc: Global,
+        handler: &mut H,
+        moment: i64,
+    ) -> Result<(), PieceFault>
+        ensures { IsGoneOver H.step moment self.old handler.old result self.new handler.new }
+    {
+        let left = perform_all(
+            alloc,
+            handler,
+            moment,
+            self.bytes.as_slice(),
+            self.head,
+            &mut self.queue,
+        );
+        match left {
+            Left::Waiting(begun, head) => {
+                drop_front(&mut self.bytes, begun);
+                self.head = head;
+                Ok(())
+            }
+            Left::Nothing => {
+                self.bytes = Vec::new(alloc);
+                self.head = None;
+                self.stage = Stage::Closed;
+                Ok(())
+            }
+            Left::Refused(begun, head) => {
+                drop_front(&mut self.bytes, begun);
+                self.head = head;
+                Err(PieceFault::Unfinished)
+            }
+        }
+    }
+}

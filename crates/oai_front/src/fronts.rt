@@ -1,0 +1,191 @@
+ghost use Rattle.std.specs.Prelude.{◌≡◌, ◌<◌, ◌∷◌, ◌++◌, [], true, vec_capacity, vec_len};
+ghost use Rattle.std.specs.List.{remove};
+ghost use Rattle.std.specs.Option.{option_copied, option_map};
+ghost use Rattle.oai_front.specs.Fronts.{HasOutput, IsChange, IsEnding, IsForgetting, IsOpening, IsOutput, IsPiece, IsTaking, are_numbered, connection_numbered, nothing_open};
+ghost use Rattle.oai_front.specs.Places.{IsPlaced};
+ghost use Rattle.oai_front.specs.Stages.{is_closing};
+
+use crate::connections::Connection;
+use crate::faults::{NoSuchConnection, OpenFault, PieceFault};
+use crate::handlers::Handler;
+use crate::numbers::{ConnId, LAST_NUMBER};
+use std::alloc::Global;
+use std::marker::Model;
+
+/// Connections, and the handler that performs their messages, one after the other. Bytes come in pieces, on
+/// any connection, and what is answered waits there to be written.
+#[derive(Drop)]
+pub struct Front<H> {
+    handler: H,
+    alloc: Global,
+    limit: usize,
+    last: u64,
+    connections: Vec<Connection>,
+}
+
+impl<H> Model for Front<H> {
+    ghost use Rattle.oai_front.specs.Fronts.{State};
+
+    ghost Value = { State H };
+
+    ghost use Rattle.oai_front.specs.FrontInside.{IsHeld, state_in};
+
+    ghost view = { state_in };
+
+    ghost invariant = { IsHeld };
+}
+
+impl<H> Front<H> {
+    /// A front on which no connection is open. As many as `limit` may be open at once. It takes no memory.
+    pub fn new(alloc: Global, handler: H, limit: usize) -> Front<H>
+        ensures { result ≡ nothing_open handler limit }
+    {
+        Front {
+            handler,
+            alloc,
+            limit,
+            last: 0,
+            connections: Vec::new(alloc),
+        }
+    }
+
+    /// Opens a connection. The errors are those of `OpenFault`; nothing changes then.
+    pub fn open(&mut self) -> Result<ConnId, OpenFault>
+        ensures { IsOpening self.old result self.new }
+    {
+        if self.connections.len() >= self.limit {
+            return Err(OpenFault::Full);
+        }
+        match self.connections.try_reserve(1) {
+            Ok(()) => {}
+            Err(_) => return Err(OpenFault::NoMemory),
+        }
+        let number = self.last + 1;
+        if number == LAST_NUMBER {
+            return Err(OpenFault::NumbersSpent);
+        }
+        push(Connection::new(self.alloc, number), &mut self.connections);
+        self.last = number;
+        Ok(ConnId { number })
+    }
+
+    /// Takes note that no more bytes come on the connection. What has come of a message that is not whole
+    /// is dropped; messages that wait to be performed stay. It takes no memory.
+    pub fn end(&mut self, conn: ConnId) -> Result<(), NoSuchConnection>
+        ensures { IsEnding conn.number self.old result self.new }
+    {
+        match place_of(self.connections.as_slice(), conn.number) {
+            Some(at) => {
+                let connection = &mut self.connections[at];
+                connection.end(self.alloc);
+                Ok(())
+            }
+            None => Err(NoSuchConnection),
+        }
+    }
+
+    /// Takes the connection away, with all that waits on it. It takes no memory.
+    pub fn forget(&mut self, conn: ConnId) -> Result<(), NoSuchConnection>
+        ensures { IsForgetting conn.number self.old result self.new }
+    {
+        match place_of(self.connections.as_slice(), conn.number) {
+            Some(at) => {
+                drop_at(&mut self.connections, at);
+                Ok(())
+            }
+            None => Err(NoSuchConnection),
+        }
+    }
+
+    /// What is to be written next on the connection: the first bytes of those that were not taken, empty
+    /// only where there are none; None where the connection is not open. It takes no memory.
+    pub fn output(&self, conn: ConnId) -> Option<&[u8]>
+        ensures { IsOutput conn.number self.now.connections (option_copied result) }
+    {
+        match place_of(self.connections.as_slice(), conn.number) {
+            Some(at) => {
+                let connection = &self.connections[at];
+                Some(connection.output())
+            }
+            None => None,
+        }
+    }
+
+    /// Takes note that so many bytes of those to be written on the connection were. It takes no memory.
+    pub fn taken(&mut self, conn: ConnId, count: usize)
+        requires { HasOutput conn.number count self.old.connections }
+        ensures change { IsChange conn.number self.old self.new (IsTaking count) }
+        ensures handler { self.new.handler ≡ self.old.handler }
+    {
+        match place_of(self.connections.as_slice(), conn.number) {
+            Some(at) => {
+                let connection = &mut self.connections[at];
+                connection.take(count);
+            }
+            None => unreachable!(),
+        }
+    }
+
+    /// Whether nothing that comes on the connection is read any more: its end came, or the last message,
+    /// or a fault, was answered. None where the connection is not open. It takes no memory.
+    pub fn closing(&self, conn: ConnId) -> Option<bool>
+        ensures { result ≡ option_map (λ c. is_closing c.stage)
+            (connection_numbered conn.number self.now.connections) }
+    {
+        match place_of(self.connections.as_slice(), conn.number) {
+            Some(at) => {
+                let connection = &self.connections[at];
+                Some(connection.is_closing())
+            }
+            None => None,
+        }
+    }
+}
+
+impl<H: Handler> Front<H> {
+    /// Takes a piece of what comes on the connection, and performs the messages that are whole with it, in
+    /// order, at the moment, in seconds from 1970 on; their answers, and then the answer to a connection
+    /// fault, stand behind the bytes to be written. No other connection changes. The errors are those of
+    /// `PieceFault`. On a connection that is closing the piece is dropped.
+    ///
+    /// It costs what the piece brings: of a body each byte is copied once, and of an answer only the head is
+    /// written. A head that is not whole is read again with each piece, at most 16,384 bytes of it.
+    pub fn piece(&mut self, conn: ConnId, moment: i64, piece: &[u8]) -> Result<(), PieceFault>
+        ensures { IsPiece H.step conn.number moment piece.now self.old result self.new }
+    {
+        match place_of(self.connections.as_slice(), conn.number) {
+            Some(at) => {
+                let connection = &mut self.connections[at];
+                connection.piece(self.alloc, &mut self.handler, moment, piece)
+            }
+            None => Err(PieceFault::NoSuchConnection),
+        }
+    }
+}
+
+/// The place of the connection of that number, among connections whose numbers rise.
+fn place_of(connections: &[Connection], number: u64) -> Option<usize>
+    requires { are_numbered connections.now ≡ true }
+    ensures { IsPlaced number connections.now result }
+{
+    match connections.binary_search_by_key(&number, |connection| connection.number()) {
+        Ok(at) => Some(at),
+        Err(_) => None,
+    }
+}
+
+/// Drops the connection at that place.
+fn drop_at(connections: &mut Vec<Connection>, at: usize)
+    requires { at < vec_len connections.old }
+    ensures { connections.new.items ≡ remove connections.old.items at }
+{
+    connections.remove(at);
+}
+
+/// Puts a connection behind the others, where there is room.
+fn push(connection: Connection, connections: &mut Vec<Connection>)
+    requires { vec_len connections.old < vec_capacity connections.old }
+    ensures { connections.new.items ≡ connections.old.items ++ connection ∷ [] }
+{
+    connections.push(connection).unwrap();
+}

@@ -1,0 +1,235 @@
+ghost use Rattle.std.specs.Prelude.{◌≡◌, ◌≤◌, ◌+◌, ◌++◌, [], length, decimal, vec_len, vec_capacity};
+ghost use Rattle.std.specs.Fmt.{signed_decimal};
+ghost use Rattle.oai_front.specs.Heads as spec;
+
+use itoa::Buffer;
+use oai_host::Status;
+
+/// What stands at a target.
+#[derive(Clone, Copy, Debug, PartialEq, Eq)]
+pub enum Place {
+    /// The requests of a repository: the path begins with `/oai/`.
+    Requests,
+    /// The deposits of a repository: the path begins with `/deposit/`.
+    Deposits,
+    /// Neither.
+    Elsewhere,
+}
+
+/// What the head of an answer tells.
+#[derive(Clone, Copy, Debug)]
+pub struct AnswerHead {
+    /// What stands at the target that was asked for.
+    pub place: Place,
+    /// The status.
+    pub status: Status,
+    /// After how many seconds to ask again, in a 503.
+    pub seconds: Option<i64>,
+    /// How many lines of a deposit were done, in a 500 or a 503.
+    pub done: Option<u64>,
+    /// Whether the connection is closed after the answer.
+    pub last: bool,
+    /// How many bytes the body has.
+    pub size: usize,
+}
+
+/// Room enough for the head of any answer, in bytes.
+pub const HEAD_ROOM: usize = 512;
+
+/// Room enough for a line of a head, in bytes.
+pub const LINE_ROOM: usize = 64;
+
+/// What stands at the target, by how its path begins.
+pub(crate) fn place_of(target: &[u8]) -> Place
+    ensures { result ≡ spec.place_of target.now }
+{
+    if target.starts_with(b"/oai/") {
+        Place::Requests
+    } else if target.starts_with(b"/deposit/") {
+        Place::Deposits
+    } else {
+        Place::Elsewhere
+    }
+}
+
+/// Writes the head of an answer, with the empty line behind it, into room that is there (RFC 9112,
+/// sections 4 and 5).
+#[tactic(auto, unfolding(crate::specs::Heads::answer_head))]
+pub(crate) fn write_head(head: &AnswerHead, out: &mut Vec<u8>)
+    requires empty { out.old.items ≡ [] }
+    requires room { HEAD_ROOM ≤ vec_capacity out.old }
+    ensures { out.new.items ≡ spec.answer_head head.now }
+{
+    write_status(head.status, out);
+    write_type(head.place, head.status, out);
+    write_allow(head.place, head.status, out);
+    write_retry(head.status, head.seconds, out);
+    write_done(head.place, head.status, head.done, out);
+    write_close(head.last, out);
+    write_length(head.size, out);
+    put(b"\r\n", out);
+}
+
+/// Writes the line of the status (RFC 9112, section 4).
+#[tactic(auto, unfolding(crate::specs::Heads::plain, crate::specs::Heads::status_line))]
+fn write_status(status: Status, out: &mut Vec<u8>)
+    requires { vec_len out.old + LINE_ROOM ≤ vec_capacity out.old }
+    ensures items { out.new.items ≡ out.old.items ++ spec.status_line status }
+    ensures len { vec_len out.new ≤ vec_len out.old + LINE_ROOM }
+    ensures room { vec_capacity out.old ≤ vec_capacity out.new }
+{
+    let mut number = Buffer::new();
+    put(b"HTTP/1.1 ", out);
+    put(number.format(status.number()).as_bytes(), out);
+    put(b" ", out);
+    put(status.phrase().as_bytes(), out);
+    put(b"\r\n", out);
+}
+
+/// Writes the type of what a 200 has (RFC 9110, section 8.3).
+#[tactic(auto, unfolding(crate::specs::Heads::plain, crate::specs::Heads::type_field))]
+fn write_type(place: Place, status: Status, out: &mut Vec<u8>)
+    requires { vec_len out.old + LINE_ROOM ≤ vec_capacity out.old }
+    ensures items { out.new.items ≡ out.old.items ++ spec.type_field place status }
+    ensures len { vec_len out.new ≤ vec_len out.old + LINE_ROOM }
+    ensures room { vec_capacity out.old ≤ vec_capacity out.new }
+{
+    if status.number() != 200 {
+        return;
+    }
+    match place {
+        Place::Requests => write_field("Content-Type", b"text/xml", out),
+        Place::Deposits => write_field("Content-Type", b"text/plain; charset=utf-8", out),
+        Place::Elsewhere => {}
+    }
+}
+
+/// Writes which methods may be used, where another was (RFC 9110, section 10.2.1).
+#[tactic(auto, unfolding(crate::specs::Heads::plain, crate::specs::Heads::allow_field))]
+fn write_allow(place: Place, status: Status, out: &mut Vec<u8>)
+    requires { vec_len out.old + LINE_ROOM ≤ vec_capacity out.old }
+    ensures items { out.new.items ≡ out.old.items ++ spec.allow_field place status }
+    ensures len { vec_len out.new ≤ vec_len out.old + LINE_ROOM }
+    ensures room { vec_capacity out.old ≤ vec_capacity out.new }
+{
+    if status.number() != 405 {
+        return;
+    }
+    match place {
+        Place::Requests => write_field("Allow", b"GET, POST", out),
+        Place::Deposits => write_field("Allow", b"POST", out),
+        Place::Elsewhere => {}
+    }
+}
+
+/// Writes after how many seconds to ask again (RFC 9110, section 10.2.3).
+#[tactic(auto, unfolding(crate::specs::Heads::retry_field))]
+fn write_retry(status: Status, seconds: Option<i64>, out: &mut Vec<u8>)
+    requires { vec_len out.old + LINE_ROOM ≤ vec_capacity out.old }
+    ensures items { out.new.items ≡ out.old.items ++ spec.retry_field status seconds }
+    ensures len { vec_len out.new ≤ vec_len out.old + LINE_ROOM }
+    ensures room { vec_capacity out.old ≤ vec_capacity out.new }
+{
+    if status.number() != 503 {
+        return;
+    }
+    match seconds {
+        Some(seconds) => {
+            let mut text = Buffer::new();
+            write_field("Retry-After", text.format(seconds).as_bytes(), out)
+        }
+        None => {}
+    }
+}
+
+/// Writes how many lines of a deposit were done before it failed.
+#[tactic(auto, unfolding(crate::specs::Heads::done_field))]
+fn write_done(place: Place, status: Status, done: Option<u64>, out: &mut Vec<u8>)
+    requires { vec_len out.old + LINE_ROOM ≤ vec_capacity out.old }
+    ensures items { out.new.items ≡ out.old.items ++ spec.done_field place status done }
+    ensures len { vec_len out.new ≤ vec_len out.old + LINE_ROOM }
+    ensures room { vec_capacity out.old ≤ vec_capacity out.new }
+{
+    if !has_failed(status) {
+        return;
+    }
+    match place {
+        Place::Deposits => write_lines(done, out),
+        Place::Requests => {}
+        Place::Elsewhere => {}
+    }
+}
+
+/// Whether the status is one of a deposit that failed.
+fn has_failed(status: Status) -> bool
+    ensures { result ≡ spec.has_failed status }
+{
+    status.number() == 500 || status.number() == 503
+}
+
+/// Writes how many lines were done, where it is told.
+#[tactic(auto, unfolding(crate::specs::Heads::lines_field))]
+fn write_lines(done: Option<u64>, out: &mut Vec<u8>)
+    requires { vec_len out.old + LINE_ROOM ≤ vec_capacity out.old }
+    ensures items { out.new.items ≡ out.old.items ++ spec.lines_field done }
+    ensures len { vec_len out.new ≤ vec_len out.old + LINE_ROOM }
+    ensures room { vec_capacity out.old ≤ vec_capacity out.new }
+{
+    match done {
+        Some(lines) => {
+            let mut text = Buffer::new();
+            write_field("X-Lines-Done", text.format(lines).as_bytes(), out)
+        }
+        None => {}
+    }
+}
+
+/// Writes that the connection is closed after the answer, where it is (RFC 9110, section 7.6.1).
+#[tactic(auto, unfolding(crate::specs::Heads::plain, crate::specs::Heads::close_field))]
+fn write_close(last: bool, out: &mut Vec<u8>)
+    requires { vec_len out.old + LINE_ROOM ≤ vec_capacity out.old }
+    ensures items { out.new.items ≡ out.old.items ++ spec.close_field last }
+    ensures len { vec_len out.new ≤ vec_len out.old + LINE_ROOM }
+    ensures room { vec_capacity out.old ≤ vec_capacity out.new }
+{
+    if last {
+        write_field("Connection", b"close", out);
+    }
+}
+
+/// Writes the length of the body (RFC 9110, section 8.6).
+#[tactic(auto, unfolding(crate::specs::Heads::length_field))]
+fn write_length(size: usize, out: &mut Vec<u8>)
+    requires { vec_len out.old + LINE_ROOM ≤ vec_capacity out.old }
+    ensures items { out.new.items ≡ out.old.items ++ spec.length_field size }
+    ensures len { vec_len out.new ≤ vec_len out.old + LINE_ROOM }
+    ensures room { vec_capacity out.old ≤ vec_capacity out.new }
+{
+    let mut text = Buffer::new();
+    write_field("Content-Length", text.format(size).as_bytes(), out);
+}
+
+/// Writes a field: its name, a colon, a space, its value and a line end (RFC 9112, section 5).
+#[tactic(auto, unfolding(crate::specs::Heads::plain, crate::specs::Heads::field))]
+fn write_field(name: &str, value: &[u8], out: &mut Vec<u8>)
+    requires short { length name.now + length value.now + 4 ≤ LINE_ROOM }
+    requires room { vec_len out.old + LINE_ROOM ≤ vec_capacity out.old }
+    ensures items { out.new.items ≡ out.old.items ++ spec.field name.now value.now }
+    ensures len { vec_len out.new ≤ vec_len out.old + LINE_ROOM }
+    ensures room { vec_capacity out.old ≤ vec_capacity out.new }
+{
+    put(name.as_bytes(), out);
+    put(b": ", out);
+    put(value, out);
+    put(b"\r\n", out);
+}
+
+/// Writes into room that is there.
+fn put(bytes: &[u8], out: &mut Vec<u8>)
+    requires { vec_len out.old + length bytes.now ≤ vec_capacity out.old }
+    ensures items { out.new.items ≡ out.old.items ++ bytes.now }
+    ensures len { vec_len out.new ≡ vec_len out.old + length bytes.now }
+    ensures room { vec_capacity out.old ≤ vec_capacity out.new }
+{
+    out.extend_from_slice(bytes).unwrap()
+}

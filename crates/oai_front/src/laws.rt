@@ -1,0 +1,65 @@
+ghost use Rattle.std.specs.Prelude.{◌≡◌, ℕ, List, [], ◌++◌, IsTrue};
+ghost use Rattle.oai_host.specs.Hosts.{Hosting};
+ghost use Rattle.oai_front.specs.Fronts.{State};
+ghost use Rattle.oai_front.specs.Messages.{AreAlike, End, IsClosing, IsUnfinished, Message, Splits, Stream, waits};
+ghost use Rattle.oai_front.specs.HostRuns.{AreHosted};
+ghost use Rattle.oai_front.specs.Runs.{AreServed, Comes, Piece};
+
+use crate::beginnings::{MOST_FIELDS, MOST_HEAD_BYTES};
+use crate::handlers::Handler;
+use crate::numbers::LAST_NUMBER;
+use crate::plans::{MOST_BODY_BYTES, MOST_LENGTH_DIGITS};
+use oai_catalogue::Versions;
+use oai_host::Host;
+
+/// The messages of bytes are these and no others, however many there are, and all that is told of their end
+/// is alike. It does nothing.
+pub fn split_law()
+    ensures alike { (bytes : List ℕ) (messages others : List Message) (end other : End)
+        → Stream bytes messages end → Stream bytes others other
+        → (messages ≡ others) × AreAlike end other }
+{}
+
+/// It does not matter how bytes are cut into pieces: the messages that a piece completes, and those that
+/// the next one completes with what was left, are those of both together; once a connection is closed,
+/// nothing comes of what follows. What was performed before memory was refused is the beginning of what
+/// was completed. It does nothing.
+pub fn cut_law()
+    ensures joined { (first second rest : List ℕ) (messages others : List Message) (end : End)
+        → Stream first messages (waits rest) → Stream (rest ++ second) others end
+        → Stream (first ++ second) (messages ++ others) end }
+    ensures over { (first second : List ℕ) (messages : List Message) (end : End)
+        → Stream first messages end → IsClosing end → Stream (first ++ second) messages end }
+    ensures begun { (bytes rest : List ℕ) (messages others : List Message) (end : End)
+        → Splits bytes messages rest → Stream rest others end
+        → Stream bytes (messages ++ others) end }
+{}
+
+/// Pieces come on any number of connections, mixed in any way, and each is taken in whole. The handler
+/// performs one message after the other; those of each connection are the messages of the bytes that came
+/// on it, in order, each performed with the piece that brings its last byte, and their answers, and the
+/// answer to a fault, are what is put behind its output. It is said of each connection that reads and on
+/// which nothing whole waits, and so of one that was opened just now. It does nothing.
+pub fn run_law<H: Handler>()
+    ensures served { (old new : State H) (pieces : List Piece)
+        → Comes H.step old pieces new → AreServed H.step old new pieces }
+    ensures begun { IsUnfinished [] }
+{}
+
+/// The same, where a host performs the messages over a store that gives back what was written to it. At
+/// each of its repositories the answers are a run of its own exchanges, and where none failed, those that
+/// it alone gives. It does nothing.
+pub fn host_law<V: Versions + Drop>()
+    ensures hosted { (old new : State Hosting) (pieces : List Piece)
+        → Comes ⟦<Host<V> as Handler>⟧.step old pieces new → IsTrue old.handler.honest
+        → AreHosted old new pieces }
+{}
+
+/// The limits in numbers, since definitions read them by their names. It does nothing.
+pub fn limit_law()
+    ensures head { MOST_HEAD_BYTES ≡ 16_384 }
+    ensures fields { MOST_FIELDS ≡ 64 }
+    ensures body { MOST_BODY_BYTES ≡ 1_048_576 }
+    ensures digits { MOST_LENGTH_DIGITS ≡ 19 }
+    ensures number { LAST_NUMBER ≡ 18_446_744_073_709_551_615 }
+{}

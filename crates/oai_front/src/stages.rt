@@ -1,0 +1,37 @@
+ghost use Rattle.std.specs.Prelude.{◌≡◌};
+ghost use Rattle.oai_front.specs.Stages as spec;
+
+/// How far a connection has come.
+#[derive(Clone, Copy, Debug, PartialEq, Eq)]
+pub enum Stage {
+    /// It reads.
+    Reading,
+    /// Its end came; what came before may wait to be performed.
+    Ended,
+    /// The last message, or a fault, was answered.
+    Closed,
+}
+
+impl Stage {
+    /// Whether nothing that comes is read any more.
+    pub(crate) fn is_closing(self) -> bool
+        ensures { result ≡ spec.is_closing self }
+    {
+        match self {
+            Stage::Reading => false,
+            Stage::Ended => true,
+            Stage::Closed => true,
+        }
+    }
+
+    /// How far it is once no more bytes come.
+    pub(crate) fn ended(self) -> Stage
+        ensures { result ≡ spec.stage_ended self }
+    {
+        match self {
+            Stage::Reading => Stage::Ended,
+            Stage::Ended => Stage::Ended,
+            Stage::Closed => Stage::Closed,
+        }
+    }
+}

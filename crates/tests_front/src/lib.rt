@@ -1,0 +1,16 @@
+//! Tests of connections (`oai_front`), over a handler that tells what it was asked, and over a host. It
+//! holds nothing else.
+#![tactic(auto)]
+
+#[cfg(test)]
+mod answers;
+#[cfg(test)]
+mod bounds;
+#[cfg(test)]
+mod connections;
+#[cfg(test)]
+mod hosts;
+#[cfg(test)]
+mod pieces;
+#[cfg(test)]
+mod teller;

@@ -1,0 +1,162 @@
+//! A handler that tells what it was asked, and what a front over it answers.
+ghost use Rattle.std.specs.Prelude.{⊤};
+
+use oai_front::{ConnId, Front, Handler, PieceFault};
+use oai_host::{Answer, Exchange, Status};
+use oai_names::Sequence;
+use std::alloc::{AllocError, Global};
+use std::process::Abort;
+use std::test::Fail;
+
+/// Counts what it was asked.
+#[derive(Drop)]
+pub(crate) struct Teller {
+    alloc: Global,
+    asked: u64,
+}
+
+impl Handler for Teller {
+    ghost step = { λ old moment asked answer new. ⊤ };
+
+    fn exchange(&mut self, moment: i64, exchange: &Exchange<'_>) -> Answer {
+        self.asked = self.asked.wrapping_add(1);
+        match exchange.target {
+            b"/oai/a" => self.told(moment, exchange),
+            b"/deposit/a" => self.told(moment, exchange),
+            b"/oai/later" => told_only(self.alloc, Status::ServiceUnavailable, Some(50), None),
+            b"/deposit/later" => told_only(
+                self.alloc,
+                Status::ServiceUnavailable,
+                Some(60),
+                Some(2),
+            ),
+            b"/deposit/failed" => told_only(self.alloc, Status::InternalServerError, None, Some(1)),
+            b"/oai/failed" => told_only(self.alloc, Status::InternalServerError, None, None),
+            b"/oai/put" => told_only(self.alloc, Status::MethodNotAllowed, None, None),
+            b"/deposit/put" => told_only(self.alloc, Status::MethodNotAllowed, None, None),
+            b"/oai/type" => told_only(self.alloc, Status::UnsupportedMediaType, None, None),
+            b"*" => told_only(self.alloc, Status::BadRequest, None, None),
+            _ => told_only(self.alloc, Status::NotFound, None, None),
+        }
+    }
+}
+
+impl Teller {
+    /// How many exchanges came before, the moment, the method, the type and the body.
+    fn told(&self, moment: i64, exchange: &Exchange<'_>) -> Answer {
+        match in_words(self.alloc, self.asked, moment, exchange) {
+            Ok(words) => Answer {
+                status: Status::Ok,
+                seconds: None,
+                done: None,
+                body: Sequence::new(words),
+                fault: None,
+            },
+            Err(_) => told_only(self.alloc, Status::ServiceUnavailable, Some(60), None),
+        }
+    }
+}
+
+fn in_words(
+    alloc: Global,
+    asked: u64,
+    moment: i64,
+    exchange: &Exchange<'_>,
+) -> Result<Vec<u8>, AllocError> {
+    let number = format!(in alloc; "{asked} {moment} ")?;
+    let mut words = number.into_bytes();
+    words.extend_from_slice(exchange.method)?;
+    words.extend_from_slice(b" [")?;
+    words.extend_from_slice(exchange.content_type.unwrap_or(b"-"))?;
+    words.extend_from_slice(b"] ")?;
+    words.extend_from_slice(exchange.body)?;
+    Ok(words)
+}
+
+/// An answer without a body.
+fn told_only(alloc: Global, status: Status, seconds: Option<i64>, done: Option<u64>) -> Answer {
+    Answer {
+        status,
+        seconds,
+        done,
+        body: Sequence::new(Vec::new(alloc)),
+        fault: None,
+    }
+}
+
+/// A front over a handler that was asked nothing yet.
+pub(crate) fn front(alloc: Global, limit: usize) -> Front<Teller> {
+    Front::new(alloc, Teller { alloc, asked: 0 }, limit)
+}
+
+/// Hands a piece on. Where memory is refused once, nothing is lost: a piece that was not taken is handed on
+/// again, and the messages that wait are performed by an empty one.
+pub(crate) fn hand_on(
+    front: &mut Front<Teller>,
+    conn: ConnId,
+    moment: i64,
+    piece: &[u8],
+) -> Result<(), PieceFault> {
+    match front.piece(conn, moment, piece) {
+        Ok(()) => Ok(()),
+        Err(PieceFault::NoMemory) => front.piece(conn, moment, piece),
+        Err(PieceFault::Unfinished) => front.piece(conn, moment, b""),
+        Err(PieceFault::NoSuchConnection) => Err(PieceFault::NoSuchConnection),
+    }
+}
+
+/// Takes what is to be written on the connection, one byte at a time where `slowly`.
+pub(crate) fn take_all<H>(
+    front: &mut Front<H>,
+    conn: ConnId,
+    slowly: bool,
+    all: &mut Vec<u8>,
+) -> Result<(), AllocError> {
+    for _ in 0..100_000u32 {
+        let count = match front.output(conn) {
+            Some([]) => break,
+            Some(bytes) => {
+                let count = if slowly { 1 } else { bytes.len() };
+                all.extend_from_slice(&bytes[..count])?;
+                count
+            }
+            None => break,
+        };
+        front.taken(conn, count);
+    }
+    Ok(())
+}
+
+/// What is answered to these pieces on one connection, each at the moment of its number, and whether the
+/// connection is closing then.
+pub(crate) fn answered(
+    rt: &impl Abort,
+    alloc: Global,
+    pieces: &[&[u8]],
+) -> Result<(Vec<u8>, bool), Fail> {
+    let mut front = front(alloc, 1);
+    let conn = front.open()?;
+    let mut moment: i64 = 0;
+    for piece in pieces {
+        hand_on(&mut front, conn, moment, piece)?;
+        moment = moment.wrapping_add(1);
+    }
+    let mut all = Vec::new(alloc);
+    take_all(&mut front, conn, false, &mut all)?;
+    Ok((all, front.closing(conn) == Some(true)))
+}
+
+/// The bytes are answered so, and the connection is closing then or not.
+pub(crate) fn assert_answered(
+    rt: &impl Abort,
+    alloc: Global,
+    bytes: &str,
+    wanted: &str,
+    closing: bool,
+) -> Result<(), Fail> {
+    let (answer, closes) = answered(rt, alloc, &[bytes.as_bytes()])?;
+    let answer = std::str::from_utf8(&answer)?;
+    assert_eq!(rt; answer, wanted, "to {bytes}");
+    assert_eq!(rt; closes, closing, "after {bytes}");
+    Ok(())
+}
