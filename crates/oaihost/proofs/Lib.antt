@@ -1,0 +1,5 @@
+pub mod Apart
+mod AskedLemmas
+mod InputLemmas
+mod KnownLemmas
+pub mod Performed

@@ -1,3 +1,9 @@
-pub mod Builtin
-pub mod Exchange
+pub mod Asked
+pub mod Configurations
+pub mod Events
+pub mod Inputs
 pub mod Lines
+pub mod Numbers
+pub mod Outputs
+pub mod Stops
+pub mod Workings

@@ -1,20 +1,16 @@
 -- The lines that the program performs, what it writes for each, and what it says where it stops. This repository's own.
-use Rattle.std.specs.Prelude.{◌≡◌, ℕ, ◌^◌, ◌==◌, ℤ, pos, neg_ℤ, Bool, ◌&&◌, nat_lt, nat_le, List, [], ◌++◌, length, drop, slice_index, codes, decimal, Option, Some, None, is_none, if◌then◌else◌}
+use Rattle.std.specs.Prelude.{◌≡◌, ℕ, ◌^◌, ◌==◌, ℤ, pos, neg_ℤ, Bool, ◌&&◌, nat_lt, nat_le, List, [], ◌++◌, length, drop, slice_index, codes, decimal, Option, Some, None, is_none, IsTrue, if◌then◌else◌}
 use Rattle.std.specs.List.{before_first, after_first, count_by}
 use Rattle.std.specs.Option.{option_map}
-use Rattle.std.specs.Str.{all_ascii_digits}
+use Rattle.std.specs.Str.{all_ascii_digits, bytes_eq}
 use Rattle.std.specs.Fmt.{signed_decimal}
 use Rattle.std.specs.Str.Parse.{digits_value}
-use Rattle.oai_item.specs.declared.faults.Fault.{Fault}
-use Rattle.oai_item.specs.declared.faults.Fault.TheVariants as fault
-use Rattle.oai_catalogue.specs.Store.{Lists}
-use Rattle.oai_repo.specs.Held.{Held}
-use Rattle.oaihost.specs.Exchange.{IsAnswered, input_of}
-use Rattle.oaihost.specs.declared.exchange.Exchange.{Exchange}
-use Rattle.oaihost.specs.declared.exchange.Answer.{Answer}
-use Rattle.oaihost.specs.declared.exchange.Answer.TheVariants.{Failed, Later, Performed}
-use Rattle.oaihost.specs.declared.stop.Stop.{Stop}
-use Rattle.oaihost.specs.declared.stop.Stop.TheVariants.{BadExchange, InputFault, OutputFault, NoMemory}
+use Rattle.oai_host.specs.Hosts.{Hosting, IsAnswered}
+use Rattle.oai_host.specs.Statuses.{number_of}
+use Rattle.oai_host.specs.Workings.{call_of}
+use Rattle.oai_host.specs.declared.exchanges.Answer.{Answer}
+use Rattle.oai_host.specs.declared.exchanges.Call.{Call}
+use Rattle.oai_host.specs.declared.exchanges.Exchange.{Exchange}
 
 -- ---- a moment, `-?[0-9]+`: in seconds from 1970 on, in 64 bits
 
@@ -48,24 +44,26 @@ part text = before_first is_space text
 abbrev pub rest : List ℕ → List ℕ
 rest text = after_first is_space text
 
--- a moment, and an exchange's three parts
-pub record Spelled : Type 0 where
-  pub moment : ℤ
-  pub method : List ℕ
-  pub target : List ℕ
-  pub body : List ℕ
+-- the type of a body: that of a form for a POST, and none for any other method
+abbrev pub type_of : List ℕ → Option (List ℕ)
+type_of method = if bytes_eq method (codes "POST") then Some (codes "application/x-www-form-urlencoded") else None
 
-abbrev pub spelled_by : ℤ × Exchange → Spelled
-spelled_by (moment, exchange) =
-    record { moment = moment; method = exchange.method.now; target = exchange.target.now; body = exchange.body.now }
+-- what was read is an exchange at a moment
+abbrev pub spelled_by : ℤ × Exchange → Call
+spelled_by (moment, exchange) = call_of moment exchange
 
 -- what a line with these parts spells
-abbrev pub spelled_with : List ℕ → ℤ → Spelled
-spelled_with line moment =
-    record { moment = moment; method = part (rest line); target = part (rest (rest line)); body = rest (rest (rest line)) }
+abbrev pub spelled_with : List ℕ → ℤ → Call
+spelled_with line moment = record {
+  moment = moment;
+  method = part (rest line);
+  target = part (rest (rest line));
+  content_type = type_of (part (rest line));
+  body = rest (rest (rest line));
+}
 
 -- a line has two spaces or more, and begins with a moment
-unfoldable pub spelled : List ℕ → Option Spelled
+unfoldable pub spelled : List ℕ → Option Call
 spelled line = if nat_lt (count_by is_space line) 2 then None else option_map (spelled_with line) (moment_of (part line))
 
 -- a line that is neither empty nor spells an exchange
@@ -74,40 +72,26 @@ is_bad line = nat_lt 0 (length line) && is_none (spelled line)
 
 -- ---- what is written for an answer
 
--- the status of a fault: 503 and the seconds to wait where memory or room is wanted, and else 500
-abbrev pub status_of : Fault → List ℕ
-status_of fault.NoMemory = codes "503 60"
-status_of fault.TooManyPages = codes "503 60"
-status_of fault.Device = codes "500"
-status_of fault.Damaged = codes "500"
+-- the seconds to wait, where there are any, behind a space
+abbrev pub shown_seconds : Option ℤ → List ℕ
+shown_seconds None = []
+shown_seconds (Some seconds) = codes " " ++ signed_decimal seconds
 
 -- the lines done, where there are any, behind a space
 abbrev pub shown_done : Option ℕ → List ℕ
 shown_done None = []
 shown_done (Some done) = codes " " ++ decimal done
 
--- the status 200, a line end, and the body; the status 503, the seconds to wait, and a line end; or the status of the fault, the
--- lines done, and a line end
+-- the status, the seconds to wait and the lines done, as far as there are any, a line end, and the body
 unfoldable pub shown : Answer → List ℕ
-shown (Performed body) = codes "200\n" ++ body
-shown (Later seconds) = codes "503 " ++ signed_decimal seconds ++ codes "\n"
-shown (Failed fault done) = status_of fault ++ shown_done done ++ codes "\n"
+shown answer = decimal (number_of answer.status) ++ shown_seconds answer.seconds ++ shown_done answer.done ++ codes "\n" ++ answer.body
 
 -- ---- what a line does
 
--- the line spells an exchange, which was performed or failed, and its answer was written
-pub record IsLineDone (bytes : List ℕ) (honest : Bool) (old : Held) (before : Lists) (new : Held) (after : Lists) (IsWritten : List ℕ → Type 0) : Type 0 where
-  pub moment : ℤ
-  pub exchange : Exchange
+-- the line spells an exchange with the host, and its answer was written
+pub record IsLineDone (bytes : List ℕ) (old new : Hosting) (IsWritten : List ℕ → Type 0) : Type 0 where
+  pub call : Call
   pub answer : Answer
-  pub read : spelled bytes ≡ Some (spelled_by (moment, exchange))
-  pub answered : IsAnswered honest old before moment (input_of exchange) answer new after
+  pub read : spelled bytes ≡ Some call
+  pub answered : IsTrue old.honest → IsAnswered call answer old.repositories new.repositories
   pub written : IsWritten (shown answer)
-
--- ---- what is said where it stops
-
-abbrev pub stop_text : Stop → List ℕ
-stop_text (BadExchange number) = codes "line " ++ decimal number ++ codes ": bad exchange"
-stop_text InputFault = codes "input fault"
-stop_text OutputFault = codes "output fault"
-stop_text NoMemory = codes "out of memory"

@@ -1,84 +1,159 @@
-//! `oaihost`: a data provider for OAI-PMH 2.0.
+//! `oaihost`: a data provider for OAI-PMH 2.0 that hosts many repositories.
 #![tactic(auto)]
 
-ghost use Rattle.std.specs.Prelude.{◌≡◌, IfErr, IfOk};
+ghost use Rattle.std.specs.Prelude.{◌≡◌, IfOk};
 ghost use Rattle.std.specs.Process.{exit_status};
-ghost use Rattle.oai_repo.specs.Settings.{Configures};
-ghost use Rattle.oaihost.specs.Builtin as spec;
-ghost use Rattle.oaihost.specs.declared.stop.Stop.TheVariants.{NoMemory};
+ghost use Rattle.oaihost.specs.Stops as spec;
 
+mod answers;
 mod ask;
-mod builtin;
-mod exchange;
-mod served;
+mod configurations;
+mod events;
+mod lines;
+mod output;
+mod parts;
+mod server;
+mod serving;
+mod spelled;
 mod stop;
 #[cfg(test)]
 mod tests;
+mod trace;
 
 use ask::ask_lines;
-use oai_catalogue::PlainVersions;
-use served::Served;
-use std::alloc::Global;
+use configurations::{host_of, read_config};
+use oai_front::Front;
+use parts::read_number;
+use server::serve;
 use std::env;
 use std::io::{self, BufWriter};
 use std::process::ExitCode;
-use std::rt::Env;
+use std::rt::{Clock, Env, Files, Net};
 use stop::Stop;
+use trace::{MOST_CONNECTIONS, trace_lines};
 
-/// What the program says where it is called with other arguments.
-const USAGE: &str =
-    "usage: oaihost check CONFIG | ask CONFIG | trace CONFIG | serve CONFIG PORT SPILL CONNECTIONS";
+/// What the program is called for, with the path of a configuration.
+#[derive(Drop)]
+enum Command {
+    /// To say whether the configuration is right.
+    Check(String),
+    /// To perform the exchanges of standard input on the repositories of the configuration.
+    Ask(String),
+    /// To take the pieces and ends of connections that standard input tells.
+    Trace(String),
+    /// To serve so many connections on a port of 127.0.0.1.
+    Serve(String, u16, u64),
+}
 
 fn main(rt: HostRuntime) -> io::Result<ExitCode> {
-    let Ok(asks) = is_ask(&rt) else {
-        return stopped(&rt, Stop::NoMemory);
+    let done = match called_for(&rt) {
+        Ok(Command::Check(path)) => run_check(&rt, path.as_str()),
+        Ok(Command::Ask(path)) => run_ask(&rt, path.as_str()),
+        Ok(Command::Trace(path)) => run_trace(&rt, path.as_str()),
+        Ok(Command::Serve(path, port, connections)) => {
+            run_serve(&rt, path.as_str(), port, connections)
+        }
+        Err(stop) => Err(stop),
     };
-    if !asks {
-        eprintln!(rt; "{USAGE}")?;
-        return Ok(ExitCode::from(2));
-    }
-    match run_ask(&rt) {
+    match done {
         Ok(()) => Ok(ExitCode::SUCCESS),
         Err(stop) => stopped(&rt, stop),
     }
 }
 
-/// Whether the arguments are `ask` and the path of a configuration.
-fn is_ask(rt: &(impl Env + AllocGlobal)) -> io::Result<bool> {
-    let mut arguments = env::args(rt)?;
+/// What the arguments call for.
+fn called_for(rt: &(impl Env + AllocGlobal)) -> Result<Command, Stop> {
+    let Ok(mut arguments) = env::args(rt) else {
+        return Err(Stop::NoMemory);
+    };
     let _program = arguments.next();
-    let command = arguments.next();
-    let config = arguments.next();
-    let is_last = arguments.next().is_none();
-    Ok(command.is_some_and(|word| word.as_str() == "ask") && config.is_some() && is_last)
+    let word = arguments.next();
+    let path = arguments.next();
+    let port = arguments.next();
+    let spill = arguments.next();
+    let connections = arguments.next();
+    let others = arguments.next();
+    match (word, path, port, spill, connections, others) {
+        (Some(word), Some(path), None, None, None, None) => command_named(word.as_str(), path),
+        (Some(word), Some(path), Some(port), Some(_), Some(connections), None) => {
+            to_serve(word.as_str(), path, port.as_bytes(), connections.as_bytes())
+        }
+        _ => Err(Stop::Usage),
+    }
+}
+
+/// The command to serve, with that port and so many connections.
+fn to_serve(word: &str, path: String, port: &[u8], connections: &[u8]) -> Result<Command, Stop> {
+    match (word, read_port(port), read_number(connections)) {
+        ("serve", Some(port), Some(connections)) => Ok(Command::Serve(path, port, connections)),
+        _ => Err(Stop::Usage),
+    }
+}
+
+/// Reads a port: decimal digits alone, below 65,536.
+fn read_port(text: &[u8]) -> Option<u16> {
+    u16::try_from(read_number(text)?).ok()
+}
+
+/// The command of that name.
+fn command_named(word: &str, path: String) -> Result<Command, Stop> {
+    match word {
+        "check" => Ok(Command::Check(path)),
+        "ask" => Ok(Command::Ask(path)),
+        "trace" => Ok(Command::Trace(path)),
+        _ => Err(Stop::Usage),
+    }
+}
+
+/// Says how many repositories the configuration has.
+fn run_check(rt: &(impl Files + Print + AllocGlobal), path: &str) -> Result<(), Stop> {
+    let config = read_config(rt, path)?;
+    match println!(rt; "ok {}", config.len()) {
+        Ok(()) => Ok(()),
+        Err(_) => Err(Stop::OutputFault),
+    }
+}
+
+/// Performs the exchanges of standard input on the repositories of the configuration.
+fn run_ask(rt: &(impl Files + Input + Print + AllocGlobal), path: &str) -> Result<(), Stop> {
+    let alloc = rt.alloc();
+    let config = read_config(rt, path)?;
+    let mut host = host_of(alloc, config)?;
+    let Ok(mut writer) = BufWriter::new(alloc, io::writer(rt)) else {
+        return Err(Stop::NoMemory);
+    };
+    ask_lines(alloc, &mut host, &mut rt.reader(), &mut writer)
+}
+
+/// Takes the pieces and ends of connections that standard input tells, to the repositories of the
+/// configuration.
+fn run_trace(rt: &(impl Files + Input + Print + AllocGlobal), path: &str) -> Result<(), Stop> {
+    let alloc = rt.alloc();
+    let config = read_config(rt, path)?;
+    let mut front = Front::new(alloc, host_of(alloc, config)?, MOST_CONNECTIONS);
+    let Ok(mut writer) = BufWriter::new(alloc, io::writer(rt)) else {
+        return Err(Stop::NoMemory);
+    };
+    trace_lines(alloc, &mut front, &mut rt.reader(), &mut writer)
+}
+
+/// Serves so many connections to the repositories of the configuration, one after the other.
+fn run_serve(
+    rt: &(impl Files + Net + Clock + Print + AllocGlobal),
+    path: &str,
+    port: u16,
+    connections: u64,
+) -> Result<(), Stop> {
+    let alloc = rt.alloc();
+    let config = read_config(rt, path)?;
+    let mut front = Front::new(alloc, host_of(alloc, config)?, 1);
+    serve(rt, &mut front, port, connections)
 }
 
 /// Says on standard error why the program stopped.
 fn stopped(rt: &impl Eprint, stop: Stop) -> io::Result<ExitCode>
-    ensures { IfOk result (λ code. exit_status code ≡ 1) }
+    ensures { IfOk result (λ code. exit_status code ≡ spec.status_of stop) }
 {
     eprintln!(rt; "{stop}")?;
-    Ok(ExitCode::FAILURE)
-}
-
-/// Performs the exchanges of standard input on the built-in repository.
-fn run_ask(rt: &(impl Input + Print + AllocGlobal)) -> Result<(), Stop> {
-    let alloc = rt.alloc();
-    let mut served = built_in(alloc)?;
-    let Ok(mut writer) = BufWriter::new(alloc, io::writer(rt)) else {
-        return Err(Stop::NoMemory);
-    };
-    ask_lines(alloc, &mut served, &mut rt.reader(), &mut writer)
-}
-
-/// The built-in repository, without items, over a store of plain lists.
-fn built_in(alloc: Global) -> Result<Served<PlainVersions>, Stop>
-    ensures configured { IfOk result (λ served. Configures spec.archive served.repo.config) }
-    ensures err { IfErr result (λ stop. stop ≡ NoMemory) }
-{
-    let Ok(config) = builtin::archive(alloc) else {
-        return Err(Stop::NoMemory);
-    };
-    let store = PlainVersions::new(alloc);
-    Served::new(alloc, config, store).map_err(|_| Stop::NoMemory)
+    Ok(ExitCode::from(stop.status()))
 }

@@ -3,14 +3,15 @@ mod edge;
 mod faults;
 mod following;
 mod harvests;
+mod hosting;
+mod serving;
 mod tokens;
+mod tracing;
 mod transcripts;
 
 use crate::ask::ask_lines;
-use crate::builtin;
-use crate::served::Served;
+use crate::configurations::{config_in, host_of};
 use crate::stop::Stop;
-use oai_catalogue::PlainVersions;
 use std::alloc::{AllocError, Global};
 use std::io::{self, ErrorKind, Read, Write};
 use std::process::Abort;
@@ -26,14 +27,33 @@ fn dublin_core() -> &'static str {
     "<oai_dc:dc xmlns:oai_dc=\"http://www.openarchives.org/OAI/2.0/oai_dc/\" xmlns:dc=\"http://purl.org/dc/elements/1.1/\" xmlns:xsi=\"http://www.w3.org/2001/XMLSchema-instance\" xsi:schemaLocation=\"http://www.openarchives.org/OAI/2.0/oai_dc/ http://www.openarchives.org/OAI/2.0/oai_dc.xsd\">"
 }
 
-/// Performs the lines that the reader gives on the built-in repository; why that stopped, if it did.
+/// A configuration of three repositories: `a` keeps deleted records, `b` nothing of them, in days, and
+/// `c` keeps them until they are purged, and has room for two items.
+fn worked_configuration() -> &'static str {
+    r#"{"base":"http://host.example","cache":1,"repositories":[
+{"name":"a","repositoryName":"Archive A","adminEmail":["a@host.example"],
+ "earliestDatestamp":"2024-01-01T00:00:00Z","deletedRecord":"persistent",
+ "granularity":"seconds","chunk":2,"lifetime":60,"lists":1,"items":1000,
+ "formats":[{"prefix":"jnl","schema":"http://host.example/jnl.xsd",
+  "namespace":"http://host.example/jnl/","root":"article","fields":["volume","pages"]}]},
+{"name":"b","repositoryName":"Archive B","adminEmail":["b@host.example"],
+ "earliestDatestamp":"2024-01-01","deletedRecord":"no",
+ "granularity":"days","chunk":2,"lifetime":60,"lists":1,"items":1000,"formats":[]},
+{"name":"c","repositoryName":"Archive C","adminEmail":["c@host.example"],
+ "earliestDatestamp":"2024-01-01T00:00:00Z","deletedRecord":"transient",
+ "granularity":"seconds","chunk":2,"lifetime":60,"lists":2,"items":2,"formats":[]}]}
+"#
+}
+
+/// Performs the lines that the reader gives on a new host; why that stopped, if it did.
 fn performed<R: Read, W: Write>(
     alloc: Global,
     reader: &mut R,
     writer: &mut W,
 ) -> Result<Result<(), Stop>, Fail> {
-    let mut served = Served::new(alloc, builtin::archive(alloc)?, PlainVersions::new(alloc))?;
-    Ok(ask_lines(alloc, &mut served, reader, writer))
+    let config = config_in(alloc, worked_configuration().as_bytes())?;
+    let mut host = host_of(alloc, config)?;
+    Ok(ask_lines(alloc, &mut host, reader, writer))
 }
 
 /// What is written for the lines that the reader gives.
@@ -98,7 +118,7 @@ fn assert_transcript(rt: &impl Abort, alloc: Global, transcript: &str) -> Result
     assert_asked(rt, alloc, input.as_str(), wanted.as_str())
 }
 
-/// Performs each of the lines on a repository of its own; each is answered so.
+/// Performs each of the lines on a new host; each is answered so.
 fn assert_each(rt: &impl Abort, alloc: Global, lines: &str, answer: &str) -> Result<(), Fail> {
     let mut wanted = String::from_str(alloc, "200\n")?;
     push_wanted(answer, &mut wanted)?;

@@ -1,10 +1,10 @@
 //! How the input is cut into lines, whatever the pieces in which it comes, and what is written
 //! where it, the output or memory fails.
 use super::{assert_asked, performed, push_wanted, stop_of, transcripts, written};
-use crate::ask::write_answer;
-use crate::exchange::Answer;
+use crate::answers::write_answer;
 use crate::stop::Stop;
-use oai_item::Fault;
+use oai_host::{Answer, ReadFault, Status};
+use oai_names::Sequence;
 use std::alloc::{AllocError, Global};
 use std::io::{self, ErrorKind, Read, Write};
 use std::process::Abort;
@@ -14,8 +14,8 @@ use std::test::Fail;
 fn script() -> &'static str {
     r#"1704067200 POST /deposit/a {"deposit":"oai:a:1","sets":[],"records":{"oai_dc":[]}}
 
-1704067205 POST /deposit/ [
-1704067210 PUT /deposit/a {"deposit":"oai:a:2","sets":[],"records":{"oai_dc":[]}}"#
+1704067205 POST /deposit/a [
+1704067210 POST /deposit/a {"deposit":"oai:a:2","sets":[],"records":{"oai_dc":[]}}"#
 }
 
 /// What it is answered.
@@ -33,7 +33,7 @@ ok 2024-01-01T00:00:10Z
 fn answer_to_front(bytes: usize) -> &'static str {
     match bytes {
         0..=82 => "",
-        83..=111 => "200\nok 2024-01-01T00:00:00Z\n",
+        83..=112 => "200\nok 2024-01-01T00:00:00Z\n",
         _ => "200\nok 2024-01-01T00:00:00Z\n200\nrefused 1 bad-json\n",
     }
 }
@@ -164,8 +164,8 @@ fn numbers_of_bad_lines(rt: HostRuntime) -> Result<(), Fail> {
         ("x\n", 1),
         ("\nx", 2),
         ("\n\n1 GET\n", 3),
-        ("1 PUT /deposit/ [\n\n1 PUT /deposit/ [\n+1 GET /\n", 4),
-        ("1 PUT /deposit/ [\n1 PUT /deposit/ [\n1.0 GET /", 3),
+        ("1 PUT /deposit/a [\n\n1 PUT /deposit/a [\n+1 GET /\n", 4),
+        ("1 PUT /deposit/a [\n1 PUT /deposit/a [\n1.0 GET /", 3),
     ] {
         for length in 1..=9 {
             assert_bad_line(&rt, alloc, text.as_bytes(), length, number)?;
@@ -180,6 +180,15 @@ fn numbers_of_bad_lines(rt: HostRuntime) -> Result<(), Fail> {
 #[test]
 fn what_is_said(rt: HostRuntime) -> Result<(), Fail> {
     for (stop, text) in [
+        (
+            Stop::Usage,
+            "usage: oaihost check CONFIG | ask CONFIG | trace CONFIG | serve CONFIG PORT SPILL CONNECTIONS",
+        ),
+        (Stop::CannotRead, "config: cannot read"),
+        (
+            Stop::BadConfig(ReadFault::DuplicateName),
+            "config: 4 DuplicateName",
+        ),
         (Stop::BadExchange(1), "line 1: bad exchange"),
         (Stop::BadExchange(10), "line 10: bad exchange"),
         (Stop::InputFault, "input fault"),
@@ -192,20 +201,36 @@ fn what_is_said(rt: HostRuntime) -> Result<(), Fail> {
     Ok(())
 }
 
-/// What is written where memory or room is wanted, and where the store failed.
+/// An answer without a body.
+fn answer(alloc: Global, status: Status, seconds: Option<i64>, done: Option<u64>) -> Answer {
+    Answer {
+        status,
+        seconds,
+        done,
+        body: Sequence::new(Vec::new(alloc)),
+        fault: None,
+    }
+}
+
+/// What is written of answers without a body.
 #[test]
-fn failed_answers(rt: HostRuntime) -> Result<(), Fail> {
-    for (fault, done, text) in [
-        (Fault::NoMemory, Some(0), "503 60 0\n"),
-        (Fault::NoMemory, None, "503 60\n"),
-        (Fault::NoMemory, Some(12), "503 60 12\n"),
-        (Fault::TooManyPages, Some(0), "503 60 0\n"),
-        (Fault::Device, None, "500\n"),
-        (Fault::Device, Some(0), "500 0\n"),
-        (Fault::Damaged, Some(0), "500 0\n"),
+fn short_answers(rt: HostRuntime) -> Result<(), Fail> {
+    for (status, seconds, done, text) in [
+        (Status::ServiceUnavailable, Some(60), Some(0), "503 60 0\n"),
+        (Status::ServiceUnavailable, Some(60), None, "503 60\n"),
+        (
+            Status::ServiceUnavailable,
+            Some(60),
+            Some(12),
+            "503 60 12\n",
+        ),
+        (Status::ServiceUnavailable, Some(1), None, "503 1\n"),
+        (Status::InternalServerError, None, None, "500\n"),
+        (Status::InternalServerError, None, Some(3), "500 3\n"),
+        (Status::NotFound, None, None, "404\n"),
     ] {
         let mut output = Vec::new(rt.alloc());
-        write_answer(&Answer::Failed { fault, done }, &mut output)?;
+        write_answer(&answer(rt.alloc(), status, seconds, done), &mut output)?;
         assert_eq!(rt; output.as_slice(), text.as_bytes());
     }
     Ok(())

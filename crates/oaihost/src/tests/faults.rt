@@ -1,11 +1,10 @@
 //! A store that fails: the exchange that meets the failure is answered 500 and changes nothing, and the
 //! same exchange again is answered as if nothing had happened.
-use super::push_wanted;
-use crate::ask::write_answer;
-use crate::builtin;
-use crate::exchange::{Answer, Exchange};
-use crate::served::Served;
+use super::{push_wanted, worked_configuration};
+use crate::answers::write_answer;
+use crate::configurations::config_in;
 use oai_catalogue::{FaultyVersions, PlainVersions, Versions};
+use oai_host::{Answer, Exchange, Host};
 use oai_item::Fault;
 use std::alloc::Global;
 use std::process::Abort;
@@ -14,10 +13,10 @@ use std::test::Fail;
 /// A second, a target, and of a deposit its line.
 type Asked = (i64, &'static str, &'static str);
 
-/// How many calls of the store that can fail a new repository and these exchanges make: one for its
-/// version; of a new item one, of a state at another datestamp four, of one at the same two; of a list
+/// How many calls of the store that can fail a new host and these exchanges make: one for the version
+/// of each of its three repositories; of a new item one, of a state at another datestamp four, of one at the same two; of a list
 /// two, of a deletion four, and of a record one.
-const CALLS: u64 = 15;
+const CALLS: u64 = 17;
 
 /// An item that is deposited, at another datestamp and at the same again, listed, deleted and asked for.
 fn exchanges() -> [Asked; 6] {
@@ -56,39 +55,43 @@ ok 2024-01-01T00:00:07Z
 DOC <responseDate>2024-01-01T00:00:08Z</responseDate><request verb="GetRecord" identifier="oai:a:1" metadataPrefix="oai_dc">http://host.example/oai/a</request><GetRecord><record><header status="deleted"><identifier>oai:a:1</identifier><datestamp>2024-01-01T00:00:07Z</datestamp></header></record></GetRecord></OAI-PMH>"#
 }
 
+/// Asks the host.
+fn answer_of<V: Versions + Drop>(host: &mut Host<V>, asked: Asked) -> Answer {
+    let (moment, target, body) = asked;
+    let method: &[u8] = if body.is_empty() { b"GET" } else { b"POST" };
+    let exchange = Exchange {
+        method,
+        target: target.as_bytes(),
+        content_type: None,
+        body: body.as_bytes(),
+    };
+    host.exchange(moment, &exchange)
+}
+
 /// Performs the exchange, and where the store fails, which it says, performs it again.
 fn answer<V: Versions + Drop>(
     rt: &impl Abort,
-    alloc: Global,
-    served: &mut Served<V>,
+    host: &mut Host<V>,
     asked: Asked,
     output: &mut Vec<u8>,
 ) -> Result<bool, Fail> {
-    let (moment, target, body) = asked;
-    let exchange = Exchange {
-        method: b"GET",
-        target: target.as_bytes(),
-        body: body.as_bytes(),
+    let first = answer_of(host, asked);
+    let Some(fault) = first.fault else {
+        write_answer(&first, output)?;
+        return Ok(false);
     };
-    let first = served.perform(alloc, moment, &exchange);
-    match &first {
-        Answer::Performed(_) | Answer::Later(_) => {
-            write_answer(&first, output)?;
-            Ok(false)
-        }
-        Answer::Failed { fault, .. } => {
-            assert_eq!(rt; *fault, Fault::Device);
-            write_answer(&served.perform(alloc, moment, &exchange), output)?;
-            Ok(true)
-        }
-    }
+    assert_eq!(rt; fault, Fault::Device);
+    assert_eq!(rt; first.status.number(), 500);
+    write_answer(&answer_of(host, asked), output)?;
+    Ok(true)
 }
 
 /// Performs the exchanges over a store whose k-th call fails, and says whether one did: no more may.
 fn assert_answers(rt: &impl Abort, alloc: Global, k: u64) -> Result<bool, Fail> {
     let store = FaultyVersions::new(PlainVersions::new(alloc), k);
-    let mut served = match Served::new(alloc, builtin::archive(alloc)?, store) {
-        Ok(served) => served,
+    let config = config_in(alloc, worked_configuration().as_bytes())?;
+    let mut host = match Host::new(alloc, config, store) {
+        Ok(host) => host,
         Err(fault) => {
             assert_eq!(rt; fault, Fault::Device);
             return Ok(true);
@@ -97,7 +100,7 @@ fn assert_answers(rt: &impl Abort, alloc: Global, k: u64) -> Result<bool, Fail> 
     let mut output = Vec::new(alloc);
     let mut failed = false;
     for asked in exchanges() {
-        if answer(rt, alloc, &mut served, asked, &mut output)? {
+        if answer(rt, &mut host, asked, &mut output)? {
             assert!(rt; !failed);
             failed = true;
         }

