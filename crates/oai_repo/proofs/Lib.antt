@@ -17,11 +17,3 @@ pub mod CutLemmas
 pub mod TokenLemmas
 pub mod WaitLemmas
 pub mod NeighbourLemmas
-pub mod EffectLemmas
-pub mod StandLemmas
-pub mod FollowLemmas
-pub mod ChainLemmas
-pub mod GivenLemmas
-pub mod WorkedLemmas
-pub mod ShownLemmas
-pub mod ReadLemmas

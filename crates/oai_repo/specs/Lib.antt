@@ -10,11 +10,6 @@ pub mod Changes
 pub mod Answers
 pub mod Listing
 pub mod Machine
-pub mod Effects
-pub mod Runs
-pub mod Following
-pub mod Worked
-pub mod Shown
 pub mod Calls
 pub mod Inside
 pub mod Tables

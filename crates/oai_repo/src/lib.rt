@@ -8,7 +8,6 @@ mod config;
 mod cuts;
 mod deletions;
 mod deposits;
-mod laws;
 mod listings;
 mod parts;
 mod purges;
@@ -24,7 +23,6 @@ mod snapshots;
 mod tables;
 
 pub use config::RepoConfig;
-pub use laws::{effect_law, following_law, number_law, shown_law, worked_law};
 pub use refusals::Refusal;
 pub use replies::Reply;
 pub use repo::Repo;

@@ -1,5 +1,5 @@
-use Rattle.oai_repo.proofs.WorkedLemmas.{configured, worked}
-use Rattle.oai_repo.proofs.laws.worked_law.Goals as goal
+use Rattle.oai_laws.proofs.WorkedLemmas.{configured, worked}
+use Rattle.oai_laws.proofs.laws.worked_law.Goals as goal
 
 pub returns-clause-config : goal.returns-clause-config
 returns-clause-config c = configured

@@ -25,18 +25,18 @@ use Rattle.oai_answers.specs.Answers.{Attributes, Page}
 use Rattle.oai_answers.specs.Seen.{IsGoodFormat, IsRegular, has_own_fields}
 use Rattle.oai_repo.specs.Answers.{arguments_of_request, disseminated, filter_of, formats_answer, item_formats_answer, record_answer, sets_answer}
 use Rattle.oai_repo.specs.Config.{Config}
-use Rattle.oai_repo.specs.Effects.{IsSound, is_formed, is_well_formed}
+use Rattle.oai_laws.specs.Effects.{IsSound, is_formed, is_well_formed}
 use Rattle.oai_repo.specs.Listing.{Said, answer_to, begins, continues, has_no_sets, is_continued, list_answer, list_begun, part_from, part_told, prolonged, says, told_by, told_in, told_items, told_whole, token_answer, wait_at, waits, where_continued, whole_page, has_number}
 use Rattle.oai_repo.specs.Machine.{Command, act, act_on_change, asking, changing, outcome_of, refusing}
 use Rattle.oai_repo.specs.Changes.{refusal_of, stamp_at}
-use Rattle.oai_repo.specs.Shown.{IsRegularOutcome}
+use Rattle.oai_laws.specs.Shown.{IsRegularOutcome}
 use Rattle.oai_repo.specs.State.{FrozenList, NamedSet, OpenLists, State}
 use Rattle.oai_item.specs.declared.changes.Change.{Change}
 use Rattle.oai_item.specs.declared.refusals.ChangeRefusal.{ChangeRefusal}
-use Rattle.oai_repo.proofs.ChainLemmas.{named}
-use Rattle.oai_repo.proofs.EffectLemmas.{kept_formed, selected_formed}
-use Rattle.oai_repo.proofs.FollowLemmas.{part_items}
-use Rattle.oai_repo.proofs.StandLemmas.{of_found}
+use Rattle.oai_laws.proofs.ChainLemmas.{named}
+use Rattle.oai_laws.proofs.EffectLemmas.{kept_formed, selected_formed}
+use Rattle.oai_laws.proofs.FollowLemmas.{part_items}
+use Rattle.oai_laws.proofs.StandLemmas.{of_found}
 use Rattle.oai_item.proofs.Named.{of_found as of_named}
 use Rattle.oai_repo.specs.Kept.{is_well_kept}
 

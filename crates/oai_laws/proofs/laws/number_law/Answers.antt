@@ -1,5 +1,5 @@
-use Rattle.oai_repo.proofs.GivenLemmas.{never_the_last, numbers_rise, sound_throughout}
-use Rattle.oai_repo.proofs.laws.number_law.Goals as goal
+use Rattle.oai_laws.proofs.GivenLemmas.{never_the_last, numbers_rise, sound_throughout}
+use Rattle.oai_laws.proofs.laws.number_law.Goals as goal
 
 pub returns-clause-sound : goal.returns-clause-sound
 returns-clause-sound c = sound_throughout

@@ -10,9 +10,9 @@ use Rattle.oai_item.specs.declared.formats.Format.{Format}
 use Rattle.oai_answers.specs.Answers.{Document, Page}
 use Rattle.oai_answers.specs.Seen.{IsRegular, SeenRecord, header_seen, record_seen}
 use Rattle.oai_repo.specs.Config.{Config, IsConfig}
-use Rattle.oai_repo.specs.Following.{IsChain, Wish, offer_in, page_told}
+use Rattle.oai_laws.specs.Following.{IsChain, Wish, offer_in, page_told}
 use Rattle.oai_repo.specs.Machine.{Outcome, Told, accepted, documented, later, refused, written}
-use Rattle.oai_repo.specs.Runs.{Exchange, IsPart, Timed, run}
+use Rattle.oai_laws.specs.Runs.{Exchange, IsPart, Timed, run}
 use Rattle.oai_repo.specs.State.{empty_state}
 
 -- a document of which the bytes show what it answers

@@ -18,14 +18,14 @@ use Rattle.oai_args.specs.declared.requests.Ask.TheVariants as ask
 use Rattle.oai_answers.specs.Answers.{Answer, Attributes, Continuation, Page, completes, remains}
 use Rattle.oai_repo.specs.Answers.{arguments_of_request}
 use Rattle.oai_repo.specs.Config.{Config}
-use Rattle.oai_repo.specs.Effects.{IsSound, is_given}
-use Rattle.oai_repo.specs.Following.{ArePlaced, AreNext, IsNext, IsPlaced, Offer, answer_told, are_complete, extent_in, is_later, is_of_records, joined, next_request, offer_in, page_in}
+use Rattle.oai_laws.specs.Effects.{IsSound, is_given}
+use Rattle.oai_laws.specs.Following.{ArePlaced, AreNext, IsNext, IsPlaced, Offer, answer_told, are_complete, extent_in, is_later, is_of_records, joined, next_request, offer_in, page_in}
 use Rattle.oai_repo.specs.Listing.{Said, answer_to, continues, extent_at, has_number, is_continued, is_same_verb, items_from, part_from, part_told, prolonged, says, told_by, token_answer, waits, where_continued, with_prolonged}
 use Rattle.oai_repo.specs.Machine.{Command, act, asking, outcome_of}
-use Rattle.oai_repo.specs.Runs.{Exchange, IsPart, Timed, performed, run}
+use Rattle.oai_laws.specs.Runs.{Exchange, IsPart, Timed, performed, run}
 use Rattle.oai_repo.specs.State.{FrozenList, OpenLists, State, moved}
-use Rattle.oai_repo.proofs.EffectLemmas.{effect_of, sound_act, sound_moved}
-use Rattle.oai_repo.proofs.StandLemmas.{IsThere, Stands, of_found, stands_effected, stands_moved, stands_renewed}
+use Rattle.oai_laws.proofs.EffectLemmas.{effect_of, sound_act, sound_moved}
+use Rattle.oai_laws.proofs.StandLemmas.{IsThere, Stands, of_found, stands_effected, stands_moved, stands_renewed}
 
 -- ---- the parts of a list
 

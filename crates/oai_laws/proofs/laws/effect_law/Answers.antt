@@ -1,5 +1,5 @@
-use Rattle.oai_repo.proofs.EffectLemmas.{effect_of, sound_effected, sound_empty, sound_moved}
-use Rattle.oai_repo.proofs.laws.effect_law.Goals as goal
+use Rattle.oai_laws.proofs.EffectLemmas.{effect_of, sound_effected, sound_empty, sound_moved}
+use Rattle.oai_laws.proofs.laws.effect_law.Goals as goal
 
 pub returns-clause-does : goal.returns-clause-does
 returns-clause-does c = effect_of

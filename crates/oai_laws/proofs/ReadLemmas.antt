@@ -14,17 +14,17 @@ use Rattle.oai_answers.specs.Documents.{document}
 use Rattle.oai_answers.specs.Seen.{IsRegular, SeenDocument, SeenHeader, SeenRecord, SeenToken, answer_seen, document_seen, empty_token, header_seen, no_token, record_seen, seen_token, token_seen}
 use Rattle.oai_answers.proofs.RegularLemmas.{same_seen}
 use Rattle.oai_repo.specs.Config.{Config}
-use Rattle.oai_repo.specs.Effects.{IsSound}
-use Rattle.oai_repo.specs.Following.{ArePlaced, Wish, answer_told, are_complete, is_of_records, joined, offer_in, page_in, selection_in}
+use Rattle.oai_laws.specs.Effects.{IsSound}
+use Rattle.oai_laws.specs.Following.{ArePlaced, Wish, answer_told, are_complete, is_of_records, joined, offer_in, page_in, selection_in}
 use Rattle.oai_repo.specs.Listing.{told_by}
 use Rattle.oai_repo.specs.Machine.{Outcome, accepted, documented, later, refused, written}
-use Rattle.oai_repo.specs.Runs.{Exchange, IsPart, Throughout, Timed, performed, run}
-use Rattle.oai_repo.specs.Shown.{IsFollowedList, IsRegularOutcome, IsSomeAnswer, bytes_of, is_followed_to_its_end, is_last, seen_by, selection_seen}
+use Rattle.oai_laws.specs.Runs.{Exchange, IsPart, Throughout, Timed, performed, run}
+use Rattle.oai_laws.specs.Shown.{IsFollowedList, IsRegularOutcome, IsSomeAnswer, bytes_of, is_followed_to_its_end, is_last, seen_by, selection_seen}
 use Rattle.oai_repo.specs.State.{State, empty_state, moved}
-use Rattle.oai_repo.proofs.ChainLemmas.{following}
-use Rattle.oai_repo.proofs.EffectLemmas.{sound_act, sound_empty, sound_moved}
-use Rattle.oai_repo.proofs.FollowLemmas.{told_page}
-use Rattle.oai_repo.proofs.ShownLemmas.{regular_act}
+use Rattle.oai_laws.proofs.ChainLemmas.{following}
+use Rattle.oai_laws.proofs.EffectLemmas.{sound_act, sound_empty, sound_moved}
+use Rattle.oai_laws.proofs.FollowLemmas.{told_page}
+use Rattle.oai_laws.proofs.ShownLemmas.{regular_act}
 
 -- ---- every exchange is answered so
 

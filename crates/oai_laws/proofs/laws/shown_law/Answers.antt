@@ -1,5 +1,5 @@
-use Rattle.oai_repo.proofs.ReadLemmas.{answers_shown, lists_shown}
-use Rattle.oai_repo.proofs.laws.shown_law.Goals as goal
+use Rattle.oai_laws.proofs.ReadLemmas.{answers_shown, lists_shown}
+use Rattle.oai_laws.proofs.laws.shown_law.Goals as goal
 
 pub returns-clause-documents : goal.returns-clause-documents
 returns-clause-documents c = answers_shown

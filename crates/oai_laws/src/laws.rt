@@ -1,15 +1,15 @@
 //! What is true of a repository in the course of time, whatever is asked of it and deposited. These
-//! laws are of the machine by whose definitions the calls of [`Repo`](crate::Repo) are specified.
+//! laws are of the machine by whose definitions the calls of [`Repo`](oai_repo::Repo) are specified.
 
 ghost use Rattle.std.specs.Prelude.{◌≡◌, ℤ, List, ◌∷◌, true};
 ghost use Rattle.oai_answers.specs.Answers.{Document, Page};
 ghost use Rattle.oai_answers.specs.Documents.{document};
 ghost use Rattle.oai_answers.specs.Seen.{document_seen};
 ghost use Rattle.oai_repo.specs.Config.{Config, IsConfig};
-ghost use Rattle.oai_repo.specs.Effects.{Effect, IsEffected, IsPossible, IsSound, effected};
-ghost use Rattle.oai_repo.specs.Following.{IsChain, IsFollowed, Wish, selection_in};
+ghost use Rattle.oai_laws.specs.Effects.{Effect, IsEffected, IsPossible, IsSound, effected};
+ghost use Rattle.oai_laws.specs.Following.{IsChain, IsFollowed, Wish, selection_in};
 ghost use Rattle.oai_repo.specs.Machine.{Command, act};
-ghost use Rattle.oai_repo.specs.Runs.{
+ghost use Rattle.oai_laws.specs.Runs.{
   Exchange,
   Throughout,
   Timed,
@@ -18,7 +18,7 @@ ghost use Rattle.oai_repo.specs.Runs.{
   numbers_given,
   run,
 };
-ghost use Rattle.oai_repo.specs.Shown.{
+ghost use Rattle.oai_laws.specs.Shown.{
   IsFollowedList,
   IsSomeAnswer,
   bytes_of,
@@ -26,7 +26,7 @@ ghost use Rattle.oai_repo.specs.Shown.{
   selection_seen,
 };
 ghost use Rattle.oai_repo.specs.State.{State, empty_state, moved};
-ghost use Rattle.oai_repo.specs.Worked.{IsWorked, worked_config};
+ghost use Rattle.oai_laws.specs.Worked.{IsWorked, worked_config};
 
 /// What a command can do: in a sound state it leaves the state, puts an item or takes one out, adds a
 /// set, lets a list stay open or opens one, and each of these only where it may be done. A state is

@@ -17,7 +17,7 @@ use Rattle.oai_repo.specs.Answers.{filter_of}
 use Rattle.oai_repo.specs.Config.{Config}
 use Rattle.oai_repo.specs.Listing.{told_by}
 use Rattle.oai_repo.specs.Machine.{Command, Outcome, accepted, asking, documented, later, refused}
-use Rattle.oai_repo.specs.Runs.{Exchange, IsPart}
+use Rattle.oai_laws.specs.Runs.{Exchange, IsPart}
 use Rattle.oai_repo.specs.State.{State}
 
 -- ---- what is read off an answer

@@ -22,18 +22,18 @@ use Rattle.oai_answers.specs.Answers.{Page, fails}
 use Rattle.oai_answers.specs.declared.errors.ErrorCode.TheVariants.{NoSetHierarchy}
 use Rattle.oai_repo.specs.Answers.{filter_of}
 use Rattle.oai_repo.specs.Config.{Config, IsConfig, are_limits, is_chunk, is_items, is_lifetime, is_lists}
-use Rattle.oai_repo.specs.Effects.{IsSound}
-use Rattle.oai_repo.specs.Following.{AreNext, answer_told, IsChain, IsFollowed, Wish, first_request, is_later, is_of_records, joined, selection_in}
+use Rattle.oai_laws.specs.Effects.{IsSound}
+use Rattle.oai_laws.specs.Following.{AreNext, answer_told, IsChain, IsFollowed, Wish, first_request, is_later, is_of_records, joined, selection_in}
 use Rattle.oai_repo.specs.Kept.{AreKept}
 use Rattle.oai_repo.specs.Listing.{told_by, answer_to, begins, has_no_sets, list_begun, part_from, says, told_in, told_items, told_whole, wait_at}
 use Rattle.oai_repo.specs.Machine.{Command, act}
-use Rattle.oai_repo.specs.Runs.{Exchange, IsPart, Timed, performed, run}
+use Rattle.oai_laws.specs.Runs.{Exchange, IsPart, Timed, performed, run}
 use Rattle.oai_repo.specs.State.{FrozenList, Holdings, NamedSet, OpenLists, State, empty_state, moved}
-use Rattle.oai_repo.proofs.EffectLemmas.{sound_act, sound_empty, sound_moved}
-use Rattle.oai_repo.proofs.FollowLemmas.{Followed, IsGood, asked_page, follow, asked_later}
+use Rattle.oai_laws.proofs.EffectLemmas.{sound_act, sound_empty, sound_moved}
+use Rattle.oai_laws.proofs.FollowLemmas.{Followed, IsGood, asked_page, follow, asked_later}
 use Rattle.oai_repo.proofs.KeptLemmas.{at_most}
 use Rattle.oai_repo.proofs.SelectionLemmas.{unknown_format, unknown_set}
-use Rattle.oai_repo.proofs.StandLemmas.{Stands, stands_opened}
+use Rattle.oai_laws.proofs.StandLemmas.{Stands, stands_opened}
 
 -- ---- what is selected
 

@@ -34,7 +34,7 @@ use Rattle.oai_answers.specs.declared.identify.DeletedRecord.TheVariants.{No, Tr
 use Rattle.oai_repo.specs.Answers.{filter_of}
 use Rattle.oai_repo.specs.Changes.{after_deletion, after_purge, changed, deposit_refusal, drops_format, is_one_too_many, is_transient, item_refusal, limit_of, purge_refusal, refusal_of, stamp_at, with_new, with_tombstone}
 use Rattle.oai_repo.specs.Config.{Config}
-use Rattle.oai_repo.specs.Effects.{Effect, is_formed, is_well_formed, IsEffected, IsPossible, IsPut, IsSound, effected, holding, is_given, item_put, item_taken, items_purged, list_opened, list_renewed, set_added, unchanged}
+use Rattle.oai_laws.specs.Effects.{Effect, is_formed, is_well_formed, IsEffected, IsPossible, IsPut, IsSound, effected, holding, is_given, item_put, item_taken, items_purged, list_opened, list_renewed, set_added, unchanged}
 use Rattle.oai_repo.specs.Kept.{AreKept, is_too_large, is_well_kept}
 use Rattle.oai_repo.specs.Listing.{Said, answer_to, begins, continues, has_no_sets, list_answer, list_begun, list_continued, prolonged_at, told_in, told_items, token_answer, wait_at}
 use Rattle.oai_repo.specs.Machine.{Command, act, act_on_change, asking, changing, refusing}

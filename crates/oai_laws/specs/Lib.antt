@@ -1,0 +1,5 @@
+pub mod Effects
+pub mod Runs
+pub mod Following
+pub mod Worked
+pub mod Shown
