@@ -10,6 +10,7 @@ import shutil
 import subprocess
 import sys
 import tempfile
+from concurrent.futures import ThreadPoolExecutor
 
 # How many bugs share a check at most: more would print more than a check tells of.
 MOST = 16
@@ -231,26 +232,35 @@ def planted_in(crate, texts):
     return [Edit(f"{folder}/{it}", texts) for it in names if it.endswith(".edit")]
 
 
-def main(names):
-    listed = [it for it in sorted(os.listdir("crates")) if not names or it in names]
-    refused = others = 0
+def tried(name):
+    """The edits of a crate, and what becomes of each, tried on a copy of the repository."""
     with tempfile.TemporaryDirectory(prefix="planted-") as room:
-        copy = f"{room}/copy"
-        shutil.copytree(".", copy, ignore=shutil.ignore_patterns(".git"), symlinks=True)
-        for name in listed:
-            crate = f"{copy}/crates/{name}"
-            texts = sources_of(crate)
-            edits = planted_in(crate, texts)
-            if not edits:
-                continue
-            if "logic=proved" not in check(crate, texts, texts):
-                sys.exit(f"planted: {name} is not proved without a bug")
-            found = try_all(crate, edits, texts)
-            for edit in edits:
-                if found[edit] != "refused":
-                    print(f"{name}/{edit.name}: {found[edit]}", flush=True)
-            good = sum(it in ("refused", "only named") for it in found.values())
-            print(f"{name}: {good} of {len(edits)} refused", flush=True)
+        shutil.copytree(".", f"{room}/copy", ignore=shutil.ignore_patterns(".git"), symlinks=True)
+        crate = f"{room}/copy/crates/{name}"
+        texts = sources_of(crate)
+        edits = planted_in(crate, texts)
+        if "logic=proved" not in check(crate, texts, texts):
+            sys.exit(f"planted: {name} is not proved without a bug")
+        return edits, try_all(crate, edits, texts)
+
+
+def told(name, edits, found):
+    """Prints what became of the edits of a crate; how many were refused."""
+    for edit in edits:
+        if found[edit] != "refused":
+            print(f"{name}/{edit.name}: {found[edit]}")
+    refused = sum(it in ("refused", "only named") for it in found.values())
+    print(f"{name}: {refused} of {len(edits)} refused", flush=True)
+    return refused
+
+
+def main(names):
+    listed = [it for it in sorted(os.listdir("crates")) if os.path.isdir(f"crates/{it}/planted") and (not names or it in names)]
+    refused = others = 0
+    # (a check of a large crate takes two processors)
+    with ThreadPoolExecutor(max(1, (os.cpu_count() or 1) // 2)) as pool:
+        for name, (edits, found) in zip(listed, pool.map(tried, listed)):
+            good = told(name, edits, found)
             refused, others = refused + good, others + len(edits) - good
     print(f"{refused} refused, {others} not")
     return 1 if others else 0

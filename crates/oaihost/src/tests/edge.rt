@@ -343,7 +343,7 @@ fn flush_fails(rt: HostRuntime) -> Result<(), Fail> {
 
 /// So many empty lines, one a read, and then the end.
 #[derive(Drop)]
-struct EmptyLines(u64);
+pub(super) struct EmptyLines(pub(super) u64);
 
 impl Read for EmptyLines {
     fn read(&mut self, buffer: &mut [u8]) -> io::Result<usize> {

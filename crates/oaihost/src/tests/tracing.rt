@@ -1,4 +1,5 @@
 //! Connections whose pieces stand in lines.
+use super::edge::EmptyLines;
 use super::{FailingReader, FailingWriter, push_wanted, transcripts, worked_configuration};
 use crate::configurations::{config_in, host_of};
 use crate::stop::Stop;
@@ -377,6 +378,18 @@ fn output_of_a_trace_fails(rt: HostRuntime) -> Result<(), Fail> {
         let mut writer = FailingWriter { room };
         let done = traced(rt.alloc(), &mut reader, &mut writer)?;
         assert_eq!(rt; done, Err(Stop::OutputFault), "{room}");
+    }
+    Ok(())
+}
+
+/// The end has to come at the read of number 1,000,000 at the latest.
+#[test]
+fn most_reads_of_a_trace(rt: HostRuntime) -> Result<(), Fail> {
+    for (lines, wanted) in [(999_999, Ok(())), (1_000_000, Err(Stop::InputFault))] {
+        let mut output = Vec::new(rt.alloc());
+        let done = traced(rt.alloc(), &mut EmptyLines(lines), &mut output)?;
+        assert_eq!(rt; done, wanted, "{lines}");
+        assert!(rt; output.is_empty());
     }
     Ok(())
 }
