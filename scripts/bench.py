@@ -219,4 +219,5 @@ def main(arguments):
     print("bench: done")
 
 
-main(sys.argv[1:])
+if __name__ == "__main__":
+    main(sys.argv[1:])

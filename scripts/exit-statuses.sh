@@ -8,7 +8,8 @@ set -u
 cd "$(dirname "$0")/.." || exit 2
 said=$(mktemp)
 changed=$(mktemp)
-trap 'rm -f "$said" "$changed"' EXIT
+first=
+trap '[ -z "$first" ] || kill "$first" 2>/dev/null; rm -f "$said" "$changed"' EXIT
 usage='usage: oaihost check CONFIG | ask CONFIG | trace CONFIG | serve CONFIG PORT SPILL CONNECTIONS'
 wrong=0
 
@@ -67,9 +68,12 @@ ended 1 'line 1025: too many connections' 'a connection more than may be open'
 # Two servers on one port, of which the first answers one request.
 bin/oaihost serve examples/archive.json 0 spill 1 >"$changed" &
 first=$!
-until [ -s "$changed" ]; do sleep 0.1; done
+for _ in {1..100}; do
+    [ -s "$changed" ] && break
+    sleep 0.1
+done
 port=$(sed 's/.*://' "$changed")
-bin/oaihost serve examples/archive.json "$port" spill 1 >/dev/null 2>"$said"
+timeout 20 bin/oaihost serve examples/archive.json "$port" spill 1 >/dev/null 2>"$said"
 status=$?
 ended 1 'socket fault' 'a port that is taken'
 exec 3<>"/dev/tcp/127.0.0.1/$port"
@@ -81,6 +85,7 @@ printf 'GET /oai/none HTTP/1.0\r\n\r\n' >&3
 exec 3>&-
 wait "$first"
 status=$?
+first=
 : >"$said"
 ended 0 '' 'a server that has served its connections'
 for command in check ask trace; do

@@ -325,6 +325,8 @@ def check_changes(harvest, whole):
 
 
 def main():
+    if ITEMS < 1000 or ITEMS % BODY:
+        sys.exit(f"interop: ITEMS is to be a multiple of {BODY} and at least 1000")
     with Server(configuration(CHUNK, 3600, 1000, 4 * ITEMS)) as server, tempfile.TemporaryDirectory(prefix="interop-") as folder:
         harvest = Harvest(server, folder)
         load(harvest)
@@ -336,4 +338,5 @@ def main():
     return 1 if harvest.differences else 0
 
 
-sys.exit(main())
+if __name__ == "__main__":
+    sys.exit(main())

@@ -160,11 +160,9 @@ def check(crate, texts, before):
 
 
 def unproved(said):
-    """The functions that a check found no proof for by their own goals, and those of which it only says what they call."""
-    own, others = set(), set()
-    for path, why in re.findall(r"^fn \w+?::(\S+): (no proof.*|not proved.*)$", said, re.M):
-        (others if "it calls `" in why else own).add(path)
-    return own, others - own
+    """The functions that a check found no proof for by their own goals, and not for what they call alone."""
+    told = re.findall(r"^fn \w+?::(\S+): (no proof.*|not proved.*)$", said, re.M)
+    return {path for path, why in told if "it calls `" not in why}
 
 
 def is_only_named(said, functions):
@@ -206,7 +204,7 @@ def try_alone(crate, edit, texts):
         return "NOT REFUSED"
     if "logic=not-proved" not in said:
         return "CANNOT BE READ"
-    return "only named" if is_only_named(said, unproved(said)[0]) else "refused"
+    return "only named" if is_only_named(said, unproved(said)) else "refused"
 
 
 def try_all(crate, edits, texts):
@@ -214,7 +212,7 @@ def try_all(crate, edits, texts):
     found = {}
     for batch, changed in batches_of(edits, texts):
         said = check(crate, changed, texts)
-        own, _ = unproved(said)
+        own = unproved(said)
         if "logic=not-proved" not in said:
             continue
         for edit in batch:
@@ -255,6 +253,9 @@ def told(name, edits, found):
 
 
 def main(names):
+    unknown = [it for it in names if not os.path.isdir(f"crates/{it}/planted")]
+    if unknown:
+        sys.exit(f"planted: there are no planted bugs in {' '.join(unknown)}")
     listed = [it for it in sorted(os.listdir("crates")) if os.path.isdir(f"crates/{it}/planted") and (not names or it in names)]
     refused = others = 0
     # (a check of a large crate takes two processors)
@@ -266,4 +267,5 @@ def main(names):
     return 1 if others else 0
 
 
-sys.exit(main(sys.argv[1:]))
+if __name__ == "__main__":
+    sys.exit(main(sys.argv[1:]))

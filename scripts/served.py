@@ -33,6 +33,7 @@ class Server:
         self.process = subprocess.Popen(command, stdout=subprocess.PIPE, text=True)
         said = self.process.stdout.readline()
         if not said.startswith("listening on 127.0.0.1:"):
+            self.__exit__()
             raise SystemExit(f"the server does not say where it listens, but: {said!r}")
         self.port = int(said.rsplit(":", 1)[1])
         return self

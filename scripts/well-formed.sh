@@ -24,7 +24,7 @@ split_documents() {
         match($0, /<\?xml /) { n++; inside = 1; $0 = substr($0, RSTART) }
         inside {
             if (name ~ /\.rt$/) gsub(/→/, "\t")
-            print >(folder "/" name "-" n ".xml")
+            print >(folder "/" name "-" sprintf("%04d", n) ".xml")
         }
         /<\/OAI-PMH>$/ { inside = 0 }
         END { if (inside) exit 1 }

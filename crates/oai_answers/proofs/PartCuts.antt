@@ -5,16 +5,16 @@ use Rattle.std.specs.List.{flat_map}
 use Rattle.std.proofs.lemmas.Bool.{true≢false}
 use Rattle.std.proofs.lemmas.Bool.Decides.{nat_tests}
 use Rattle.oai_names.specs.Escapes.{escaped_text}
-use Rattle.oai_names.proofs.Cuts.{Cuts, Next, any, anything, at, behind, both, closed, lacks, of_part, pair, seen_as, seen_same, text_before, where_good, where_next, without, written_as, all_any, map_same}
+use Rattle.oai_names.proofs.Cuts.{Cuts, Next, any, anything, at, behind, both, closed, lacks, of_part, pair, seen_as, seen_same, text_before, where_good, where_next, without, all_any, map_same}
 use Rattle.oai_names.proofs.EscapeCuts.{text_cut, value_cut}
 use Rattle.oai_time.specs.TimeTexts.{datestamp_text, second_text}
 use Rattle.oai_time.specs.declared.granularity.Granularity.{Granularity}
 use Rattle.oai_time.specs.declared.granularity.Granularity.TheVariants.{Day, Second}
 use Rattle.oai_item.specs.declared.formats.Format.{Format}
-use Rattle.oai_answers.specs.Answers.{Answer, Attributes, Description, Document, fails, gives_record, identifies, lists_formats, lists_headers, lists_records, lists_sets}
-use Rattle.oai_answers.specs.Documents.{attributes, attributes_beside, code_of, deleted_text, error_element, format_element, formats_element, given_attribute, granularity_text, identify_element, message_of, request_element, set_element, sets_element}
+use Rattle.oai_answers.specs.Answers.{Attributes, Description, Document, arguments_told}
+use Rattle.oai_answers.specs.Documents.{attributes, code_of, deleted_text, error_element, format_element, formats_element, given_attribute, granularity_text, identify_element, message_of, request_element, set_element, sets_element}
 use Rattle.oai_answers.specs.Markup.{attribute, attribute_start, element, end_tag, plain, spelled_attribute, start_tag, text_element}
-use Rattle.oai_answers.specs.Seen.{arguments_seen, identity_seen, offer_seen}
+use Rattle.oai_answers.specs.Seen.{identity_seen, offer_seen}
 use Rattle.oai_answers.specs.declared.errors.ErrorCode.{ErrorCode}
 use Rattle.oai_answers.specs.declared.errors.ErrorCode.TheVariants.{BadVerb, BadArgument, BadResumptionToken, CannotDisseminateFormat, IdDoesNotExist, NoRecordsMatch, NoMetadataFormats, NoSetHierarchy}
 use Rattle.oai_answers.specs.declared.identify.DeletedRecord.{DeletedRecord}
@@ -136,28 +136,10 @@ attributes_cut =
     let seven = both six (argument_cut (codes "resumptionToken") 1 token_ranked (λ asked. asked.token)) (λ asked rest _. given_later (codes "resumptionToken") 1 token_ranked asked.token rest) in
     where_next nothing_ranked (seen_as (λ p. record { verb = p.0.0.0.0.0.0; identifier = p.0.0.0.0.0.1; prefix = p.0.0.0.0.1; from = p.0.0.0.1; until = p.0.0.1; set = p.0.1; token = p.1 }) seven)
 
--- the arguments that are told, and none beside badVerb and badArgument
-beside_is : (answer : Answer) (asked : Attributes) → attributes_beside answer asked ≡ attributes (arguments_seen answer asked)
-unfolding attributes
-beside_is (fails BadVerb) asked = refl
-beside_is (fails BadArgument) asked = refl
-beside_is (fails BadResumptionToken) asked = refl
-beside_is (fails CannotDisseminateFormat) asked = refl
-beside_is (fails IdDoesNotExist) asked = refl
-beside_is (fails NoRecordsMatch) asked = refl
-beside_is (fails NoMetadataFormats) asked = refl
-beside_is (fails NoSetHierarchy) asked = refl
-beside_is (identifies d) asked = refl
-beside_is (lists_formats formats) asked = refl
-beside_is (lists_sets sets) asked = refl
-beside_is (gives_record d) asked = refl
-beside_is (lists_headers page) asked = refl
-beside_is (lists_records format page) asked = refl
-
-pub request_cut : Cuts anything any request_element (λ (d : Document). pair (arguments_seen d.answer d.asked) d.base)
+pub request_cut : Cuts anything any request_element (λ (d : Document). pair (arguments_told d.answer d.asked) d.base)
 unfolding request_element plain
 request_cut =
-    let arguments = written_as (λ (d : Document). beside_is d.answer d.asked) (of_part (λ (d : Document). arguments_seen d.answer d.asked) attributes_cut) in
+    let arguments = of_part (λ (d : Document). arguments_told d.answer d.asked) attributes_cut in
     let start = closed {next = anything} (λ _. codes ">") (behind (codes "<request") arguments) (λ d rest _ _. refl) in
     let base = of_part (λ (d : Document). d.base) text_cut in
     closed (λ _. end_tag (codes "request")) (both start base (λ d rest _ _. refl)) (λ d rest _ _. tag_at (codes "request") rest)

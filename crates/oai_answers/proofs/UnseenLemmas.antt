@@ -2,6 +2,7 @@
 use Rattle.std.proofs.Common.{◌≡◌, inr, refl}
 use Rattle.oai_item.specs.Item.{record_named}
 use Rattle.oai_item.specs.Rules.{is_allowed, is_element_name, is_uri}
+use Rattle.oai_item.specs.ShortTexts.{is_short_text}
 use Rattle.oai_names.specs.Characters.{is_xml_text}
 use Rattle.std.specs.Str as str
 use Rattle.oai_answers.specs.Documents.{document, request_element, get_record_element, header_element, metadata, metadata_part, record_element, declared_metadata, declared_start, schema_location}
@@ -10,12 +11,20 @@ use Rattle.oai_answers.specs.Unseen.{issue_by_prefix, issue_in_both, issue_of_da
 use Rattle.oai_time.specs.TimeTexts.{day_text}
 
 pub regular_issue : IsRegular plain_issue.answer
-unfolding is_allowed is_element_name is_uri is_xml_text record_named str.chars
+unfolding is_allowed is_element_name is_uri is_short_text is_xml_text record_named str.chars
 regular_issue = (inr refl, refl)
 
 pub regular_by_prefix : IsRegular issue_by_prefix.answer
-unfolding is_allowed is_element_name is_uri is_xml_text record_named str.chars
+unfolding is_allowed is_element_name is_uri is_short_text is_xml_text record_named str.chars
 regular_by_prefix = (inr refl, refl)
+
+pub regular_of_day : IsRegular issue_of_day.answer
+unfolding is_allowed is_element_name is_uri is_short_text is_xml_text record_named str.chars
+regular_of_day = (inr refl, refl)
+
+pub regular_in_both : IsRegular issue_in_both.answer
+unfolding is_allowed is_element_name is_uri is_short_text is_xml_text record_named str.chars
+regular_in_both = (inr refl, refl)
 
 pub same_by_prefix : document issue_by_prefix ≡ document plain_issue
 unfolding document request_element get_record_element record_element metadata_part metadata record_named declared_metadata declared_start schema_location header_element

@@ -6,6 +6,7 @@ use Rattle.oai_time.specs.declared.granularity.Granularity.{Granularity}
 use Rattle.oai_item.specs.declared.formats.Format.{Format}
 use Rattle.oai_item.specs.Item.{ItemState, has_record}
 use Rattle.oai_answers.specs.declared.errors.ErrorCode.{ErrorCode}
+use Rattle.oai_answers.specs.declared.errors.ErrorCode.TheVariants.{BadArgument, BadVerb}
 use Rattle.oai_answers.specs.declared.identify.DeletedRecord.{DeletedRecord}
 use Rattle.oai_answers.specs.declared.tokens.Extent.{Extent}
 
@@ -70,6 +71,12 @@ pub data Answer : Type 0 where
   gives_record : Dissemination → Answer
   lists_headers : Page → Answer
   lists_records : Format → Page → Answer
+
+-- the arguments that `request` repeats beside an answer: none beside badVerb and badArgument, where it is the base URL alone (section 3.2)
+abbrev pub arguments_told : Answer → Attributes → Attributes
+arguments_told (fails BadVerb) asked = no_arguments
+arguments_told (fails BadArgument) asked = no_arguments
+arguments_told answer asked = asked
 
 -- an answer, the clock at which it is given in seconds from 1970 on, the base URL, and what was asked (section 3.2)
 pub record Document : Type 0 where

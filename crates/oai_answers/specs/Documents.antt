@@ -10,7 +10,7 @@ use Rattle.oai_time.specs.declared.granularity.Granularity.{Granularity}
 use Rattle.oai_time.specs.declared.granularity.Granularity.TheVariants.{Day, Second}
 use Rattle.oai_item.specs.declared.fields.Field.{Field}
 use Rattle.oai_item.specs.declared.formats.Format.{Format}
-use Rattle.oai_answers.specs.Answers.{Attributes, Description, Dissemination, Continuation, whole, remains, completes, Page, Answer, fails, identifies, lists_formats, lists_sets, gives_record, lists_headers, lists_records, Document}
+use Rattle.oai_answers.specs.Answers.{Attributes, arguments_told, Description, Dissemination, Continuation, whole, remains, completes, Page, Answer, fails, identifies, lists_formats, lists_sets, gives_record, lists_headers, lists_records, Document}
 use Rattle.oai_item.specs.Item.{ItemState, fields_in}
 use Rattle.oai_answers.specs.Markup.{plain, end_tag, element, text_element, spelled_attribute, attribute}
 use Rattle.oai_answers.specs.declared.errors.ErrorCode.{ErrorCode}
@@ -41,15 +41,9 @@ attributes asked =
     ++ given_attribute (codes "set") asked.set
     ++ given_attribute (codes "resumptionToken") asked.token
 
--- those that `request` has beside an answer: none after badVerb and badArgument, where it is the base URL alone
-abbrev pub attributes_beside : Answer → Attributes → List ℕ
-attributes_beside (fails BadVerb) asked = []
-attributes_beside (fails BadArgument) asked = []
-attributes_beside answer asked = attributes asked
-
 unfoldable pub request_element : Document → List ℕ
 request_element d =
-    plain (codes "<request") ++ attributes_beside d.answer d.asked ++ plain (codes ">")
+    plain (codes "<request") ++ attributes (arguments_told d.answer d.asked) ++ plain (codes ">")
     ++ escaped_text d.base
     ++ end_tag (codes "request")
 

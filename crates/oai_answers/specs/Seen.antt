@@ -12,9 +12,8 @@ use Rattle.oai_item.specs.Known.{are_fields_of}
 use Rattle.oai_item.specs.Rules.{is_allowed}
 use Rattle.oai_item.specs.declared.fields.Field.{Field}
 use Rattle.oai_item.specs.declared.formats.Format.{Format}
-use Rattle.oai_answers.specs.Answers.{Answer, Attributes, Continuation, Description, Document, completes, fails, gives_record, identifies, lists_formats, lists_headers, lists_records, lists_sets, no_arguments, remains, whole}
+use Rattle.oai_answers.specs.Answers.{Answer, Attributes, Continuation, Description, Document, arguments_told, completes, fails, gives_record, identifies, lists_formats, lists_headers, lists_records, lists_sets, remains, whole}
 use Rattle.oai_answers.specs.declared.errors.ErrorCode.{ErrorCode}
-use Rattle.oai_answers.specs.declared.errors.ErrorCode.TheVariants.{BadArgument, BadVerb}
 use Rattle.oai_answers.specs.declared.identify.DeletedRecord.{DeletedRecord}
 
 -- ---- what is seen
@@ -134,17 +133,11 @@ answer_seen base (gives_record d) = seen_record (record_seen d.granularity d.for
 answer_seen base (lists_headers page) = seen_headers (map (header_seen page.granularity) page.items) (token_seen page.continuation)
 answer_seen base (lists_records format page) = seen_records (map (record_seen page.granularity format) page.items) (token_seen page.continuation)
 
--- the arguments that `request` repeats: none beside badVerb and badArgument (section 3.2)
-abbrev pub arguments_seen : Answer → Attributes → Attributes
-arguments_seen (fails BadVerb) asked = no_arguments
-arguments_seen (fails BadArgument) asked = no_arguments
-arguments_seen answer asked = asked
-
 abbrev pub document_seen : Document → SeenDocument
 document_seen d = record {
   date = second_text d.date;
   base = d.base;
-  arguments = arguments_seen d.answer d.asked;
+  arguments = arguments_told d.answer d.asked;
   answer = answer_seen d.base d.answer;
 }
 

@@ -50,6 +50,9 @@ pub struct Doc<'a> {
     pub body: Body<'a>,
 }
 
+/// The room that a document begins with, in bytes; a longer one grows.
+const FIRST_ROOM: usize = 4_096;
+
 /// Appends the XML document (OAI-PMH 2.0, section 3.2), in UTF-8. The date, the earliest datestamp
 /// of an answer to Identify and the moment at which a token expires are of the years 0000 to 9999.
 /// The error is want of memory; it leaves the buffer as it was.
@@ -62,7 +65,7 @@ pub fn write_document(alloc: Global, doc: &Doc<'_>, out: &mut Vec<u8>) -> Result
     ensures ok { OnOk result (out.new.items ≡ out.old.items ++ document (document_of doc.now)) }
     ensures err { OnErr result (out.new.items ≡ out.old.items) }
 {
-    let mut document = Vec::new(alloc);
+    let mut document = Vec::with_capacity(alloc, FIRST_ROOM)?;
     append(doc, &mut document)?;
     if out.is_empty() {
         *out = document;

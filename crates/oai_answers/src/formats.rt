@@ -5,7 +5,6 @@ ghost use Rattle.oai_answers.specs.Answers.{is_offered, offered};
 ghost use Rattle.oai_answers.specs.Appends.{Appends};
 ghost use Rattle.oai_answers.specs.Documents.{format_element, formats_element};
 
-use crate::fields::has_record;
 use crate::markup::{end, start, text_element};
 use oai_item::{Format, Item};
 use std::alloc::AllocError;
@@ -54,7 +53,7 @@ fn is_offered(of: Option<&Item>, format: &Format) -> bool
     ensures { result ≡ is_offered (option_copied of.entry) format.now }
 {
     match of {
-        Some(item) => has_record(format.prefix.as_str(), item),
+        Some(item) => item.has_record(format.prefix.as_str()),
         None => true,
     }
 }

@@ -17,10 +17,11 @@ pub fn document_law()
 
 /// What the bytes do not show, by documents that are equal: the prefix of a format beside its root,
 /// namespace and schema; the second of a datestamp where days are printed; and the records of an item
-/// in other formats than the one that was asked for. The first two are such documents as
-/// [`document_law`] speaks of.
+/// in other formats than the one that was asked for. All four are such documents as [`document_law`]
+/// speaks of.
 pub fn unseen_law()
-    ensures regular { IsRegular plain_issue.answer × IsRegular issue_by_prefix.answer }
+    ensures regular { IsRegular plain_issue.answer × IsRegular issue_by_prefix.answer
+        × IsRegular issue_of_day.answer × IsRegular issue_in_both.answer }
     ensures prefix { document issue_by_prefix ≡ document plain_issue }
     ensures day { document issue_of_day ≡ document plain_issue }
     ensures others { document issue_in_both ≡ document plain_issue }

@@ -1,9 +1,9 @@
 ghost use Rattle.std.specs.Prelude.{◌≡◌, OnOk};
 ghost use Rattle.std.specs.Option.{option_copied};
-ghost use Rattle.oai_answers.specs.Answers.{no_arguments};
+ghost use Rattle.oai_answers.specs.Answers.{arguments_told, no_arguments};
 ghost use Rattle.oai_answers.specs.Appends.{Appends};
 ghost use Rattle.oai_answers.specs.Borrowed.{answer_of, attributes_of, document_of};
-ghost use Rattle.oai_answers.specs.Documents.{attributes, attributes_beside, given_attribute, request_element};
+ghost use Rattle.oai_answers.specs.Documents.{attributes, given_attribute, request_element};
 
 use crate::documents::{Body, Doc};
 use crate::errors::ErrorCode;
@@ -62,13 +62,14 @@ pub(crate) fn write_request(doc: &Doc<'_>, out: &mut Vec<u8>) -> Result<(), Allo
 }
 
 /// Appends the attributes that `request` has beside that answer.
+#[tactic(auto, unfolding(crate::specs::Documents::attributes))]
 fn write_attributes_beside(
     body: &Body<'_>,
     asked: &Asked<'_>,
     out: &mut Vec<u8>,
 ) -> Result<(), AllocError>
     ensures { OnOk result (Appends out.old.items out.new.items
-        (attributes_beside (answer_of body.now) (attributes_of asked.now))) }
+        (attributes (arguments_told (answer_of body.now) (attributes_of asked.now)))) }
 {
     match body {
         Body::Error(ErrorCode::BadVerb) => Ok(()),

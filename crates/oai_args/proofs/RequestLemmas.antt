@@ -7,13 +7,13 @@ use Rattle.oai_names.specs.Names.{is_prefix}
 use Rattle.oai_names.specs.declared.list_verbs.ListVerb.{ListVerb}
 use Rattle.oai_names.specs.declared.list_verbs.ListVerb.TheVariants as list
 use Rattle.oai_time.specs.declared.granularity.Granularity.{Granularity}
-use Rattle.oai_args.specs.Arguments.{key_of, known_keys, role_of, given_of, given, once, is_never, suits, arguments_in}
-use Rattle.oai_args.specs.Asks.{AskOrError, asks, bad_verb, bad_argument, at_most_once, IsOf, IsGetRecord, IsList, IsAsk, IsAskOrError}
+use Rattle.oai_args.specs.Arguments.{key_of, known_keys, role_of, given, once, is_never, suits, arguments_in}
+use Rattle.oai_args.specs.Asks.{AskOrError, asks, bad_verb, bad_argument, at_most_once, NamesVerb, IsOf, IsGetRecord, IsList, IsAsk, IsAskOrError}
 use Rattle.oai_args.specs.Bounds.{is_none_or_set_spec, are_bounds}
-use Rattle.oai_args.specs.Pairs.{Pair, values_of, has_only_keys, has_xml_values}
+use Rattle.oai_args.specs.Pairs.{Pair, has_only_keys, has_xml_values}
 use Rattle.oai_args.specs.Requests.{provided, verb_named, list_of_verb, suit, get_record_of, first_list_of, first_of, next_of, form_of, asked_or_bad, asked_of_verb, asked_verb, request_in, request_of, IsReadAs, IsReadFrom, GivesTheAnswer, ◌>>=◌}
 use Rattle.oai_args.specs.Steps.{result_of}
-use Rattle.oai_args.specs.Verbs.{verbs, name_of, verb_of_list, NamesVerb}
+use Rattle.oai_args.specs.Verbs.{verbs, name_of, verb_of_list}
 use Rattle.oai_args.specs.declared.arguments.Arguments.{Arguments}
 use Rattle.oai_args.specs.declared.givens.Given.{Given}
 use Rattle.oai_args.specs.declared.givens.Given.TheVariants.{Never, Once, Often}
@@ -52,17 +52,17 @@ verb_named-name_of GetRecord = refl
 verb_named-name_of ListIdentifiers = refl
 verb_named-name_of ListRecords = refl
 
-verb_of-is : (values : List (List ℕ)) (verb : Verb) → (once (given_of values) >>= verb_named) ≡ Some verb → values ≡ name_of verb ∷ []
-verb_of-is [] verb asked = cc
-verb_of-is (name ∷ []) verb asked = ap (λ (n : List ℕ). n ∷ []) (verb_named-is name verb asked)
-verb_of-is (name ∷ other ∷ values) verb asked = cc
+verb_of-is : (value : Given) (verb : Verb) → (once value >>= verb_named) ≡ Some verb → value ≡ Once (name_of verb)
+verb_of-is Never verb asked = cc
+verb_of-is (Once name) verb asked = ap (λ (n : List ℕ). Once n) (verb_named-is name verb asked)
+verb_of-is Often verb asked = cc
 
 asked_verb-is : (pairs : List Pair) (verb : Verb) → asked_verb (arguments_in pairs) ≡ Some verb → NamesVerb pairs verb
-unfolding asked_verb arguments_in given
-asked_verb-is pairs verb asked = verb_of-is (values_of (codes "verb") pairs) verb asked
+unfolding asked_verb arguments_in
+asked_verb-is pairs verb asked = verb_of-is (given (codes "verb") pairs) verb asked
 
 asked_verb-from : (pairs : List Pair) (verb : Verb) → NamesVerb pairs verb → asked_verb (arguments_in pairs) ≡ Some verb
-unfolding asked_verb arguments_in given
+unfolding asked_verb arguments_in
 asked_verb-from pairs verb named = rw named (verb_named-name_of verb)
 
 list_of_verb-of_list : (verb : ListVerb) → list_of_verb (verb_of_list verb) ≡ Some verb

@@ -1,12 +1,12 @@
 -- Which requests the arguments make: conditions on the whole list of pairs. OAI-PMH 2.0, sections 2.7.1, 3.1.1, 3.6
 -- (badVerb, badArgument) and 4.
-use Rattle.std.specs.Prelude.{◌≡◌, ℕ, true, List, Option, Some, None}
+use Rattle.std.specs.Prelude.{◌≡◌, ℕ, true, List, codes, Option, Some, None}
 use Rattle.oai_names.specs.Names.{is_prefix}
 use Rattle.oai_time.specs.declared.granularity.Granularity.{Granularity}
 use Rattle.oai_args.specs.Arguments.{key_of, known_keys, role_of, given, suits}
 use Rattle.oai_args.specs.Bounds.{is_none_or_set_spec, are_bounds}
 use Rattle.oai_args.specs.Pairs.{Pair, has_only_keys, has_xml_values}
-use Rattle.oai_args.specs.Verbs.{NamesVerb, verb_of_list}
+use Rattle.oai_args.specs.Verbs.{name_of, verb_of_list}
 use Rattle.oai_args.specs.declared.givens.Given.{Given}
 use Rattle.oai_args.specs.declared.givens.Given.TheVariants.{Never, Once}
 use Rattle.oai_args.specs.declared.requests.Ask.{Ask}
@@ -23,6 +23,10 @@ pub data AskOrError : Type 0 where
   asks : Ask → AskOrError
   bad_verb : AskOrError
   bad_argument : AskOrError
+
+-- `verb` is given once, with the name of this verb
+abbrev pub NamesVerb : List Pair → Verb → Type 0
+NamesVerb pairs verb = given (codes "verb") pairs ≡ Once (name_of verb)
 
 -- the pairs are those of a first request of the verb, or of one for the next part of its list: `verb` is given once, with the
 -- verb's name; every key is known; each argument is given as often as its role wants; every value is a text of XML characters
@@ -52,8 +56,8 @@ pub record IsGetRecord (pairs : List Pair) (identifier prefix : List ℕ) : Type
   pub formatted : IsGiven MetadataPrefix pairs prefix
   pub syntax : is_prefix prefix ≡ true
 
--- ListIdentifiers or ListRecords (sections 4.3 and 4.5): metadataPrefix, from, until and set are of their syntax. ListSets has no
--- metadataPrefix, so no pairs are these of it
+-- ListIdentifiers or ListRecords (sections 4.3 and 4.5): metadataPrefix, from, until and set are of their syntax. Of ListSets this is
+-- never true: it has no metadataPrefix
 pub record IsList (granularity : Granularity) (verb : Verb) (pairs : List Pair)
     (prefix : List ℕ) (from until set : Option (List ℕ)) : Type 0 where
   pub asked : IsOf First verb pairs

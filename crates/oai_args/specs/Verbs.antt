@@ -1,8 +1,7 @@
 -- The six verbs and their names. OAI-PMH 2.0, section 4.
-use Rattle.std.specs.Prelude.{◌≡◌, ℕ, List, [], ◌∷◌, codes}
+use Rattle.std.specs.Prelude.{ℕ, List, [], ◌∷◌, codes}
 use Rattle.oai_names.specs.declared.list_verbs.ListVerb.{ListVerb}
 use Rattle.oai_names.specs.declared.list_verbs.ListVerb.TheVariants.{Identifiers, Records, Sets}
-use Rattle.oai_args.specs.Pairs.{Pair, values_of}
 use Rattle.oai_args.specs.declared.verbs.Verb.{Verb}
 use Rattle.oai_args.specs.declared.verbs.Verb.TheVariants.{Identify, ListMetadataFormats, ListSets, GetRecord, ListIdentifiers, ListRecords}
 
@@ -24,7 +23,3 @@ abbrev pub verb_of_list : ListVerb → Verb
 verb_of_list Identifiers = ListIdentifiers
 verb_of_list Records = ListRecords
 verb_of_list Sets = ListSets
-
--- `verb` is given once, with the name of this verb
-abbrev pub NamesVerb : List Pair → Verb → Type 0
-NamesVerb pairs verb = values_of (codes "verb") pairs ≡ name_of verb ∷ []

@@ -6,7 +6,7 @@ use Rattle.std.proofs.lemmas.List.{take_more}
 use Rattle.std.proofs.lemmas.List.Folds.{list_any-append}
 use Rattle.oai_item.specs.Item.{ItemState}
 use Rattle.oai_item.specs.Items.{is_at, without_at}
-use Rattle.oai_catalogue.specs.Store.{is_one_of, without_each}
+use Rattle.oai_catalogue.specs.Store.{is_at_one_of, without_each}
 
 either : (a b : Bool) → (a || (b || false)) ≡ (a || b)
 either true b = refl
@@ -25,15 +25,15 @@ pub without_each-next : (gone : List ItemState) (x : ItemState) (items : List It
 unfolding without_each without_at
 without_each-next gone x [] = refl
 without_each-next gone x (item ∷ items) =
-    let test : is_one_of (gone ++ x ∷ []) item ≡ (is_one_of gone item || is_at x.stamp x.identifier item) =
-    list_any-append (λ (other : ItemState). is_at other.stamp other.identifier item) gone (x ∷ []) ∙ either (is_one_of gone item) (is_at x.stamp x.identifier item) in
-    ap (λ (b : Bool). cond (not b) (item ∷ new) new) test ∙ by_test (is_one_of gone item) (is_at x.stamp x.identifier item) refl (without_each-next gone x items)
+    let test : is_at_one_of (gone ++ x ∷ []) item ≡ (is_at_one_of gone item || is_at x.stamp x.identifier item) =
+    list_any-append (λ (other : ItemState). is_at other.stamp other.identifier item) gone (x ∷ []) ∙ either (is_at_one_of gone item) (is_at x.stamp x.identifier item) in
+    ap (λ (b : Bool). cond (not b) (item ∷ new) new) test ∙ by_test (is_at_one_of gone item) (is_at x.stamp x.identifier item) refl (without_each-next gone x items)
   where
     new : List ItemState
-    new = filter (λ i. not (is_one_of (gone ++ x ∷ []) i)) items
+    new = filter (λ i. not (is_at_one_of (gone ++ x ∷ []) i)) items
 
     old : List ItemState
-    old = filter (λ i. not (is_one_of gone i)) items
+    old = filter (λ i. not (is_at_one_of gone i)) items
 
     left : List ItemState → List ItemState
     left xs = filter (λ i. not (is_at x.stamp x.identifier i)) xs
@@ -48,22 +48,22 @@ without_each-next gone x (item ∷ items) =
 pub without_each-first : (x : ItemState) (gone items : List ItemState) → without_each (x ∷ gone) items ≡ without_each gone (without_at x.stamp x.identifier items)
 unfolding without_each without_at
 without_each-first x gone [] = refl
-without_each-first x gone (item ∷ items) = by_test (is_at x.stamp x.identifier item) (is_one_of gone item) refl (without_each-first x gone items)
+without_each-first x gone (item ∷ items) = by_test (is_at x.stamp x.identifier item) (is_at_one_of gone item) refl (without_each-first x gone items)
   where
     new : List ItemState
-    new = filter (λ i. not (is_one_of (x ∷ gone) i)) items
+    new = filter (λ i. not (is_at_one_of (x ∷ gone) i)) items
 
     old : List ItemState
     old = filter (λ i. not (is_at x.stamp x.identifier i)) items
 
     left : List ItemState → List ItemState
-    left xs = filter (λ i. not (is_one_of gone i)) xs
+    left xs = filter (λ i. not (is_at_one_of gone i)) xs
 
-    by_test : (a b : Bool) → is_one_of gone item ≡ b → new ≡ left old
+    by_test : (a b : Bool) → is_at_one_of gone item ≡ b → new ≡ left old
         → cond (not (a || b)) (item ∷ new) new ≡ left (cond (not a) (item ∷ old) old)
     by_test true b is h = h
-    by_test false true is h = h ∙ sym (cond-false (not (is_one_of gone item)) (item ∷ left old) (left old) (ap not is))
-    by_test false false is h = ap (λ (xs : List ItemState). item ∷ xs) h ∙ sym (cond-true (not (is_one_of gone item)) (item ∷ left old) (left old) (ap not is))
+    by_test false true is h = h ∙ sym (cond-false (not (is_at_one_of gone item)) (item ∷ left old) (left old) (ap not is))
+    by_test false false is h = ap (λ (xs : List ItemState). item ∷ xs) h ∙ sym (cond-true (not (is_at_one_of gone item)) (item ∷ left old) (left old) (ap not is))
 
 -- at the element i of those that go
 pub without_each-at : (gone : List ItemState) (i : ℕ) (d : ItemState) (items : List ItemState) → i < length gone

@@ -36,8 +36,8 @@ abbrev pub ChangesOnly : ℕ → Lists → Lists → Type 0
 ChangesOnly v old new = new ≡ with_list v (list_at new v) old
 
 -- each list rises strictly by datestamp and identifier
-abbrev pub AreRising : Lists → Type 0
-AreRising lists = (v : ℕ) → are_in_order (list_at lists v) ≡ true
+abbrev pub AreInOrder : Lists → Type 0
+AreInOrder lists = (v : ℕ) → are_in_order (list_at lists v) ≡ true
 
 -- ---- the faults
 
@@ -79,9 +79,9 @@ with_change gone new items = with_given new (without_given gone items)
 -- ---- several items taken out of one list
 
 -- the item has the datestamp and the identifier of one of these
-abbrev pub is_one_of : List ItemState → ItemState → Bool
-is_one_of gone item = list_any (λ (other : ItemState). is_at other.stamp other.identifier item) gone
+abbrev pub is_at_one_of : List ItemState → ItemState → Bool
+is_at_one_of gone item = list_any (λ (other : ItemState). is_at other.stamp other.identifier item) gone
 
 -- the items but those
 unfoldable pub without_each : List ItemState → List ItemState → List ItemState
-without_each gone items = filter (λ item. not (is_one_of gone item)) items
+without_each gone items = filter (λ item. not (is_at_one_of gone item)) items

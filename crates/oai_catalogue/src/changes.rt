@@ -1,8 +1,8 @@
-ghost use Rattle.std.specs.Prelude.{◌≡◌, ◌≢◌, ◌≤◌, None, if◌then◌else◌, is_ok, length, IfOk, IfSome, IsSome, IsTrue, OnErr, OnOk};
+ghost use Rattle.std.specs.Prelude.{◌≡◌, ◌≤◌, None, if◌then◌else◌, is_ok, length, IfOk, IfSome, IsSome, IsTrue, OnErr, OnOk};
 ghost use Rattle.std.specs.Option.{option_copied};
 ghost use Rattle.oai_item.specs.Encoding.{encoded};
 ghost use Rattle.oai_item.specs.declared.sizes.TheConstants.{MOST_ITEM_BYTES};
-ghost use Rattle.oai_catalogue.specs.Store.{AreRising, ChangesOnly, IsCounted, IsHonest, list_at, with_change, with_given, without_each, without_given, without_list};
+ghost use Rattle.oai_catalogue.specs.Store.{AreInOrder, ChangesOnly, IsCounted, IsHonest, list_at, with_change, with_given, without_each, without_given, without_list};
 ghost use Rattle.oai_catalogue.specs.Changes.{IsKept};
 
 use crate::versions::Versions;
@@ -27,7 +27,7 @@ pub fn change_item<V: Versions>(
         ≡ with_change (option_copied gone.entry) (option_copied new.entry)
         (list_at (V.lists store.old) v)) }
     ensures err { OnErr result (V.lists store.new ≡ V.lists store.old) }
-    ensures rising { OnOk result (AreRising (V.lists store.old) × AreRising (V.lists store.new)) }
+    ensures rising { OnOk result (AreInOrder (V.lists store.old) × AreInOrder (V.lists store.new)) }
     ensures device { IsCounted result (V.failures store.old) (V.failures store.new) }
     ensures honesty { IsHonest result (V.honest store.old) (V.honest store.new) }
 {
@@ -47,7 +47,7 @@ pub fn remove_items<V: Versions>(store: &mut V, v: u64, gone: &[Item]) -> Result
     ensures list { IfOk result (λ w. IsTrue (V.honest store.old) → list_at (V.lists store.new) w
         ≡ without_each gone.now (list_at (V.lists store.old) v)) }
     ensures err { OnErr result (V.lists store.new ≡ V.lists store.old) }
-    ensures rising { OnOk result (AreRising (V.lists store.old) × AreRising (V.lists store.new)) }
+    ensures rising { OnOk result (AreInOrder (V.lists store.old) × AreInOrder (V.lists store.new)) }
     ensures device { IsCounted result (V.failures store.old) (V.failures store.new) }
     ensures honesty { IsHonest result (V.honest store.old) (V.honest store.new) }
 {
@@ -71,7 +71,7 @@ fn keep_one<V: Versions>(
     ensures answer { IsKept edited result }
     ensures count { V.failures store.old ≤ V.failures store.new }
     ensures honesty { V.honest store.new ≡ V.honest store.old }
-    ensures rising { AreRising (V.lists store.new) }
+    ensures rising { AreInOrder (V.lists store.new) }
 {
     match edited {
         Ok(()) => {

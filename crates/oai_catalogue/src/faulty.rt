@@ -1,5 +1,4 @@
-ghost use Rattle.std.specs.Prelude.{◌≡◌, ◌+◌, ℕ, List, Option, if◌then◌else◌, is_ok, min};
-ghost use Rattle.oai_item.specs.Item.{ItemState};
+ghost use Rattle.std.specs.Prelude.{◌≡◌, ◌↔◌, ◌+◌, if◌then◌else◌, is_ok, min};
 ghost use Rattle.oai_catalogue.specs.Faulty.{IsTurn};
 
 use crate::filters::Filter;
@@ -77,7 +76,10 @@ impl<V: Versions + Drop> FaultyVersions<V> {
     /// reach it and fails with `Device`, which is counted as a failure. With 0 no call fails so.
     pub fn new(inner: V, k: u64) -> FaultyVersions<V>
         ensures lists { ⟦<FaultyVersions<V> as Versions>⟧.lists result ≡ V.lists inner }
+        ensures failures { ⟦<FaultyVersions<V> as Versions>⟧.failures result
+            ≡ min (V.failures inner) MOST_FAILURES }
         ensures honest { ⟦<FaultyVersions<V> as Versions>⟧.honest result ≡ V.honest inner }
+        ensures room { ⟦<FaultyVersions<V> as Versions>⟧.is_full result ↔ V.is_full inner }
     {
         FaultyVersions {
             inner,

@@ -6,7 +6,7 @@ use oai_names::{Prefix, SetSpec};
 use std::alloc::{AllocError, Global};
 use std::marker::Model;
 
-/// What a list request asks for (OAI-PMH 2.0, sections 2.6, 2.7 and 4.5).
+/// What a list request asks for (OAI-PMH 2.0, sections 2.6, 2.7, 4.3 and 4.5).
 #[derive(Debug, Drop)]
 pub struct Filter {
     /// The metadataPrefix: the items that have a record of it.

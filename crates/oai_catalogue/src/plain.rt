@@ -1,7 +1,6 @@
-ghost use Rattle.std.specs.Prelude.{◌≡◌, ◌⊎◌, ◌≤◌, ℕ, List, None, Some, IsSome, true, false, unwrap_or, [], IfErr, IfOk, OnErr, OnOk};
+ghost use Rattle.std.specs.Prelude.{◌≡◌, ◌⊎◌, ◌≤◌, ℕ, None, Some, IsSome, true, unwrap_or, [], IfErr, IfOk, OnErr};
 ghost use Rattle.std.specs.BTreeMap.{get};
 ghost use Rattle.std.specs.Ordering.{nat_cmp};
-ghost use Rattle.oai_item.specs.Item.{ItemState};
 ghost use Rattle.oai_item.specs.Order.{are_in_order};
 ghost use Rattle.oai_catalogue.specs.Store.{no_lists, with_list};
 ghost use Rattle.oai_catalogue.specs.Plain.{lists_of};
@@ -96,6 +95,7 @@ impl PlainVersions {
         ensures lists { ⟦<PlainVersions as Versions>⟧.lists result ≡ no_lists }
         ensures failures { ⟦<PlainVersions as Versions>⟧.failures result ≡ 0 }
         ensures honest { ⟦<PlainVersions as Versions>⟧.honest result ≡ true }
+        ensures room { ¬ (⟦<PlainVersions as Versions>⟧.is_full result) }
     {
         PlainVersions {
             alloc,

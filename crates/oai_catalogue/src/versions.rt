@@ -4,7 +4,7 @@ ghost use Rattle.oai_item.specs.Item.{ItemState};
 ghost use Rattle.oai_item.specs.Items.{item_at, with_item, without_at};
 ghost use Rattle.oai_item.specs.Selection.{selected};
 ghost use Rattle.oai_item.specs.declared.sizes.TheConstants.{MOST_ITEM_BYTES};
-ghost use Rattle.oai_catalogue.specs.Store.{AreRising, ChangesOnly, IsCounted, IsHonest, NeedsNoRoom, NeedsRoom, list_at, with_list, without_list};
+ghost use Rattle.oai_catalogue.specs.Store.{AreInOrder, ChangesOnly, IsCounted, IsHonest, NeedsNoRoom, NeedsRoom, list_at, with_list, without_list};
 
 use crate::filters::Filter;
 use oai_item::{Fault, Item};
@@ -39,7 +39,7 @@ pub trait Versions {
         ensures unused { IfOk result (λ v. lists self.old v ≡ None) }
         ensures ok { IfOk result (λ v. lists self.new ≡ with_list v [] (lists self.old)) }
         ensures err { OnErr result (lists self.new ≡ lists self.old) }
-        ensures rising { OnOk result (AreRising (lists self.old) × AreRising (lists self.new)) }
+        ensures rising { OnOk result (AreInOrder (lists self.old) × AreInOrder (lists self.new)) }
         ensures room { NeedsRoom result (is_full self.old) }
         ensures device { IsCounted result (failures self.old) (failures self.new) }
         ensures honesty { IsHonest result (honest self.old) (honest self.new) };
@@ -51,7 +51,7 @@ pub trait Versions {
         ensures ok { IfOk result
             (λ w. lists self.new ≡ with_list w (list_at (lists self.old) v) (lists self.old)) }
         ensures err { OnErr result (lists self.new ≡ lists self.old) }
-        ensures rising { OnOk result (AreRising (lists self.old) × AreRising (lists self.new)) }
+        ensures rising { OnOk result (AreInOrder (lists self.old) × AreInOrder (lists self.new)) }
         ensures room { NeedsRoom result (is_full self.old) }
         ensures device { IsCounted result (failures self.old) (failures self.new) }
         ensures honesty { IsHonest result (honest self.old) (honest self.new) };
@@ -65,7 +65,7 @@ pub trait Versions {
         ensures list { OnOk result (IsTrue (honest self.old)
             → list_at (lists self.new) v ≡ with_item item.now (list_at (lists self.old) v)) }
         ensures err { OnErr result (lists self.new ≡ lists self.old) }
-        ensures rising { OnOk result (AreRising (lists self.old) × AreRising (lists self.new)) }
+        ensures rising { OnOk result (AreInOrder (lists self.old) × AreInOrder (lists self.new)) }
         ensures room { NeedsRoom result (is_full self.old) }
         ensures device { IsCounted result (failures self.old) (failures self.new) }
         ensures honesty { IsHonest result (honest self.old) (honest self.new) };
@@ -80,7 +80,7 @@ pub trait Versions {
         ensures list { OnOk result (IsTrue (honest self.old) → list_at (lists self.new) v
             ≡ without_at stamp identifier.now (list_at (lists self.old) v)) }
         ensures err { OnErr result (lists self.new ≡ lists self.old) }
-        ensures rising { OnOk result (AreRising (lists self.old) × AreRising (lists self.new)) }
+        ensures rising { OnOk result (AreInOrder (lists self.old) × AreInOrder (lists self.new)) }
         ensures room { NeedsRoom result (is_full self.old) }
         ensures device { IsCounted result (failures self.old) (failures self.new) }
         ensures honesty { IsHonest result (honest self.old) (honest self.new) };
@@ -92,7 +92,7 @@ pub trait Versions {
         ensures found { IfOk result (λ item. IsTrue (honest self.old)
             → item ≡ item_at stamp identifier.now (list_at (lists self.old) v)) }
         ensures same { lists self.new ≡ lists self.old }
-        ensures rising { OnOk result (AreRising (lists self.old)) }
+        ensures rising { OnOk result (AreInOrder (lists self.old)) }
         ensures room { NeedsNoRoom result }
         ensures device { IsCounted result (failures self.old) (failures self.new) }
         ensures honesty { IsHonest result (honest self.old) (honest self.new) };
@@ -103,7 +103,7 @@ pub trait Versions {
         ensures number { IfOk result (λ n. IsTrue (honest self.old)
             → n ≡ length (selected filter.now (list_at (lists self.old) v))) }
         ensures same { lists self.new ≡ lists self.old }
-        ensures rising { OnOk result (AreRising (lists self.old)) }
+        ensures rising { OnOk result (AreInOrder (lists self.old)) }
         ensures room { NeedsNoRoom result }
         ensures device { IsCounted result (failures self.old) (failures self.new) }
         ensures honesty { IsHonest result (honest self.old) (honest self.new) };
@@ -121,7 +121,7 @@ pub trait Versions {
         ensures part { IfOk result (λ items. IsTrue (honest self.old)
             → items ≡ take most (drop skip (selected filter.now (list_at (lists self.old) v)))) }
         ensures same { lists self.new ≡ lists self.old }
-        ensures rising { OnOk result (AreRising (lists self.old)) }
+        ensures rising { OnOk result (AreInOrder (lists self.old)) }
         ensures room { NeedsNoRoom result }
         ensures device { IsCounted result (failures self.old) (failures self.new) }
         ensures honesty { IsHonest result (honest self.old) (honest self.new) };
@@ -130,7 +130,7 @@ pub trait Versions {
     fn release(&mut self, v: u64)
         requires { IsSome (lists self.old v) }
         ensures ok { lists self.new ≡ without_list v (lists self.old) }
-        ensures rising { AreRising (lists self.old) × AreRising (lists self.new) }
+        ensures rising { AreInOrder (lists self.old) × AreInOrder (lists self.new) }
         ensures count { failures self.old ≤ failures self.new }
         ensures honesty { honest self.new ≡ honest self.old };
 }

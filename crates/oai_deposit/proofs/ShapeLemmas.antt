@@ -318,5 +318,4 @@ pub shape_law_holds : ShapeLaw
 shape_law_holds d = record {
   fits = λ shape. (shape_takes d shape, shape_again d shape);
   fits_none = (none_where_refused d, refused_where_none d (shape_of d) refl);
-  no_other = only_shape d;
 }

@@ -25,7 +25,7 @@ use Rattle.oai_deposit.specs.Readings.{◌>>=◌, each_of, tested}
 unfoldable pub json_of : List ℕ → Result Data LineRefusal
 json_of line = if is_utf8 line then ok_or (read line) BadJson else Err BadJson
 
--- ---- 2: the shapes
+-- ---- 2: the shapes. `ShapeLaw` (Shapes.antt) says which objects they are
 
 -- the texts of a command: of a deposit, the identifier, the setSpecs and the records; of a deletion, the identifier; of a purge, the
 -- bound; of a new set, the setSpec and the setName

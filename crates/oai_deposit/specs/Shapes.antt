@@ -3,7 +3,6 @@ use Rattle.std.specs.Prelude.{◌≡◌, ◌↔◌, ℕ, List, [], ◌∷◌, ma
 use Rattle.serde_json.specs.Data.{Data, string}
 use Rattle.serde_json.specs.Find.{get}
 use Rattle.oai_item.specs.declared.fields.Field.{Field}
-use Rattle.oai_item.specs.declared.refusals.LineRefusal.{LineRefusal}
 use Rattle.oai_item.specs.declared.refusals.LineRefusal.TheVariants.{BadCommand}
 use Rattle.oai_item.specs.Item.{Metadata}
 use Rattle.oai_deposit.specs.Json.{size, array_of, object_of}
@@ -56,12 +55,11 @@ IsShape (deletes identifier) d = IsDeletion identifier d
 IsShape (purges before) d = IsPurge before d
 IsShape (adds_set spec name) d = IsNewSet spec name d
 
--- the value is of a shape exactly where it is the object that the shape is written as; where it is so of none, it is refused
--- as no command, and never by another cause
+-- the value is of a shape exactly where it is the object that the shape is written as; where it is so of none, it is refused as no
+-- command
 pub record IsReadAsWritten (d : Data) : Type 0 where
   pub fits : (shape : Shape) → (shape_of d ≡ Ok shape) ↔ IsShape shape d
   pub fits_none : (shape_of d ≡ Err BadCommand) ↔ ((shape : Shape) → ¬ IsShape shape d)
-  pub no_other : (refusal : LineRefusal) → shape_of d ≡ Err refusal → refusal ≡ BadCommand
 
 -- the law of the shapes, at every value
 abbrev pub ShapeLaw : Type 0

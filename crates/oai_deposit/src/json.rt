@@ -12,9 +12,10 @@ use oai_item::LineRefusal;
 use serde_json::Value;
 use std::alloc::Global;
 
-/// Whether the value is an object of exactly these members.
+/// Whether the value is an object of exactly these members (RFC 8259, section 4), in any order. It takes
+/// no memory.
 #[tactic(auto, using(crate::proofs::JsonLemmas::has_members_map))]
-pub(crate) fn has_members(value: &Value, names: &[&str]) -> bool
+pub fn has_members(value: &Value, names: &[&str]) -> bool
     ensures { result ≡ json.has_members (map (λ name. name.now) names.now) (view value.now) }
 {
     size(value) == names.len() && has_each(value, names)

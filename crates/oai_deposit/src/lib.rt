@@ -7,4 +7,5 @@ mod lines;
 mod records;
 
 pub use faults::LineFault;
+pub use json::has_members;
 pub use lines::{read_line, shape_law};

@@ -5,7 +5,7 @@ use Rattle.std.specs.Option.{option_map}
 use Rattle.std.proofs.lemmas.List.{append-nil, drop-append-le, take-append-le, take-append-drop, length-append, length-drop, length-map, length-take}
 use Rattle.std.proofs.Math.Seq.{drop-append_seam, take-append-add}
 use Rattle.std.proofs.lemmas.Grind.{common_steps}
-use Rattle.httparse.specs.Grammar.{HasNoRequest, ReadsRequest, RequestHead, print_request}
+use Rattle.httparse.specs.Grammar.{HasNoRequest, NeverHasRequest, ReadsRequest, RequestHead, print_request}
 use Rattle.httparse.specs.Spans.{IsRequestAt, IsRequestWithin, IsWithin, RequestOverflows, header_bytes, name_and_value, span_bytes}
 use Rattle.httparse.specs.declared.spans.HeaderSpan.{HeaderSpan}
 use Rattle.httparse.specs.declared.spans.RequestSpans.{RequestSpans}
@@ -98,12 +98,17 @@ pub never_in_front : (bytes : List ℕ) (most : ℕ) → MOST_HEAD_BYTES ≤ mos
 never_in_front bytes most room full none more =
     none_in_front (bytes ++ more) most room (subst HasNoRequest (sym (take-append-le most bytes more full)) none)
 
+parted : (bytes more : List ℕ) (most : ℕ) → bytes ++ more ≡ take most bytes ++ (drop most bytes ++ more)
+parted bytes more most = ap (λ (all : List ℕ). all ++ more) (sym (take-append-drop most bytes)) ∙ append_assoc (take most bytes) (drop most bytes) more
+
+-- what never becomes a head does not with more behind it
+pub never_request : (bytes : List ℕ) (most : ℕ) → NeverHasRequest (take most bytes) → NeverHasRequest bytes
+never_request bytes most never more = subst HasNoRequest (sym (parted bytes more most)) (never (drop most bytes ++ more))
+
 -- where the parser fails on them, no head ever comes
 pub never_after : (bytes : List ℕ) (most : ℕ) → RequestOverflows MOST_FIELDS (take most bytes) → NeverHasHead bytes
 never_after bytes most over more head behind b =
-    let whole : bytes ++ more ≡ take most bytes ++ (drop most bytes ++ more) =
-    ap (λ (all : List ℕ). all ++ more) (sym (take-append-drop most bytes)) ∙ append_assoc (take most bytes) (drop most bytes) more in
-    let many = over (drop most bytes ++ more) head behind (subst (λ (all : List ℕ). ReadsRequest all head behind) whole b.reads) in
+    let many = over (drop most bytes ++ more) head behind (subst (λ (all : List ℕ). ReadsRequest all head behind) (parted bytes more most) b.reads) in
     omega (arith, many, b.few)
 
 pub none_after : (bytes : List ℕ) → NeverHasHead bytes → HasNoHead bytes

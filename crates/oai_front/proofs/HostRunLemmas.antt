@@ -1,7 +1,9 @@
 -- Pieces on connections with a host: what its repositories answer to the messages that are performed.
 use Rattle.std.proofs.Common.{◌≡◌, ◌∙◌, ◌≤◌, Bool, IsTrue, List, [], ◌∷◌, ◌++◌, append_assoc, arith, refl, sym, ap, subst}
 use Rattle.std.proofs.lemmas.List.{append-nil}
+use Rattle.oai_host.proofs.FaultLemmas.{all_counted_since, all_honest_since, counted_on, honest_on}
 use Rattle.oai_host.proofs.RunLemmas.{all_alone, answered_last, answered_none}
+use Rattle.oai_host.specs.Answers.{AreCounted, AreHonest, failure_in}
 use Rattle.oai_host.specs.Hosts.{AreAnswered, Hosting, Repository}
 use Rattle.oai_host.specs.declared.exchanges.Answer.{Answer}
 use Rattle.oai_host.specs.declared.exchanges.Call.{Call}
@@ -40,6 +42,21 @@ count_rises : (old new : Hosting) (served : List Served) → Serves IsExchanged 
 count_rises old new [] run = omega (arith, ap (λ (h : Hosting). h.failures) run)
 count_rises old new (s ∷ served) run = omega (arith, count_rises run.0 new served run.2, run.1.device.count)
 
+-- each fault has its cause
+all_counted : (old new : Hosting) (served : List Served) → Serves IsExchanged old served new → AreCounted (answers_in served) old.failures new.failures
+all_counted old new [] run = tt
+all_counted old new (s ∷ served) run = (
+  counted_on (failure_in s.done.answer) old.failures run.0.failures new.failures run.1.device (count_rises run.0 new served run.2),
+  all_counted_since (answers_in served) old.failures run.0.failures new.failures run.1.device.count (all_counted run.0 new served run.2),
+)
+
+all_honest : (old new : Hosting) (served : List Served) → Serves IsExchanged old served new → AreHonest (answers_in served) old.honest new.honest
+all_honest old new [] run = tt
+all_honest old new (s ∷ served) run = (
+  honest_on (failure_in s.done.answer) old.honest run.0.honest new.honest run.1.honesty (honesty_stays run.0 new served run.2),
+  all_honest_since (answers_in served) old.honest run.0.honest new.honest run.1.honesty.same (all_honest run.0 new served run.2),
+)
+
 pub all_hosted : (old new : State Hosting) (pieces : List Piece) → Comes IsExchanged old pieces new → IsTrue old.handler.honest → AreHosted old new pieces
 all_hosted old new pieces comes honest =
     let all = come_served IsExchanged old new pieces comes in
@@ -55,6 +72,8 @@ all_hosted old new pieces comes honest =
       alone = all_alone (calls_in served) (answers_in served) old.handler.repositories new.handler.repositories answered;
       own = all.own;
       prompt = all.prompt;
+      device = all_counted old.handler new.handler served all.run;
+      damaged = all_honest old.handler new.handler served all.run;
       honesty = honesty_stays old.handler new.handler served all.run;
       count = count_rises old.handler new.handler served all.run;
     }

@@ -1,5 +1,5 @@
 -- Messages at the front of bytes, and those that were performed.
-use Rattle.std.proofs.Common.{◌≡◌, ◌∙◌, inl, ℕ, ℤ, ◌+◌, ◌-◌, ◌<◌, ◌≤◌, Bool, true, false, List, [], ◌∷◌, ◌++◌, append_assoc, length, take, drop, Option, None, refl, sym, ap, subst, arith}
+use Rattle.std.proofs.Common.{◌≡◌, ◌∙◌, inl, inr, ℕ, ℤ, ◌+◌, ◌-◌, ◌<◌, ◌≤◌, Bool, true, false, List, [], ◌∷◌, ◌++◌, append_assoc, length, take, drop, Option, None, refl, sym, ap, subst, arith}
 use Rattle.std.specs.List.{flat_map}
 use Rattle.std.specs.Prelude.{IfSome}
 use Rattle.std.proofs.lemmas.List.{append-nil, drop-drop, length-append, length-drop, length-take-le, take-append-drop}
@@ -8,7 +8,7 @@ use Rattle.httparse.proofs.GrammarLemmas.{request_unique}
 use Rattle.oai_host.specs.declared.statuses.Status.{Status}
 use Rattle.oai_host.specs.declared.exchanges.Answer.{Answer}
 use Rattle.oai_front.specs.Heads.{answer_bytes, fault_bytes}
-use Rattle.oai_front.specs.Messages.{Asked, Begins, End, HasNoHead, HasWhole, IsClosing, IsFault, IsUnfinished, Message, Reads, Splits, closes, faults, plan_behind, waits}
+use Rattle.oai_front.specs.Messages.{Asked, Begins, End, HasNoHead, HasWhole, IsClosing, IsFault, IsUnfinished, MayBegin, Message, Reads, Splits, closes, faults, plan_behind, waits}
 use Rattle.oai_front.specs.Performing.{Completes, Done, Performs, Run, Steps, answers_of, done_bytes, end_bytes, messages_of}
 use Rattle.oai_front.specs.Workings.{IsHead, IsSoFar, Writes, behind, message_behind}
 use Rattle.oai_front.specs.declared.beginnings.Head.{Head}
@@ -31,11 +31,12 @@ last_in (Refused status) = false
 not_refused : (status : Status) (size : ℕ) (last : Bool) → Refused status ≡ Followed size last → ⊥
 not_refused status size last e = cc
 
-pub unfinished_without : (bytes : List ℕ) → HasNoHead bytes → length bytes < MOST_HEAD_BYTES → IsUnfinished bytes
-unfinished_without bytes none few = record {
+pub unfinished_without : (bytes : List ℕ) → HasNoHead bytes → length bytes < MOST_HEAD_BYTES → MayBegin bytes → IsUnfinished bytes
+unfinished_without bytes none few begins = record {
   message = λ message after r. none r.head _ r.begins;
   fault = λ status r. none r.head r.behind r.begins;
   short = λ h. few;
+  begins = λ h. begins;
 }
 
 pub unfinished_body : (bytes : List ℕ) (kept : Head) → IsHead bytes kept → length (drop kept.start bytes) < kept.size → IsUnfinished bytes
@@ -50,6 +51,7 @@ unfinished_body bytes kept h few = record {
       let same = request_unique bytes r.head h.head r.behind h.behind r.begins.reads h.begins.reads in
       not_refused status kept.size kept.last (sym r.plan ∙ ap plan_behind same.0 ∙ h.plan);
   short = λ none. absurd (none h.head h.behind h.begins);
+  begins = λ none. absurd (none h.head h.behind h.begins);
 }
 
 -- the message of a head whose body is there
@@ -172,6 +174,18 @@ sofar_refused {H} step moment old mid new bytes before between after rest known 
     let few : length bytes - length rest ≤ length bytes = omega arith in
     subst (λ (xs : List ℕ). Writes before after (Performs step moment old new bytes xs) × (length bytes - length rest ≤ length bytes) × IsHead xs kept × HasWhole xs) s.end
     ((p.0, e ∙ p.1, performed), few, h, left)
+
+-- want of memory: the fault that stands there was not answered
+pub sofar_untold : {H : Type 0} (step : Steps H) (moment : ℤ) (old new : H) (bytes before between after rest : List ℕ) (known : Option Head) (status : Status)
+    → IsSoFar step moment old new bytes before between rest known → IsFault rest status → after ≡ between
+    → Writes before after (Performs step moment old new bytes (drop (length bytes - length rest) bytes)) × (length bytes - length rest ≤ length bytes) × Unit {0}
+    × HasWhole (drop (length bytes - length rest) bytes)
+sofar_untold step moment old new bytes before between after rest known status s f e =
+    let p = s.performed in
+    let left : HasWhole rest = inr (status, f) in
+    let few : length bytes - length rest ≤ length bytes = omega arith in
+    subst (λ (xs : List ℕ). Writes before after (Performs step moment old new bytes xs) × (length bytes - length rest ≤ length bytes) × Unit {0} × HasWhole xs) s.end
+    ((p.0, e ∙ p.1, p.2), few, tt, left)
 
 -- the message that was performed next
 abbrev pub done_at : List ℕ → Head → Answer → Done

@@ -114,7 +114,7 @@ unfolding some_head print_request
 some_begins = record { reads = (is_some_head, sym (append-nil (print_request some_head))); short = omega arith; few = omega arith }
 
 no_fault_in_none : (status : Status) → ¬ (IsFault [] status)
-no_fault_in_none status (inl never) = never.0 (print_request some_head) some_head [] some_begins
+no_fault_in_none status (inl never) = never.0.0 (print_request some_head) some_head [] some_begins
 no_fault_in_none status (inr refused) = not_refused_in_none status refused
 
 nothing_closes : (bytes : List ℕ) (messages front : List Message) (rest : List ℕ) (m : Message) (after : List ℕ) → bytes ≡ [] → Splits bytes front rest → Reads rest m after
@@ -135,7 +135,8 @@ nothing_comes bytes messages closes e s = nothing_closes bytes messages s.0 s.1 
 
 -- no bytes are nothing whole
 pub none_unfinished : IsUnfinished []
-none_unfinished = record { message = no_message_in_none; fault = not_refused_in_none; short = λ _. omega arith }
+none_unfinished =
+    record { message = no_message_in_none; fault = not_refused_in_none; short = λ _. omega arith; begins = λ _. inl (inl (print_request some_head, some_head, some_begins.reads)) }
 
 -- ---- what a piece does to its own connection
 

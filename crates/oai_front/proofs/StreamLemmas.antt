@@ -1,14 +1,16 @@
 -- The messages of bytes: there is one list of them, and it does not matter how the bytes were cut.
-use Rattle.std.proofs.Common.{◌≡◌, ◌∙◌, ℕ, ◌⊎◌, Bool, true, false, List, [], ◌∷◌, ◌++◌, append_assoc, length, take, drop, refl, sym, ap, ap₂, subst, inl, inr}
+use Rattle.std.proofs.Common.{◌≡◌, ◌∙◌, ◌≤◌, ℕ, ◌⊎◌, arith, Bool, true, false, List, [], ◌∷◌, ◌++◌, append_assoc, length, take, drop, refl, sym, ap, ap₂, subst, inl, inr}
 use Rattle.std.proofs.lemmas.Bool.{false≢true}
+use Rattle.std.proofs.lemmas.List.{length-append}
 use Rattle.std.proofs.Math.Seq.{drop-append_seam, take-append_seam}
 use Rattle.std.specs.Prelude.{Option, codes}
-use Rattle.httparse.specs.Grammar.{RequestHead}
+use Rattle.httparse.specs.Grammar.{HasNoRequest, NeverHasRequest, RequestHead}
 use Rattle.httparse.proofs.GrammarLemmas.{request_unique}
 use Rattle.oai_host.specs.declared.statuses.Status.{Status}
 use Rattle.oai_host.specs.declared.statuses.Status.TheVariants.{BadRequest}
 use Rattle.oai_front.specs.Fields.{first_value, values_named}
 use Rattle.oai_front.specs.Messages.{fields_of, AreAlike, Begins, End, HasNoHead, IsClosing, IsFault, IsRefused, IsUnfinished, Message, NeverHasHead, Reads, Splits, Stream, closes, faults, plan_behind, waits}
+use Rattle.oai_front.specs.declared.beginnings.TheConstants.{MOST_HEAD_BYTES}
 use Rattle.oai_front.specs.declared.plans.Plan.{Plan}
 use Rattle.oai_front.specs.declared.plans.Plan.TheVariants.{Followed, Refused}
 use Rattle.oai_front.proofs.HeadLemmas.{begins_more, none_after, refused_more}
@@ -78,14 +80,14 @@ refused_no_message bytes status f m after r =
     not_refused status (length m.asked.body) m.last (sym f.plan ∙ ap plan_behind same.0 ∙ r.plan)
 
 fault_no_message : (bytes : List ℕ) (status : Status) → IsFault bytes status → (m : Message) (after : List ℕ) → ¬ (Reads bytes m after)
-fault_no_message bytes status (inl never) = no_head_no_message bytes never.0
+fault_no_message bytes status (inl never) = no_head_no_message bytes never.0.0
 fault_no_message bytes status (inr refused) = refused_no_message bytes status refused
 
 -- one fault, whichever way it is told
 faults_alike : (bytes : List ℕ) (s t : Status) → IsFault bytes s → IsFault bytes t → s ≡ t
 faults_alike bytes s t (inl a) (inl b) = a.1 ∙ sym b.1
-faults_alike bytes s t (inl a) (inr b) = absurd (none_after bytes a.0 b.head b.behind b.begins)
-faults_alike bytes s t (inr a) (inl b) = absurd (none_after bytes b.0 a.head a.behind a.begins)
+faults_alike bytes s t (inl a) (inr b) = absurd (none_after bytes a.0.0 b.head b.behind b.begins)
+faults_alike bytes s t (inr a) (inl b) = absurd (none_after bytes b.0.0 a.head a.behind a.begins)
 faults_alike bytes s t (inr a) (inr b) =
     let same = request_unique bytes a.head b.head _ _ a.begins.reads b.begins.reads in
     refused_alike s t (sym a.plan ∙ ap plan_behind same.0 ∙ b.plan)
@@ -123,8 +125,13 @@ stream_join bytes rest ms ns closes s t = (
 pub stream_cut : (a b rest : List ℕ) (ms ns : List Message) (end : End) → Stream a ms (waits rest) → Stream (rest ++ b) ns end → Stream (a ++ b) (ms ++ ns) end
 stream_cut a b rest ms ns end s t = stream_join (a ++ b) (rest ++ b) ms ns end (splits_more a b rest ms s.0) t
 
+hopeless_more : (bytes more : List ℕ) → NeverHasRequest bytes ⊎ (MOST_HEAD_BYTES ≤ length bytes) → NeverHasRequest (bytes ++ more) ⊎ (MOST_HEAD_BYTES ≤ length (bytes ++ more))
+hopeless_more bytes more (inl never) = inl (λ others. subst HasNoRequest (sym (append_assoc bytes more others)) (never (more ++ others)))
+hopeless_more bytes more (inr full) = inr (omega (arith, full, length-append bytes more))
+
 fault_more : (bytes more : List ℕ) (status : Status) → IsFault bytes status → IsFault (bytes ++ more) status
-fault_more bytes more status (inl never) = inl (λ others. subst HasNoHead (sym (append_assoc bytes more others)) (never.0 (more ++ others)), never.1)
+fault_more bytes more status (inl never) =
+    inl ((λ others. subst HasNoHead (sym (append_assoc bytes more others)) (never.0.0 (more ++ others)), hopeless_more bytes more never.0.1), never.1)
 fault_more bytes more status (inr refused) = inr (refused_more bytes more status refused)
 
 -- what comes after the end changes nothing

@@ -20,6 +20,12 @@ pub record Connection : Type 0 where
 abbrev pub fresh : ℕ → Connection
 fresh number = record { number = number; rest = []; output = []; stage = Reading }
 
+-- the bytes are the front of these, and there are none only where these are none
+pub record IsFrontOf (bytes all : List ℕ) : Type 0 where
+  pub later : List ℕ
+  pub front : all ≡ bytes ++ later
+  pub some : bytes ≡ [] → all ≡ []
+
 -- ---- a piece
 
 -- the bytes that wait, and behind them the piece, which is dropped where the connection is closing

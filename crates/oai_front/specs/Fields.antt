@@ -43,7 +43,7 @@ length_written value =
     then Some (digits_value 10 value) else None
 
 -- the length of the body that the fields Content-Length give: none where there is no field, and no length where there are several or one
--- that is no number. RFC 9112, section 6.3
+-- that is no number. RFC 9112, section 6.3, lets a recipient take several of one length: that they are refused is this repository's own
 abbrev pub length_first : Option (List ℕ) → Option ℕ
 length_first None = Some 0
 length_first (Some value) = length_written value
@@ -71,7 +71,7 @@ is_closing field = is_named (codes "Connection") field && lists_close field.1
 unfoldable pub list_close : List (List ℕ × List ℕ) → Bool
 list_close fields = list_any is_closing fields
 
--- the connection is closed after the message: RFC 9112, section 9.3; after one of HTTP/1.0 it always is
+-- the connection is closed after the message: RFC 9112, section 9.3. That it always is after one of HTTP/1.0 is this repository's own
 abbrev pub is_last : ℕ → List (List ℕ × List ℕ) → Bool
 is_last minor fields = minor == 0 || list_close fields
 

@@ -1,9 +1,8 @@
 -- The connections that are open, and what the calls of a front do. This repository's own.
 use Rattle.std.specs.Prelude.{◌≡◌, ℕ, ℤ, ◌+◌, ◌<◌, ◌≤◌, Bool, true, not, ◌&&◌, ◌==◌, nat_le, nat_lt, if◌then◌else◌, List, [], ◌∷◌, ◌++◌, length, drop, map, filter, find, Option, Some, None, IsSome, MatchOption, Result, Ok, Err}
 use Rattle.std.specs.List.{list_all}
-use Rattle.oai_front.specs.Connections.{Connection, IsEnded, IsTakenIn, fresh}
+use Rattle.oai_front.specs.Connections.{Connection, IsEnded, IsFrontOf, IsTakenIn, fresh}
 use Rattle.oai_front.specs.Performing.{Steps}
-use Rattle.oai_front.specs.Queues.{IsFrontOf}
 use Rattle.oai_front.specs.declared.faults.OpenFault.{OpenFault}
 use Rattle.oai_front.specs.declared.faults.OpenFault.TheVariants as refusal
 use Rattle.oai_front.specs.declared.faults.NoSuchConnection.{NoSuchConnection as Absent}

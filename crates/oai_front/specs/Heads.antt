@@ -10,7 +10,7 @@ use Rattle.oai_front.specs.declared.heads.Place.{Place}
 use Rattle.oai_front.specs.declared.heads.Place.TheVariants.{Requests, Deposits, Elsewhere}
 use Rattle.oai_front.specs.declared.heads.AnswerHead.{AnswerHead}
 
--- bytes as they stand
+-- bytes as they stand; named so that the search does not spell them out
 unfoldable pub plain : List ℕ → List ℕ
 plain bytes = bytes
 
@@ -23,14 +23,14 @@ unfoldable pub status_line : Status → List ℕ
 status_line status =
     plain (codes "HTTP/1.1 ") ++ decimal (number_of status) ++ plain (codes " ") ++ phrase_of status ++ plain (codes "\r\n")
 
--- what stands at a target: the requests or the deposits of a repository, by how the path begins
+-- what stands at a target: the requests or the deposits of a repository, by how the target begins
 abbrev pub place_of : List ℕ → Place
 place_of target =
     if bytes_eq (take 5 target) (codes "/oai/") then Requests
     else (if bytes_eq (take 9 target) (codes "/deposit/") then Deposits
     else Elsewhere)
 
--- RFC 9110, section 8.3: the type of a 200
+-- RFC 9110, section 8.3, and of requests OAI-PMH 2.0, section 3.1.2.1: the type of a 200
 abbrev pub type_at : Place → List ℕ
 type_at Requests = field (codes "Content-Type") (plain (codes "text/xml"))
 type_at Deposits = field (codes "Content-Type") (plain (codes "text/plain; charset=utf-8"))
@@ -48,7 +48,7 @@ allow_at Elsewhere = []
 unfoldable pub allow_field : Place → Status → List ℕ
 allow_field place status = if number_of status == 405 then allow_at place else []
 
--- RFC 9110, section 10.2.3: after how many seconds to ask again
+-- RFC 9110, section 10.2.3, and OAI-PMH 2.0, section 3.1.2.2: after how many seconds to ask again
 abbrev pub retry_after : Option ℤ → List ℕ
 retry_after None = []
 retry_after (Some seconds) = field (codes "Retry-After") (signed_decimal seconds)

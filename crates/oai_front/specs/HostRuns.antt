@@ -1,7 +1,7 @@
 -- What comes of pieces, on any number of connections, where a host performs the messages. This repository's own.
 use Rattle.std.specs.Prelude.{◌≡◌, ◌≤◌, ℕ, ℤ, true, IsTrue, List, map, take}
 use Rattle.oai_catalogue.specs.Store.{IsCounted, IsHonest}
-use Rattle.oai_host.specs.Answers.{failure_in}
+use Rattle.oai_host.specs.Answers.{AreCounted, AreHonest, failure_in}
 use Rattle.oai_host.specs.Hosts.{AreAnswered, AreAsAlone, Hosting, IsAnswered, none_failed}
 use Rattle.oai_host.specs.declared.exchanges.Answer.{Answer}
 use Rattle.oai_host.specs.declared.exchanges.Call.{Call}
@@ -44,7 +44,7 @@ answers_in served = map (λ s. s.done.answer) served
 
 -- pieces came, and messages were performed: `each` says with which piece which. `calls` are all of them, one after the other, as calls of the
 -- host, and `answers` are theirs. At each repository what is answered is a run of its own exchanges, whatever came between them, on the same
--- connection or on others; where none failed, it is what that repository alone answers. On each connection just the messages of its own
+-- connection or on others; where none failed, it is what that repository alone answers. A fault is told only where it has its cause. On each connection just the messages of its own
 -- bytes were performed, each with the piece that brought its last byte, and just their answers, in order, and that to a fault, were put
 -- behind its output
 pub record AreHosted (old new : State Hosting) (pieces : List Piece) : Type 0 where
@@ -58,5 +58,7 @@ pub record AreHosted (old new : State Hosting) (pieces : List Piece) : Type 0 wh
   pub own : (number : ℕ) (c : Connection) → IsReading number old c → IsOwn number new c (bytes_on number pieces) (done_on number (all_served pieces each))
   pub prompt : (count number : ℕ) (c : Connection) → IsReading number old c
       → AreMessages c (bytes_on number (take count pieces)) (done_on number (all_served (take count pieces) each))
+  pub device : AreCounted answers old.handler.failures new.handler.failures
+  pub damaged : AreHonest answers old.handler.honest new.handler.honest
   pub honesty : new.handler.honest ≡ old.handler.honest
   pub count : old.handler.failures ≤ new.handler.failures

@@ -1,8 +1,8 @@
 -- The messages of a connection: RFC 9112, sections 2, 3, 6 and 9. The bytes that come are one message behind the other, and then what
 -- belongs to none. A head is one of the grammar of `httparse`.
 use Rattle.std.specs.Prelude.{◌≡◌, ℕ, ◌<◌, ◌≤◌, ◌⊎◌, Bool, true, false, List, [], ◌∷◌, ◌++◌, length, map, codes, Option, ⊤}
-use Rattle.httparse.specs.Grammar.{ReadsRequest, RequestHead, print_request}
-use Rattle.httparse.specs.Spans.{name_and_value}
+use Rattle.httparse.specs.Grammar.{MayBecomeRequest, NeverHasRequest, ReadsRequest, RequestHead, print_request}
+use Rattle.httparse.specs.Spans.{RequestExceeds, name_and_value}
 use Rattle.oai_host.specs.declared.statuses.Status.{Status}
 use Rattle.oai_host.specs.declared.statuses.Status.TheVariants.{BadRequest}
 use Rattle.oai_front.specs.Fields.{first_value, plan_of, values_named}
@@ -60,16 +60,27 @@ pub record IsRefused (bytes : List ℕ) (status : Status) : Type 0 where
   pub begins : Begins bytes head behind
   pub plan : plan_behind head ≡ Refused status
 
+-- no head stands at their front, whatever bytes follow, and it is time to say so: no head of the grammar ever will, of whatever size, or there
+-- are as many bytes as a head may have
+abbrev pub IsHopeless : List ℕ → Type 0
+IsHopeless bytes = NeverHasHead bytes × (NeverHasRequest bytes ⊎ (MOST_HEAD_BYTES ≤ length bytes))
+
+-- in bytes without a head one may still begin: they can become a head of the grammar, or they have the lines of one with too many fields, of
+-- which nothing is said before there are as many bytes as a head may have
+abbrev pub MayBegin : List ℕ → Type 0
+MayBegin bytes = MayBecomeRequest bytes ⊎ RequestExceeds MOST_FIELDS bytes
+
 -- no message can come of the bytes: no head ever stands at their front, or the one that does is refused
 abbrev pub IsFault : List ℕ → Status → Type 0
-IsFault bytes status = (NeverHasHead bytes × (status ≡ BadRequest)) ⊎ IsRefused bytes status
+IsFault bytes status = (IsHopeless bytes × (status ≡ BadRequest)) ⊎ IsRefused bytes status
 
 -- nothing whole stands at the front of the bytes: no message and no head that is refused; and a head that is not whole has fewer bytes than
--- a head may have
+-- a head may have, and may still come
 pub record IsUnfinished (bytes : List ℕ) : Type 0 where
   pub message : (message : Message) (after : List ℕ) → ¬ (Reads bytes message after)
   pub fault : (status : Status) → ¬ (IsRefused bytes status)
   pub short : HasNoHead bytes → length bytes < MOST_HEAD_BYTES
+  pub begins : HasNoHead bytes → MayBegin bytes
 
 -- a message or a fault stands at the front of the bytes
 abbrev pub HasWhole : List ℕ → Type 0
@@ -103,14 +114,12 @@ Stream bytes messages closes =
     (front : List Message) × (rest : List ℕ) × (message : Message) × (after : List ℕ)
     × Splits bytes front rest × Reads rest message after × (message.last ≡ true) × (messages ≡ front ++ message ∷ [])
 
--- two ends are alike: they are equal, but that the 400 for bytes in which a head never comes may have to wait for more of them
+-- two ends are alike: they are equal, but that the 400 for bytes in which a head never comes may wait for more of them where a line behind
+-- more than 64 fields is none of a head, or where the target is not in UTF-8
 abbrev pub AreAlike : End → End → Type 0
 AreAlike (waits rest) (waits other) = rest ≡ other
-AreAlike (waits rest) (faults status) = status ≡ BadRequest
-AreAlike (waits rest) closes = ⊥
-AreAlike (faults status) (waits rest) = status ≡ BadRequest
 AreAlike (faults status) (faults other) = status ≡ other
-AreAlike (faults status) closes = ⊥
 AreAlike closes closes = ⊤
-AreAlike closes (waits rest) = ⊥
-AreAlike closes (faults status) = ⊥
+AreAlike (waits rest) (faults status) = status ≡ BadRequest
+AreAlike (faults status) (waits rest) = status ≡ BadRequest
+AreAlike end other = ⊥

@@ -1,6 +1,7 @@
 -- What waits to be written, as buffers in order. No definition of a connection rests on it.
-use Rattle.std.specs.Prelude.{◌≡◌, ℕ, ◌<◌, Bool, true, nat_lt, List, [], ◌∷◌, ◌++◌, length}
+use Rattle.std.specs.Prelude.{◌≡◌, ℕ, ◌<◌, Bool, true, nat_lt, List, [], ◌∷◌, length}
 use Rattle.std.specs.List.{list_all}
+pub use Rattle.oai_front.specs.Connections.{IsFrontOf}
 
 -- the buffer holds something
 abbrev pub is_filled : List ℕ → Bool
@@ -19,9 +20,3 @@ IsTaken taken (first ∷ buffers) = taken < length first
 abbrev pub first_len : List (List ℕ) → ℕ
 first_len [] = 0
 first_len (first ∷ buffers) = length first
-
--- the bytes are the front of these, and there are none only where these are none
-pub record IsFrontOf (bytes all : List ℕ) : Type 0 where
-  pub later : List ℕ
-  pub front : all ≡ bytes ++ later
-  pub some : bytes ≡ [] → all ≡ []

@@ -1,10 +1,10 @@
--- What is kept of a head while its body comes. No definition of a message rests on it.
+-- What is kept while messages are read and performed. No definition of a message rests on it.
 use Rattle.std.specs.Prelude.{◌≡◌, ℕ, ℤ, ◌-◌, ◌≤◌, ◌<◌, nat_lt, if◌then◌else◌, List, ◌++◌, length, take, drop, codes, IfSome, Option}
 use Rattle.std.specs.Option.{option_map}
 use Rattle.httparse.specs.Grammar.{RequestHead, print_request}
 use Rattle.httparse.specs.Spans.{IsWithin, span_bytes}
 use Rattle.oai_front.specs.Fields.{first_value, values_named}
-use Rattle.oai_front.specs.Messages.{Asked, Begins, End, HasNoHead, HasWhole, IsClosing, IsFault, IsRefused, IsUnfinished, fields_of, plan_behind, waits}
+use Rattle.oai_front.specs.Messages.{Asked, Begins, End, HasNoHead, HasWhole, IsClosing, IsFault, IsRefused, IsUnfinished, MayBegin, fields_of, plan_behind, waits}
 use Rattle.oai_front.specs.Performing.{Completes, Performs, Steps}
 use Rattle.oai_front.specs.declared.messages.Next.{Next}
 use Rattle.oai_front.specs.declared.messages.Next.TheVariants.{Unfinished, Faulty, Message}
@@ -32,9 +32,9 @@ pub record IsHead (bytes : List ℕ) (kept : Head) : Type 0 where
   pub content_type : option_map (span_bytes bytes) kept.content_type
       ≡ first_value (values_named (codes "Content-Type") (fields_of head))
 
--- what stands at the front of the bytes: no head yet, and fewer bytes than one may have; a fault; a head
+-- what stands at the front of the bytes: no head yet, fewer bytes than one may have, and one may still begin; a fault; a head
 abbrev pub IsBeginning : List ℕ → Beginning → Type 0
-IsBeginning bytes Unknown = HasNoHead bytes × (length bytes < MOST_HEAD_BYTES)
+IsBeginning bytes Unknown = HasNoHead bytes × (length bytes < MOST_HEAD_BYTES) × MayBegin bytes
 IsBeginning bytes (Fault status) = IsFault bytes status
 IsBeginning bytes (Whole head) = IsHead bytes head
 

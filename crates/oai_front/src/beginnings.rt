@@ -61,8 +61,10 @@ fn read_within(bytes: &[u8], most: usize) -> Beginning
     match parse_request(front, &mut headers) {
         Ok(Parsed::Complete(spans)) => kept_of(front, &spans, &headers),
         Ok(Parsed::Partial) => unless_full(bytes, most),
-        Err(Error::TooManyHeaders) => unless_full(bytes, most),
-        Err(_) => Beginning::Fault(Status::BadRequest),
+        Err(error) => match error {
+            Error::TooManyHeaders => unless_full(bytes, most),
+            _ => Beginning::Fault(Status::BadRequest),
+        },
     }
 }
 

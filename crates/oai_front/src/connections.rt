@@ -1,7 +1,6 @@
 ghost use Rattle.std.specs.Prelude.{◌≡◌, ◌≤◌, length, drop, OnErr, OnOk};
-ghost use Rattle.oai_front.specs.Connections.{IsEnded, IsGoneOver, IsTakenIn, bytes_with, fresh};
+ghost use Rattle.oai_front.specs.Connections.{IsEnded, IsFrontOf, IsGoneOver, IsTakenIn, bytes_with, fresh};
 ghost use Rattle.oai_front.specs.Stages.{is_closing};
-ghost use Rattle.oai_front.specs.Queues.{IsFrontOf};
 
 use crate::beginnings::Head;
 use crate::faults::PieceFault;

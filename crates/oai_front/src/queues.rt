@@ -4,7 +4,8 @@ ghost use Rattle.std.specs.VecDeque.{deque_capacity, deque_len};
 ghost use Rattle.oai_host.specs.declared.exchanges.Answer.{Answer as Given};
 ghost use Rattle.oai_front.specs.Heads.{answer_bytes, fault_bytes};
 ghost use Rattle.oai_front.specs.Performing.{asked_by};
-ghost use Rattle.oai_front.specs.Queues.{AreFilled, IsFrontOf, IsTaken};
+ghost use Rattle.oai_front.specs.Connections.{IsFrontOf};
+ghost use Rattle.oai_front.specs.Queues.{AreFilled, IsTaken};
 ghost use Rattle.oai_front.specs.Queues as spec;
 
 use crate::handlers::Handler;

@@ -3,9 +3,9 @@ use Rattle.std.proofs.Common.{◌≡◌, ◌<◌, ℕ, suc, Bool, true, false, c
 use Rattle.std.specs.Prelude.{nat_le, if◌then◌else◌}
 use Rattle.std.proofs.lemmas.Bool.{cases_lt, or_from, or_left, or_right}
 use Rattle.std.proofs.lemmas.Bool.Decides.{nat_tests}
-use Rattle.oai_repo.specs.declared.settings.ConfigFault.TheVariants as alone
-use Rattle.oai_repo.specs.declared.settings.Settings.{Settings}
-use Rattle.oai_repo.specs.Settings.{config_fault}
+use Rattle.oai_settings.specs.declared.settings.ConfigFault.TheVariants as alone
+use Rattle.oai_settings.specs.declared.settings.Settings.{Settings}
+use Rattle.oai_settings.specs.Settings.{config_fault}
 use Rattle.oai_host.specs.declared.faults.ReadFault.{ReadFault}
 use Rattle.oai_host.specs.declared.faults.ReadFault.TheVariants.{BadJson, BadShape, BadName, DuplicateName, BadFormat, BadDate, BadNumber, TooMany, NoMemory}
 use Rattle.oai_host.specs.Reading.{IsLowest}

@@ -4,7 +4,7 @@ use Rattle.oai_deposit.specs.Lines.{line_of}
 use Rattle.oai_item.specs.declared.changes.Change.{Change}
 use Rattle.oai_item.specs.declared.faults.Fault.{Fault}
 use Rattle.oai_catalogue.specs.Store.{Lists}
-use Rattle.oai_repo.specs.Config.{Config}
+use Rattle.oai_settings.specs.Config.{Config}
 use Rattle.oai_repo.specs.Held.{Held, IsHeld, KeepsOthers, StandsIn, numbers_of, state_of}
 use Rattle.oai_repo.specs.Machine.{Outcome, act_at, changing, line, step, written}
 use Rattle.oai_repo.specs.State.{State}

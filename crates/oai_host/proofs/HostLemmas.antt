@@ -1,14 +1,14 @@
 -- Which repository an exchange is for, and what is answered where it is none's.
 use Rattle.std.proofs.Common.{◌≡◌, ◌∙◌, ℕ, zero, suc, Bool, true, false, not, ◌&&◌, List, [], ◌∷◌, ◌++◌, map, Option, None, Some, refl, sym, ap, subst}
-use Rattle.std.specs.List.{list_all, list_any, slice_get}
+use Rattle.std.specs.List.{AllZip, list_all, list_any, slice_get}
 use Rattle.std.specs.Str.{bytes_eq}
 use Rattle.std.proofs.lemmas.Bool.{and_parts, false_from_ne_true, not-true, or_from, or_parts}
 use Rattle.oai_catalogue.specs.Store.{Lists}
 use Rattle.oai_item.specs.Rules.{has_repeat}
 use Rattle.oai_host.specs.Configs.{AreNamed, Hosted, names_of}
-use Rattle.oai_host.specs.Hosts.{Each, IsAnswered, IsStep, Repository, begun, is_of_none, refused}
+use Rattle.oai_host.specs.Hosts.{IsAnswered, IsStep, Repository, begun, is_of_none, refused}
 use Rattle.oai_host.specs.Housed.{housed_names, place_in, repositories_of, repository_of}
-use Rattle.oai_repo.specs.Config.{is_repository_name}
+use Rattle.oai_settings.specs.Config.{is_repository_name}
 use Rattle.oai_host.specs.Targets.{front_of, leads_to_repository, path_of}
 use Rattle.oai_host.specs.Workings.{IsPlace, LeadsNowhere}
 use Rattle.oai_host.specs.declared.exchanges.Answer.{Answer}
@@ -59,14 +59,15 @@ owned (x ∷ housed) zero one lists call there leads none =
 owned (x ∷ housed) (suc i) one lists call there leads none =
     owned housed i one lists call there leads (and_parts (not (leads_to_repository x.name call.target)) (is_of_none (repositories_of housed lists) call) none).1
 
-pub answered_there : (housed : List Housed) (i : ℕ) (kind : Kind) (lists : Lists) (call : Call) (answer : Answer) (after : List Repository) → IsPlace housed i kind call.target
-    → Each (IsStep call answer) (repositories_of housed lists) after → IsAnswered call answer (repositories_of housed lists) after
-answered_there housed i kind lists call answer after place each = record {
-  each = each;
-  none = λ none. owned housed i place.one lists call place.there (leads_there kind place.one.name call.target place.path) none;
-}
+pub none_there : (housed : List Housed) (i : ℕ) (kind : Kind) (lists : Lists) (call : Call) (answer : Answer) → IsPlace housed i kind call.target
+    → is_of_none (repositories_of housed lists) call ≡ true → answer ≡ refused call
+none_there housed i kind lists call answer place none = owned housed i place.one lists call place.there (leads_there kind place.one.name call.target place.path) none
 
-none_steps : (housed : List Housed) (lists : Lists) (call : Call) (answer : Answer) → LeadsNowhere housed call.target → Each (IsStep call answer) (repositories_of housed lists) (repositories_of housed lists)
+pub answered_there : (housed : List Housed) (i : ℕ) (kind : Kind) (lists : Lists) (call : Call) (answer : Answer) (after : List Repository) → IsPlace housed i kind call.target
+    → AllZip (IsStep call answer) (repositories_of housed lists) after → IsAnswered call answer (repositories_of housed lists) after
+answered_there housed i kind lists call answer after place each = record { each = each; none = none_there housed i kind lists call answer place }
+
+none_steps : (housed : List Housed) (lists : Lists) (call : Call) (answer : Answer) → LeadsNowhere housed call.target → AllZip (IsStep call answer) (repositories_of housed lists) (repositories_of housed lists)
 none_steps [] lists call answer nowhere = tt
 none_steps (x ∷ housed) lists call answer nowhere =
     (record { name = refl; config = refl; own = λ leads. clash (leads_to_repository x.name call.target) leads nowhere.0; other = λ _. refl }, none_steps housed lists call answer nowhere.1)

@@ -1,17 +1,17 @@
 -- The repositories of a configuration, as a loop makes them one after another; and the rules that they then keep.
 use Rattle.std.proofs.Common.{◌≡◌, ℕ, suc, Bool, true, false, not, ◌||◌, ◌==◌, Option, Some, None, List, [], ◌∷◌, ◌++◌, length, Ok, Err, refl, sym, ap, ◌∙◌, subst, append-nil, append_assoc, arith}
 use Rattle.std.specs.Prelude.{nat_lt}
+use Rattle.std.specs.Int.{is_in_range}
 use Rattle.std.specs.List.{list_all, list_any}
 use Rattle.std.proofs.lemmas.Bool.{or_parts, not-false, and_from}
 use Rattle.std.proofs.lemmas.Bool.Decides.{nat_tests}
 use Rattle.std.proofs.lemmas.List.Folds.{list_any-append}
-use Rattle.oai_names.specs.Characters.{is_between}
 use Rattle.oai_item.specs.Rules.{has_repeat}
-use Rattle.oai_repo.specs.declared.settings.ConfigFault.{ConfigFault}
-use Rattle.oai_repo.specs.declared.settings.ConfigFault.TheVariants as alone
-use Rattle.oai_repo.specs.declared.settings.Settings.{Settings}
-use Rattle.oai_repo.specs.Config.{is_repository_name}
-use Rattle.oai_repo.specs.Settings.{IsConfigured, config_fault, has_number}
+use Rattle.oai_settings.specs.declared.settings.ConfigFault.{ConfigFault}
+use Rattle.oai_settings.specs.declared.settings.ConfigFault.TheVariants as alone
+use Rattle.oai_settings.specs.declared.settings.Settings.{Settings}
+use Rattle.oai_settings.specs.Config.{is_repository_name}
+use Rattle.oai_settings.specs.Settings.{IsConfigured, config_fault, has_number}
 use Rattle.oai_host.specs.declared.faults.ReadFault.{ReadFault}
 use Rattle.oai_host.specs.declared.faults.ReadFault.TheVariants.{BadJson, BadShape, BadName, DuplicateName, BadFormat, BadDate, BadNumber, TooMany, NoMemory}
 use Rattle.oai_host.specs.declared.readings.told.Told.{Told}
@@ -165,7 +165,7 @@ all_named (s ∷ settings) none =
     let parts = or_parts (not (is_repository_name s.name)) (list_any (is_wrong_alone BadName) settings) none in
     and_from _ _ (not-false _ parts.0) (all_named settings parts.1)
 
-in_range : (n : ℕ) → (n == 0) ≡ false → nat_lt 1_000 n ≡ false → is_between 1 1_000 n ≡ true
+in_range : (n : ℕ) → (n == 0) ≡ false → nat_lt 1_000 n ≡ false → is_in_range 1 1_000 n ≡ true
 in_range n some few = grind (arith, nat_tests)
 
 there : (cache : Option ℕ) (n : ℕ) → cache ≡ Some n → has_number is_cache cache ≡ true → is_cache n ≡ true
@@ -179,7 +179,7 @@ keeps_rules cache settings n hosted is none are =
     let each : (cause : ReadFault) → list_any (is_wrong_alone cause) settings ≡ false = λ cause. (or_parts _ _ (none cause)).1 in
     record {
       cached = there cache n is (not-false _ (whole BadNumber));
-      counted = ap (is_between 1 1_000) (as_many settings hosted are) ∙ in_range (length settings) (whole BadShape) (whole TooMany);
+      counted = ap (is_in_range 1 1_000) (as_many settings hosted are) ∙ in_range (length settings) (whole BadShape) (whole TooMany);
       named = record {
         named = ap (list_all is_repository_name) (names_same settings hosted are) ∙ all_named settings (each BadName);
         distinct = ap has_repeat (names_same settings hosted are) ∙ whole DuplicateName;

@@ -1,11 +1,11 @@
 -- One of many repositories changes, and the others stay as they were.
 use Rattle.std.proofs.Common.{◌≡◌, ◌∙◌, inl, inr, ℕ, zero, suc, Bool, true, false, not, ◌||◌, ◌&&◌, eqb, List, [], ◌∷◌, ◌++◌, map, Option, None, Some, unwrap_or, slice_set, IsTrue, refl, sym, ap, subst}
-use Rattle.std.specs.List.{list_any, slice_get}
+use Rattle.std.specs.List.{AllZip, list_any, slice_get}
 use Rattle.std.specs.Str.{bytes_eq}
 use Rattle.std.proofs.lemmas.Bool.{and_parts, cond-false, eqb-true, false_from_ne_true, not-true, not_from_false, or_from, or_left, or_parts, or_right}
 use Rattle.oai_item.specs.Item.{ItemState}
 use Rattle.oai_catalogue.specs.Store.{Lists}
-use Rattle.oai_repo.specs.Config.{Config}
+use Rattle.oai_settings.specs.Config.{Config}
 use Rattle.oai_repo.specs.Held.{Held, IsHeld, IsNew, KeepsOthers, StandsIn, begun_of, has, items_on, numbers_of, state_of, versions_in}
 use Rattle.oai_repo.specs.State.{OpenLists, State, empty_state}
 use Rattle.oai_repo.proofs.BegunLemmas.{begun_same}
@@ -14,15 +14,17 @@ use Rattle.oai_repo.proofs.NumberLemmas.{same_number, turned, unused_lacks}
 use Rattle.oai_host.specs.Alone.{IsExchange, IsTried}
 use Rattle.oai_item.specs.Rules.{has_repeat}
 use Rattle.oai_host.specs.Configs.{AreNamed, Hosted}
-use Rattle.oai_host.specs.Hosts.{Each, IsStep, Repository, begun}
+use Rattle.oai_host.specs.Answers.{OnFailed}
+use Rattle.oai_host.specs.Hosts.{IsStep, LeavesOthers, Repository, begun}
 use Rattle.oai_host.specs.Housed.{AllApart, AllHeld, AllStand, AreApart, AreHoused, IsApart, IsKept, housed_names, repositories_of, repository_of}
-use Rattle.oai_repo.specs.Config.{is_repository_name}
+use Rattle.oai_settings.specs.Config.{is_repository_name}
 use Rattle.oai_host.specs.Targets.{front_of, leads_to_repository, path_of}
 use Rattle.oai_host.specs.Tasks.{task_in, task_of}
 use Rattle.oai_host.specs.declared.exchanges.Answer.{Answer}
 use Rattle.oai_host.specs.declared.exchanges.Call.{Call}
 use Rattle.oai_host.specs.declared.housed.Housed.{Housed}
 use Rattle.oai_host.specs.declared.routes.Kind.{Kind}
+use Rattle.oai_host.proofs.FaultLemmas.{left_then}
 use Rattle.oai_host.proofs.PlaceLemmas.{bytes_turned, clash, kind_is, leads_not, leads_there, named_last, names_last, names_set, nothing_there, same_one}
 
 -- ---- another one stands for what it stood for
@@ -42,6 +44,11 @@ state_same other before after same =
 module _ (old new : Held) (before after : Lists) (kept : KeepsOthers (numbers_of old) before (numbers_of new) after) where
   same_lists : (other : Held) → StandsIn other before → AreApart other old → (n : ℕ) → has (numbers_of other) n ≡ true → after n ≡ before n
   same_lists other stands apart n there = kept.others n (apart n there) (still_apart old new other before after kept stands apart n there)
+
+  repository_same : (other : Housed) → StandsIn other.repo before → AreApart other.repo old → repository_of after other ≡ repository_of before other
+  repository_same other stands apart =
+      let with : State → Repository = λ s. record { name = other.name; config = other.repo.config; state = s } in
+      ap with (state_same other.repo before after (same_lists other.repo stands apart))
 
   -- ---- those behind it
 
@@ -70,13 +77,18 @@ module _ (old new : Held) (before after : Lists) (kept : KeepsOthers (numbers_of
 
   rest_steps : (call : Call) (answer : Answer) (kind : Kind) (name : List ℕ) (others : List Housed) → AllStand others before → IsApart old others
       → path_of call.target ≡ front_of kind ++ name → list_any (bytes_eq name) (housed_names others) ≡ false
-      → Each (IsStep call answer) (repositories_of others before) (repositories_of others after)
+      → AllZip (IsStep call answer) (repositories_of others before) (repositories_of others after)
   rest_steps call answer kind name [] stand apart path unused = tt
   rest_steps call answer kind name (x ∷ others) stand apart path unused =
       let parts = or_parts (bytes_eq name x.name) (list_any (bytes_eq name) (housed_names others)) unused in (
         other_step call answer x stand.0 (apart_turned old x.repo apart.0) (leads_not kind name x.name call.target path parts.0),
         rest_steps call answer kind name others stand.1 apart.1 path parts.1,
       )
+
+  rest_others : (target : List ℕ) (others : List Housed) → AllStand others before → IsApart old others → LeavesOthers target (repositories_of others before) (repositories_of others after)
+  rest_others target [] stand apart = tt
+  rest_others target (x ∷ others) stand apart =
+      (λ _. repository_same x stand.0 (apart_turned old x.repo apart.0), rest_others target others stand.1 apart.1)
 
 -- ---- the one at a place
 
@@ -134,7 +146,7 @@ module _ (one : Housed) (new : Held) (before after : Lists) (kept : KeepsOthers 
   set_steps : (call : Call) (answer : Answer) (kind : Kind) (housed : List Housed) (i : ℕ) → slice_get housed i ≡ Some one → AllStand housed before → AllApart housed
       → has_repeat (housed_names housed) ≡ false → path_of call.target ≡ front_of kind ++ one.name
       → IsStep call answer (repository_of before one) (repository_of after changed)
-      → Each (IsStep call answer) (repositories_of housed before) (repositories_of (slice_set housed i changed) after)
+      → AllZip (IsStep call answer) (repositories_of housed before) (repositories_of (slice_set housed i changed) after)
   set_steps call answer kind [] i there stand apart distinct path step = nothing_there one there
   set_steps call answer kind (x ∷ housed) zero there stand apart distinct path step =
       let same = same_one x one there in
@@ -150,6 +162,19 @@ module _ (one : Housed) (new : Held) (before after : Lists) (kept : KeepsOthers 
         set_steps call answer kind housed i there stand.1 apart.1 parts.1 path step,
       )
 
+  set_others : (target : List ℕ) (kind : Kind) (housed : List Housed) (i : ℕ) → slice_get housed i ≡ Some one → AllStand housed before → AllApart housed
+      → path_of target ≡ front_of kind ++ one.name → LeavesOthers target (repositories_of housed before) (repositories_of (slice_set housed i changed) after)
+  set_others target kind [] i there stand apart path = nothing_there one there
+  set_others target kind (x ∷ housed) zero there stand apart path =
+      let same = same_one x one there in (
+        λ elsewhere. clash (leads_to_repository x.name target) (ap (λ (y : Housed). leads_to_repository y.name target) same ∙ leads_there kind one.name target path) elsewhere,
+        rest_others one.repo new before after kept target housed stand.1 (subst (λ (y : Housed). IsApart y.repo housed) same apart.0),
+      )
+  set_others target kind (x ∷ housed) (suc i) there stand apart path = (
+    λ _. repository_same one.repo new before after kept x stand.0 (apart_at x.repo housed i one there apart.0),
+    set_others target kind housed i there stand.1 apart.1 path,
+  )
+
 -- all of it
 pub housed_set : (was is : Bool) (housed : List Housed) (i : ℕ) (one : Housed) (new : Held) (before after : Lists) → is ≡ was → slice_get housed i ≡ Some one → AreHoused was housed before
     → IsKept was one.repo before new after → AreHoused is (slice_set housed i (record { name = one.name; repo = new })) after
@@ -163,7 +188,7 @@ housed_set was is housed i one new before after same there old kept = record {
 pub steps_set : (was : Bool) (call : Call) (answer : Answer) (kind : Kind) (housed : List Housed) (i : ℕ) (one : Housed) (new : Held) (before after : Lists) → slice_get housed i ≡ Some one → AreHoused was housed before
     → IsKept was one.repo before new after → has_repeat (housed_names housed) ≡ false → path_of call.target ≡ front_of kind ++ one.name
     → IsTried one.repo.config (state_of one.repo before) call.moment (task_in kind call) answer (state_of new after)
-    → Each (IsStep call answer) (repositories_of housed before) (repositories_of (slice_set housed i (record { name = one.name; repo = new })) after)
+    → AllZip (IsStep call answer) (repositories_of housed before) (repositories_of (slice_set housed i (record { name = one.name; repo = new })) after)
 steps_set was call answer kind housed i one new before after there old kept distinct path tried =
     set_steps one new before after kept.others call answer kind housed i there old.stand old.apart distinct path (record {
       name = refl;
@@ -171,6 +196,30 @@ steps_set was call answer kind housed i one new before after there old kept dist
       own = λ _. subst (λ (k : Kind). IsTried one.repo.config (state_of one.repo before) call.moment (task_in k call) answer (state_of new after)) (sym (kind_is kind one.name call.target path)) tried;
       other = λ elsewhere. clash (leads_to_repository one.name call.target) (leads_there kind one.name call.target path) (not-true (leads_to_repository one.name call.target) elsewhere);
     })
+
+pub others_set : (was : Bool) (target : List ℕ) (kind : Kind) (housed : List Housed) (i : ℕ) (one : Housed) (new : Held) (before after : Lists) → slice_get housed i ≡ Some one → AreHoused was housed before
+    → IsKept was one.repo before new after → path_of target ≡ front_of kind ++ one.name
+    → LeavesOthers target (repositories_of housed before) (repositories_of (slice_set housed i (record { name = one.name; repo = new })) after)
+others_set was target kind housed i one new before after there old kept path =
+    set_others one new before after kept.others target kind housed i there old.stand old.apart path
+
+set_same : (housed : List Housed) (i : ℕ) (one : Housed) (new : Held) → slice_get housed i ≡ Some one → new ≡ one.repo → slice_set housed i (record { name = one.name; repo = new }) ≡ housed
+set_same [] i one new there same = nothing_there one there
+set_same (x ∷ housed) zero one new there same =
+    let with : Held → Housed = λ h. record { name = one.name; repo = h } in
+    ap (λ (h : Held). with h ∷ housed) same ∙ ap (λ (y : Housed). y ∷ housed) (sym (same_one x one there))
+set_same (x ∷ housed) (suc i) one new there same = ap (λ (others : List Housed). x ∷ others) (set_same housed i one new there same)
+
+-- one that was left as it was
+pub left_set : (answer : Answer) (housed : List Housed) (i : ℕ) (one : Housed) (new : Held) (before after : Lists) → slice_get housed i ≡ Some one
+    → OnFailed answer ((new ≡ one.repo) × (after ≡ before)) → OnFailed answer ((slice_set housed i (record { name = one.name; repo = new }) ≡ housed) × (after ≡ before))
+left_set answer housed i one new before after there left =
+    left_then ((new ≡ one.repo) × (after ≡ before)) ((slice_set housed i (record { name = one.name; repo = new }) ≡ housed) × (after ≡ before)) answer
+    (λ (same : (new ≡ one.repo) × (after ≡ before)). (set_same housed i one new there same.0, same.1)) left
+
+pub others_same : (target : List ℕ) (repositories : List Repository) → LeavesOthers target repositories repositories
+others_same target [] = tt
+others_same target (x ∷ repositories) = (λ _. refl, others_same target repositories)
 
 -- ---- one more
 

@@ -10,6 +10,7 @@ pub mod ShapeLemmas
 pub mod InkLemmas
 pub mod RouteLemmas
 pub mod PlaceLemmas
+pub mod FaultLemmas
 pub mod HousedLemmas
 pub mod HostLemmas
 pub mod RunLemmas

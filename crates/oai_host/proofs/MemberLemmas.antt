@@ -1,12 +1,13 @@
 -- The readings of members undo their writing.
 use Rattle.std.proofs.Common.{◌≡◌, ℕ, Option, Some, None, List, [], ◌∷◌, map, refl, sym, ap, ◌∙◌, subst}
+use Rattle.std.specs.List.{AllZip}
 use Rattle.std.specs.Option.{option_map}
 use Rattle.serde_json.specs.Data.{Data, Num, null, boolean, number, string, array, object, Items, no_items, item}
 use Rattle.serde_json.specs.Find.{get, as_str, as_array, as_number, as_u64}
 use Rattle.oai_deposit.specs.Json.{elements_in, items_of, array_of}
 use Rattle.oai_host.specs.Readings.{◌>>=◌, each_of}
 use Rattle.oai_host.specs.Shapes.{text_at, number_at, elements_at, texts_at}
-use Rattle.oai_host.specs.Written.{HasText, HasNumber, HasTexts, AreWritten, HasList}
+use Rattle.oai_host.specs.Written.{HasText, HasNumber, HasTexts, HasList}
 
 pub Some-injective : {A : Type 0} (x y : A) → Some x ≡ Some y → x ≡ y
 Some-injective x y is = cc
@@ -21,15 +22,15 @@ pub record Undoes {A : Type 0} (read : Data → Option A) (IsWritten : A → Dat
   pub takes : (d : Data) (x : A) → read d ≡ Some x → IsWritten x d
   pub again : (d : Data) (x : A) → IsWritten x d → read d ≡ Some x
 
-each_takes : {A : Type 0} (read : Data → Option A) (IsWritten : A → Data → Type 0) → Undoes read IsWritten → (ds : List Data) (xs : List A) → each_of read ds ≡ Some xs → AreWritten IsWritten xs ds
+each_takes : {A : Type 0} (read : Data → Option A) (IsWritten : A → Data → Type 0) → Undoes read IsWritten → (ds : List Data) (xs : List A) → each_of read ds ≡ Some xs → AllZip IsWritten xs ds
 each_takes read IsWritten one [] [] is = tt
 each_takes read IsWritten one [] (x ∷ xs) is = absurd cc
 each_takes read IsWritten one (d ∷ ds) xs is =
     let p = bind-Some (read d) (λ y. each_of read ds >>= λ ys. Some (y ∷ ys)) xs is in
     let q = bind-Some (each_of read ds) (λ ys. Some (p.0 ∷ ys)) xs p.2 in
-    subst (λ zs. AreWritten IsWritten zs (d ∷ ds)) (Some-injective (p.0 ∷ q.0) xs q.2) (one.takes d p.0 p.1, each_takes read IsWritten one ds q.0 q.1)
+    subst (λ zs. AllZip IsWritten zs (d ∷ ds)) (Some-injective (p.0 ∷ q.0) xs q.2) (one.takes d p.0 p.1, each_takes read IsWritten one ds q.0 q.1)
 
-each_again : {A : Type 0} (read : Data → Option A) (IsWritten : A → Data → Type 0) → Undoes read IsWritten → (ds : List Data) (xs : List A) → AreWritten IsWritten xs ds → each_of read ds ≡ Some xs
+each_again : {A : Type 0} (read : Data → Option A) (IsWritten : A → Data → Type 0) → Undoes read IsWritten → (ds : List Data) (xs : List A) → AllZip IsWritten xs ds → each_of read ds ≡ Some xs
 each_again read IsWritten one [] [] are = refl
 each_again read IsWritten one [] (x ∷ xs) are = absurd are
 each_again read IsWritten one (d ∷ ds) [] are = absurd are

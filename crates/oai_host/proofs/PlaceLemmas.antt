@@ -1,14 +1,14 @@
 -- Names, and the repositories under them.
-use Rattle.std.proofs.Common.{◌≡◌, ◌∙◌, ◌<◌, inl, inr, ℕ, zero, suc, Bool, true, false, not, ◌&&◌, ◌||◌, List, [], ◌∷◌, ◌++◌, length, take, map, Option, None, Some, is_some, unwrap_or, cond, slice_set, refl, sym, ap, subst, arith}
-use Rattle.std.specs.List.{list_all, list_any, slice_get}
+use Rattle.std.proofs.Common.{◌≡◌, ◌∙◌, ◌<◌, ◌+◌, inl, inr, nat_lt, ℕ, zero, suc, Bool, true, false, not, ◌&&◌, ◌||◌, List, [], ◌∷◌, ◌++◌, length, take, map, Option, None, Some, is_some, unwrap_or, cond, slice_set, refl, sym, ap, subst, arith}
+use Rattle.std.specs.List.{list_all, list_any, position_or_len, slice_get}
 use Rattle.std.specs.Option.{option_map}
 use Rattle.std.specs.Str.{bytes_eq}
-use Rattle.std.proofs.lemmas.Bool.{and_from, and_parts, cases_Bool, cond-true, cond-false, eq-eqb, eqb-true, false≢true, false_from_ne_true, not-true, not_from_false, or_from, or_left, or_parts, or_right}
+use Rattle.std.proofs.lemmas.Bool.{and_from, and_parts, cases_Bool, cases_lt, cond-true, cond-false, eq-eqb, eqb-true, false≢true, false_from_ne_true, le-ltb, lt-ltb, not-true, not_from_false, or_from, or_left, or_parts, or_right}
 use Rattle.oai_repo.specs.Held.{Held}
 use Rattle.oai_item.specs.Rules.{has_repeat}
 use Rattle.oai_host.specs.Configs.{AreNamed}
 use Rattle.oai_host.specs.Housed.{housed_names, place_in}
-use Rattle.oai_repo.specs.Config.{is_repository_name}
+use Rattle.oai_settings.specs.Config.{is_repository_name}
 use Rattle.oai_host.specs.Targets.{front_of, leads_to_repository, path_of}
 use Rattle.oai_host.specs.Tasks.{kind_of}
 use Rattle.oai_host.specs.declared.housed.Housed.{Housed}
@@ -88,6 +88,28 @@ names_set [] i one repo there = nothing_there one there
 names_set (x ∷ housed) zero one repo there = ap (λ (y : Housed). y.name ∷ housed_names housed) (sym (same_one x one there))
 names_set (x ∷ housed) (suc i) one repo there = ap (λ (names : List (List ℕ)). x.name ∷ names) (names_set housed i one repo there)
 
+shifted : (b : Bool) (n : ℕ) → cond b (Some (suc n)) None ≡ option_map suc (cond b (Some n) None)
+shifted true n = refl
+shifted false n = refl
+
+next_below : (n len : ℕ) → nat_lt (suc n) (suc len) ≡ nat_lt n len
+next_below n len = elim (cases_lt n len) [
+  | inl less ↦ lt-ltb (suc n) (suc len) (omega (arith, less)) ∙ sym (lt-ltb n len less)
+  | inr more ↦ le-ltb (suc n) (suc len) (omega (arith, more)) ∙ sym (le-ltb n len more)
+]
+
+found_next : (b : Bool) (n len : ℕ) → cond (nat_lt (cond (not b) (1 + n) 0) (suc len)) (Some (cond (not b) (1 + n) 0)) None ≡ cond b (Some 0) (option_map suc (cond (nat_lt n len) (Some n) None))
+found_next true n len = ap (λ (b : Bool). cond b (Some 0) None) (lt-ltb 0 (suc len) (omega arith))
+found_next false n len =
+    let on : 1 + n ≡ suc n = omega arith in
+    ap (λ (k : ℕ). cond (nat_lt k (suc len)) (Some k) None) on
+    ∙ ap (λ (b : Bool). cond b (Some (suc n)) None) (next_below n len)
+    ∙ shifted (nat_lt n len) n
+
+-- the place of a name among one more
+place_next : (one : List ℕ) (names : List (List ℕ)) (name : List ℕ) → place_in (one ∷ names) name ≡ cond (bytes_eq one name) (Some 0) (option_map suc (place_in names name))
+place_next one names name = found_next (bytes_eq one name) (position_or_len (λ (other : List ℕ). bytes_eq other name) names) (length names)
+
 mapped : (o : Option ℕ) (i : ℕ) → option_map suc o ≡ Some i → (j : ℕ) × (o ≡ Some j) × (suc j ≡ i)
 mapped None i h = nothing_there i h
 mapped (Some j) i h = (j, refl, same_place (suc j) i h)
@@ -95,15 +117,17 @@ mapped (Some j) i h = (j, refl, same_place (suc j) i h)
 -- at the place of a name stands the repository of that name
 pub place_there : (housed : List Housed) (name : List ℕ) (i : ℕ) → place_in (housed_names housed) name ≡ Some i → (one : Housed) × (slice_get housed i ≡ Some one) × (one.name ≡ name)
 place_there [] name i h = nothing_there i h
-place_there (x ∷ housed) name i h = elim (cases_Bool (bytes_eq x.name name)) [
-  | inl same ↦
-      let first : 0 ≡ i = same_place 0 i (sym (cond-true (bytes_eq x.name name) (Some 0) (option_map suc (place_in (housed_names housed) name)) same) ∙ h) in
-      (x, ap (λ (n : ℕ). slice_get (x ∷ housed) n) (sym first), bytes_equal x.name name same)
-  | inr other ↦
-      let later = mapped (place_in (housed_names housed) name) i (sym (cond-false (bytes_eq x.name name) (Some 0) (option_map suc (place_in (housed_names housed) name)) other) ∙ h) in
-      let there = place_there housed name later.0 later.1 in
-      (there.0, ap (λ (n : ℕ). slice_get (x ∷ housed) n) (sym later.2) ∙ there.1, there.2)
-]
+place_there (x ∷ housed) name i found =
+    let h = sym (place_next x.name (housed_names housed) name) ∙ found in
+    elim (cases_Bool (bytes_eq x.name name)) [
+      | inl same ↦
+          let first : 0 ≡ i = same_place 0 i (sym (cond-true (bytes_eq x.name name) (Some 0) (option_map suc (place_in (housed_names housed) name)) same) ∙ h) in
+          (x, ap (λ (n : ℕ). slice_get (x ∷ housed) n) (sym first), bytes_equal x.name name same)
+      | inr other ↦
+          let later = mapped (place_in (housed_names housed) name) i (sym (cond-false (bytes_eq x.name name) (Some 0) (option_map suc (place_in (housed_names housed) name)) other) ∙ h) in
+          let there = place_there housed name later.0 later.1 in
+          (there.0, ap (λ (n : ℕ). slice_get (x ∷ housed) n) (sym later.2) ∙ there.1, there.2)
+    ]
 
 mapped_none : (o : Option ℕ) → option_map suc o ≡ None → o ≡ None
 mapped_none None h = refl
@@ -112,11 +136,13 @@ mapped_none (Some j) h = nothing_there (suc j) (sym h)
 -- a name without a place is none of these
 pub place_none : (names : List (List ℕ)) (name : List ℕ) → place_in names name ≡ None → list_any (λ (one : List ℕ). bytes_eq one name) names ≡ false
 place_none [] name h = refl
-place_none (one ∷ names) name h = elim (cases_Bool (bytes_eq one name)) [
-  | inl same ↦ nothing_there 0 (sym (sym (cond-true (bytes_eq one name) (Some 0) (option_map suc (place_in names name)) same) ∙ h))
-  | inr other ↦ or_from (bytes_eq one name) (list_any (λ (one : List ℕ). bytes_eq one name) names) other
-      (place_none names name (mapped_none (place_in names name) (sym (cond-false (bytes_eq one name) (Some 0) (option_map suc (place_in names name)) other) ∙ h)))
-]
+place_none (one ∷ names) name none =
+    let h = sym (place_next one names name) ∙ none in
+    elim (cases_Bool (bytes_eq one name)) [
+      | inl same ↦ nothing_there 0 (sym (sym (cond-true (bytes_eq one name) (Some 0) (option_map suc (place_in names name)) same) ∙ h))
+      | inr other ↦ or_from (bytes_eq one name) (list_any (λ (one : List ℕ). bytes_eq one name) names) other
+          (place_none names name (mapped_none (place_in names name) (sym (cond-false (bytes_eq one name) (Some 0) (option_map suc (place_in names name)) other) ∙ h)))
+    ]
 
 -- ---- a further name
 
@@ -132,13 +158,15 @@ swapped false false x y z h = refl
 
 pub place_last : (names : List (List ℕ)) (new name : List ℕ) → list_any (bytes_eq new) names ≡ false
     → place_in (names ++ new ∷ []) name ≡ cond (bytes_eq new name) (Some (length names)) (place_in names name)
-place_last [] new name unused = refl
+place_last [] new name unused = place_next new [] name
 place_last (one ∷ names) new name unused =
     let parts = or_parts (bytes_eq new one) (list_any (bytes_eq new) names) unused in
     let alone : bytes_eq one name ≡ true → bytes_eq new name ≡ false = λ same. subst (λ (n : List ℕ). bytes_eq new n ≡ false) (bytes_equal one name same) parts.0 in
-    ap (λ (o : Option ℕ). cond (bytes_eq one name) (Some 0) (option_map suc o)) (place_last names new name parts.1)
+    place_next one (names ++ new ∷ []) name
+    ∙ ap (λ (o : Option ℕ). cond (bytes_eq one name) (Some 0) (option_map suc o)) (place_last names new name parts.1)
     ∙ ap (λ (o : Option ℕ). cond (bytes_eq one name) (Some 0) o) (map_cond (bytes_eq new name) (place_in names name) (length names))
     ∙ swapped (bytes_eq one name) (bytes_eq new name) (Some 0) (Some (suc (length names))) (option_map suc (place_in names name)) alone
+    ∙ ap (λ (o : Option ℕ). cond (bytes_eq new name) (Some (suc (length names))) o) (sym (place_next one names name))
 
 any_last : (names : List (List ℕ)) (one new : List ℕ) → bytes_eq one new ≡ false → list_any (bytes_eq one) names ≡ false → list_any (bytes_eq one) (names ++ new ∷ []) ≡ false
 any_last [] one new apart none = or_from (bytes_eq one new) false apart refl

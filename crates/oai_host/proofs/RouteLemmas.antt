@@ -7,7 +7,7 @@ use Rattle.std.proofs.lemmas.Str.{IsUtf8-from_ascii}
 use Rattle.matchit.specs.Rows.{RowsOf, param_token}
 use Rattle.matchit.specs.Router.{RouteOf}
 use Rattle.matchit.specs.Seek.{first, has_slash, or_else, own, param_step, seek, step}
-use Rattle.oai_repo.specs.Config.{is_repository_byte, is_repository_name}
+use Rattle.oai_settings.specs.Config.{is_repository_byte, is_repository_name}
 use Rattle.oai_host.specs.Rows.{both_rows, deposits_row, kind_in, requests_row}
 use Rattle.oai_host.specs.Targets.{front_of}
 use Rattle.oai_host.specs.declared.routes.Kind.{Kind}

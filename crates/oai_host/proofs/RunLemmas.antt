@@ -1,15 +1,15 @@
 -- Exchanges one after the other: what they do to each repository, and that it is what they would do to it alone.
 use Rattle.std.proofs.Common.{◌≡◌, ◌∙◌, ◌<◌, ◌≤◌, inl, inr, ℕ, zero, suc, Bool, true, false, not, ◌&&◌, List, [], ◌∷◌, ◌++◌, length, take, get_or, filter, cond, Option, None, Some, is_none, refl, sym, ap, subst, arith}
-use Rattle.std.specs.List.{list_all}
+use Rattle.std.specs.List.{AllZip, list_all}
 use Rattle.std.proofs.lemmas.List.{take_all}
 use Rattle.std.proofs.lemmas.Bool.{and_from, and_parts, cases_Bool, cond-true, cond-false, not_from_false}
 use Rattle.oai_item.specs.declared.faults.Fault.{Fault}
 use Rattle.oai_item.specs.declared.faults.Fault.TheVariants.{Damaged, Device, NoMemory, TooManyPages}
-use Rattle.oai_repo.specs.Config.{Config}
+use Rattle.oai_settings.specs.Config.{Config}
 use Rattle.oai_repo.specs.State.{State}
 use Rattle.oai_host.specs.Alone.{HasFailed, IsExchange, IsRun, answers_alone, exchanged_alone, own_answers, own_calls}
 use Rattle.oai_host.specs.Answers.{failed}
-use Rattle.oai_host.specs.Hosts.{AreAnswered, AreAsAlone, AreRefused, Each, IsAnswered, IsAsAlone, IsOwnRun, IsStep, Repository, is_of_none, none_failed, refused}
+use Rattle.oai_host.specs.Hosts.{AreAnswered, AreAsAlone, AreRefused, IsAnswered, IsAsAlone, IsOwnRun, IsStep, Repository, is_of_none, none_failed, refused}
 use Rattle.oai_host.specs.Targets.{leads_to_repository}
 use Rattle.oai_host.specs.Tasks.{Task, asking, depositing, refusing, task_of}
 use Rattle.oai_host.specs.declared.exchanges.Answer.{Answer}
@@ -92,7 +92,7 @@ own_run_last rs calls answers call answer before between after same run step = r
 }
 
 each_last : (repositories : List Repository) (calls : List Call) (answers : List Answer) (call : Call) (answer : Answer) (before between after : List Repository) → AreRefused repositories calls answers
-    → Each (IsOwnRun calls answers) before between → Each (IsStep call answer) between after → Each (IsOwnRun (calls ++ call ∷ []) (answers ++ answer ∷ [])) before after
+    → AllZip (IsOwnRun calls answers) before between → AllZip (IsStep call answer) between after → AllZip (IsOwnRun (calls ++ call ∷ []) (answers ++ answer ∷ [])) before after
 each_last rs calls answers call answer [] [] [] same runs steps = tt
 each_last rs calls answers call answer [] [] (z ∷ after) same runs steps = absurd steps
 each_last rs calls answers call answer [] (y ∷ between) after same runs steps = absurd runs
@@ -102,7 +102,7 @@ each_last rs calls answers call answer (x ∷ before) (y ∷ between) (z ∷ aft
     (own_run_last rs calls answers call answer x y z same runs.0 steps.0, each_last rs calls answers call answer before between after same runs.1 steps.1)
 
 -- the names stay
-none_same : (calls : List Call) (answers : List Answer) (call : Call) (before between : List Repository) → Each (IsOwnRun calls answers) before between → is_of_none before call ≡ is_of_none between call
+none_same : (calls : List Call) (answers : List Answer) (call : Call) (before between : List Repository) → AllZip (IsOwnRun calls answers) before between → is_of_none before call ≡ is_of_none between call
 none_same calls answers call [] [] runs = refl
 none_same calls answers call [] (y ∷ between) runs = absurd runs
 none_same calls answers call (x ∷ before) [] runs = absurd runs
@@ -126,7 +126,7 @@ answered_last calls answers call answer before between after so_far last = recor
 
 -- ---- no exchange
 
-none_yet : (repositories : List Repository) → Each (IsOwnRun [] []) repositories repositories
+none_yet : (repositories : List Repository) → AllZip (IsOwnRun [] []) repositories repositories
 none_yet [] = tt
 none_yet (x ∷ repositories) = (record { name = refl; config = refl; run = refl }, none_yet repositories)
 
@@ -178,7 +178,7 @@ own_none_failed name (call ∷ calls) (answer ∷ answers) none =
       | inr other ↦ ap none_failed (cond-false (leads_to_repository name call.target) (answer ∷ own_answers name calls answers) (own_answers name calls answers) other) ∙ others
     ]
 
-each_alone : (calls : List Call) (answers : List Answer) (before after : List Repository) → Each (IsOwnRun calls answers) before after → none_failed answers ≡ true → AreAsAlone calls answers before
+each_alone : (calls : List Call) (answers : List Answer) (before after : List Repository) → AllZip (IsOwnRun calls answers) before after → none_failed answers ≡ true → AreAsAlone calls answers before
 each_alone calls answers [] after runs none = tt
 each_alone calls answers (x ∷ before) [] runs none = absurd runs
 each_alone calls answers (x ∷ before) (y ∷ after) runs none =

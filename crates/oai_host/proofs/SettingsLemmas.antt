@@ -3,7 +3,7 @@ use Rattle.std.proofs.Common.{◌≡◌, true, Some, refl}
 use Rattle.std.specs.Prelude.{codes}
 use Rattle.serde_json.specs.Data.{Data}
 use Rattle.oai_deposit.specs.Json.{has_members}
-use Rattle.oai_repo.specs.declared.settings.Settings.{Settings}
+use Rattle.oai_settings.specs.declared.settings.Settings.{Settings}
 use Rattle.oai_host.specs.Shapes.{text_at, texts_at, number_at, deleted_at, granularity_at, formats_at, repository_members, settings_of}
 
 pub settings_of-Some : (s : Settings) (d : Data) → has_members repository_members d ≡ true

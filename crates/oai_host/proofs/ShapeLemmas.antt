@@ -6,8 +6,8 @@ use Rattle.serde_json.specs.Data.{Data, number, string}
 use Rattle.serde_json.specs.Find.{get}
 use Rattle.oai_item.specs.ShortTexts.{is_short_text}
 use Rattle.oai_deposit.specs.Json.{size, has_members, has_each}
-use Rattle.oai_repo.specs.declared.settings.FormatSettings.{FormatSettings}
-use Rattle.oai_repo.specs.declared.settings.Settings.{Settings}
+use Rattle.oai_settings.specs.declared.settings.FormatSettings.{FormatSettings}
+use Rattle.oai_settings.specs.declared.settings.Settings.{Settings}
 use Rattle.oai_host.specs.declared.readings.told.Told.{Told}
 use Rattle.oai_host.specs.Readings.{◌>>=◌, tested}
 use Rattle.oai_host.specs.Shapes.{text_at, number_at, texts_at, format_members, format_of, deleted_at, granularity_at, formats_at, repository_members, settings_of, base_at, repositories_at, host_members, told_of}

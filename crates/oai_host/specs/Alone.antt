@@ -2,7 +2,7 @@
 use Rattle.std.specs.Prelude.{◌≡◌, ◌⊎◌, ◌<◌, ℕ, ℤ, Bool, if◌then◌else◌, List, [], ◌∷◌, ◌++◌, length, take, filter, Option, None, Some}
 use Rattle.oai_deposit.specs.Lines.{line_of}
 use Rattle.oai_item.specs.declared.faults.Fault.{Fault}
-use Rattle.oai_repo.specs.Config.{Config}
+use Rattle.oai_settings.specs.Config.{Config}
 use Rattle.oai_repo.specs.Machine.{Told, bytes, line, query, step, wait}
 use Rattle.oai_repo.specs.State.{State}
 use Rattle.oai_host.specs.Answers.{answer_of, answered, answered_with, failed}
@@ -13,7 +13,7 @@ use Rattle.oai_host.specs.declared.exchanges.Call.{Call}
 
 -- ---- the machine alone
 
--- a line of a deposit is answered a line: the same with its end
+-- a line of a deposit is answered a line: the same with its end; no line is told to wait
 abbrev pub with_end : Told → List ℕ
 with_end (bytes text) = text ++ 10 ∷ []
 with_end (wait seconds) = []

@@ -1,5 +1,7 @@
--- What an exchange is answered: RFC 9110, sections 10.2.3 and 15.
-use Rattle.std.specs.Prelude.{ℕ, ℤ, pos, List, [], Option, None, Some, Result, Ok, Err}
+-- What an exchange is answered: RFC 9110, sections 10.2.3 and 15; that a request is to be made again later, OAI-PMH 2.0, section 3.1.2.2.
+use Rattle.std.specs.Prelude.{◌≡◌, ℕ, ℤ, pos, Bool, List, [], Option, None, Some, IfSome, Result, Ok, Err}
+use Rattle.std.specs.List.{AllByRecursion}
+use Rattle.oai_catalogue.specs.Store.{IsCounted, IsHonest}
 use Rattle.oai_item.specs.declared.faults.Fault.{Fault}
 use Rattle.oai_item.specs.declared.faults.Fault.TheVariants.{Damaged, Device, NoMemory, TooManyPages}
 use Rattle.oai_repo.specs.Machine.{Told, bytes, wait}
@@ -15,7 +17,7 @@ answered status = record { status = status; seconds = None; done = None; body = 
 abbrev pub answered_with : List ℕ → Answer
 answered_with body = record { status = status.Ok; seconds = None; done = None; body = body; fault = None }
 
--- it may be made again after so many seconds
+-- it may be made again after so many seconds: OAI-PMH 2.0, section 3.1.2.2
 abbrev pub asked_to_wait : ℤ → Answer
 asked_to_wait seconds = record { status = status.ServiceUnavailable; seconds = Some seconds; done = None; body = []; fault = None }
 
@@ -24,7 +26,7 @@ abbrev pub answer_of : Told → Answer
 answer_of (bytes body) = answered_with body
 answer_of (wait seconds) = asked_to_wait seconds
 
--- it failed for want of room, and may be made again after a minute
+-- it failed for want of room, and may be made again after a minute: OAI-PMH 2.0, section 3.1.2.2
 abbrev pub without_room : Fault → Option ℕ → Answer
 without_room fault done = record { status = status.ServiceUnavailable; seconds = Some (pos 60); done = done; body = []; fault = Some fault }
 
@@ -39,10 +41,23 @@ failed TooManyPages done = without_room TooManyPages done
 failed Device done = broken Device done
 failed Damaged done = broken Damaged done
 
--- why an exchange failed
+-- Ok, or why an exchange failed
 abbrev pub failure : Option Fault → Result (Unit {0}) Fault
 failure None = Ok tt
 failure (Some fault) = Err fault
 
+-- the same of its answer, as the store's words take it: `IsCounted`, `IsHonest`
 abbrev pub failure_in : Answer → Result (Unit {0}) Fault
 failure_in answer = failure answer.fault
+
+-- that a device failed is told only where it did, from the one count of failures to the other
+abbrev pub AreCounted : List Answer → ℕ → ℕ → Type 0
+AreCounted answers old new = AllByRecursion (λ (answer : Answer). IsCounted (failure_in answer) old new) answers
+
+-- that something is damaged is told only over a device that does not give back what was written to it
+abbrev pub AreHonest : List Answer → Bool → Bool → Type 0
+AreHonest answers old new = AllByRecursion (λ (answer : Answer). IsHonest (failure_in answer) old new) answers
+
+-- P, where the exchange failed and was no deposit, of which some lines may have been done
+abbrev pub OnFailed : Answer → Type 0 → Type 0
+OnFailed answer P = IfSome answer.fault (λ fault. answer.done ≡ None → P)

@@ -1,7 +1,7 @@
 -- The bodies of messages: their type (RFC 9110, sections 5.6.3 and 8.3), and the lines of a deposit, which are this repository's own.
-use Rattle.std.specs.Prelude.{ℕ, Bool, false, ◌==◌, ◌||◌, not, if◌then◌else◌, List, [], ◌∷◌, filter, map, codes, Option, None, Some}
+use Rattle.std.specs.Prelude.{ℕ, ◌-◌, Bool, false, ◌==◌, ◌||◌, not, List, length, take, drop, filter, map, codes, Option, None, Some}
 use Rattle.std.specs.Char.{to_ascii_lowercase}
-use Rattle.std.specs.List.{before_first, list_all, slice_split}
+use Rattle.std.specs.List.{before_first, list_all, prefix_len, slice_split, suffix_len}
 use Rattle.std.specs.Str.{bytes_eq}
 
 -- ---- the type
@@ -16,13 +16,11 @@ is_space b = b == 32 || b == 9
 
 -- the text from its first byte on that is no white space
 abbrev pub from_ink : List ℕ → List ℕ
-from_ink [] = []
-from_ink (b ∷ text) = if is_space b then from_ink text else b ∷ text
+from_ink text = drop (prefix_len is_space text) text
 
 -- the text up to its last byte that is no white space
 abbrev pub to_ink : List ℕ → List ℕ
-to_ink [] = []
-to_ink (b ∷ text) = if list_all is_space (b ∷ text) then [] else b ∷ to_ink text
+to_ink text = take (length text - suffix_len is_space text) text
 
 -- the text without white space at its begin and its end
 abbrev pub trimmed : List ℕ → List ℕ
@@ -32,7 +30,7 @@ trimmed text = to_ink (from_ink text)
 abbrev pub media_type : List ℕ → List ℕ
 media_type value = trimmed (before_first is_semicolon value)
 
--- in the letters of ASCII, lower case and upper case are one
+-- in the letters of ASCII, lower case and upper case are one: RFC 9110, section 8.3.1
 abbrev pub is_form_type : List ℕ → Bool
 is_form_type value = bytes_eq (map to_ascii_lowercase (media_type value)) (codes "application/x-www-form-urlencoded")
 

@@ -3,9 +3,9 @@ use Rattle.std.specs.Prelude.{ℕ, Bool, true, false, ◌==◌, ◌||◌, not, n
 use Rattle.std.specs.List.{list_any}
 use Rattle.std.specs.Option.{option_map_or}
 use Rattle.oai_item.specs.Rules.{has_repeat}
-use Rattle.oai_repo.specs.declared.settings.Settings.{Settings}
-use Rattle.oai_repo.specs.Config.{is_repository_name}
-use Rattle.oai_repo.specs.Settings.{has_shape, are_formats, earliest_of, has_number, are_numbers}
+use Rattle.oai_settings.specs.declared.settings.Settings.{Settings}
+use Rattle.oai_settings.specs.Config.{is_repository_name}
+use Rattle.oai_settings.specs.Settings.{has_shape, are_formats, earliest_of, has_number, are_numbers}
 use Rattle.oai_host.specs.declared.faults.ReadFault.{ReadFault}
 use Rattle.oai_host.specs.declared.faults.ReadFault.TheVariants.{BadJson, BadShape, BadName, DuplicateName, BadFormat, BadDate, BadNumber, TooMany, NoMemory}
 use Rattle.oai_host.specs.declared.readings.told.Told.{Told}

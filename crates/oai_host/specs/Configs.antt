@@ -1,9 +1,9 @@
 -- The configuration of a host of many repositories, and the rules that it keeps: all of it this repository's own.
 use Rattle.std.specs.Prelude.{◌≡◌, ℕ, Bool, true, false, List, map, length}
+use Rattle.std.specs.Int.{is_in_range}
 use Rattle.std.specs.List.{list_all}
-use Rattle.oai_names.specs.Characters.{is_between}
 use Rattle.oai_item.specs.Rules.{has_repeat}
-use Rattle.oai_repo.specs.Config.{Config, is_repository_name}
+use Rattle.oai_settings.specs.Config.{Config, is_repository_name}
 
 -- a repository: its name in the paths of requests, and its configuration
 pub record Hosted : Type 0 where
@@ -17,7 +17,7 @@ pub record HostConfig : Type 0 where
 
 -- the pages of a cache
 abbrev pub is_cache : ℕ → Bool
-is_cache n = is_between 1 65_536 n
+is_cache n = is_in_range 1 65_536 n
 
 -- the names of the repositories
 abbrev pub names_of : List Hosted → List (List ℕ)
@@ -31,5 +31,5 @@ pub record AreNamed (names : List (List ℕ)) : Type 0 where
 -- the rules that a configuration keeps: the pages of a cache, and 1 to 1,000 repositories of such names
 pub record IsHostConfig (config : HostConfig) : Type 0 where
   pub cached : is_cache config.cache ≡ true
-  pub counted : is_between 1 1_000 (length config.repositories) ≡ true
+  pub counted : is_in_range 1 1_000 (length config.repositories) ≡ true
   pub named : AreNamed (names_of config.repositories)

@@ -1,4 +1,4 @@
--- What is left of a body whose lines are taken one after the other.
+-- What is left of a body whose lines are taken one after the other: words that no definition needs.
 use Rattle.std.specs.Prelude.{ℕ, suc, List, [], ◌∷◌, length, Option, None, Some, if◌then◌else◌}
 use Rattle.oai_host.specs.Bodies.{is_blank, lines_in}
 

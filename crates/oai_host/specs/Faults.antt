@@ -3,7 +3,7 @@ use Rattle.std.specs.Prelude.{ℕ, Bool, Result}
 use Rattle.oai_catalogue.specs.Store.{IsCounted, IsHonest}
 use Rattle.oai_item.specs.declared.faults.Fault.{Fault}
 
--- the calls that were made have led the store to one in which the fault has its cause
+-- there is a store, not older than this one, in which the fault has its cause
 pub record HasCause {A S : Type 0} (failures : S → ℕ) (honest : S → Bool) (store : S) (result : Result A Fault) : Type 0 where
   pub last : S
   pub device : IsCounted result (failures store) (failures last)

@@ -1,7 +1,7 @@
 -- Many repositories, and what exchanges with their host do to each. This repository's own.
-use Rattle.std.specs.Prelude.{◌≡◌, ℕ, Bool, true, not, ◌&&◌, is_none, if◌then◌else◌, List, [], ◌∷◌, map}
-use Rattle.std.specs.List.{list_all}
-use Rattle.oai_repo.specs.Config.{Config}
+use Rattle.std.specs.Prelude.{◌≡◌, ℕ, Bool, true, false, not, ◌&&◌, is_none, if◌then◌else◌, List, map}
+use Rattle.std.specs.List.{AllByRecursion, AllZip, list_all}
+use Rattle.oai_settings.specs.Config.{Config}
 use Rattle.oai_repo.specs.State.{State, empty_state}
 use Rattle.oai_host.specs.Alone.{IsExchange, IsRun, answers_alone, own_answers, own_calls}
 use Rattle.oai_host.specs.Answers.{answered}
@@ -20,13 +20,6 @@ pub record Repository : Type 0 where
 -- as it begins
 abbrev pub begun : Hosted → Repository
 begun hosted = record { name = hosted.name; config = hosted.config; state = empty_state hosted.config }
-
--- of each of the one list and that of the other at its place
-abbrev pub Each : {A : Type 0} → (A → A → Type 0) → List A → List A → Type 0
-Each P [] [] = Unit {0}
-Each P [] (y ∷ ys) = ⊥
-Each P (x ∷ xs) [] = ⊥
-Each P (x ∷ xs) (y ∷ ys) = P x y × Each P xs ys
 
 -- a host: its repositories, whether the device of its store gives back what was written to it, and how often that has failed
 pub record Hosting : Type 0 where
@@ -51,9 +44,13 @@ is_of_none repositories call = list_all (λ (repository : Repository). not (lead
 abbrev pub refused : Call → Answer
 refused call = answered (if is_rooted call.target then status.NotFound else status.BadRequest)
 
+-- each repository that the target does not lead to is as it was
+abbrev pub LeavesOthers : List ℕ → List Repository → List Repository → Type 0
+LeavesOthers target before after = AllZip (λ (one other : Repository). leads_to_repository one.name target ≡ false → other ≡ one) before after
+
 -- an exchange with the host
 pub record IsAnswered (call : Call) (answer : Answer) (before after : List Repository) : Type 0 where
-  pub each : Each (IsStep call answer) before after
+  pub each : AllZip (IsStep call answer) before after
   pub none : is_of_none before call ≡ true → answer ≡ refused call
 
 -- ---- exchanges one after the other
@@ -66,14 +63,11 @@ pub record IsOwnRun (calls : List Call) (answers : List Answer) (before after : 
 
 -- each exchange that is no repository's is refused
 abbrev pub AreRefused : List Repository → List Call → List Answer → Type 0
-AreRefused repositories [] [] = Unit {0}
-AreRefused repositories [] (answer ∷ answers) = ⊥
-AreRefused repositories (call ∷ calls) [] = ⊥
-AreRefused repositories (call ∷ calls) (answer ∷ answers) = (is_of_none repositories call ≡ true → answer ≡ refused call) × AreRefused repositories calls answers
+AreRefused repositories calls answers = AllZip (λ (call : Call) (answer : Answer). is_of_none repositories call ≡ true → answer ≡ refused call) calls answers
 
 -- exchanges with the host, each with its answer
 pub record AreAnswered (calls : List Call) (answers : List Answer) (before after : List Repository) : Type 0 where
-  pub each : Each (IsOwnRun calls answers) before after
+  pub each : AllZip (IsOwnRun calls answers) before after
   pub none : AreRefused before calls answers
 
 -- no exchange failed
@@ -87,5 +81,4 @@ IsAsAlone calls answers repository =
 
 -- at each of them
 abbrev pub AreAsAlone : List Call → List Answer → List Repository → Type 0
-AreAsAlone calls answers [] = Unit {0}
-AreAsAlone calls answers (repository ∷ repositories) = IsAsAlone calls answers repository × AreAsAlone calls answers repositories
+AreAsAlone calls answers repositories = AllByRecursion (IsAsAlone calls answers) repositories

@@ -1,7 +1,6 @@
 -- What a host keeps of its repositories, and what the lists of its store have of them: this repository's own.
-use Rattle.std.specs.Prelude.{◌≡◌, ℕ, suc, Bool, true, false, if◌then◌else◌, List, [], ◌∷◌, map, Option, None, Some, IsTrue}
-use Rattle.std.specs.List.{AllByRecursion}
-use Rattle.std.specs.Option.{option_map}
+use Rattle.std.specs.Prelude.{◌≡◌, ℕ, Bool, true, false, List, [], ◌∷◌, map, Option, IsTrue}
+use Rattle.std.specs.List.{AllByRecursion, position}
 use Rattle.std.specs.Str.{bytes_eq}
 use Rattle.oai_catalogue.specs.Store.{Lists}
 use Rattle.oai_repo.specs.Held.{Held, IsHeld, KeepsOthers, StandsIn, has, numbers_of, state_of}
@@ -21,8 +20,7 @@ housed_names housed = map (λ (one : Housed). one.name) housed
 
 -- the place of a name among these, if it is there
 abbrev pub place_in : List (List ℕ) → List ℕ → Option ℕ
-place_in [] name = None
-place_in (one ∷ names) name = if bytes_eq one name then Some 0 else option_map suc (place_in names name)
+place_in names name = position (λ (one : List ℕ). bytes_eq one name) names
 
 -- no number is one of both
 abbrev pub AreApart : Held → Held → Type 0

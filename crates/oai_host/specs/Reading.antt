@@ -1,8 +1,9 @@
 -- What reading a configuration answers: the configuration, or the lowest cause that applies anywhere in the text.
-use Rattle.std.specs.Prelude.{◌≡◌, ◌<◌, ℕ, Bool, true, false, List, [], ◌∷◌, codes, Some, Result, Ok, Err}
+use Rattle.std.specs.Prelude.{◌≡◌, ◌<◌, ℕ, Bool, true, false, List, codes, Some, Result, Ok, Err}
+use Rattle.std.specs.List.{AllZip}
 use Rattle.oai_deposit.specs.Lines.{TakesMemory}
-use Rattle.oai_repo.specs.declared.settings.Settings.{Settings}
-use Rattle.oai_repo.specs.Settings.{Configures}
+use Rattle.oai_settings.specs.declared.settings.Settings.{Settings}
+use Rattle.oai_settings.specs.Settings.{Configures}
 use Rattle.oai_host.specs.declared.faults.ReadFault.{ReadFault}
 use Rattle.oai_host.specs.declared.faults.ReadFault.TheVariants.{BadJson, BadShape, BadName, DuplicateName, BadFormat, BadDate, BadNumber, TooMany, NoMemory}
 use Rattle.oai_host.specs.declared.readings.told.Told.{Told}
@@ -17,10 +18,7 @@ pub record IsHosted (settings : Settings) (hosted : Hosted) : Type 0 where
 
 -- so is each, in the order of the text
 abbrev pub AreHosted : List Settings → List Hosted → Type 0
-AreHosted [] [] = Unit {0}
-AreHosted (s ∷ settings) (h ∷ hosted) = IsHosted s h × AreHosted settings hosted
-AreHosted [] (h ∷ hosted) = ⊥
-AreHosted (s ∷ settings) [] = ⊥
+AreHosted settings hosted = AllZip IsHosted settings hosted
 
 -- no cause applies, and the configuration is what the text tells
 pub record IsConfigOf (text : List ℕ) (told : Told) (config : HostConfig) : Type 0 where

@@ -4,9 +4,9 @@ use Rattle.std.specs.List.{list_any}
 use Rattle.serde_json.specs.View.{view}
 use Rattle.serde_json.specs.declared.value.Value.{Value}
 use Rattle.oai_deposit.specs.Lines.{TakesMemory}
-use Rattle.oai_repo.specs.declared.settings.ConfigFault.{ConfigFault}
-use Rattle.oai_repo.specs.declared.settings.ConfigFault.TheVariants as alone
-use Rattle.oai_repo.specs.declared.settings.Settings.{Settings}
+use Rattle.oai_settings.specs.declared.settings.ConfigFault.{ConfigFault}
+use Rattle.oai_settings.specs.declared.settings.ConfigFault.TheVariants as alone
+use Rattle.oai_settings.specs.declared.settings.Settings.{Settings}
 use Rattle.oai_host.specs.declared.faults.ReadFault.{ReadFault}
 use Rattle.oai_host.specs.declared.faults.ReadFault.TheVariants.{BadJson, BadShape, BadName, DuplicateName, BadFormat, BadDate, BadNumber, TooMany, NoMemory}
 use Rattle.oai_host.specs.declared.readings.told.Told.{Told}

@@ -11,8 +11,8 @@ use Rattle.oai_item.specs.ShortTexts.{is_short_text}
 use Rattle.oai_answers.specs.declared.identify.DeletedRecord.{DeletedRecord}
 use Rattle.oai_answers.specs.declared.identify.DeletedRecord.TheVariants.{No, Transient, Persistent}
 use Rattle.oai_deposit.specs.Json.{elements_in, has_members}
-use Rattle.oai_repo.specs.declared.settings.FormatSettings.{FormatSettings}
-use Rattle.oai_repo.specs.declared.settings.Settings.{Settings}
+use Rattle.oai_settings.specs.declared.settings.FormatSettings.{FormatSettings}
+use Rattle.oai_settings.specs.declared.settings.Settings.{Settings}
 use Rattle.oai_host.specs.declared.readings.told.Told.{Told}
 use Rattle.oai_host.specs.Readings.{◌>>=◌, each_of, tested}
 

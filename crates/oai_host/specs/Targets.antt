@@ -1,4 +1,4 @@
--- Where a target leads: RFC 3986, sections 3.3 and 3.4. The two paths of a repository are this repository's own.
+-- Where a target leads: RFC 3986, sections 3.3 and 3.4; RFC 9112, section 3.2.1. The two paths of a repository are this repository's own.
 use Rattle.std.specs.Prelude.{ℕ, Bool, ◌==◌, ◌||◌, List, ◌++◌, take, codes}
 use Rattle.std.specs.List.{after_first, before_first}
 use Rattle.std.specs.Str.{bytes_eq}
@@ -17,7 +17,7 @@ path_of target = before_first is_question_mark target
 abbrev pub query_of : List ℕ → List ℕ
 query_of target = after_first is_question_mark target
 
--- the target begins with `/`
+-- the target begins with `/`, as one in origin-form does: RFC 9112, section 3.2.1
 abbrev pub is_rooted : List ℕ → Bool
 is_rooted target = bytes_eq (take 1 target) (codes "/")
 

@@ -1,13 +1,25 @@
 -- What an exchange asks of the repository that its path leads to: RFC 9110, sections 9.3, 15.5.6 and 15.5.16; OAI-PMH 2.0, section 3.1.1.
-use Rattle.std.specs.Prelude.{ℕ, Bool, if◌then◌else◌, List, take, codes}
+use Rattle.std.specs.Prelude.{ℕ, ℤ, Bool, if◌then◌else◌, List, take, codes}
+use Rattle.std.specs.Option.{option_copied}
 use Rattle.std.specs.Str.{bytes_eq}
 use Rattle.oai_host.specs.Bodies.{is_form, lines_in}
 use Rattle.oai_host.specs.Targets.{front_of, path_of, query_of}
 use Rattle.oai_host.specs.declared.exchanges.Call.{Call}
+use Rattle.oai_host.specs.declared.exchanges.Exchange.{Exchange}
 use Rattle.oai_host.specs.declared.routes.Kind.{Kind}
 use Rattle.oai_host.specs.declared.routes.Kind.TheVariants.{Deposits, Requests}
 use Rattle.oai_host.specs.declared.statuses.Status.{Status}
 use Rattle.oai_host.specs.declared.statuses.Status.TheVariants as status
+
+-- an exchange that comes at that moment
+abbrev pub call_of : ℤ → Exchange → Call
+call_of moment exchange = record {
+  moment = moment;
+  method = exchange.method.now;
+  target = exchange.target.now;
+  content_type = option_copied exchange.content_type;
+  body = exchange.body.now;
+}
 
 -- nothing, since it is answered that status; a request of OAI-PMH, by the bytes of its arguments; or deposit lines
 pub data Task : Type 0 where
@@ -36,7 +48,7 @@ abbrev pub task_in : Kind → Call → Task
 task_in Requests call = request_in call
 task_in Deposits call = deposit_in call
 
--- what the path is for
+-- of the path of a repository: what it is for
 abbrev pub kind_of : List ℕ → Kind
 kind_of target = if bytes_eq (take 9 (path_of target)) (front_of Deposits) then Deposits else Requests
 

@@ -1,7 +1,6 @@
 -- Words that tie the code to the definitions.
-use Rattle.std.specs.Prelude.{◌≡◌, ℕ, ℤ, false, List, [], ◌∷◌, ◌++◌, Result, Some}
-use Rattle.std.specs.List.{slice_get}
-use Rattle.std.specs.Option.{option_copied}
+use Rattle.std.specs.Prelude.{◌≡◌, ℕ, ℤ, false, List, ◌++◌, Result, Some}
+use Rattle.std.specs.List.{AllByRecursion, slice_get}
 use Rattle.oai_item.specs.declared.changes.Change.{Change}
 use Rattle.oai_item.specs.declared.refusals.LineRefusal.{LineRefusal}
 use Rattle.oai_catalogue.specs.Store.{Lists}
@@ -9,20 +8,9 @@ use Rattle.oai_repo.specs.Held.{Held, state_of}
 use Rattle.oai_repo.specs.Machine.{line, step}
 use Rattle.oai_host.specs.Alone.{with_end}
 use Rattle.oai_host.specs.Targets.{front_of, leads_to_repository, path_of}
-use Rattle.oai_host.specs.declared.exchanges.Call.{Call}
-use Rattle.oai_host.specs.declared.exchanges.Exchange.{Exchange}
+pub use Rattle.oai_host.specs.Tasks.{call_of}
 use Rattle.oai_host.specs.declared.housed.Housed.{Housed}
 use Rattle.oai_host.specs.declared.routes.Kind.{Kind}
-
--- an exchange that comes at that moment
-abbrev pub call_of : ℤ → Exchange → Call
-call_of moment exchange = record {
-  moment = moment;
-  method = exchange.method.now;
-  target = exchange.target.now;
-  content_type = option_copied exchange.content_type;
-  body = exchange.body.now;
-}
 
 -- a line was performed, as it was read, and the line for it stands behind the others
 pub record IsLineDone (old : Held) (before : Lists) (moment : ℤ) (read : Result Change LineRefusal) (was : List ℕ) (new : Held) (after : Lists) (is : List ℕ) : Type 0 where
@@ -37,5 +25,4 @@ pub record IsPlace (housed : List Housed) (place : ℕ) (kind : Kind) (target : 
 
 -- the path of the target is no repository's
 abbrev pub LeadsNowhere : List Housed → List ℕ → Type 0
-LeadsNowhere [] target = Unit {0}
-LeadsNowhere (one ∷ others) target = (leads_to_repository one.name target ≡ false) × LeadsNowhere others target
+LeadsNowhere housed target = AllByRecursion (λ (one : Housed). leads_to_repository one.name target ≡ false) housed

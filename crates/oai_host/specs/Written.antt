@@ -1,5 +1,6 @@
 -- The JSON object that a configuration is written as. RFC 8259, sections 4 to 7.
-use Rattle.std.specs.Prelude.{◌≡◌, ◌↔◌, ℕ, true, List, [], ◌∷◌, map, codes, Option, Some}
+use Rattle.std.specs.Prelude.{◌≡◌, ◌↔◌, ℕ, true, List, map, codes, Option, Some}
+use Rattle.std.specs.List.{AllZip}
 use Rattle.serde_json.specs.Data.{Data, Num, string, number}
 use Rattle.serde_json.specs.Find.{get, as_u64}
 use Rattle.oai_time.specs.declared.granularity.Granularity.{Granularity}
@@ -8,8 +9,8 @@ use Rattle.oai_item.specs.ShortTexts.{is_short_text}
 use Rattle.oai_answers.specs.declared.identify.DeletedRecord.{DeletedRecord}
 use Rattle.oai_answers.specs.declared.identify.DeletedRecord.TheVariants.{No, Transient, Persistent}
 use Rattle.oai_deposit.specs.Json.{size, array_of}
-use Rattle.oai_repo.specs.declared.settings.FormatSettings.{FormatSettings}
-use Rattle.oai_repo.specs.declared.settings.Settings.{Settings}
+use Rattle.oai_settings.specs.declared.settings.FormatSettings.{FormatSettings}
+use Rattle.oai_settings.specs.declared.settings.Settings.{Settings}
 use Rattle.oai_host.specs.declared.readings.told.Told.{Told}
 use Rattle.oai_host.specs.Shapes.{told_of}
 
@@ -27,16 +28,9 @@ HasNumber name n d = (m : Num) × (get name d ≡ Some (number m)) × (as_u64 m 
 abbrev pub HasTexts : List ℕ → List (List ℕ) → Data → Type 0
 HasTexts name texts d = get name d ≡ Some (array_of (map string texts))
 
--- each of a list is written as one of the values, in order
-abbrev pub AreWritten : {A : Type 0} → (A → Data → Type 0) → List A → List Data → Type 0
-AreWritten IsWritten [] [] = Unit {0}
-AreWritten IsWritten (x ∷ xs) (d ∷ ds) = IsWritten x d × AreWritten IsWritten xs ds
-AreWritten IsWritten [] (d ∷ ds) = ⊥
-AreWritten IsWritten (x ∷ xs) [] = ⊥
-
--- a list of such values
+-- a list of values, as each of which one is written, in order
 abbrev pub HasList : {A : Type 0} → List ℕ → (A → Data → Type 0) → List A → Data → Type 0
-HasList name IsWritten xs d = (ds : List Data) × (get name d ≡ Some (array_of ds)) × AreWritten IsWritten xs ds
+HasList name IsWritten xs d = (ds : List Data) × (get name d ≡ Some (array_of ds)) × AllZip IsWritten xs ds
 
 -- ---- the objects, their members in any order
 

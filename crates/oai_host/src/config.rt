@@ -7,7 +7,7 @@ use crate::faults::ReadFault;
 use crate::readings::causes::{each_hosted, fault_together};
 use crate::readings::told::{Told, told_in};
 use oai_names::{Sequence, Text};
-use oai_repo::RepoConfig;
+use oai_settings::RepoConfig;
 use std::alloc::Global;
 use std::marker::Model;
 

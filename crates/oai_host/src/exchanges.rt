@@ -1,7 +1,7 @@
 //! What a host is asked, and what it answers.
 ghost use Rattle.std.specs.Prelude.{◌≡◌};
 ghost use Rattle.oai_host.specs.Answers as spec;
-ghost use Rattle.oai_host.specs.Workings.{call_of};
+ghost use Rattle.oai_host.specs.Tasks.{call_of};
 
 use crate::statuses::Status;
 use oai_item::Fault;

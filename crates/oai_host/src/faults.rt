@@ -1,8 +1,11 @@
 ghost use Rattle.std.specs.Prelude.{◌≡◌};
 ghost use Rattle.oai_host.specs.Reading.{fault_text};
+ghost use Rattle.oai_host.specs.ReadingWork.{fault_of};
 ghost use Rattle.oai_host.specs.Causes as spec;
+ghost use Rattle.oai_settings.specs.Settings as settings;
+ghost use Rattle.oai_settings.specs.declared.settings.ConfigFault as alone;
 
-use oai_repo::ConfigFault;
+use oai_settings::ConfigFault;
 use std::alloc::{AllocError, AllocFailed};
 use std::error::Error;
 use std::fmt;
@@ -86,6 +89,12 @@ impl fmt::Display for ReadFault {
 }
 
 impl Error for ReadFault {}
+
+/// A fault of a repository alone has in a whole text the number and the name that it has by itself. The
+/// contract is the law; the call does nothing.
+pub fn fault_law()
+    ensures { (fault : alone.ConfigFault) → settings.fault_text fault ≡ fault_text (fault_of fault) }
+{}
 
 impl From<ConfigFault> for ReadFault {
     ghost use Rattle.std.specs.Prelude.{◌≡◌};

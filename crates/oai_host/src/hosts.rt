@@ -2,16 +2,17 @@
 ghost use Rattle.std.specs.Prelude.{◌≡◌, ◌≤◌, true, map, if◌then◌else◌, IfOk, IfSome, IsTrue, OnErr};
 ghost use Rattle.std.specs.List.{list_all};
 ghost use Rattle.std.specs.Option.{IfNone};
-ghost use Rattle.oai_repo.specs.Config.{is_repository_name};
+ghost use Rattle.oai_settings.specs.Config.{is_repository_name};
 ghost use Rattle.oai_catalogue.specs.Store.{IsCounted, IsHonest};
-ghost use Rattle.oai_host.specs.Answers.{failure_in};
+ghost use Rattle.oai_host.specs.Answers.{AreCounted, AreHonest, OnFailed, failure_in};
 ghost use Rattle.oai_host.specs.Faults.{HasCause};
-ghost use Rattle.oai_host.specs.Hosts.{AreAnswered, AreAsAlone, IsAnswered, begun, none_failed};
+ghost use Rattle.oai_host.specs.Hosts.{AreAnswered, AreAsAlone, IsAnswered, LeavesOthers, begun, is_of_none, none_failed, refused};
 ghost use Rattle.oai_host.specs.Housed.{AreHoused, housed_names};
 ghost use Rattle.oai_host.specs.Props.{housed_props};
 ghost use Rattle.oai_host.specs.Targets as spec;
+ghost use Rattle.oai_host.specs.Tasks.{call_of};
 ghost use Rattle.oai_host.specs.declared.statuses.Status.TheVariants as status;
-ghost use Rattle.oai_host.specs.Workings.{IsPlace, LeadsNowhere, call_of};
+ghost use Rattle.oai_host.specs.Workings.{IsPlace, LeadsNowhere};
 
 use crate::config::Config;
 use crate::exchanges::{Answer, Call, Exchange};
@@ -57,6 +58,7 @@ impl<V: Versions + Drop> Host<V> {
     pub fn new(alloc: Global, config: Config, mut store: V) -> Result<Host<V>, Fault>
         ensures begun { IfOk result (λ host. host.repositories ≡ map begun config.repositories) }
         ensures honesty { IfOk result (λ host. host.honest ≡ V.honest store) }
+        ensures count { IfOk result (λ host. V.failures store ≤ host.failures) }
         ensures cause { HasCause V.failures V.honest store result }
     {
         let routes = Routes::new(alloc)?;
@@ -74,9 +76,18 @@ impl<V: Versions + Drop> Host<V> {
 
     /// Performs an exchange at the moment, in seconds from 1970 on, and answers it. Want of memory is
     /// told inside the answer.
+    ///
+    /// Over a store that does not give back what was written to it as well, an exchange leaves all
+    /// repositories but its own as they were, one that is no repository's is refused, and a request that
+    /// failed has left everything as it was.
     pub fn exchange(&mut self, moment: i64, exchange: &Exchange<'_>) -> Answer
         ensures answered { IsTrue self.old.honest → IsAnswered (call_of moment exchange.now) result
             self.old.repositories self.new.repositories }
+        ensures others { LeavesOthers exchange.now.target.now self.old.repositories
+            self.new.repositories }
+        ensures none { is_of_none self.old.repositories (call_of moment exchange.now) ≡ true
+            → result ≡ refused (call_of moment exchange.now) }
+        ensures left { OnFailed result (self.new.repositories ≡ self.old.repositories) }
         ensures device { IsCounted (failure_in result) self.old.failures self.new.failures }
         ensures honesty { IsHonest (failure_in result) self.old.honest self.new.honest }
     {
@@ -93,8 +104,8 @@ impl<V: Versions + Drop> Host<V> {
     fn perform(&mut self, call: &Call) -> Answer
         ensures answered { IsTrue self.old.honest → IsAnswered call.now result self.old.repositories
             self.new.repositories }
-        ensures count { self.old.failures ≤ self.new.failures }
-        ensures honesty { self.new.honest ≡ self.old.honest }
+        ensures device { IsCounted (failure_in result) self.old.failures self.new.failures }
+        ensures honesty { IsHonest (failure_in result) self.old.honest self.new.honest }
     {
         self.exchange(call.moment, &call.exchange())
     }
@@ -107,6 +118,10 @@ impl<V: Versions + Drop> Host<V> {
         ensures alone { IfOk result (λ answers. IsTrue self.old.honest → none_failed answers ≡ true
             → AreAsAlone calls.now answers self.old.repositories) }
         ensures err { OnErr result (self.new ≡ self.old) }
+        ensures device { IfOk result (λ answers. AreCounted answers self.old.failures
+            self.new.failures) }
+        ensures damaged { IfOk result (λ answers. AreHonest answers self.old.honest
+            self.new.honest) }
         ensures count { self.old.failures ≤ self.new.failures }
         ensures honesty { self.new.honest ≡ self.old.honest }
     {

@@ -19,7 +19,7 @@ mod statuses;
 
 pub use config::{Config, HostedConfig};
 pub use exchanges::{Answer, Call, Exchange};
-pub use faults::ReadFault;
+pub use faults::{ReadFault, fault_law};
 pub use hosts::Host;
 pub use readings::told::shape_law;
 pub use statuses::Status;

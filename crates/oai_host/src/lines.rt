@@ -7,6 +7,7 @@ ghost use Rattle.oai_host.specs.Bodies.{lines_in};
 ghost use Rattle.oai_host.specs.Cuts.{bytes_left, from_line, lines_left};
 
 use crate::bodies::is_blank;
+use memchr::memchr;
 use std::marker::Model;
 
 /// The lines of a deposit that are still to be taken: its body is cut at each line end, and a line of
@@ -69,10 +70,5 @@ fn line_len(text: &[u8]) -> usize
     ensures length { result ≡ position_or_len spec.is_line_end text.now }
     ensures within { result ≤ length text.now }
 {
-    for (at, b) in text.iter().enumerate() {
-        if *b == b'\n' {
-            return at;
-        }
-    }
-    text.len()
+    memchr(b'\n', text).unwrap_or(text.len())
 }

@@ -1,14 +1,15 @@
 //! The repositories of a host.
 ghost use Rattle.std.specs.Prelude.{◌≡◌, ◌<◌, ◌++◌, ℕ, [], ◌∷◌, true, false, length, map, get_or, IfSome, IsTrue, OnErr, OnOk};
-ghost use Rattle.std.specs.List.{list_any, position, slice_get};
+ghost use Rattle.std.specs.List.{AllZip, list_any, position, slice_get};
 ghost use Rattle.std.specs.Str.{bytes_eq};
 ghost use Rattle.oai_catalogue.specs.Store.{IsCounted, IsHonest};
-ghost use Rattle.oai_host.specs.Answers.{failure_in};
-ghost use Rattle.oai_host.specs.Hosts.{Each, IsStep, begun};
+ghost use Rattle.oai_host.specs.Answers.{OnFailed, failure_in};
+ghost use Rattle.oai_host.specs.Hosts.{IsStep, LeavesOthers, begun};
 ghost use Rattle.oai_host.specs.Housed.{AreHoused, housed_names, place_in, repositories_of};
-ghost use Rattle.oai_repo.specs.Config.{is_repository_name};
+ghost use Rattle.oai_settings.specs.Config.{is_repository_name};
 ghost use Rattle.oai_host.specs.Targets.{front_of, path_of};
-ghost use Rattle.oai_host.specs.Workings.{IsPlace, call_of};
+ghost use Rattle.oai_host.specs.Tasks.{call_of};
+ghost use Rattle.oai_host.specs.Workings.{IsPlace};
 
 use crate::config::HostedConfig;
 use crate::exchanges::{Answer, Exchange};
@@ -110,8 +111,12 @@ impl Repositories {
     ) -> Answer
         requires place { IsPlace self.old place kind exchange.now.target.now }
         requires housed { AreHoused (V.honest store.old) self.old (V.lists store.old) }
-        ensures steps { IsTrue (V.honest store.old) → Each (IsStep (call_of moment exchange.now) result)
+        ensures steps { IsTrue (V.honest store.old) → AllZip (IsStep (call_of moment exchange.now) result)
             (repositories_of self.old (V.lists store.old)) (repositories_of self.new (V.lists store.new)) }
+        ensures others { LeavesOthers exchange.now.target.now
+            (repositories_of self.old (V.lists store.old)) (repositories_of self.new (V.lists store.new)) }
+        ensures left { OnFailed result ((self.new ≡ self.old)
+            × (V.lists store.new ≡ V.lists store.old)) }
         ensures housed { AreHoused (V.honest store.new) self.new (V.lists store.new) }
         ensures device { IsCounted (failure_in result) (V.failures store.old) (V.failures store.new) }
         ensures honesty { IsHonest (failure_in result) (V.honest store.old) (V.honest store.new) }

@@ -3,10 +3,10 @@ ghost use Rattle.std.specs.Prelude.{◌≡◌, ℤ, IsTrue, MatchResult};
 ghost use Rattle.oai_catalogue.specs.Store.{IsCounted, IsHonest};
 ghost use Rattle.oai_repo.specs.Held.{IsHeld, StandsIn, state_of};
 ghost use Rattle.oai_host.specs.Alone.{IsTried};
-ghost use Rattle.oai_host.specs.Answers.{failure_in};
+ghost use Rattle.oai_host.specs.Answers.{OnFailed, failure_in};
 ghost use Rattle.oai_host.specs.Housed.{IsKept};
 ghost use Rattle.oai_host.specs.Tasks as spec;
-ghost use Rattle.oai_host.specs.Workings.{call_of};
+ghost use Rattle.oai_host.specs.Tasks.{call_of};
 
 use crate::bodies::is_form;
 use crate::exchanges::{Answer, Exchange};
@@ -54,6 +54,8 @@ pub(crate) fn perform_request<V: Versions>(
     ensures tried { IsTrue (V.honest store.old)
         → IsTried repo.old.config (state_of repo.old (V.lists store.old)) moment
         (spec.asking arguments.now) result (state_of repo.new (V.lists store.new)) }
+    ensures left { OnFailed result ((repo.new ≡ repo.old)
+        × (V.lists store.new ≡ V.lists store.old)) }
     ensures kept { IsKept (V.honest store.old) repo.old (V.lists store.old) repo.new
         (V.lists store.new) }
     ensures device { IsCounted (failure_in result) (V.failures store.old) (V.failures store.new) }

@@ -1,7 +1,7 @@
 //! Where a target leads.
 ghost use Rattle.std.specs.Prelude.{◌≡◌, ◌≤◌, ◌++◌, ℕ, List, true, length, IfSome, MatchOption, Some};
 ghost use Rattle.std.specs.List.{position_or_len};
-ghost use Rattle.oai_repo.specs.Config.{is_repository_name};
+ghost use Rattle.oai_settings.specs.Config.{is_repository_name};
 ghost use Rattle.matchit.specs.Seek.{first};
 ghost use Rattle.oai_host.specs.Rows.{both_rows, kind_in};
 ghost use Rattle.oai_host.specs.Targets as spec;

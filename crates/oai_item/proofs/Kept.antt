@@ -11,7 +11,7 @@ use Rattle.std.proofs.lemmas.Option.{none-some, same_Some}
 use Rattle.std.proofs.lemmas.Slice.Eq.{bytes_eq-Decides}
 use Rattle.oai_item.specs.Rules.{has_repeat}
 use Rattle.oai_names.specs.Sets.{covers}
-use Rattle.oai_item.specs.Membership.{AreApart, distinct, is_above, reduced}
+use Rattle.oai_item.specs.Membership.{NoneCovers, distinct, is_above, reduced}
 
 -- the text is one of these
 abbrev pub Has : List (List ℕ) → List ℕ → Type 0
@@ -116,7 +116,7 @@ unfolding is_above
 above_from s t covering other = and_from _ _ covering (not_from_false _ other)
 
 -- of two setSpecs that stay neither covers the other
-pub reduced_apart : (sets : List (List ℕ)) → AreApart (reduced sets)
+pub reduced_apart : (sets : List (List ℕ)) → NoneCovers (reduced sets)
 reduced_apart sets i j s t at_i at_j apart =
     false_from_ne_true (covers s t) (λ covering. elim (cases_Bool (bytes_eq s t)) [
       | inl same ↦ apart (once (reduced sets) i j s (repeats_in_reduced sets) at_i (at_j ∙ ap (λ u. Some u) (sym ((bytes_eq-Decides s t).0 same))))

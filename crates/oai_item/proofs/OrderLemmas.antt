@@ -13,7 +13,7 @@ use Rattle.std.proofs.lemmas.Map.Text.{is_eq-slice_cmp}
 use Rattle.oai_item.specs.Item.{ItemState}
 use Rattle.oai_item.specs.Items.{is_named, is_apart, are_apart, is_at, item_at, without, without_at, placed, with_item}
 use Rattle.oai_item.specs.Order.{place_cmp, item_cmp, precedes, are_in_order}
-use Rattle.oai_item.proofs.Members.{Member, contains_from, member_from}
+use Rattle.oai_item.proofs.Members.{Member, Member-filter, contains_from, member_from}
 
 -- ---- the order
 
@@ -261,3 +261,14 @@ contains_placed item items other = (
   (λ h. elim ((member_put item items other).0 (member_from (placed item items) other h)) [ inl new ↦ inl new | inr old ↦ inr (contains_from items other old) ]),
   (λ h. contains_from (placed item items) other ((member_put item items other).1 (elim h [ inl new ↦ inl new | inr old ↦ inr (member_from items other old) ]))),
 )
+
+-- and of the items but those of a datestamp and identifier they are the others
+pub contains_without_at : (stamp : ℤ) (identifier : List ℕ) (items : List ItemState) (other : ItemState)
+    → Contains (without_at stamp identifier items) other ↔ (Contains items other × (is_at stamp identifier other ≡ false))
+unfolding without_at
+contains_without_at stamp identifier items other =
+    let q : ItemState → Bool = λ item. not (is_at stamp identifier item) in
+    let kept = Member-filter q items other in (
+      (λ h. let found = kept.0 (member_from (filter q items) other h) in (contains_from items other found.0, not-true (is_at stamp identifier other) found.1)),
+      (λ h. contains_from (filter q items) other (kept.1 (member_from items other h.0, not_from_false (is_at stamp identifier other) h.1))),
+    )

@@ -10,7 +10,7 @@ use Rattle.oai_item.specs.declared.decodings.DecodeFault.{DecodeFault}
 use Rattle.oai_item.specs.declared.decodings.DecodeFault.TheVariants as reading
 use Rattle.oai_item.specs.Encoding.{GivesBack, IsDecoding, IsEncoding, Spells, encoded, encoded_list, encoded_record, is_text_item, is_text_record}
 use Rattle.oai_item.specs.Item.{IsItem, ItemState, Metadata, are_prefixed, are_rising, are_set_specs, have_no_fields}
-use Rattle.oai_item.specs.Membership.{AreApart}
+use Rattle.oai_item.specs.Membership.{NoneCovers}
 use Rattle.oai_item.specs.Workings.{HasParts, ReadsParts, SpellsParts, are_fields, are_records, are_sets, is_named, is_record, may_be_records}
 use Rattle.oai_item.proofs.Wholes.{AreRead, behind_identifier, behind_live, behind_stamp, encoded_is, same_item}
 
@@ -89,7 +89,7 @@ deleted_from : (live none : Bool) → (live || none) ≡ true → live ≡ false
 deleted_from true none h deleted = absurd (false≢true (sym deleted))
 deleted_from false none h deleted = h
 
-pub item_from : (item : ItemState) → HasParts item → AreApart item.sets → may_be_records item.live item.formats ≡ true → IsItem item
+pub item_from : (item : ItemState) → HasParts item → NoneCovers item.sets → may_be_records item.live item.formats ≡ true → IsItem item
 item_from item parts apart h =
     let a = and_parts (not (eqb (length item.formats) 0) && are_rising item.formats) (item.live || have_no_fields item.formats) h in
     let b = and_parts (not (eqb (length item.formats) 0)) (are_rising item.formats) a.0 in
@@ -133,13 +133,13 @@ one_item bytes item other s t = (same_item bytes _ _ _ _ _ other item (all_read 
 -- what is told where the parts could not be read
 pub decoding_fails : (bytes : List ℕ) (e : DecodeFault) → ReadsParts bytes (Err e) → IsDecoding bytes (Err e)
 decoding_fails bytes reading.Damaged h = λ item s. h item (parts_spelled bytes item s)
-decoding_fails bytes reading.NoMemory h = tt
+decoding_fails bytes reading.NoMemory h = h
 
 -- bytes of an item that does not keep the rules spell none
 pub no_item : (bytes : List ℕ) (made : ItemState) → SpellsParts bytes made → (IsItem made → ⊥) → (item : ItemState) → Spells bytes item → ⊥
 no_item bytes made s breaks item t = breaks (subst IsItem (one_item bytes made item s (parts_spelled bytes item t)) t.valid)
 
-pub item_spelled : (bytes : List ℕ) (item : ItemState) → SpellsParts bytes item → AreApart item.sets → may_be_records item.live item.formats ≡ true → Spells bytes item
+pub item_spelled : (bytes : List ℕ) (item : ItemState) → SpellsParts bytes item → NoneCovers item.sets → may_be_records item.live item.formats ≡ true → Spells bytes item
 item_spelled bytes item s apart h = record {
   spelling = s.spelling;
   few = s.few;

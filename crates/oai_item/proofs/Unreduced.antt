@@ -7,7 +7,7 @@ use Rattle.std.proofs.lemmas.Option.{same_Some}
 use Rattle.std.proofs.lemmas.Slice.Eq.{bytes_eq-Decides}
 use Rattle.oai_names.specs.Sets.{covers}
 use Rattle.oai_item.proofs.SetLaws.{covers_itself}
-use Rattle.oai_item.specs.Membership.{AreApart, distinct, is_above, reduced}
+use Rattle.oai_item.specs.Membership.{NoneCovers, distinct, is_above, reduced}
 
 -- ---- a list that is as long as before
 
@@ -66,17 +66,17 @@ not_equal s t other =
     false_from_ne_true (bytes_eq s t) (λ same.
     both_ways (covers s t) other (ap (covers s) (sym ((bytes_eq-Decides s t).0 same)) ∙ covers_itself s))
 
-distinct_apart : (sets : List (List ℕ)) → AreApart sets → distinct sets ≡ sets
+distinct_apart : (sets : List (List ℕ)) → NoneCovers sets → distinct sets ≡ sets
 unfolding distinct
 distinct_apart [] apart = refl
 distinct_apart (s ∷ sets) apart =
     let test : List ℕ → Bool = λ t. not (bytes_eq s t) in
-    let others : AreApart sets = λ i j a b at_i at_j ne. apart (suc i) (suc j) a b at_i at_j (λ e. ne (omega (arith, e))) in
+    let others : NoneCovers sets = λ i j a b at_i at_j ne. apart (suc i) (suc j) a b at_i at_j (λ e. ne (omega (arith, e))) in
     ap (λ ys. s ∷ ys) (ap (filter test) (distinct_apart sets others)
     ∙ filter_all test sets (λ j t at. not_from_false (bytes_eq s t) (not_equal s t (apart zero (suc j) s t refl at (λ e. omega (arith, e))))))
 
 -- no setSpec is above another, nor above itself
-not_above : (sets : List (List ℕ)) → AreApart sets → (i : ℕ) (s : List ℕ) → slice_get sets i ≡ Some s → (j : ℕ) (t : List ℕ) → slice_get sets j ≡ Some t → is_above s t ≡ false
+not_above : (sets : List (List ℕ)) → NoneCovers sets → (i : ℕ) (s : List ℕ) → slice_get sets i ≡ Some s → (j : ℕ) (t : List ℕ) → slice_get sets j ≡ Some t → is_above s t ≡ false
 unfolding is_above
 not_above sets apart i s at_i j t at_j =
     elim (cases_eq i j) [
@@ -87,7 +87,7 @@ not_above sets apart i s at_i j t at_j =
       | inr other ↦ rw (apart i j s t at_i at_j other) refl
     ]
 
-pub reduced_same : (sets : List (List ℕ)) → AreApart sets → reduced sets ≡ sets
+pub reduced_same : (sets : List (List ℕ)) → NoneCovers sets → reduced sets ≡ sets
 unfolding reduced
 reduced_same sets apart =
     let test : List ℕ → Bool = λ s. not (list_any (is_above s) sets) in

@@ -85,9 +85,9 @@ whole_read bytes r1 r2 r3 r4 r5 item few read none = record {
 }
 
 -- what is told where a part could not be read that each item of these bytes has there
-pub parts_fail : {A : Type 0} (spelled : A → List ℕ) (Good : A → Type 0) (bytes rest : List ℕ) (e : DecodeFault) → ((item : ItemState) → SpellsParts bytes item → Stands spelled Good rest) → Fails spelled Good rest e → ReadsParts bytes (Err e)
-parts_fail spelled Good bytes rest reading.Damaged has h = λ item s. h (has item s)
-parts_fail spelled Good bytes rest reading.NoMemory has h = tt
+pub parts_fail : {A : Type 0} (spelled : A → List ℕ) (Good : A → Type 0) (bytes rest : List ℕ) (e : DecodeFault) → length bytes ≤ MOST_ITEM_BYTES → ((item : ItemState) → SpellsParts bytes item → Stands spelled Good rest) → Fails spelled Good rest e → ReadsParts bytes (Err e)
+parts_fail spelled Good bytes rest reading.Damaged few has h = λ item s. h (has item s)
+parts_fail spelled Good bytes rest reading.NoMemory few has h = few
 
 pub live_stands : (bytes : List ℕ) (item : ItemState) → SpellsParts bytes item → Stands encoded_bool IsAny bytes
 live_stands bytes item s = record { value = item.live; rest = behind_live item; good = tt; parts = s.spelling ∙ encoded_is item; few = s.few }

@@ -81,11 +81,11 @@ IsEncoding item old (Ok n) new =
 IsEncoding item old (Err _) new = (MOST_ITEM_BYTES < length (encoded item)) × (new ≡ old)
 
 -- what reading an item from the bytes, all of them, answers: the item that they spell; or that they spell none. Memory may be
--- refused
+-- refused where they are not too many
 abbrev pub IsDecoding : List ℕ → Result ItemState DecodeFault → Type 0
 IsDecoding bytes (Ok item) = Spells bytes item
 IsDecoding bytes (Err Damaged) = (item : ItemState) → ¬ (Spells bytes item)
-IsDecoding bytes (Err NoMemory) = Unit {0}
+IsDecoding bytes (Err NoMemory) = length bytes ≤ MOST_ITEM_BYTES
 
 -- reading gave that item, unless memory was refused
 abbrev pub GivesBack : ItemState → Result ItemState DecodeFault → Type 0

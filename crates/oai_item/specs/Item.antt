@@ -7,7 +7,7 @@ use Rattle.std.specs.Cmp.Lexicographic.{slice_cmp}
 use Rattle.oai_names.specs.Names.{may_be_identifier, may_be_prefix}
 use Rattle.oai_names.specs.Sets.{may_be_set_spec}
 use Rattle.oai_item.specs.declared.fields.Field.{Field}
-use Rattle.oai_item.specs.Membership.{AreApart}
+use Rattle.oai_item.specs.Membership.{NoneCovers}
 
 -- a record of one format: its metadataPrefix, and its fields in order
 abbrev pub Metadata : Type 0
@@ -91,7 +91,7 @@ pub record IsItem (item : ItemState) : Type 0 where
   pub identified : may_be_identifier item.identifier ≡ true
   pub stamped : IsStamp item.stamp
   pub in_sets : are_set_specs item.sets ≡ true
-  pub apart : AreApart item.sets
+  pub apart : NoneCovers item.sets
   pub prefixed : are_prefixed item.formats ≡ true
   pub rising : are_rising item.formats ≡ true
   pub carries : item.formats ≢ []

@@ -1,4 +1,4 @@
--- The sets that an item is in, and the setSpecs that say so. OAI-PMH 2.0, section 2.6.
+-- The sets that an item is in, and the setSpecs that say so. OAI-PMH 2.0, sections 2.6 and 2.7.2.
 use Rattle.std.specs.Prelude.{◌≡◌, ◌≢◌, ℕ, Bool, false, ◌&&◌, not, List, [], ◌∷◌, Some, slice_get}
 use Rattle.std.specs.List.{list_any, filter}
 use Rattle.std.specs.Str.{bytes_eq}
@@ -22,6 +22,6 @@ unfoldable pub reduced : List (List ℕ) → List (List ℕ)
 reduced sets = filter (λ s. not (list_any (is_above s) sets)) (distinct sets)
 
 -- of two setSpecs at different places neither covers the other
-abbrev pub AreApart : List (List ℕ) → Type 0
-AreApart sets = (i j : ℕ) (s t : List ℕ)
+abbrev pub NoneCovers : List (List ℕ) → Type 0
+NoneCovers sets = (i j : ℕ) (s t : List ℕ)
     → slice_get sets i ≡ Some s → slice_get sets j ≡ Some t → i ≢ j → covers s t ≡ false

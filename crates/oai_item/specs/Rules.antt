@@ -3,8 +3,8 @@ use Rattle.std.specs.Prelude.{ℕ, Bool, false, ◌==◌, ◌||◌, ◌&&◌, no
 use Rattle.std.specs.List.{list_all, list_any}
 use Rattle.std.specs.Char.{is_ascii_alphabetic, is_ascii_alphanumeric}
 use Rattle.std.specs.Str.{bytes_eq}
-use Rattle.oai_names.specs.Names.{is_one_of}
-use Rattle.oai_names.specs.Characters.{is_xml_text}
+use Rattle.oai_names.specs.Names.{is_name_of, is_one_of}
+use Rattle.oai_item.specs.ShortTexts.{is_short_text}
 use Rattle.oai_item.specs.declared.formats.Format.{Format}
 
 -- a character of an element's name after its first (XML 1.0, section 2.3, NameChar): of those in ASCII, all but the colon
@@ -24,7 +24,7 @@ is_element_name (b ∷ bytes) = is_first_byte b && list_all is_name_byte bytes
 
 -- such a name, of at most 64 bytes
 abbrev pub is_name : List ℕ → Bool
-is_name text = is_element_name text && nat_le (length text) 64
+is_name text = is_name_of is_element_name 64 text
 
 -- the root and each field have a name
 abbrev pub are_names : Format → Bool
@@ -34,11 +34,9 @@ are_names format = is_name format.root && list_all is_name format.fields
 abbrev pub is_space : ℕ → Bool
 is_space b = b == 32 || b == 9 || b == 10 || b == 13
 
--- what may stand for a URI in a document: 1 to 512 bytes, of characters that a document may hold, and no white space
+-- what may stand for a URI in a document: a text of 1 to 512 bytes, of characters that a document may hold, without white space
 unfoldable pub is_uri : List ℕ → Bool
-is_uri text =
-    nat_lt 0 (length text) && nat_le (length text) 512
-    && is_xml_text text && not (list_any is_space text)
+is_uri text = is_short_text text && not (list_any is_space text)
 
 -- the schema and the namespace are such
 abbrev pub are_uris : Format → Bool

@@ -1,4 +1,4 @@
--- Selective harvesting: which items a list request selects. OAI-PMH 2.0, sections 2.5.1, 2.6, 2.7 and 4.5.
+-- Selective harvesting: which items a list request selects. OAI-PMH 2.0, sections 2.5.1, 2.6, 2.7, 4.3 and 4.5.
 use Rattle.std.specs.Prelude.{ℕ, ℤ, ◌≤ℤ◌, int_le, Bool, true, ◌&&◌, List, Option, None, Some, IfSome, IsTrue, filter}
 use Rattle.std.specs.List.{Contains}
 use Rattle.oai_item.specs.Item.{ItemState, has_record}

@@ -12,7 +12,7 @@ use Rattle.oai_names.specs.declared.readings.NameFault.{NameFault}
 use Rattle.oai_names.specs.declared.readings.NameFault.TheVariants as names
 use Rattle.oai_names.specs.Sets.{may_be_set_spec}
 use Rattle.oai_item.specs.Encoding.{encoded, is_text_field}
-use Rattle.oai_item.specs.Item.{IsStamp, ItemState, Metadata, are_rising, have_no_fields}
+use Rattle.oai_item.specs.Item.{IsStamp, ItemState, Metadata, are_rising, have_no_fields, live_item}
 use Rattle.oai_item.specs.declared.decodings.DecodeFault.{DecodeFault}
 use Rattle.oai_item.specs.declared.decodings.DecodeFault.TheVariants as reading
 use Rattle.oai_item.specs.declared.decodings.Parts.{Parts}
@@ -122,23 +122,17 @@ pub record SpellsParts (bytes : List ℕ) (item : ItemState) : Type 0 where
 
 -- an item of these parts
 abbrev pub item_with : Bool → ℤ → List ℕ → List (List ℕ) → List Metadata → ItemState
-item_with live stamp identifier sets formats = record {
-  identifier = identifier;
-  stamp = stamp;
-  live = live;
-  sets = sets;
-  formats = formats;
-}
+item_with live stamp identifier sets formats = record (live_item identifier stamp sets formats) { live = live }
 
 -- the parts that were read, as an item
 abbrev pub item_of : Parts → ItemState
 item_of parts = item_with parts.live parts.stamp parts.identifier parts.sets parts.formats
 
--- what reading the parts of an item answers
+-- what reading the parts of an item answers. Memory may be refused where the bytes are not too many
 abbrev pub ReadsParts : List ℕ → Result Parts DecodeFault → Type 0
 ReadsParts bytes (Ok parts) = SpellsParts bytes (item_of parts)
 ReadsParts bytes (Err reading.Damaged) = (item : ItemState) → ¬ (SpellsParts bytes item)
-ReadsParts bytes (Err reading.NoMemory) = Unit {0}
+ReadsParts bytes (Err reading.NoMemory) = length bytes ≤ MOST_ITEM_BYTES
 
 -- the records may be those of an item that is live or deleted: at least one, in the order of their prefixes, and without fields
 -- where it is deleted

@@ -4,7 +4,7 @@ ghost use Rattle.oai_item.specs.Encoding.{GivesBack, IsDecoding, IsEncoding, IsM
 ghost use Rattle.oai_item.specs.declared.decodings.DecodeFault.{DecodeFault};
 ghost use Rattle.oai_item.specs.declared.sizes.TheConstants.{MOST_ITEM_BYTES};
 ghost use Rattle.oai_item.specs.Item.{IsItem, IsStamp, ItemState, are_prefixed, are_rising, has_record, live_item, record_named, tombstone_of};
-ghost use Rattle.oai_item.specs.Membership.{AreApart, is_in, reduced};
+ghost use Rattle.oai_item.specs.Membership.{NoneCovers, is_in, reduced};
 
 use crate::copies::{copy_records, copy_sets, emptied};
 use crate::decodings::{DecodeFault, Parts, may_be_records, read_parts};
@@ -126,7 +126,7 @@ impl Item {
     /// them covers another, and none stands twice.
     pub fn sets(&self) -> &[SetSpec]
         ensures sets { result.now ≡ self.now.sets }
-        ensures apart { AreApart self.now.sets }
+        ensures apart { NoneCovers self.now.sets }
     {
         self.sets.as_slice()
     }
@@ -185,7 +185,7 @@ impl Item {
 
     /// The item that the bytes spell, all of them, as `encode_into` writes it; each item has one
     /// spelling. The errors: `Damaged` where they spell none, as with bytes left over, or are more
-    /// than 16,000; `NoMemory`, also before all bytes were looked at. A number in the bytes asks for
+    /// than 16,000; `NoMemory`, also before all of at most so many bytes were looked at. A number in the bytes asks for
     /// no more memory than so many sets, records or fields as the bytes behind it have room for.
     pub fn decode(alloc: Global, bytes: &[u8]) -> Result<Item, DecodeFault>
         ensures { IsDecoding bytes.now result }
@@ -251,7 +251,7 @@ pub fn is_in(set: &SetSpec, sets: &[SetSpec]) -> bool
 pub fn set_law()
     ensures membership { (s : List ℕ) (sets : List (List ℕ))
         → is_in s (reduced sets) ≡ is_in s sets }
-    ensures apart { (sets : List (List ℕ)) → AreApart (reduced sets) }
+    ensures apart { (sets : List (List ℕ)) → NoneCovers (reduced sets) }
 {}
 
 /// What writing and reading items keep: bytes spell one item at most, and reading what was written

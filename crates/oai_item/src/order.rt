@@ -1,7 +1,7 @@
-ghost use Rattle.std.specs.Prelude.{◌≡◌, ◌↔◌, ◌⊎◌, List, None, true};
+ghost use Rattle.std.specs.Prelude.{◌≡◌, ◌↔◌, ◌⊎◌, ℕ, ℤ, List, None, false, true};
 ghost use Rattle.std.specs.List.{Contains};
 ghost use Rattle.oai_item.specs.Item.{ItemState};
-ghost use Rattle.oai_item.specs.Items.{item_at, placed, with_item};
+ghost use Rattle.oai_item.specs.Items.{is_at, item_at, placed, with_item, without_at};
 ghost use Rattle.oai_item.specs.Order.{IsPlace, are_in_order, item_cmp, place_cmp};
 
 use crate::items::Item;
@@ -37,9 +37,9 @@ pub fn place_of(items: &[Item], stamp: i64, identifier: &str) -> Result<usize, u
     items.binary_search_by(|item| item.order_to(stamp, identifier))
 }
 
-/// What putting an item among others, and taking one out, keeps: the members are the new item and the
-/// old ones, or the old ones without that one; and items that rise strictly by datestamp and
-/// identifier still do.
+/// What putting an item among others, and taking one out, keeps: with the new item, the members are it
+/// and the old ones; without what has a datestamp and identifier, the others; and items that rise
+/// strictly by datestamp and identifier still do.
 pub fn order_law()
     ensures members { (item : ItemState) (items : List ItemState) (other : ItemState)
         → Contains (placed item items) other ↔ ((other ≡ item) ⊎ Contains items other) }
@@ -48,4 +48,9 @@ pub fn order_law()
         → are_in_order (placed item items) ≡ true }
     ensures put { (item : ItemState) (items : List ItemState)
         → are_in_order items ≡ true → are_in_order (with_item item items) ≡ true }
+    ensures others { (stamp : ℤ) (identifier : List ℕ) (items : List ItemState) (other : ItemState)
+        → Contains (without_at stamp identifier items) other
+        ↔ (Contains items other × (is_at stamp identifier other ≡ false)) }
+    ensures left { (stamp : ℤ) (identifier : List ℕ) (items : List ItemState)
+        → are_in_order items ≡ true → are_in_order (without_at stamp identifier items) ≡ true }
 {}

@@ -3,7 +3,8 @@ ghost use Rattle.oai_item.specs.ShortTexts.{is_short_text};
 
 use oai_names::is_xml_text;
 
-/// The most bytes of a text for people to read: this repository's own limit.
+/// The most bytes of a short text, as the name, an address or a URL of a repository: this repository's
+/// own limit.
 pub const MOST_SHORT_TEXT_BYTES: usize = 512;
 
 /// Whether the text has 1 to 512 bytes, of characters that an XML document may hold (XML 1.0,

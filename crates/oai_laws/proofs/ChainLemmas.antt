@@ -1,5 +1,5 @@
 -- A chain from its first request on, among all that is asked of a repository.
-use Rattle.std.proofs.Common.{◌≡◌, ◌∙◌, inl, inr, ℕ, ℤ, ◌<◌, ◌≤◌, ◌^◌, Bool, true, false, ◌&&◌, cond, List, [], ◌∷◌, ◌++◌, length, append-nil, Option, None, Some, is_some, refl, sym, ap, subst, arith}
+use Rattle.std.proofs.Common.{◌≡◌, ◌∙◌, inl, inr, ℕ, ℤ, pos, ◌+ℤ◌, ◌<◌, ◌≤◌, ◌^◌, Bool, true, false, ◌&&◌, cond, List, [], ◌∷◌, ◌++◌, length, append-nil, Option, None, Some, is_some, refl, sym, ap, subst, arith}
 use Rattle.std.specs.Prelude.{find, nat_le}
 use Rattle.std.specs.List.{list_all}
 use Rattle.std.specs.Str.{bytes_eq}
@@ -21,7 +21,7 @@ use Rattle.oai_args.specs.declared.requests.Ask.TheVariants as ask
 use Rattle.oai_answers.specs.Answers.{Page, fails}
 use Rattle.oai_answers.specs.declared.errors.ErrorCode.TheVariants.{NoSetHierarchy}
 use Rattle.oai_repo.specs.Answers.{filter_of}
-use Rattle.oai_repo.specs.Config.{Config, IsConfig, are_limits, is_chunk, is_items, is_lifetime, is_lists}
+use Rattle.oai_settings.specs.Config.{Config, IsConfig, are_limits, is_chunk, is_items, is_lifetime, is_lists}
 use Rattle.oai_laws.specs.Effects.{IsSound}
 use Rattle.oai_laws.specs.Following.{AreNext, answer_told, IsChain, IsFollowed, Wish, first_request, is_later, is_of_records, joined, selection_in}
 use Rattle.oai_repo.specs.Kept.{AreKept}
@@ -92,6 +92,7 @@ record IsFirst (config : Config) (state : State) (command : Command) (wish : Wis
   pub known : format_named wish.prefix config.formats ≡ Some good.format
   pub told : answer_told (act config state command).0 ≡ Some (told_by list.verb good.format (part_from config list 0))
   pub stands : Stands config list (act config state command).1
+  pub lasting : list.end ≡ state.clock +ℤ pos config.lifetime
 
 -- it is told to wait, or opens the list
 by_wait : (config : Config) (state : State) (command : Command) (wish : Wish) (format : Format) (wait : Option ℤ) → wait_at config state.clock state.begun ≡ wait
@@ -117,6 +118,7 @@ by_wait config state command wish format None wait good sound verb known is answ
       known = known;
       told = done.0;
       stands = subst (Stands config list) (sym done.1) (stands_opened config state list sound refl refl);
+      lasting = refl;
     }
 
 -- a list that is too long for one page begins, where it may
@@ -181,6 +183,7 @@ whole_list config state wish format exchanges kept known followed =
         known = known;
         told = told.told;
         placed = told.placed;
+        lasting = told.lasting;
         begun = (told.others, told.front);
         complete = λ ends. sym (append-nil (joined pages)) ∙ ap (λ ys. joined pages ++ ys) (sym (told.complete ends)) ∙ told.front;
         ordered = front_ordered (joined pages) told.others (ap are_in_order told.front ∙ selected_ordered asked state.holdings.items kept.ordered);
@@ -198,7 +201,7 @@ chain_here config state timed commands wish others good sound part verb is many 
     let exchange : Exchange = performed config state timed in
     let sound_found = sound_moved config timed.moment state sound in
     let begun = first_turn config found timed.command wish good sound_found verb is many answered in
-    let followed = follow config commands exchange.left begun.list 0 exchange others begun.good (sound_act config found timed.command sound_found) begun.stands begun.told part
+    let followed = follow config commands exchange.left begun.list 0 exchange others begun.good (sound_act config found timed.command sound_found) begun.stands begun.told begun.lasting part
     (subst (λ (v : ListVerb). AreNext v exchange others) (sym begun.verb) next)
     in
     whole_list config found wish begun.good.format (exchange ∷ others) sound_found.kept begun.known

@@ -24,7 +24,7 @@ use Rattle.oai_item.specs.declared.changes.Change.{Change}
 use Rattle.oai_item.specs.declared.changes.Change.TheVariants as change
 use Rattle.oai_item.specs.declared.formats.Format.{Format}
 use Rattle.oai_item.specs.declared.refusals.ChangeRefusal.{ChangeRefusal}
-use Rattle.oai_item.specs.declared.refusals.ChangeRefusal.TheVariants.{NotTransient, BadDate}
+use Rattle.oai_item.specs.declared.refusals.ChangeRefusal.TheVariants.{AlreadyDeleted, NotTransient, BadDate}
 use Rattle.oai_item.proofs.Named.{found_name, of_found}
 use Rattle.oai_item.proofs.OrderLemmas.{all-weaker, all-placed, in_order-changed, apart-changed}
 use Rattle.oai_args.specs.Asks.{AskOrError, asks, bad_verb, bad_argument}
@@ -32,8 +32,8 @@ use Rattle.oai_args.specs.declared.requests.Ask.TheVariants as ask
 use Rattle.oai_answers.specs.declared.identify.DeletedRecord.{DeletedRecord}
 use Rattle.oai_answers.specs.declared.identify.DeletedRecord.TheVariants.{No, Transient, Persistent}
 use Rattle.oai_repo.specs.Answers.{filter_of}
-use Rattle.oai_repo.specs.Changes.{after_deletion, after_purge, changed, deposit_refusal, drops_format, is_one_too_many, is_transient, item_refusal, limit_of, purge_refusal, refusal_of, stamp_at, with_new, with_tombstone}
-use Rattle.oai_repo.specs.Config.{Config}
+use Rattle.oai_repo.specs.Changes.{after_deletion, after_purge, changed, dead_refusal, deposit_refusal, drops_format, is_one_too_many, is_transient, item_refusal, limit_of, missing_refusal, purge_refusal, purged, refusal_of, stamp_at, with_new, with_tombstone}
+use Rattle.oai_settings.specs.Config.{Config}
 use Rattle.oai_laws.specs.Effects.{Effect, is_formed, is_well_formed, IsEffected, IsPossible, IsPut, IsSound, effected, holding, is_given, item_put, item_taken, items_purged, list_opened, list_renewed, set_added, unchanged}
 use Rattle.oai_repo.specs.Kept.{AreKept, is_too_large, is_well_kept}
 use Rattle.oai_repo.specs.Listing.{Said, answer_to, begins, continues, has_no_sets, list_answer, list_begun, list_continued, prolonged_at, told_in, told_items, token_answer, wait_at}
@@ -141,6 +141,7 @@ opened_given next list lists is h =
 
 -- after each effect that is possible
 pub sound_effected : (config : Config) (state : State) (effect : Effect) → IsPossible config state effect → IsSound config state → IsSound config (effected config state effect)
+unfolding purged
 sound_effected config state unchanged possible sound = sound
 sound_effected config state (item_put item) possible sound = record { kept = put_kept config state item possible sound.kept; given = sound.given; formed = sound.formed; few = sound.few }
 sound_effected config state (item_taken identifier) possible sound = record { kept = taken config state.holdings identifier sound.kept; given = sound.given; formed = sound.formed; few = sound.few }
@@ -272,37 +273,42 @@ none_dropped records (x ∷ kept) h =
     let parts = and_parts (has_record x.0 records) (list_all (λ (metadata : Metadata). has_record metadata.0 records) kept) h in
     and_from _ _ (emptied-record x.0 records ∙ parts.0) (none_dropped records kept parts.1)
 
--- a deleted item takes the place of one that is there
-tombstone_put : (config : Config) (state : State) (identifier : List ℕ) (item : ItemState) → item_named identifier state.holdings.items ≡ Some item → AreKept config state.holdings
-    → IsPut config state (tombstone_of (stamp_at config state.clock) item)
+-- a deleted item takes the place of a live one that is there
+tombstone_put : (config : Config) (state : State) (identifier : List ℕ) (item : ItemState) → item_named identifier state.holdings.items ≡ Some item → item.live ≡ true
+    → AreKept config state.holdings → IsPut config state (tombstone_of (stamp_at config state.clock) item)
 unfolding is_one_too_many
-tombstone_put config state identifier item is kept =
+tombstone_put config state identifier item is live kept =
     let found : item_named item.identifier state.holdings.items ≡ Some item = ap (λ (id : List ℕ). item_named id state.holdings.items) (found_name identifier state.holdings.items item is) ∙ is in
     record {
       dated = refl;
       well = well-tombstone config state.holdings.sets (stamp_at config state.clock) item (of_found (is_well_kept config state.holdings.sets) identifier state.holdings.items item is kept.well);
       formats = ap (λ (o : Option ItemState). drops_format o (map emptied item.formats)) found ∙ ap not (none_dropped item.formats item.formats (has_own item.formats));
       room = ap (λ (o : Option ItemState). is_none o && nat_le config.items (length state.holdings.items)) found;
+      lived = λ dead. (item, found, live);
     }
 
 -- the holdings are others after a change, and nothing else is
 abbrev pub IsChangedBy : Config → State → Holdings → Type 0
 IsChangedBy config state holdings = IsEffected config state (record state { holdings = holdings })
 
-buried_by : (config : Config) (state : State) (identifier : List ℕ) (found : Option ItemState) → item_named identifier state.holdings.items ≡ found → AreKept config state.holdings
+was_live : {A : Type 0} (cause : A) (live : Bool) → cond live None (Some cause) ≡ None → live ≡ true
+was_live cause true h = refl
+was_live cause false h = cc
+
+buried_by : (config : Config) (state : State) (identifier : List ℕ) (found : Option ItemState) → item_named identifier state.holdings.items ≡ found → dead_refusal found ≡ None → AreKept config state.holdings
     → IsEffected config state (holding state (with_tombstone (stamp_at config state.clock) found state.holdings.items))
-buried_by config state identifier None is kept = nothing config state
-buried_by config state identifier (Some item) is kept = record {
+buried_by config state identifier None is dead kept = nothing config state
+buried_by config state identifier (Some item) is dead kept = record {
   effect = item_put (tombstone_of (stamp_at config state.clock) item);
-  possible = tombstone_put config state identifier item is kept;
+  possible = tombstone_put config state identifier item is (was_live AlreadyDeleted item.live dead) kept;
   done = refl;
 }
 
-deleted_by : (config : Config) (state : State) (identifier : List ℕ) (policy : DeletedRecord) → config.deleted ≡ policy → AreKept config state.holdings
+deleted_by : (config : Config) (state : State) (identifier : List ℕ) (policy : DeletedRecord) → config.deleted ≡ policy → dead_refusal (item_named identifier state.holdings.items) ≡ None → AreKept config state.holdings
     → IsEffected config state (holding state (after_deletion policy (stamp_at config state.clock) identifier state.holdings.items))
-deleted_by config state identifier No is kept = record { effect = item_taken identifier; possible = is; done = refl }
-deleted_by config state identifier Transient is kept = buried_by config state identifier (item_named identifier state.holdings.items) refl kept
-deleted_by config state identifier Persistent is kept = buried_by config state identifier (item_named identifier state.holdings.items) refl kept
+deleted_by config state identifier No is dead kept = record { effect = item_taken identifier; possible = is; done = refl }
+deleted_by config state identifier Transient is dead kept = buried_by config state identifier (item_named identifier state.holdings.items) refl dead kept
+deleted_by config state identifier Persistent is dead kept = buried_by config state identifier (item_named identifier state.holdings.items) refl dead kept
 
 deposited_by : (config : Config) (state : State) (identifier : List ℕ) (sets : List (List ℕ)) (records : List Metadata)
     → deposit_refusal config state.holdings.sets sets records ≡ None
@@ -316,6 +322,7 @@ deposited_by config state identifier sets records first later =
       well = well-deposited config state.holdings identifier stamp sets records (stands config state.holdings.sets sets records first) fit;
       formats = fit.formats;
       room = fit.room;
+      lived = λ dead. cc;
     }
 
 of_transient : (policy : DeletedRecord) → is_transient policy ≡ true → policy ≡ Transient
@@ -329,6 +336,7 @@ not_not false h = cc
 
 purged_by : (config : Config) (state : State) (limit : Option ℤ) → config.deleted ≡ Transient → is_none limit ≡ false
     → IsEffected config state (holding state (after_purge limit state.holdings.items))
+unfolding purged
 purged_by config state None policy some = cc
 purged_by config state (Some limit) policy some = record { effect = items_purged limit; possible = policy; done = refl }
 
@@ -347,7 +355,9 @@ changed_by config state (change.Deposit identifier sets records) none kept =
     let item : ItemState = live_item identifier (stamp_at config state.clock) (reduced sets) records in
     let causes = no_cause (deposit_refusal config state.holdings.sets sets records) (item_refusal config (item_named identifier state.holdings.items) (length state.holdings.items) item) none in
     record { effect = item_put item; possible = deposited_by config state identifier sets records causes.0 causes.1; done = refl }
-changed_by config state (change.Delete identifier) none kept = deleted_by config state identifier config.deleted refl kept
+changed_by config state (change.Delete identifier) none kept =
+    let found : Option ItemState = item_named identifier state.holdings.items in
+    deleted_by config state identifier config.deleted refl (no_cause (missing_refusal found) (dead_refusal found) none).1 kept
 changed_by config state (change.Purge before) none kept = purge_by config state before none
 changed_by config state (change.AddSet spec name) none kept = record { effect = set_added (spec, name); possible = none; done = refl }
 

@@ -1,5 +1,5 @@
 -- The pages of a chain are, joined, the records that were selected at its first request.
-use Rattle.std.proofs.Common.{◌≡◌, ◌∙◌, inl, inr, ℕ, ℤ, ◌+◌, ◌<◌, ◌≤◌, ◌^◌, Bool, true, false, not, ◌||◌, cond, List, [], ◌∷◌, ◌++◌, length, append-nil, append_assoc, suc, zero, take, drop, map, Option, None, Some, is_none, refl, sym, ap, subst, arith}
+use Rattle.std.proofs.Common.{◌≡◌, ◌∙◌, inl, inr, ℕ, ℤ, pos, ◌+◌, ◌+ℤ◌, ◌<◌, ◌≤◌, ◌^◌, Bool, true, false, not, ◌||◌, cond, List, [], ◌∷◌, ◌++◌, length, append-nil, append_assoc, suc, zero, take, drop, map, Option, None, Some, is_none, refl, sym, ap, subst, arith}
 use Rattle.std.specs.Prelude.{option_and_then, int_lt, nat_lt}
 use Rattle.std.proofs.lemmas.Bool.{and_from, cond-true, lt-ltb, ltb-true}
 use Rattle.std.proofs.lemmas.Bool.Decides.{nat_tests}
@@ -17,9 +17,9 @@ use Rattle.oai_args.specs.Asks.{AskOrError, asks}
 use Rattle.oai_args.specs.declared.requests.Ask.TheVariants as ask
 use Rattle.oai_answers.specs.Answers.{Answer, Attributes, Continuation, Page, completes, remains}
 use Rattle.oai_repo.specs.Answers.{arguments_of_request}
-use Rattle.oai_repo.specs.Config.{Config}
+use Rattle.oai_settings.specs.Config.{Config}
 use Rattle.oai_laws.specs.Effects.{IsSound, is_given}
-use Rattle.oai_laws.specs.Following.{ArePlaced, AreNext, IsNext, IsPlaced, Offer, answer_told, are_complete, extent_in, is_later, is_of_records, joined, next_request, offer_in, page_in}
+use Rattle.oai_laws.specs.Following.{AreLasting, ArePlaced, AreNext, IsLasting, IsNext, IsPlaced, Offer, answer_told, are_complete, extent_in, is_later, is_of_records, joined, next_request, offer_in, page_in}
 use Rattle.oai_repo.specs.Listing.{Said, answer_to, continues, extent_at, has_number, is_continued, is_same_verb, items_from, part_from, part_told, prolonged, says, told_by, token_answer, waits, where_continued, with_prolonged}
 use Rattle.oai_repo.specs.Machine.{Command, act, asking, outcome_of}
 use Rattle.oai_laws.specs.Runs.{Exchange, IsPart, Timed, performed, run}
@@ -108,12 +108,19 @@ part_placed config list cursor = record {
   dated = part_dated config list cursor;
 }
 
+-- a token lasts as long as its list
+part_lasting : (config : Config) (list : FrozenList) (cursor : ℕ) (exchange : Exchange) → list.end ≡ exchange.found.clock +ℤ pos config.lifetime → IsLasting config exchange (part_from config list cursor)
+part_lasting config list cursor exchange lasting = λ offer offers.
+    let is = offered_where list cursor (next_at config list cursor) (nat_lt (next_at config list cursor) (length list.items)) offer (ap offer_in (sym (part_ends config list cursor)) ∙ offers) in
+    ap (λ (o : Offer). o.expires) is.1 ∙ lasting
+
 -- ---- the pages so far
 
 -- what a front of a chain that begins behind so many records is answered
 pub record IsTold (config : Config) (verb : ListVerb) (format : Format) (items : List ItemState) (cursor : ℕ) (exchanges : List Exchange) (pages : List Page) : Type 0 where
   pub told : map (λ (exchange : Exchange). answer_told exchange.outcome) exchanges ≡ map (λ (page : Page). Some (told_by verb format page)) pages
   pub placed : ArePlaced config (length items) cursor pages
+  pub lasting : AreLasting config exchanges pages
   pub others : List ItemState
   pub front : joined pages ++ others ≡ drop cursor items
   pub complete : are_complete pages ≡ true → others ≡ []
@@ -123,14 +130,15 @@ nothing_left k n h = grind (arith, nat_tests)
 
 -- one page, and what is behind it
 one_page : (config : Config) (list : FrozenList) (format : Format) (cursor : ℕ) (exchange : Exchange) → answer_told exchange.outcome ≡ Some (told_by list.verb format (part_from config list cursor))
-    → IsTold config list.verb format list.items cursor (exchange ∷ []) (part_from config list cursor ∷ [])
+    → list.end ≡ exchange.found.clock +ℤ pos config.lifetime → IsTold config list.verb format list.items cursor (exchange ∷ []) (part_from config list cursor ∷ [])
 unfolding remain next_at
-one_page config list format cursor exchange told =
+one_page config list format cursor exchange told lasting =
     let items : List ItemState = items_from config list cursor in
     let behind : List ItemState = drop (length items) (drop cursor list.items) in
     record {
       told = ap (λ (a : Option Answer). a ∷ []) told;
       placed = (part_placed config list cursor, tt);
+      lasting = (part_lasting config list cursor exchange lasting, tt);
       others = behind;
       front = ap (λ (xs : List ItemState). (xs ++ []) ++ behind) (part_items config list cursor) ∙ ap (λ (xs : List ItemState). xs ++ behind) (append-nil items) ∙ cut config.chunk (drop cursor list.items);
       complete = λ ends.
@@ -140,11 +148,11 @@ one_page config list format cursor exchange told =
 
 -- one page more, before others
 more_pages : (config : Config) (list : FrozenList) (format : Format) (cursor : ℕ) (exchange : Exchange) (exchanges : List Exchange) (pages : List Page)
-    → answer_told exchange.outcome ≡ Some (told_by list.verb format (part_from config list cursor)) → remain config list cursor ≡ true
+    → answer_told exchange.outcome ≡ Some (told_by list.verb format (part_from config list cursor)) → list.end ≡ exchange.found.clock +ℤ pos config.lifetime → remain config list cursor ≡ true
     → IsTold config list.verb format list.items (next_at config list cursor) exchanges pages
     → IsTold config list.verb format list.items cursor (exchange ∷ exchanges) (part_from config list cursor ∷ pages)
 unfolding next_at
-more_pages config list format cursor exchange exchanges pages told more later =
+more_pages config list format cursor exchange exchanges pages told lasting more later =
     let items : List ItemState = items_from config list cursor in
     let placed_later : ArePlaced config (length list.items) (cursor + length (part_from config list cursor).items) pages =
     subst (λ (xs : List ItemState). ArePlaced config (length list.items) (cursor + length xs) pages) (sym (part_items config list cursor)) later.placed
@@ -154,6 +162,7 @@ more_pages config list format cursor exchange exchanges pages told more later =
           ap (λ (o : Option Answer). o ∷ map (λ (e : Exchange). answer_told e.outcome) exchanges) told
           ∙ ap (λ ps. Some (told_by list.verb format (part_from config list cursor)) ∷ ps) later.told;
       placed = (part_placed config list cursor, placed_later);
+      lasting = (part_lasting config list cursor exchange lasting, later.lasting);
       others = later.others;
       front =
           ap (λ (xs : List ItemState). (xs ++ joined pages) ++ later.others) (part_items config list cursor)
@@ -293,16 +302,16 @@ Followed config verb format items cursor exchanges = (pages : List Page) × IsTo
 
 pub follow : (config : Config) (commands : List Timed) (state : State) (list : FrozenList) (cursor : ℕ) (before : Exchange) (others : List Exchange)
     (good : IsGood config list) → IsSound config state → Stands config list state → answer_told before.outcome ≡ Some (told_by list.verb good.format (part_from config list cursor))
-    → IsPart others (run config state commands) → AreNext list.verb before others → Followed config list.verb good.format list.items cursor (before ∷ others)
-follow config [] state list cursor before others good sound stands told none next =
-    subst (λ (es : List Exchange). Followed config list.verb good.format list.items cursor (before ∷ es)) (sym none) (part_from config list cursor ∷ [], one_page config list good.format cursor before told)
-follow config (timed ∷ commands) state list cursor before others good sound stands told (inl part) next =
+    → list.end ≡ before.found.clock +ℤ pos config.lifetime → IsPart others (run config state commands) → AreNext list.verb before others → Followed config list.verb good.format list.items cursor (before ∷ others)
+follow config [] state list cursor before others good sound stands told lasting none next =
+    subst (λ (es : List Exchange). Followed config list.verb good.format list.items cursor (before ∷ es)) (sym none) (part_from config list cursor ∷ [], one_page config list good.format cursor before told lasting)
+follow config (timed ∷ commands) state list cursor before others good sound stands told lasting (inl part) next =
     let found : State = moved timed.moment state in
     let sound_found = sound_moved config timed.moment state sound in
     let stands_found = stands_moved config list timed.moment state stands in
     follow config commands (act config found timed.command).1 list cursor before others good (sound_act config found timed.command sound_found)
-    (stands_on config found timed.command list sound_found stands_found) told part next
-follow config (timed ∷ commands) state list cursor before others good sound stands told (inr here) next =
+    (stands_on config found timed.command list sound_found stands_found) told lasting part next
+follow config (timed ∷ commands) state list cursor before others good sound stands told lasting (inr here) next =
     let found : State = moved timed.moment state in
     let exchange : Exchange = performed config state timed in
     let sound_found = sound_moved config timed.moment state sound in
@@ -313,7 +322,7 @@ follow config (timed ∷ commands) state list cursor before others good sound st
     let within : next' < length list.items = ltb-true next' (length list.items) (remains_within config list cursor asked.0) in
     let turn = turned config found timed.command list next' good sound_found stands_found asked.1 within asked.2 in
     let later = follow config commands exchange.left (prolonged config found.clock list) next' exchange here.0 (record { format = good.format; verb = good.verb; known = good.known; small = good.small })
-    (sound_act config found timed.command sound_found) turn.1 turn.0 here.2 nexts.1
+    (sound_act config found timed.command sound_found) turn.1 turn.0 refl here.2 nexts.1
     in
     subst (λ (es : List Exchange). Followed config list.verb good.format list.items cursor (before ∷ es)) (sym here.1)
-    (part_from config list cursor ∷ later.0, more_pages config list good.format cursor before (exchange ∷ here.0) later.0 told asked.0 later.1)
+    (part_from config list cursor ∷ later.0, more_pages config list good.format cursor before (exchange ∷ here.0) later.0 told lasting asked.0 later.1)

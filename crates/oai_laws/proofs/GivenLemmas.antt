@@ -6,11 +6,12 @@ use Rattle.std.proofs.lemmas.Bool.{and_from, and_parts, cond-true, cond-false, o
 use Rattle.std.proofs.lemmas.Bool.Decides.{nat_tests}
 use Rattle.std.proofs.lemmas.List.{map-append}
 use Rattle.std.proofs.lemmas.List.Elements.{filter-append}
+use Rattle.oai_names.specs.Names.{is_one_of}
 use Rattle.oai_lists.specs.declared.lists.TheConstants.{LAST_NUMBER}
-use Rattle.oai_repo.specs.Config.{Config}
+use Rattle.oai_settings.specs.Config.{Config}
 use Rattle.oai_laws.specs.Effects.{Effect, IsPossible, IsSound, effected, is_given, item_put, item_taken, items_purged, list_opened, list_renewed, set_added, unchanged}
 use Rattle.oai_repo.specs.Listing.{prolonged_at, with_prolonged}
-use Rattle.oai_laws.specs.Runs.{Exchange, Throughout, Timed, are_never_last, are_rising, given_in, is_one_of, numbers_given, numbers_open, performed, run}
+use Rattle.oai_laws.specs.Runs.{Exchange, Throughout, Timed, are_never_last, are_rising, given_in, numbers_given, numbers_open, performed, run}
 use Rattle.oai_repo.specs.State.{FrozenList, State, empty_state, moved}
 use Rattle.oai_laws.proofs.EffectLemmas.{effect_of, number_left, same_number, sound_act, sound_empty, sound_moved}
 

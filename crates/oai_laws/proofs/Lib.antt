@@ -1,4 +1,6 @@
 pub mod EffectLemmas
+pub mod SameLemmas
+pub mod WaitingLemmas
 pub mod StandLemmas
 pub mod FollowLemmas
 pub mod ChainLemmas

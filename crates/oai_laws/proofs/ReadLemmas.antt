@@ -13,7 +13,7 @@ use Rattle.oai_answers.specs.Answers.{Answer, Continuation, Document, Page, comp
 use Rattle.oai_answers.specs.Documents.{document}
 use Rattle.oai_answers.specs.Seen.{IsRegular, SeenDocument, SeenHeader, SeenRecord, SeenToken, answer_seen, document_seen, empty_token, header_seen, no_token, record_seen, seen_token, token_seen}
 use Rattle.oai_answers.proofs.RegularLemmas.{same_seen}
-use Rattle.oai_repo.specs.Config.{Config}
+use Rattle.oai_settings.specs.Config.{Config}
 use Rattle.oai_laws.specs.Effects.{IsSound}
 use Rattle.oai_laws.specs.Following.{ArePlaced, Wish, answer_told, are_complete, is_of_records, joined, offer_in, page_in, selection_in}
 use Rattle.oai_repo.specs.Listing.{told_by}

@@ -24,7 +24,7 @@ use Rattle.oai_args.specs.declared.requests.Ask.TheVariants as ask
 use Rattle.oai_answers.specs.Answers.{Attributes, Page}
 use Rattle.oai_answers.specs.Seen.{IsGoodFormat, IsRegular, has_own_fields}
 use Rattle.oai_repo.specs.Answers.{arguments_of_request, disseminated, filter_of, formats_answer, item_formats_answer, record_answer, sets_answer}
-use Rattle.oai_repo.specs.Config.{Config}
+use Rattle.oai_settings.specs.Config.{Config}
 use Rattle.oai_laws.specs.Effects.{IsSound, is_formed, is_well_formed}
 use Rattle.oai_repo.specs.Listing.{Said, answer_to, begins, continues, has_no_sets, is_continued, list_answer, list_begun, part_from, part_told, prolonged, says, told_by, told_in, told_items, told_whole, token_answer, wait_at, waits, where_continued, whole_page, has_number}
 use Rattle.oai_repo.specs.Machine.{Command, act, act_on_change, asking, changing, outcome_of, refusing}

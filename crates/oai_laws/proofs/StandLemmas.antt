@@ -8,7 +8,7 @@ use Rattle.std.proofs.lemmas.Bool.Decides.{nat_tests}
 use Rattle.std.proofs.lemmas.Int.{ints}
 use Rattle.std.proofs.lemmas.List.Folds.{find-append}
 use Rattle.oai_time.specs.Clock.{tick}
-use Rattle.oai_repo.specs.Config.{Config}
+use Rattle.oai_settings.specs.Config.{Config}
 use Rattle.oai_laws.specs.Effects.{Effect, IsSound, effected, is_given, item_put, item_taken, items_purged, list_opened, list_renewed, set_added, unchanged}
 use Rattle.oai_repo.specs.Listing.{has_number, prolonged, prolonged_at, with_begun, with_prolonged}
 use Rattle.oai_repo.specs.State.{FrozenList, OpenLists, State, is_open_at, moved}

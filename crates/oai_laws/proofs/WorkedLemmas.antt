@@ -16,7 +16,7 @@ use Rattle.oai_item.specs.ShortTexts.{is_short_text}
 use Rattle.oai_lists.specs.Tokens.{token_of, token_text}
 use Rattle.oai_answers.specs.Answers.{Page}
 use Rattle.oai_repo.specs.Changes.{changed, deposit_refusal, is_one_too_many, item_refusal, refusal_of}
-use Rattle.oai_repo.specs.Config.{IsConfig, are_limits, is_date, is_described}
+use Rattle.oai_settings.specs.Config.{IsConfig, are_limits, is_date, is_described}
 use Rattle.oai_laws.specs.Following.{IsChain, IsNext, Offer, first_request, is_later, joined, next_request, offer_in, page_told, selection_in}
 use Rattle.oai_repo.specs.Listing.{part_from, told_items, wait_at}
 use Rattle.oai_repo.specs.Machine.{act}

@@ -1,13 +1,15 @@
 -- What a command can do to a state, and what is true of every state that commands lead to. This repository's own.
-use Rattle.std.specs.Prelude.{◌≡◌, ◌≤◌, ℕ, ℤ, pos, ◌+ℤ◌, Bool, true, false, ◌&&◌, List, [], ◌∷◌, ◌++◌, length, None, nat_lt}
+use Rattle.std.specs.Prelude.{◌≡◌, ◌≤◌, ℕ, ℤ, pos, ◌+ℤ◌, int_lt, Bool, true, false, ◌&&◌, not, List, [], ◌∷◌, ◌++◌, length, filter, None, Some, nat_lt}
 use Rattle.std.specs.List.{list_all}
 use Rattle.oai_lists.specs.declared.lists.TheConstants.{LAST_NUMBER}
 use Rattle.oai_item.specs.Item.{ItemState}
 use Rattle.oai_item.specs.Items.{item_named, without}
 use Rattle.oai_item.specs.Known.{has_format, has_known_fields}
 use Rattle.oai_answers.specs.declared.identify.DeletedRecord.TheVariants.{No, Transient}
-use Rattle.oai_repo.specs.Changes.{drops_format, is_one_too_many, purged, set_refusal, stamp_at, with_new}
-use Rattle.oai_repo.specs.Config.{Config}
+use Rattle.oai_args.specs.Asks.{AskOrError, asks}
+use Rattle.oai_args.specs.declared.requests.Ask.TheVariants as ask
+use Rattle.oai_repo.specs.Changes.{drops_format, is_one_too_many, set_refusal, stamp_at, with_new}
+use Rattle.oai_settings.specs.Config.{Config}
 use Rattle.oai_repo.specs.Kept.{AreKept, is_well_kept}
 use Rattle.oai_repo.specs.Listing.{wait_at, with_begun, with_prolonged}
 use Rattle.oai_repo.specs.State.{FrozenList, NamedSet, State}
@@ -29,12 +31,16 @@ pub data Effect : Type 0 where
 abbrev pub holding : State → List ItemState → State
 holding state items = record state { holdings = record state.holdings { items = items } }
 
+-- the item goes where deleted ones of datestamps below the limit go
+abbrev pub goes_below : ℤ → ItemState → Bool
+goes_below limit item = not item.live && int_lt item.stamp limit
+
 -- the state then
 abbrev pub effected : Config → State → Effect → State
 effected config state unchanged = state
 effected config state (item_put item) = holding state (with_new item state.holdings.items)
 effected config state (item_taken identifier) = holding state (without identifier state.holdings.items)
-effected config state (items_purged limit) = holding state (purged limit state.holdings.items)
+effected config state (items_purged limit) = holding state (filter (λ item. not (goes_below limit item)) state.holdings.items)
 effected config state (set_added set) = record state { holdings = record state.holdings { sets = state.holdings.sets ++ set ∷ [] } }
 effected config state (list_renewed number) = record state { begun = with_prolonged config state.clock number state.begun }
 effected config state (list_opened list) = record state { begun = with_begun list state.begun }
@@ -42,12 +48,13 @@ effected config state (list_opened list) = record state { begun = with_begun lis
 -- ---- when it can be done
 
 -- an item is put: it has the datestamp of the clock and is as the repository keeps its items; it has a record in each format in which
--- the one that it replaces has one; and where it replaces none there is room for it
+-- the one that it replaces has one; where it replaces none there is room for it; and a deleted one replaces a live one
 pub record IsPut (config : Config) (state : State) (item : ItemState) : Type 0 where
   pub dated : item.stamp ≡ stamp_at config state.clock
   pub well : is_well_kept config state.holdings.sets item ≡ true
   pub formats : drops_format (item_named item.identifier state.holdings.items) item.formats ≡ false
   pub room : is_one_too_many config (item_named item.identifier state.holdings.items) (length state.holdings.items) ≡ false
+  pub lived : item.live ≡ false → (before : ItemState) × (item_named item.identifier state.holdings.items ≡ Some before) × (before.live ≡ true)
 
 -- each record of the item is in a format of the repository and has no field but that format's
 abbrev pub is_well_formed : Config → ItemState → Bool
@@ -75,6 +82,14 @@ pub record IsEffected (config : Config) (old new : State) : Type 0 where
   pub effect : Effect
   pub possible : IsPossible config old effect
   pub done : new ≡ effected config old effect
+
+-- ---- what no command does
+
+-- the request neither begins a list nor continues one
+abbrev pub is_of_no_list : AskOrError → Bool
+is_of_no_list (asks (ask.List verb prefix from until set)) = false
+is_of_no_list (asks (ask.Resume verb token)) = false
+is_of_no_list request = true
 
 -- ---- what is true of every state
 

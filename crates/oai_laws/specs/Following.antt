@@ -1,5 +1,5 @@
 -- A list that is followed from part to part by its resumption tokens. OAI-PMH 2.0, section 3.5.
-use Rattle.std.specs.Prelude.{◌≡◌, ◌<◌, ◌+◌, ℕ, ℤ, int_lt, Bool, true, false, List, [], ◌∷◌, ◌++◌, length, map, Option, Some, None, is_none, option_and_then}
+use Rattle.std.specs.Prelude.{◌≡◌, ◌<◌, ◌+◌, ◌+ℤ◌, ℕ, ℤ, pos, int_lt, Bool, true, false, List, [], ◌∷◌, ◌++◌, length, map, Option, Some, None, is_none, option_and_then}
 use Rattle.std.specs.List.{flat_map, list_any}
 use Rattle.oai_names.specs.declared.list_verbs.ListVerb.{ListVerb}
 use Rattle.oai_names.specs.declared.list_verbs.ListVerb.TheVariants as list
@@ -14,7 +14,7 @@ use Rattle.oai_args.specs.declared.requests.Ask.TheVariants as ask
 use Rattle.oai_answers.specs.Answers.{Answer, Continuation, Page, completes, fails, gives_record, identifies, lists_formats, lists_headers, lists_records, lists_sets, remains, whole}
 use Rattle.oai_answers.specs.declared.tokens.Extent.{Extent}
 use Rattle.oai_repo.specs.Answers.{filter_of}
-use Rattle.oai_repo.specs.Config.{Config}
+use Rattle.oai_settings.specs.Config.{Config}
 use Rattle.oai_repo.specs.Listing.{told_by}
 use Rattle.oai_repo.specs.Machine.{Command, Outcome, accepted, asking, documented, later, refused}
 use Rattle.oai_laws.specs.Runs.{Exchange, IsPart}
@@ -136,6 +136,17 @@ abbrev pub ArePlaced : Config → ℕ → ℕ → List Page → Type 0
 ArePlaced config size before [] = Unit {0}
 ArePlaced config size before (page ∷ pages) = IsPlaced config size before page × ArePlaced config size (before + length page.items) pages
 
+-- a token expires when the list that it continues ends: its lifetime after the clock at which the page was asked for
+abbrev pub IsLasting : Config → Exchange → Page → Type 0
+IsLasting config exchange page =
+    (offer : Offer) → offer_in page.continuation ≡ Some offer → offer.expires ≡ exchange.found.clock +ℤ pos config.lifetime
+
+-- so it is of each page, which answers the exchange at its place
+abbrev pub AreLasting : Config → List Exchange → List Page → Type 0
+AreLasting config [] [] = Unit {0}
+AreLasting config (exchange ∷ exchanges) (page ∷ pages) = IsLasting config exchange page × AreLasting config exchanges pages
+AreLasting config exchanges pages = ⊥
+
 -- one of the pages has the empty token: nothing remains
 abbrev pub are_complete : List Page → Bool
 are_complete pages = list_any (λ (page : Page). is_none (offer_in page.continuation)) pages
@@ -145,13 +156,14 @@ abbrev pub Begins : List ItemState → List ItemState → Type 0
 Begins front all = (others : List ItemState) × (front ++ others ≡ all)
 
 -- the exchanges are answered with these pages of the selection: each by the verb, and in the format, that was asked for; each page says
--- where it stands; their records, joined, begin the selection, and are all of it once a page has the empty token; each record
+-- where it stands, and its token lasts for the lifetime of a list; their records, joined, begin the selection, and are all of it once a page has the empty token; each record
 -- once, in order
 pub record IsFollowed (config : Config) (wish : Wish) (selection : List ItemState) (exchanges : List Exchange) (pages : List Page) : Type 0 where
   pub format : Format
   pub known : format_named wish.prefix config.formats ≡ Some format
   pub told : map (λ (exchange : Exchange). answer_told exchange.outcome) exchanges ≡ map (λ (page : Page). Some (told_by wish.verb format page)) pages
   pub placed : ArePlaced config (length selection) 0 pages
+  pub lasting : AreLasting config exchanges pages
   pub begun : Begins (joined pages) selection
   pub complete : are_complete pages ≡ true → joined pages ≡ selection
   pub ordered : are_in_order (joined pages) ≡ true

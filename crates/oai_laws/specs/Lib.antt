@@ -1,4 +1,5 @@
 pub mod Effects
+pub mod Waiting
 pub mod Runs
 pub mod Following
 pub mod Worked

@@ -1,8 +1,9 @@
 -- What one repository answers in the course of time. This repository's own.
-use Rattle.std.specs.Prelude.{◌≡◌, ◌⊎◌, ℕ, ℤ, Bool, true, ◌==◌, ◌&&◌, not, nat_lt, List, [], ◌∷◌, filter, map}
-use Rattle.std.specs.List.{flat_map, list_all, list_any}
+use Rattle.std.specs.Prelude.{◌≡◌, ◌⊎◌, ℕ, ℤ, Bool, true, ◌&&◌, not, nat_lt, List, [], ◌∷◌, filter, map}
+use Rattle.std.specs.List.{flat_map, list_all}
+use Rattle.oai_names.specs.Names.{is_one_of}
 use Rattle.oai_lists.specs.declared.lists.TheConstants.{LAST_NUMBER}
-use Rattle.oai_repo.specs.Config.{Config}
+use Rattle.oai_settings.specs.Config.{Config}
 use Rattle.oai_repo.specs.Machine.{Command, Outcome, act_at}
 use Rattle.oai_repo.specs.State.{FrozenList, OpenLists, State, moved}
 
@@ -45,10 +46,6 @@ Throughout P (exchange ∷ exchanges) = P exchange × Throughout P exchanges
 -- the numbers of the open lists
 abbrev pub numbers_open : OpenLists → List ℕ
 numbers_open begun = map (λ (list : FrozenList). list.number) begun.lists
-
--- the number is one of these
-abbrev pub is_one_of : List ℕ → ℕ → Bool
-is_one_of numbers n = list_any (λ m. m == n) numbers
 
 -- the numbers that an exchange gave: of the lists that are open after it, and were not before
 abbrev pub given_in : Exchange → List ℕ

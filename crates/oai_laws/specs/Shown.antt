@@ -9,7 +9,7 @@ use Rattle.oai_item.specs.Item.{ItemState}
 use Rattle.oai_item.specs.declared.formats.Format.{Format}
 use Rattle.oai_answers.specs.Answers.{Document, Page}
 use Rattle.oai_answers.specs.Seen.{IsRegular, SeenRecord, header_seen, record_seen}
-use Rattle.oai_repo.specs.Config.{Config, IsConfig}
+use Rattle.oai_settings.specs.Config.{Config, IsConfig}
 use Rattle.oai_laws.specs.Following.{IsChain, Wish, offer_in, page_told}
 use Rattle.oai_repo.specs.Machine.{Outcome, Told, accepted, documented, later, refused, written}
 use Rattle.oai_laws.specs.Runs.{Exchange, IsPart, Timed, run}

@@ -7,7 +7,7 @@ use Rattle.oai_item.specs.Item.{ItemState}
 use Rattle.oai_item.specs.declared.changes.Change.TheVariants as change
 use Rattle.oai_answers.specs.Answers.{Page}
 use Rattle.oai_answers.specs.declared.identify.DeletedRecord.TheVariants.{Persistent}
-use Rattle.oai_repo.specs.Config.{Config}
+use Rattle.oai_settings.specs.Config.{Config}
 use Rattle.oai_laws.specs.Following.{IsChain, Wish, first_request, joined, next_request, page_told}
 use Rattle.oai_repo.specs.Machine.{Command, changing}
 use Rattle.oai_laws.specs.Runs.{Exchange, Timed, run}

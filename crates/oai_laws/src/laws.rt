@@ -1,14 +1,19 @@
 //! What is true of a repository in the course of time, whatever is asked of it and deposited. These
 //! laws are of the machine by whose definitions the calls of [`Repo`](oai_repo::Repo) are specified.
 
-ghost use Rattle.std.specs.Prelude.{◌≡◌, ℤ, List, ◌∷◌, true};
-ghost use Rattle.oai_answers.specs.Answers.{Document, Page};
+ghost use Rattle.std.specs.Prelude.{◌≡◌, ℕ, ℤ, List, ◌∷◌, Some, true};
+ghost use Rattle.oai_names.specs.declared.list_verbs.ListVerb.{ListVerb};
+ghost use Rattle.oai_item.specs.declared.changes.Change.{Change};
+ghost use Rattle.oai_args.specs.Asks.{AskOrError, asks};
+ghost use Rattle.oai_args.specs.declared.requests.Ask.TheVariants as ask;
+ghost use Rattle.oai_answers.specs.Answers.{Document, Page, fails};
+ghost use Rattle.oai_answers.specs.declared.errors.ErrorCode.TheVariants.{BadResumptionToken};
 ghost use Rattle.oai_answers.specs.Documents.{document};
 ghost use Rattle.oai_answers.specs.Seen.{document_seen};
-ghost use Rattle.oai_repo.specs.Config.{Config, IsConfig};
-ghost use Rattle.oai_laws.specs.Effects.{Effect, IsEffected, IsPossible, IsSound, effected};
-ghost use Rattle.oai_laws.specs.Following.{IsChain, IsFollowed, Wish, selection_in};
-ghost use Rattle.oai_repo.specs.Machine.{Command, act};
+ghost use Rattle.oai_settings.specs.Config.{Config, IsConfig};
+ghost use Rattle.oai_laws.specs.Effects.{Effect, IsEffected, IsPossible, IsSound, effected, is_of_no_list};
+ghost use Rattle.oai_laws.specs.Following.{IsChain, IsFollowed, Wish, answer_told, selection_in};
+ghost use Rattle.oai_repo.specs.Machine.{Command, act, asking, changing};
 ghost use Rattle.oai_laws.specs.Runs.{
   Exchange,
   Throughout,
@@ -25,13 +30,19 @@ ghost use Rattle.oai_laws.specs.Shown.{
   is_followed_to_its_end,
   selection_seen,
 };
-ghost use Rattle.oai_repo.specs.State.{State, empty_state, moved};
+ghost use Rattle.oai_repo.specs.Listing.{wait_at};
+ghost use Rattle.oai_repo.specs.State.{OpenLists, State, empty_state, moved, still_open};
+ghost use Rattle.oai_laws.specs.Waiting.{IsWait};
 ghost use Rattle.oai_laws.specs.Worked.{IsWorked, worked_config};
 
-/// What a command can do: in a sound state it leaves the state, puts an item or takes one out, adds a
-/// set, lets a list stay open or opens one, and each of these only where it may be done. A state is
-/// sound where what is held is as a repository keeps it, and where each open list has a number that
-/// was given, which the last one of 64 bits never is. A repository begins so, and stays so.
+/// What a command can do: in a sound state it leaves the state, puts an item, takes one out, lets the
+/// deleted ones below a limit go, adds a set, lets a list stay open or opens one, and each of these only
+/// where it may be done. A state is sound where what is held is as a repository keeps it, and where each
+/// open list has a number that was given, which the last one of 64 bits never is. A repository begins so,
+/// and stays so. A request changes nothing that is held, and leaves the state where it neither begins a
+/// list nor continues one, or where its token is refused; a change leaves the open lists. And a request
+/// that is told to wait is told to wait for a second or more; where the table was full, a list has ended
+/// by then.
 pub fn effect_law()
     ensures does { (config : Config) (state : State) (command : Command) → IsSound config state
         → IsEffected config state (act config state command).1 }
@@ -41,6 +52,18 @@ pub fn effect_law()
     ensures keeps { (config : Config) (state : State) (effect : Effect)
         → IsPossible config state effect → IsSound config state
         → IsSound config (effected config state effect) }
+    ensures requests { (config : Config) (state : State) (request : AskOrError)
+        → (act config state (asking request)).1.holdings ≡ state.holdings }
+    ensures lines { (config : Config) (state : State) (change : Change)
+        → (act config state (changing change)).1.begun ≡ state.begun }
+    ensures others { (config : Config) (state : State) (request : AskOrError)
+        → is_of_no_list request ≡ true → (act config state (asking request)).1 ≡ state }
+    ensures tokens { (config : Config) (state : State) (verb : ListVerb) (token : List ℕ)
+        → (let done = act config state (asking (asks (ask.Resume verb token))) in
+        answer_told done.0 ≡ Some (fails BadResumptionToken) → done.1 ≡ state) }
+    ensures waits { (config : Config) (clock seconds : ℤ) (begun : OpenLists) → IsConfig config
+        → wait_at config clock (still_open clock begun) ≡ Some seconds
+        → IsWait config clock (still_open clock begun) seconds }
 {}
 
 /// The numbers of lists. Whatever a repository is asked from its beginning on, and whenever: each
@@ -60,9 +83,9 @@ pub fn number_law()
 /// and whenever, and whatever is deposited and deleted meanwhile: a list request that selects more
 /// records than a page has and that is not told to wait, and the requests that follow it, each with the
 /// token of the page before and before this expires, are answered with pages. Each page tells how many
-/// records were selected and how many stand before it. The records of the pages, joined, begin the
-/// selection at the first request, and are all of it once a page has the empty token; each record once,
-/// in order.
+/// records were selected and how many stand before it, and its token expires a lifetime after the request.
+/// The records of the pages, joined, begin the selection at the first request, and are all of it once a
+/// page has the empty token; each record once, in order.
 pub fn following_law()
     ensures followed { (config : Config) (commands : List Timed) (wish : Wish)
         (first : Exchange) (others : List Exchange) → IsConfig config

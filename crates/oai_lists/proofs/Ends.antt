@@ -9,8 +9,8 @@ use Rattle.std.proofs.lemmas.List.{drop-set, drop_all, get_or-take, get_or_defau
 use Rattle.std.proofs.lemmas.List.Folds.{list_all-append}
 use Rattle.std.proofs.lemmas.List.Quantifiers.{position-Some}
 use Rattle.std.proofs.lemmas.List.Sums.{AllPass-from_list_all, list_all-from_AllPass, position_or_len_is}
-use Rattle.oai_lists.specs.Bounds.{IsHeld, IsPlaced, none_numbered}
-use Rattle.oai_lists.specs.OpenLists.{IsEarliest, IsOpening, Table, answered, are_numbered, has_ended, is_before, is_numbered, is_open, list_numbered, open_fault, open_ones, renewed, renewed_one, with_list}
+use Rattle.oai_lists.specs.Workings.{IsHeld, IsPlaced, none_numbered}
+use Rattle.oai_lists.specs.OpenLists.{IsEarliest, IsOpening, Table, answered, are_numbered, has_ended, is_before, is_numbered, is_open, list_numbered, open_fault, open_ones, renewed, renewed_one, with_opened}
 use Rattle.oai_lists.specs.declared.lists.OpenFault.{OpenFault}
 use Rattle.oai_lists.specs.declared.lists.OpenFault.TheVariants.{Full, NumbersSpent}
 use Rattle.oai_lists.specs.declared.open_lists.OpenList.{OpenList}
@@ -148,7 +148,7 @@ earliest_bounds lists (Some end) d h = list_all-from_AllPass (λ list. int_le en
 -- ---- what a table keeps
 
 -- one more list, of the next number
-pub held_push : (table : Table) (earliest : ℤ) (list : OpenList) → IsHeld table earliest → list.number ≡ table.next → IsHeld (with_list table list) (int_min earliest list.end)
+pub held_push : (table : Table) (earliest : ℤ) (list : OpenList) → IsHeld table earliest → list.number ≡ table.next → IsHeld (with_opened table list) (int_min earliest list.end)
 held_push table earliest list held same = record {
   numbers = record {
     numbered = numbered-join table.lists (list ∷ []) held.numbers.numbered refl

@@ -11,7 +11,7 @@ use Rattle.std.proofs.lemmas.List.{get_or-drop, get_or-take, length-drop, length
 use Rattle.std.proofs.lemmas.List.Folds.{list_all-append}
 use Rattle.std.proofs.lemmas.List.Sorted.{searchable_from_sorted}
 use Rattle.std.proofs.lemmas.List.Sums.{list_all-from_AllPass}
-use Rattle.oai_lists.specs.Bounds.{IsPlaced, none_numbered}
+use Rattle.oai_lists.specs.Workings.{IsPlaced, none_numbered}
 use Rattle.oai_lists.specs.OpenLists.{are_numbered, is_before, is_numbered, is_open, list_numbered, open_numbered}
 use Rattle.oai_lists.specs.declared.open_lists.OpenList.{OpenList}
 

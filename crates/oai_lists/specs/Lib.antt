@@ -1,4 +1,4 @@
 pub mod Tokens
 pub mod OpenLists
-pub mod Bounds
 pub mod Inside
+pub mod Workings

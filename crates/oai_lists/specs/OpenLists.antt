@@ -57,8 +57,8 @@ answered None next = Ok next
 answered (Some fault) next = Err fault
 
 -- the table with one more list, which has the next number
-abbrev pub with_list : Table → OpenList → Table
-with_list table list = record table { next = table.next + 1; lists = table.lists ++ list ∷ [] }
+abbrev pub with_opened : Table → OpenList → Table
+with_opened table list = record table { next = table.next + 1; lists = table.lists ++ list ∷ [] }
 
 -- the list of these parts, with the next number
 abbrev pub next_list : Table → ListVerb → Filter → ℕ → ℕ → ℤ → OpenList
@@ -75,7 +75,7 @@ next_list table verb filter version size end = record {
 -- is as it was. Memory may be refused where no cause applies
 abbrev pub IsOpening : Table → ℤ → OpenList → Result ℕ OpenFault → Table → Type 0
 IsOpening old now list (Ok number) new =
-    (open_fault old now ≡ None) × (number ≡ old.next) × (new ≡ with_list old list)
+    (open_fault old now ≡ None) × (number ≡ old.next) × (new ≡ with_opened old list)
 IsOpening old now list (Err NoMemory) new = (open_fault old now ≡ None) × (new ≡ old)
 IsOpening old now list (Err fault) new = (open_fault old now ≡ Some fault) × (new ≡ old)
 
@@ -99,7 +99,7 @@ IsEarliest lists end = MatchOption end (lists ≡ [])
 
 -- ---- what is true of each table
 
--- the first list has a lower number than each of these
+-- the first list has the lower number
 abbrev pub is_before : OpenList → OpenList → Bool
 is_before a b = nat_lt a.number b.number
 
@@ -108,7 +108,7 @@ abbrev pub are_numbered : List OpenList → Bool
 are_numbered [] = true
 are_numbered (list ∷ lists) = list_all (is_before list) lists && are_numbered lists
 
--- no number stands twice, and none is given again: they rise strictly, and the next is above them; it has 64 bits
+-- no number stands twice, and none is given again: they rise strictly, and the next is above them
 pub record IsTable (table : Table) : Type 0 where
   pub numbered : are_numbered table.lists ≡ true
   pub given : list_all (λ list. nat_lt list.number table.next) table.lists ≡ true

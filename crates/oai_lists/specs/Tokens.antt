@@ -9,12 +9,6 @@ use Rattle.oai_lists.specs.declared.tokens.Token.{Token}
 unfoldable pub token_text : Token → List ℕ
 token_text token = decimal token.list ++ 46 ∷ decimal token.cursor
 
--- the two texts are the numbers of the token, of 64 bits, both decimal without leading zeros
-abbrev pub AreNumbers : List ℕ → List ℕ → Token → Type 0
-AreNumbers list cursor token =
-    (token.list < 2 ^ 64) × (token.cursor < 2 ^ 64)
-    × (list ≡ decimal token.list) × (cursor ≡ decimal token.cursor)
-
 -- the text is that of the token, of numbers of 64 bits
 pub record IsToken (text : List ℕ) (token : Token) : Type 0 where
   pub list : token.list < 2 ^ 64

@@ -1,7 +1,8 @@
 ghost use Rattle.std.specs.Prelude.{◌≡◌, ◌<◌, ◌^◌, ◌++◌, ℕ, Some, decimal, IfOk, IfSome, OnOk};
 ghost use Rattle.std.specs.Str.{bytes_eq};
 ghost use Rattle.oai_lists.specs.declared.tokens.Token.{Token as TokenData};
-ghost use Rattle.oai_lists.specs.Tokens.{AreNumbers, IsToken, token_of, token_text};
+ghost use Rattle.oai_lists.specs.Tokens.{IsToken, token_of, token_text};
+ghost use Rattle.oai_lists.specs.Workings.{AreNumbers};
 
 use itoa::Buffer;
 use oai_names::Sequence;

@@ -1,5 +1,5 @@
 pub mod Characters
 pub mod Names
 pub mod Escapes
-pub mod Paths
 pub mod Sets
+pub mod Workings

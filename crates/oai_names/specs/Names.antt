@@ -7,15 +7,16 @@ use Rattle.oai_names.specs.declared.limits.TheConstants.{MOST_PREFIX_BYTES, MOST
 use Rattle.oai_names.specs.declared.readings.NameFault.{NameFault}
 use Rattle.oai_names.specs.declared.readings.NameFault.TheVariants.{Syntax, TooLong, NoMemory}
 
--- the byte is one of these
+-- the number is one of these
 abbrev pub is_one_of : List ℕ → ℕ → Bool
-is_one_of bytes b = list_any (λ c. c == b) bytes
+is_one_of numbers n = list_any (λ m. m == n) numbers
 
 -- one or more bytes that pass
 abbrev pub is_some_of : (ℕ → Bool) → List ℕ → Bool
 is_some_of passes bytes = not (length bytes == 0) && list_all passes bytes
 
--- a character of a metadataPrefix: [A-Za-z0-9\-_\.!~\*'\(\)] (OAI-PMH 2.0, section 3.4 and its schema: URI unreserved)
+-- a character of a metadataPrefix: [A-Za-z0-9\-_\.!~\*'\(\)] (OAI-PMH 2.0, section 3.4, and its schema: the unreserved characters of
+-- RFC 2396, section 2.3)
 abbrev pub is_prefix_byte : ℕ → Bool
 is_prefix_byte b = is_ascii_alphanumeric b || is_one_of (codes "-_.!~*'()") b
 

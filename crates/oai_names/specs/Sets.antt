@@ -7,7 +7,8 @@ use Rattle.oai_names.specs.declared.limits.TheConstants.{MOST_SET_SPEC_BYTES, MO
 use Rattle.oai_names.specs.declared.set_trees.SetFault.{SetFault}
 use Rattle.oai_names.specs.declared.set_trees.SetFault.TheVariants.{Exists, NoParent, TooMany, NoMemory}
 
--- a setSpec is the colon-separated path from a root of the hierarchy: each part is one or more URI unreserved characters, as a metadataPrefix is
+-- a setSpec is the colon-separated path from a root of the hierarchy (section 2.6): each part is of the characters of a metadataPrefix, one or
+-- more
 unfoldable pub is_set_spec : List ℕ → Bool
 is_set_spec text = list_all is_prefix (slice_split is_colon text)
 
@@ -15,7 +16,7 @@ is_set_spec text = list_all is_prefix (slice_split is_colon text)
 abbrev pub may_be_set_spec : List ℕ → Bool
 may_be_set_spec text = is_name_of is_set_spec MOST_SET_SPEC_BYTES text
 
--- the setSpec t lies in the set s: it is s, or s, a colon, and the rest of a path
+-- the setSpec t lies in the set s: it is s, or s, a colon, and the rest of a path (sections 2.6 and 2.7.2)
 abbrev pub Covers : List ℕ → List ℕ → Type 0
 Covers s t = (t ≡ s) ⊎ ((rest : List ℕ) × (t ≡ s ++ 58 ∷ rest))
 
@@ -31,7 +32,7 @@ parent_of spec = if list_any is_colon spec then Some (before_last is_colon spec)
 abbrev pub has_set : List (List ℕ × List ℕ) → List ℕ → Bool
 has_set sets spec = list_any (λ set. bytes_eq spec set.0) sets
 
--- no set is asked for, or one that is one of the sets
+-- there is no setSpec, or some of the sets has it
 abbrev pub is_none_or_has : List (List ℕ × List ℕ) → Option (List ℕ) → Bool
 is_none_or_has sets None = true
 is_none_or_has sets (Some spec) = has_set sets spec

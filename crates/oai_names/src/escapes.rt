@@ -1,8 +1,16 @@
-ghost use Rattle.std.specs.Prelude.{◌≡◌, ◌≤◌, ◌++◌, [], ◌∷◌, length, take, unwrap_or, OnOk, OnErr};
+ghost use Rattle.std.specs.Prelude.{◌≡◌, ◌≢◌, ◌<◌, ◌≤◌, ◌++◌, ℕ, List, [], ◌∷◌, false, length, slice_index, take, unwrap_or, OnOk, OnErr};
+ghost use Rattle.std.specs.List.{list_any};
 ghost use Rattle.std.specs.Option.{option_copied};
+ghost use Rattle.memchr.specs.Find.{is_byte3};
 ghost use Rattle.oai_names.specs.Escapes as spec;
+ghost use Rattle.oai_names.specs.Names.{is_one_of};
+ghost use Rattle.oai_names.specs.declared.escapes.Place.TheVariants.{Attribute, Element};
 
+use memchr::{memchr, memchr3};
 use std::alloc::AllocError;
+
+/// The most bytes of the text of an element that are passed over at once.
+const MOST_RUN: usize = 256;
 
 /// Where a text stands in a document.
 #[derive(Clone, Copy, Debug, PartialEq, Eq)]
@@ -30,6 +38,21 @@ pub fn escape_attr(text: &str, out: &mut Vec<u8>) -> Result<(), AllocError>
 {
     escape(Place::Attribute, text, out)
 }
+
+/// What escaping keeps. But for the `&` of its entities, no byte is left that a reader would take for
+/// markup, or change: in an element `<` and CR (XML 1.0, sections 2.4 and 2.11); in the value of an
+/// attribute these, the quote, tab and LF (section 3.3.3). And two texts that are spelled alike are one.
+/// It does nothing at run time.
+pub fn escape_law()
+    ensures element { (text : List ℕ)
+        → list_any (is_one_of (60 ∷ 13 ∷ [])) (spec.escaped_text text) ≡ false }
+    ensures attribute { (text : List ℕ)
+        → list_any (is_one_of (60 ∷ 13 ∷ 34 ∷ 9 ∷ 10 ∷ [])) (spec.escaped_attribute text) ≡ false }
+    ensures texts { (text other : List ℕ)
+        → spec.escaped_text text ≡ spec.escaped_text other → text ≡ other }
+    ensures values { (value other : List ℕ)
+        → spec.escaped_attribute value ≡ spec.escaped_attribute other → value ≡ other }
+{}
 
 /// Appends the text, each of its characters as the table spells it.
 fn escape(place: Place, text: &str, out: &mut Vec<u8>) -> Result<(), AllocError>
@@ -63,13 +86,52 @@ fn append(place: Place, text: &[u8], out: &mut Vec<u8>) -> Result<(), AllocError
 }
 
 /// How many bytes at the front are spelled as they are.
-#[tactic(auto, unfolding(crate::specs::Escapes::escaped))]
 fn run_len(place: Place, bytes: &[u8]) -> usize
     ensures within { result ≤ length bytes.now }
     ensures run { spec.escaped place (take result bytes.now) ≡ take result bytes.now }
 {
+    match place {
+        Place::Element => element_run_len(bytes),
+        Place::Attribute => attribute_run_len(bytes),
+    }
+}
+
+/// How many bytes at the front are spelled as they are in an element. Texts of elements are long, and
+/// most of their bytes stand for themselves: so these are passed over many at a time.
+fn element_run_len(bytes: &[u8]) -> usize
+    ensures within { result ≤ length bytes.now }
+    ensures run { spec.escaped Element (take result bytes.now) ≡ take result bytes.now }
+{
+    let unmarked = unmarked_len(bytes);
+    line_len(&bytes[..unmarked])
+}
+
+/// How many bytes stand before the first `&`, `<` or `>` of the next `MOST_RUN`. It looks no further,
+/// since what stands behind a CR is looked at again.
+fn unmarked_len(bytes: &[u8]) -> usize
+    ensures within { result ≤ length bytes.now }
+    ensures before { (k : ℕ) → k < result → is_byte3 38 60 62 (slice_index bytes.now k) ≡ false }
+{
+    let near = &bytes[..bytes.len().min(MOST_RUN)];
+    memchr3(b'&', b'<', b'>', near).unwrap_or(near.len())
+}
+
+/// How many bytes stand before the first CR.
+fn line_len(bytes: &[u8]) -> usize
+    ensures within { result ≤ length bytes.now }
+    ensures before { (k : ℕ) → k < result → slice_index bytes.now k ≢ 13 }
+{
+    memchr(b'\r', bytes).unwrap_or(bytes.len())
+}
+
+/// How many bytes at the front are spelled as they are in the value of an attribute.
+#[tactic(auto, unfolding(crate::specs::Escapes::escaped))]
+fn attribute_run_len(bytes: &[u8]) -> usize
+    ensures within { result ≤ length bytes.now }
+    ensures run { spec.escaped Attribute (take result bytes.now) ≡ take result bytes.now }
+{
     for (i, b) in bytes.iter().enumerate() {
-        if escape_of(place, *b).is_some() {
+        if escape_of(Place::Attribute, *b).is_some() {
             return i;
         }
     }

@@ -14,7 +14,7 @@ mod set_specs;
 mod set_trees;
 mod texts;
 
-pub use escapes::{escape_attr, escape_text};
+pub use escapes::{escape_attr, escape_law, escape_text};
 pub use identifiers::Identifier;
 pub use limits::{
     MOST_IDENTIFIER_BYTES, MOST_PREFIX_BYTES, MOST_SET_SPEC_BYTES, MOST_SETS, limit_law,

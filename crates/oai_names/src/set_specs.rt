@@ -1,6 +1,6 @@
 ghost use Rattle.std.specs.Prelude.{◌≡◌, ◌↔◌, true, IfOk, IsTrue};
 ghost use Rattle.oai_names.specs.Names.{IsReading};
-ghost use Rattle.oai_names.specs.Paths.{ends_part};
+ghost use Rattle.oai_names.specs.Workings.{ends_part};
 ghost use Rattle.oai_names.specs.Sets.{Covers, covers, is_set_spec, may_be_set_spec};
 
 use crate::limits::MOST_SET_SPEC_BYTES;

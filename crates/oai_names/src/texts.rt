@@ -1,17 +1,39 @@
 ghost use Rattle.std.specs.Prelude.{◌≡◌, IfOk};
+ghost use Rattle.std.specs.List.{list_all};
 ghost use Rattle.std.specs.String.{string_bytes};
 ghost use Rattle.oai_names.specs.Characters as spec;
+ghost use Rattle.oai_names.specs.Workings.{is_plain_byte};
 
 use std::alloc::{AllocError, Global};
 use std::marker::Model;
 
 /// Whether each character of the text may stand in an XML document: everything but U+0000 to
 /// U+001F without tab, LF and CR, and but U+FFFE and U+FFFF (XML 1.0, section 2.2).
-#[tactic(auto, unfolding(crate::specs::Characters::is_xml_text))]
 pub fn is_xml_text(text: &str) -> bool
     ensures { result ≡ spec.is_xml_text text.now }
 {
+    are_plain(text.as_bytes()) || are_xml_chars(text)
+}
+
+/// Whether each character is one of XML's, by decoding each.
+#[tactic(auto, unfolding(crate::specs::Characters::is_xml_text))]
+fn are_xml_chars(text: &str) -> bool
+    ensures { result ≡ spec.is_xml_text text.now }
+{
     text.chars().all(is_xml_char)
+}
+
+/// Whether each byte is that of a character of ASCII from the space on, as in most texts. Such a text
+/// needs no decoding: all of these characters are XML's. The loop has no other end than the last byte,
+/// so that many bytes are tested at a time.
+fn are_plain(bytes: &[u8]) -> bool
+    ensures { result ≡ list_all is_plain_byte bytes.now }
+{
+    let mut plain = true;
+    for b in bytes {
+        plain = plain & (*b >= b' ' && *b <= 127);
+    }
+    plain
 }
 
 /// The production `Char` of XML 1.0, section 2.2.

@@ -11,9 +11,9 @@ use Rattle.oai_item.specs.Item.{ItemState}
 use Rattle.oai_item.specs.Selection.{selected}
 use Rattle.oai_catalogue.specs.Store.{Lists, list_at, with_list}
 use Rattle.oai_catalogue.proofs.ListsLemmas.{list_at-with}
-use Rattle.oai_lists.specs.OpenLists.{Table, is_numbered, is_open, list_numbered, open_numbered, open_ones, renewed, renewed_one, with_list as opening}
+use Rattle.oai_lists.specs.OpenLists.{Table, is_numbered, is_open, list_numbered, open_numbered, open_ones, renewed, renewed_one, with_opened as opening}
 use Rattle.oai_lists.specs.declared.open_lists.OpenList.{OpenList}
-use Rattle.oai_repo.specs.Config.{Config}
+use Rattle.oai_settings.specs.Config.{Config}
 use Rattle.oai_repo.specs.Held.{AreInUse, AreNoted, IsShelved, KeepsOthers, Shelf, are_counted, are_different, begun_of, frozen_in, has, is_counted, is_dated, versions_in}
 use Rattle.oai_repo.specs.Kept.{AreKept}
 use Rattle.oai_repo.specs.Listing.{has_number, prolonged, prolonged_at, with_begun, with_prolonged}

@@ -16,7 +16,7 @@ use Rattle.oai_item.specs.declared.changes.Change.{Change}
 use Rattle.oai_item.specs.declared.changes.Change.TheVariants as change
 use Rattle.oai_item.specs.declared.refusals.ChangeRefusal.{ChangeRefusal}
 use Rattle.oai_repo.specs.Changes.{refusal_of, after_deletion, after_purge, limit_of, purge_refusal, dead_refusal, missing_refusal, deposit_refusal, item_refusal, set_refusal, changed, is_past, purged, stamp_at, with_new, with_tombstone}
-use Rattle.oai_repo.specs.Config.{Config}
+use Rattle.oai_settings.specs.Config.{Config}
 use Rattle.oai_repo.specs.Kept.{AreKept}
 use Rattle.oai_repo.specs.Machine.{act, act_on_change, accepted, changing, refused}
 use Rattle.oai_repo.specs.State.{Holdings, NamedSet, OpenLists}

@@ -5,7 +5,7 @@ use Rattle.std.proofs.lemmas.Int.{ints}
 use Rattle.oai_time.specs.Clock.{tick}
 use Rattle.oai_time.specs.Stamp.{IsWritable, stamp_of}
 use Rattle.std.specs.Ordering.{int_eq}
-use Rattle.oai_repo.specs.Config.{Config, IsConfig, is_date, is_in_years}
+use Rattle.oai_settings.specs.Config.{Config, IsConfig, is_date, is_in_years}
 
 pub in_years-config : (config : Config) → IsConfig config → is_in_years config.earliest ≡ true
 unfolding is_date

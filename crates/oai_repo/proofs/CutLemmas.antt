@@ -12,7 +12,7 @@ use Rattle.oai_answers.specs.Answers.{Answer, fails}
 use Rattle.oai_answers.specs.declared.errors.ErrorCode.TheVariants.{NoRecordsMatch, NoSetHierarchy}
 use Rattle.oai_catalogue.specs.Store.{Lists}
 use Rattle.oai_repo.specs.Answers.{filter_of}
-use Rattle.oai_repo.specs.Config.{Config}
+use Rattle.oai_settings.specs.Config.{Config}
 use Rattle.oai_repo.specs.Found.{IsCut, IsFound, IsSelection, filter_asked, holdings_in, selected_on}
 use Rattle.oai_repo.specs.Listing.{Said, begins, has_no_sets, list_answer, list_begun, says, told_by, told_in, told_items, told_whole, wait_at, whole_page}
 use Rattle.oai_repo.specs.State.{OpenLists}

@@ -1,5 +1,3 @@
-pub mod FoldLemmas
-pub mod ConfigLemmas
 pub mod ClockLemmas
 pub mod KeptLemmas
 pub mod ChangeLemmas

@@ -3,7 +3,7 @@ use Rattle.std.proofs.Common.{◌≡◌, ◌∙◌, ℤ, ◌≤ℤ◌, List, [],
 use Rattle.oai_item.specs.Item.{ItemState}
 use Rattle.oai_catalogue.specs.Store.{Lists, list_at}
 use Rattle.oai_lists.specs.OpenLists.{Table, open_ones}
-use Rattle.oai_repo.specs.Config.{Config}
+use Rattle.oai_settings.specs.Config.{Config}
 use Rattle.oai_repo.specs.Held.{Held, IsHeld, KeepsOthers, Shelf, StandsIn, begun_of, numbers_of, state_of}
 use Rattle.oai_repo.specs.State.{NamedSet, OpenLists, State, at_clock}
 use Rattle.oai_repo.specs.Tables.{versions_ended, without_lists}

@@ -6,7 +6,7 @@ use Rattle.std.proofs.lemmas.List.{length-drop, length-take}
 use Rattle.oai_item.specs.Item.{ItemState}
 use Rattle.oai_lists.specs.Tokens.{token_text}
 use Rattle.oai_answers.specs.Answers.{Continuation, Page, completes, remains}
-use Rattle.oai_repo.specs.Config.{Config}
+use Rattle.oai_settings.specs.Config.{Config}
 use Rattle.oai_repo.specs.Listing.{continued_at, extent_at, items_from, part_from}
 use Rattle.oai_repo.specs.State.{FrozenList}
 use Rattle.oai_repo.specs.Tables.{page_at}

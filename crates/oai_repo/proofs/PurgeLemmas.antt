@@ -1,12 +1,12 @@
 -- What a purge reads of the items, what it takes out, and what is left and noted then.
-use Rattle.std.proofs.Common.{◌≡◌, ◌∙◌, ◌+◌, ◌<◌, ◌-ℤ◌, inl, inr, ℕ, ℤ, pos, Bool, true, false, not, ◌&&◌, cond, List, [], ◌∷◌, ◌++◌, length, take, drop, get_or, None, Some, IsSome, refl, sym, ap, subst, arith}
-use Rattle.std.specs.Prelude.{filter, int_le, int_lt}
+use Rattle.std.proofs.Common.{◌≡◌, ◌∙◌, ◌+◌, ◌<◌, ◌≤◌, ◌-ℤ◌, inl, inr, ℕ, ℤ, pos, Bool, true, false, not, ◌&&◌, cond, List, [], ◌∷◌, ◌++◌, length, take, drop, get_or, None, Some, IsSome, refl, sym, ap, subst, arith}
+use Rattle.std.specs.Prelude.{filter, int_le, int_lt, nat_lt, if◌then◌else◌}
 use Rattle.std.specs.List.{list_all}
 use Rattle.std.specs.Ordering.{int_eq}
 use Rattle.std.specs.Str.{bytes_eq}
-use Rattle.std.proofs.lemmas.Bool.{and_parts, cases_Bool, cond-true, cond-false}
+use Rattle.std.proofs.lemmas.Bool.{and_parts, cases_Bool, cond-true, cond-false, ltb-true}
 use Rattle.std.proofs.lemmas.Int.{ints}
-use Rattle.std.proofs.lemmas.List.{drop_more, drop-take, take-append-drop, take-take, take_all}
+use Rattle.std.proofs.lemmas.List.{drop_more, drop-take, length-drop, length-take, take-append-drop, take-take, take_all}
 use Rattle.std.proofs.lemmas.List.Elements.{filter-append}
 use Rattle.std.proofs.lemmas.Slice.Eq.{bytes_eq-Decides}
 use Rattle.oai_item.specs.Item.{ItemState}
@@ -14,7 +14,7 @@ use Rattle.oai_item.specs.Items.{are_apart, is_apart, is_at, item_named, without
 use Rattle.oai_item.specs.Selection.{passes, selected}
 use Rattle.oai_item.proofs.Named.{without_at-none}
 use Rattle.oai_item.proofs.OrderLemmas.{all-filter}
-use Rattle.oai_catalogue.specs.Store.{is_one_of, without_each}
+use Rattle.oai_catalogue.specs.Store.{is_at_one_of, without_each}
 use Rattle.oai_catalogue.proofs.Gone.{without_each-at, without_each-first, without_each-none}
 use Rattle.oai_repo.specs.Changes.{is_past, purged}
 use Rattle.oai_repo.specs.Held.{AreNoted, is_dated}
@@ -80,8 +80,28 @@ take_part start some items =
     ∙ ap (λ (xs : List ItemState). take start (take (start + some) items) ++ xs) (sym (drop-take start some items))
     ∙ take-append-drop start (take (start + some) items)
 
-pub read_more : (start some : ℕ) (items : List ItemState) → filter is_deleted (take start items) ++ filter is_deleted (take some (drop start items)) ≡ filter is_deleted (take (start + some) items)
+read_more : (start some : ℕ) (items : List ItemState) → filter is_deleted (take start items) ++ filter is_deleted (take some (drop start items)) ≡ filter is_deleted (take (start + some) items)
 read_more start some items = sym (filter-append is_deleted (take start items) (take some (drop start items))) ∙ ap (filter is_deleted) (take_part start some items)
+
+-- a part that is shorter than was asked for is the last
+is_last : (start some : ℕ) (items : List ItemState) → length (take some (drop start items)) < some → length items ≤ start + some
+is_last start some items short = omega (arith, short, length-take some (drop start items), length-drop start items)
+
+-- so a part more is read, or, where it is shorter, all
+pub read_on : (start some most : ℕ) (items : List ItemState) → start + some ≤ most
+    → filter is_deleted (take start items) ++ filter is_deleted (take some (drop start items))
+    ≡ filter is_deleted (take (if nat_lt (length (take some (drop start items))) some then most else start + some) items)
+read_on start some most items within =
+    read_more start some items
+    ∙ ap (filter is_deleted)
+    (elim (cases_Bool (nat_lt (length (take some (drop start items))) some)) [
+      | inl short ↦
+          let last : length items ≤ start + some = is_last start some items (ltb-true (length (take some (drop start items))) some short) in
+          take_all (start + some) items last
+          ∙ sym (take_all most items (omega (arith, last, within)))
+          ∙ ap (λ (n : ℕ). take n items) (sym (cond-true (nat_lt (length (take some (drop start items))) some) most (start + some) short))
+      | inr full ↦ ap (λ (n : ℕ). take n items) (sym (cond-false (nat_lt (length (take some (drop start items))) some) most (start + some) full))
+    ])
 
 -- ---- what is taken out
 
@@ -98,7 +118,7 @@ not_named a b apart = elim (cases_Bool (bytes_eq a.identifier b.identifier)) [
 not_at : (x : ItemState) (stamp : ℤ) (identifier : List ℕ) → bytes_eq x.identifier identifier ≡ false → is_at stamp identifier x ≡ false
 not_at x stamp identifier other = ap (λ (b : Bool). int_eq x.stamp stamp && b) other ∙ no_and (int_eq x.stamp stamp)
 
-not_one_of : (x : ItemState) (gone : List ItemState) → list_all (is_apart x) gone ≡ true → is_one_of gone x ≡ false
+not_one_of : (x : ItemState) (gone : List ItemState) → list_all (is_apart x) gone ≡ true → is_at_one_of gone x ≡ false
 not_one_of x [] apart = refl
 not_one_of x (g ∷ gone) apart =
     let parts = and_parts (is_apart x g) (list_all (is_apart x) gone) apart in
@@ -107,8 +127,8 @@ not_one_of x (g ∷ gone) apart =
 stays_first : (x : ItemState) (gone items : List ItemState) → list_all (is_apart x) gone ≡ true → without_each gone (x ∷ items) ≡ x ∷ without_each gone items
 unfolding without_each
 stays_first x gone items apart =
-    let left : List ItemState = filter (λ item. not (is_one_of gone item)) items in
-    cond-true (not (is_one_of gone x)) (x ∷ left) left (ap not (not_one_of x gone apart))
+    let left : List ItemState = filter (λ item. not (is_at_one_of gone item)) items in
+    cond-true (not (is_at_one_of gone x)) (x ∷ left) left (ap not (not_one_of x gone apart))
 
 taken_behind : (x : ItemState) (gone items : List ItemState) → list_all (is_apart x) gone ≡ true → AreTaken gone items → AreTaken gone (x ∷ items)
 unfolding item_named without_at

@@ -14,7 +14,7 @@ use Rattle.oai_item.specs.Known.{has_format}
 use Rattle.oai_item.specs.Membership.{is_in}
 use Rattle.oai_item.specs.Selection.{Filter, is_in_given, passes, selected}
 use Rattle.oai_repo.specs.Answers.{filter_of}
-use Rattle.oai_repo.specs.Config.{Config}
+use Rattle.oai_settings.specs.Config.{Config}
 use Rattle.oai_repo.specs.Kept.{AreKept, is_well_kept}
 use Rattle.oai_repo.specs.State.{Holdings, NamedSet}
 

@@ -24,7 +24,7 @@ use Rattle.oai_catalogue.specs.Store.{Lists, list_at, with_given, with_list, wit
 use Rattle.oai_catalogue.proofs.ListsLemmas.{list_at-with, same_lists, stands-with, with_own}
 use Rattle.oai_lists.specs.OpenLists.{Table}
 use Rattle.oai_repo.specs.Changes.{with_new}
-use Rattle.oai_repo.specs.Config.{Config}
+use Rattle.oai_settings.specs.Config.{Config}
 use Rattle.oai_repo.specs.Held.{AreInUse, AreNoted, IsNew, IsShelved, Shelf, is_dated}
 use Rattle.oai_repo.specs.Kept.{AreKept}
 use Rattle.oai_repo.specs.Notes.{Notes, noted, notes_in}

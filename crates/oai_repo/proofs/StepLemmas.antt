@@ -9,7 +9,7 @@ use Rattle.oai_answers.specs.Answers.{Attributes}
 use Rattle.oai_repo.specs.Answers.{arguments_of_request}
 use Rattle.oai_repo.specs.Calls.{told_in}
 use Rattle.oai_repo.specs.Changes.{stamp_at}
-use Rattle.oai_repo.specs.Config.{Config}
+use Rattle.oai_settings.specs.Config.{Config}
 use Rattle.oai_repo.specs.Found.{reply_said}
 use Rattle.oai_repo.specs.Listing.{Said, answer_to, says, waits}
 use Rattle.oai_repo.specs.Machine.{Told, act, written, accepted, asking, changing, outcome_of, refused}

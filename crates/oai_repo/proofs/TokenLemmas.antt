@@ -11,7 +11,7 @@ use Rattle.oai_catalogue.specs.Store.{Lists}
 use Rattle.oai_lists.specs.OpenLists.{Table, open_numbered}
 use Rattle.oai_lists.specs.declared.open_lists.OpenList.{OpenList}
 use Rattle.oai_lists.specs.declared.tokens.Token.{Token}
-use Rattle.oai_repo.specs.Config.{Config}
+use Rattle.oai_settings.specs.Config.{Config}
 use Rattle.oai_repo.specs.Found.{IsTold}
 use Rattle.oai_repo.specs.Held.{are_counted, begun_of, frozen_in, is_counted}
 use Rattle.oai_repo.specs.Listing.{Said, continues, is_continued, is_same_verb, list_continued, part_from, part_told, prolonged, says, token_answer, where_continued, with_prolonged}

@@ -14,7 +14,7 @@ use Rattle.oai_args.specs.declared.requests.Ask.{Ask}
 use Rattle.oai_args.specs.declared.requests.Ask.TheVariants as ask
 use Rattle.oai_answers.specs.Answers.{Attributes, Description, Answer, fails, gives_record, lists_formats, lists_sets, offered, no_arguments, Document}
 use Rattle.oai_answers.specs.declared.errors.ErrorCode.TheVariants.{CannotDisseminateFormat, IdDoesNotExist, NoMetadataFormats, NoSetHierarchy}
-use Rattle.oai_repo.specs.Config.{Config}
+use Rattle.oai_settings.specs.Config.{Config}
 use Rattle.oai_repo.specs.State.{NamedSet}
 
 -- what Identify tells (section 4.2)

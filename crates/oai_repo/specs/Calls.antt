@@ -9,7 +9,7 @@ use Rattle.oai_item.specs.declared.refusals.ChangeRefusal.{ChangeRefusal}
 use Rattle.oai_catalogue.specs.Store.{Lists}
 use Rattle.oai_time.specs.Clock.{tick}
 use Rattle.oai_repo.specs.Changes.{deposit_refusal, missing_refusal, purge_refusal, set_refusal}
-use Rattle.oai_repo.specs.Config.{Config}
+use Rattle.oai_settings.specs.Config.{Config}
 use Rattle.oai_repo.specs.Held.{Held, holdings_of, state_of}
 use Rattle.oai_repo.specs.Machine.{Told, act_at, accepted, bytes, changing, query, refused, step, wait}
 use Rattle.oai_repo.specs.State.{Holdings}

@@ -19,7 +19,7 @@ use Rattle.oai_item.specs.declared.refusals.ChangeRefusal.{ChangeRefusal}
 use Rattle.oai_item.specs.declared.refusals.ChangeRefusal.TheVariants.{UnknownSet, UnknownFormat, NoDc, UnknownField, DropsFormat, TooLarge, TooManyItems, NoSuchItem, AlreadyDeleted, NotTransient, BadDate, SetExists, NoParent, TooManySets}
 use Rattle.oai_answers.specs.declared.identify.DeletedRecord.{DeletedRecord}
 use Rattle.oai_answers.specs.declared.identify.DeletedRecord.TheVariants.{No, Transient, Persistent}
-use Rattle.oai_repo.specs.Config.{Config}
+use Rattle.oai_settings.specs.Config.{Config}
 use Rattle.oai_repo.specs.Kept.{is_too_large}
 use Rattle.oai_repo.specs.State.{Holdings, NamedSet}
 

@@ -14,7 +14,7 @@ use Rattle.oai_lists.specs.Tokens.{token_of}
 use Rattle.oai_args.specs.Asks.{AskOrError}
 use Rattle.oai_args.specs.declared.requests.Ask.{Ask}
 use Rattle.oai_repo.specs.Answers.{document_of, filter_of}
-use Rattle.oai_repo.specs.Config.{Config}
+use Rattle.oai_settings.specs.Config.{Config}
 use Rattle.oai_repo.specs.Held.{IsShelved, begun_of, holdings_of, items_on, versions_in}
 use Rattle.oai_repo.specs.Listing.{Said, answer_to, begins, list_answer, list_begun, said_to, says, token_answer, told_by, told_items, wait_at, waits, whole_page}
 use Rattle.oai_repo.specs.State.{FrozenList, Holdings, NamedSet, OpenLists, State}

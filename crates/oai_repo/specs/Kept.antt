@@ -9,7 +9,7 @@ use Rattle.oai_item.specs.Items.{are_apart}
 use Rattle.oai_item.specs.Known.{has_format, has_known_fields}
 use Rattle.oai_item.specs.Order.{are_in_order}
 use Rattle.oai_item.specs.declared.sizes.TheConstants.{MOST_ITEM_BYTES}
-use Rattle.oai_repo.specs.Config.{Config}
+use Rattle.oai_settings.specs.Config.{Config}
 use Rattle.oai_repo.specs.State.{Holdings, NamedSet}
 
 -- its spelling has more than 16,000 bytes

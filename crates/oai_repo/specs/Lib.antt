@@ -1,7 +1,3 @@
-pub mod Config
-pub mod ConfigInside
-pub mod Settings
-pub mod SettingsWork
 pub mod State
 pub mod Kept
 pub mod Notes

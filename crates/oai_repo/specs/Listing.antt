@@ -18,7 +18,7 @@ use Rattle.oai_answers.specs.Answers.{Answer, Continuation, Page, completes, fai
 use Rattle.oai_answers.specs.declared.tokens.Extent.{Extent}
 use Rattle.oai_answers.specs.declared.errors.ErrorCode.TheVariants.{BadVerb, BadArgument, BadResumptionToken, CannotDisseminateFormat, NoRecordsMatch, NoSetHierarchy}
 use Rattle.oai_repo.specs.Answers.{description, filter_of, formats_answer, record_answer, sets_answer}
-use Rattle.oai_repo.specs.Config.{Config}
+use Rattle.oai_settings.specs.Config.{Config}
 use Rattle.oai_repo.specs.State.{FrozenList, Holdings, NamedSet, OpenLists, State}
 
 -- what is said to a request: an answer, for a document; or how many seconds it is to wait

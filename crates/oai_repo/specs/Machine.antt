@@ -13,7 +13,7 @@ use Rattle.oai_answers.specs.Answers.{Attributes, Document}
 use Rattle.oai_answers.specs.Documents.{document}
 use Rattle.oai_repo.specs.Answers.{arguments_of_request, document_of}
 use Rattle.oai_repo.specs.Changes.{changed, refusal_of, stamp_at}
-use Rattle.oai_repo.specs.Config.{Config}
+use Rattle.oai_settings.specs.Config.{Config}
 use Rattle.oai_repo.specs.Listing.{Said, answer_to, says, waits}
 use Rattle.oai_repo.specs.State.{State, moved}
 

@@ -4,7 +4,7 @@ use Rattle.std.specs.Prelude.{ℕ, ℤ, Bool, int_lt, List, [], filter}
 use Rattle.oai_names.specs.declared.list_verbs.ListVerb.{ListVerb}
 use Rattle.oai_time.specs.Clock.{tick}
 use Rattle.oai_item.specs.Item.{ItemState}
-use Rattle.oai_repo.specs.Config.{Config}
+use Rattle.oai_settings.specs.Config.{Config}
 
 -- a set: its setSpec and its setName
 abbrev pub NamedSet : Type 0

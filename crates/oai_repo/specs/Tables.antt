@@ -10,7 +10,7 @@ use Rattle.oai_lists.specs.OpenLists.{Table, has_ended, open_numbered}
 use Rattle.oai_lists.specs.Tokens.{token_text}
 use Rattle.oai_lists.specs.declared.tokens.Token.{Token}
 use Rattle.oai_lists.specs.declared.open_lists.OpenList.{OpenList}
-use Rattle.oai_repo.specs.Config.{Config, is_in_years}
+use Rattle.oai_settings.specs.Config.{Config, is_in_years}
 use Rattle.oai_repo.specs.Held.{AreInUse, KeepsOthers, has, versions_in}
 use Rattle.oai_repo.specs.Listing.{is_same_verb}
 use Rattle.oai_repo.specs.declared.parts.Part.{Part}

@@ -7,7 +7,7 @@ use Rattle.oai_item.specs.declared.refusals.ChangeRefusal.{ChangeRefusal}
 use Rattle.oai_catalogue.specs.Store.{Lists, list_at, with_list, without_list}
 use Rattle.oai_repo.specs.Calls.{early_refusal}
 use Rattle.oai_repo.specs.Changes.{changed, refusal_of}
-use Rattle.oai_repo.specs.Config.{Config}
+use Rattle.oai_settings.specs.Config.{Config}
 use Rattle.oai_repo.specs.Notes.{Notes, noted}
 use Rattle.oai_repo.specs.State.{Holdings}
 use Rattle.oai_repo.specs.declared.refusals.Refusal.{Refusal}

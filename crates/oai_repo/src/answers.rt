@@ -7,10 +7,10 @@ ghost use Rattle.oai_answers.specs.Borrowed.{answer_of, continuation_of, descrip
 ghost use Rattle.oai_repo.specs.Answers as spec;
 ghost use Rattle.oai_repo.specs.Listing.{told_by};
 
-use crate::config::RepoConfig;
 use oai_answers::{Body, ErrorCode, Identity, Listed, Offered, Record};
 use oai_item::{Format, Item};
 use oai_names::{ListVerb, SetSpec, Text};
+use oai_settings::RepoConfig;
 
 /// The items in the format, as the verb lists them.
 pub(crate) fn told_by<'a>(verb: ListVerb, format: &'a Format, list: Listed<'a>) -> Body<'a>

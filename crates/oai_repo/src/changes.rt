@@ -8,7 +8,6 @@ ghost use Rattle.oai_repo.specs.Changes.{set_refusal};
 ghost use Rattle.oai_repo.specs.Held.{IsShelved, holdings_of};
 ghost use Rattle.oai_repo.specs.Workings.{IsDone, IsMade, IsMoved};
 
-use crate::config::RepoConfig;
 use crate::deletions::delete;
 use crate::deposits::{Deposit, put_deposit};
 use crate::purges::purge;
@@ -17,6 +16,7 @@ use crate::shelves::Shelf;
 use oai_catalogue::Versions;
 use oai_item::{Change, ChangeRefusal, Fault};
 use oai_names::{SetFault, SetSpec, SetTree};
+use oai_settings::RepoConfig;
 use std::alloc::Global;
 
 /// Makes the change with that datestamp, in seconds from 1970 on, or refuses it by the first cause. A

@@ -16,12 +16,12 @@ ghost use Rattle.oai_repo.specs.Changes as spec;
 ghost use Rattle.oai_repo.specs.Held.{AreNoted, items_on};
 ghost use Rattle.oai_repo.specs.Workings.{IsDone, IsMoved};
 
-use crate::config::RepoConfig;
 use crate::refusals::Refusal;
 use crate::shelves::Shelf;
 use oai_catalogue::Versions;
 use oai_item::{ChangeRefusal, Field, Format, Formats, Item, Records};
 use oai_names::{Identifier, Sequence, SetSpec, SetTree, Text};
+use oai_settings::RepoConfig;
 use std::alloc::Global;
 
 /// A record of a deposit: the text that names its format, and its fields.

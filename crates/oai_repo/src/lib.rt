@@ -4,7 +4,6 @@
 mod answers;
 mod arguments;
 mod changes;
-mod config;
 mod cuts;
 mod deletions;
 mod deposits;
@@ -17,13 +16,10 @@ mod repo;
 mod requests;
 mod resumptions;
 mod selections;
-mod settings;
 mod shelves;
 mod snapshots;
 mod tables;
 
-pub use config::RepoConfig;
 pub use refusals::Refusal;
 pub use replies::Reply;
 pub use repo::Repo;
-pub use settings::{ConfigFault, FormatSettings, Settings};

@@ -5,7 +5,7 @@ ghost use Rattle.oai_time.specs.Stamp.{IsWritable};
 ghost use Rattle.oai_answers.specs.Borrowed.{attributes_of};
 ghost use Rattle.oai_catalogue.specs.Store.{IsCounted, IsHonest};
 ghost use Rattle.oai_lists.specs.OpenLists.{answered, open_fault};
-ghost use Rattle.oai_repo.specs.Config.{is_in_years};
+ghost use Rattle.oai_settings.specs.Config.{is_in_years};
 ghost use Rattle.oai_repo.specs.Found.{IsFound, IsLeftFound, IsLongOf, IsTold, numbers_in, said_to_list, said_to_long, wait_found};
 ghost use Rattle.oai_repo.specs.Held.{AreInUse, are_counted};
 ghost use Rattle.oai_repo.specs.Tables.{IsKeptTable};

@@ -1,5 +1,5 @@
 //! Forgetting deleted items.
-ghost use Rattle.std.specs.Prelude.{◌≡◌, ◌++◌, ◌-ℤ◌, pos, neg_ℤ, int_le, ◌≤◌, ℕ, None, true, codes, filter, take, IfErr, IfOk, IfSome, IsSome, IsTrue, OnErr, OnOk};
+ghost use Rattle.std.specs.Prelude.{◌≡◌, ◌+◌, ◌++◌, ◌-ℤ◌, pos, neg_ℤ, int_le, nat_lt, ◌≤◌, if◌then◌else◌, ℕ, None, true, codes, filter, length, take, IfErr, IfOk, IfSome, IsSome, IsTrue, OnErr, OnOk};
 ghost use Rattle.std.specs.List.{list_all};
 ghost use Rattle.oai_names.specs.Names.{may_be_prefix};
 ghost use Rattle.oai_time.specs.Bound.{IsWritableBound};
@@ -14,7 +14,6 @@ ghost use Rattle.oai_repo.specs.Held.{AreNoted, is_dated, items_on};
 ghost use Rattle.oai_repo.specs.Purges.{below, is_deleted, is_in_core};
 ghost use Rattle.oai_repo.specs.Workings.{IsDone, IsMoved};
 
-use crate::config::RepoConfig;
 use crate::refusals::Refusal;
 use crate::selections::FIRST_SECOND;
 use crate::shelves::Shelf;
@@ -22,6 +21,7 @@ use oai_answers::DeletedRecord;
 use oai_catalogue::{Filter, Versions};
 use oai_item::{ChangeRefusal, Fault, Item};
 use oai_names::{NameFault, Prefix, Sequence};
+use oai_settings::RepoConfig;
 use oai_time::{Bound, Granularity, is_no_finer_than, lower, read_bound};
 use std::alloc::{AllocError, Global};
 
@@ -126,10 +126,26 @@ pub(crate) fn deleted_below<V: Versions>(
     while start < most {
         let some = PART.min(most - start);
         let part = store.part(v, &asked, start, some)?;
+        let next = after_part(start, some, part.as_slice(), most);
         add_deleted(&mut gone, part)?;
-        start += some;
+        start = next;
     }
     Ok(gone)
+}
+
+/// How many of `most` items are read where the part came to a question for `some` of them behind the
+/// first `start`: all, where it is shorter, since nothing stands behind it.
+fn after_part(start: usize, some: usize, part: &[Item], most: usize) -> usize
+    requires { start + some ≤ most }
+    ensures read { result ≡ (if nat_lt (length part.now) some then most else start + some) }
+    ensures further { start + some ≤ result }
+    ensures within { result ≤ most }
+{
+    if part.len() < some {
+        most
+    } else {
+        start + some
+    }
 }
 
 /// What asks for the items of datestamps below the limit, live and deleted.

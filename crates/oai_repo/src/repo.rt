@@ -2,12 +2,11 @@ ghost use Rattle.std.specs.Prelude.{◌≡◌, ◌≤◌, ◌≤ℤ◌, true, If
 ghost use Rattle.oai_time.specs.Stamp.{IsWritable};
 ghost use Rattle.oai_catalogue.specs.Store.{IsCounted, IsHonest};
 ghost use Rattle.oai_repo.specs.Calls.{IsAsked, IsChanged, IsLeft, fault_in};
-ghost use Rattle.oai_repo.specs.Config.{is_in_years};
+ghost use Rattle.oai_settings.specs.Config.{is_in_years};
 ghost use Rattle.oai_repo.specs.Held.{IsHeld, IsNew, KeepsOthers, StandsIn, numbers_of, state_of};
 ghost use Rattle.oai_repo.specs.State.{at_clock, moved};
 
 use crate::changes::make;
-use crate::config::RepoConfig;
 use crate::refusals::Refusal;
 use crate::replies::Reply;
 use crate::requests::reply_at;
@@ -18,6 +17,7 @@ use oai_catalogue::Versions;
 use oai_item::{Change, Fault};
 use oai_lists::Lists;
 use oai_names::SetTree;
+use oai_settings::RepoConfig;
 use oai_time::{Clock, stamp};
 use std::alloc::Global;
 use std::marker::Model;

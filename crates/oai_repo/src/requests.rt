@@ -6,7 +6,7 @@ ghost use Rattle.oai_args.specs.Requests.{request_of};
 ghost use Rattle.oai_catalogue.specs.Store.{IsCounted, IsHonest};
 ghost use Rattle.oai_answers.specs.Borrowed.{attributes_of};
 ghost use Rattle.oai_repo.specs.Answers.{arguments_of_ask, arguments_of_request, item_formats_answer, record_answer};
-ghost use Rattle.oai_repo.specs.Config.{is_in_years};
+ghost use Rattle.oai_settings.specs.Config.{is_in_years};
 ghost use Rattle.oai_repo.specs.Found.{IsFound, IsLeftFound, IsTold, item_in, numbers_in, page_said, said_to_ask, said_to_request};
 ghost use Rattle.oai_repo.specs.Held.{AreInUse, are_counted};
 ghost use Rattle.oai_repo.specs.Tables.{IsKeptTable};

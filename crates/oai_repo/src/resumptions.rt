@@ -5,7 +5,7 @@ ghost use Rattle.oai_time.specs.Stamp.{IsWritable};
 ghost use Rattle.oai_answers.specs.Borrowed.{attributes_of};
 ghost use Rattle.oai_catalogue.specs.Store.{IsCounted, IsHonest};
 ghost use Rattle.oai_lists.specs.Tokens.{token_of};
-ghost use Rattle.oai_repo.specs.Config.{is_in_years};
+ghost use Rattle.oai_settings.specs.Config.{is_in_years};
 ghost use Rattle.oai_repo.specs.Found.{IsLeftFound, IsTold, numbers_in, page_said, said_to_token};
 ghost use Rattle.oai_repo.specs.Held.{AreInUse, are_counted, frozen_in, is_counted};
 ghost use Rattle.oai_item.specs.Formats.{format_named};

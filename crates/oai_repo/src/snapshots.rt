@@ -1,10 +1,10 @@
 ghost use Rattle.std.specs.Prelude.{◌≡◌, ◌+ℤ◌, pos, int_le, int_lt, true};
 ghost use Rattle.oai_time.specs.Stamp.{IsWritable};
-ghost use Rattle.oai_repo.specs.Config.{is_in_years};
+ghost use Rattle.oai_settings.specs.Config.{is_in_years};
 
-use crate::config::RepoConfig;
 use crate::shelves::Shelf;
 use oai_names::SetTree;
+use oai_settings::RepoConfig;
 
 /// A repository as a request finds it.
 #[derive(Clone, Copy)]
@@ -21,7 +21,7 @@ pub(crate) struct Snapshot<'a> {
 
 impl Snapshot<'_> {
     /// How long a list stays open, in seconds.
-    #[tactic(auto, unfolding(crate::specs::Config::are_limits))]
+    #[tactic(auto, unfolding(oai_settings::specs::Config::are_limits))]
     pub(crate) fn lifetime(&self) -> i64
         ensures { result ≡ pos self.now.config.now.lifetime }
     {
@@ -29,7 +29,7 @@ impl Snapshot<'_> {
     }
 
     /// When a list ends of which a part is told now, in seconds from 1970 on.
-    #[tactic(auto, unfolding(crate::specs::Config::are_limits))]
+    #[tactic(auto, unfolding(oai_settings::specs::Config::are_limits))]
     pub(crate) fn end(&self) -> i64
         requires { is_in_years self.now.clock ≡ true }
         ensures end { result ≡ self.now.clock +ℤ pos self.now.config.now.lifetime }

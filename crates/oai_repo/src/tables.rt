@@ -3,7 +3,7 @@ ghost use Rattle.std.specs.Prelude.{◌≡◌, ◌≤◌, ◌-ℤ◌, pos, int_l
 ghost use Rattle.std.specs.List.{list_all};
 ghost use Rattle.oai_catalogue.specs.Store.{Lists as Versioned};
 ghost use Rattle.oai_lists.specs.OpenLists.{open_ones};
-ghost use Rattle.oai_repo.specs.Config.{is_in_years};
+ghost use Rattle.oai_settings.specs.Config.{is_in_years};
 ghost use Rattle.oai_repo.specs.Held.{AreInUse, begun_of, versions_in};
 ghost use Rattle.oai_repo.specs.Listing as spec;
 ghost use Rattle.oai_repo.specs.Tables.{has_end, versions_ended, without_lists};

@@ -1,10 +1,10 @@
 -- What a text that stands for a bound looks like, by its length.
-use Rattle.std.proofs.Common.{◌≡◌, ℕ, ◌*◌, ◌/◌, ◌%◌, ◌<◌, List, length, take, drop, refl, ap, ◌∙◌, arith, ℤ, pos, negsuc, ◌+ℤ◌, ◌-ℤ◌, ◌≤ℤ◌, unsigned_abs}
+use Rattle.std.proofs.Common.{◌≡◌, ℕ, ◌/◌, ◌%◌, ◌<◌, List, length, take, drop, refl, ap, ◌∙◌, arith, ℤ, pos, negsuc, ◌+ℤ◌, ◌≤ℤ◌, unsigned_abs}
 use Rattle.jiff_core.proofs.SignedLemmas.{signed_arith, int_rem_euclid-parts}
 use Rattle.oai_time.specs.declared.bound.Bound.{Bound}
 use Rattle.oai_time.specs.declared.bound.Bound.TheVariants.{Day as WholeDay, Second as OneSecond}
 use Rattle.oai_time.specs.declared.granularity.Granularity.TheVariants.{Day}
-use Rattle.oai_time.specs.Bound.{IsBound, IsMidnight}
+use Rattle.oai_time.specs.Bound.{IsBound, IsMidnight, midnight_of}
 use Rattle.oai_time.specs.Calendar.{calendar_day}
 use Rattle.oai_time.specs.Stamp.{IsWritable, stamp_of}
 use Rattle.oai_time.proofs.StampLemmas.{stamp_of-in_range}
@@ -30,10 +30,10 @@ era t h = nonnegative (t +ℤ pos 62_167_219_200) (omega (arith, signed_arith))
 pub day_below : (t : ℤ) → IsWritable t → seconds_of_era t / 86_400 < 3_652_425
 day_below t h = omega (arith, signed_arith, era t h)
 
-pub midnight_is : (t : ℤ) → IsMidnight t → t ≡ pos (86_400 * (seconds_of_era t / 86_400)) -ℤ pos 62_167_219_200
+pub midnight_is : (t : ℤ) → IsMidnight t → t ≡ midnight_of (seconds_of_era t / 86_400)
 midnight_is t h = omega (arith, signed_arith, era t h.0, int_rem_euclid-parts t 86_400, h.0, h.1)
 
-second_is : (t : ℤ) → IsWritable t → t ≡ pos (86_400 * (seconds_of_era t / 86_400)) -ℤ pos 62_167_219_200 +ℤ pos (seconds_of_era t % 86_400)
+second_is : (t : ℤ) → IsWritable t → t ≡ midnight_of (seconds_of_era t / 86_400) +ℤ pos (seconds_of_era t % 86_400)
 second_is t h = omega (arith, signed_arith, era t h)
 
 -- ten bytes stand for the day with some number
@@ -41,7 +41,7 @@ pub record IsDayBound (text : List ℕ) (bound : Bound) : Type 0 where
   pub days : ℕ
   pub below : days < 3_652_425
   pub written : text ≡ date_text (calendar_day days)
-  pub is : bound ≡ WholeDay (pos (86_400 * days) -ℤ pos 62_167_219_200)
+  pub is : bound ≡ WholeDay (midnight_of days)
 
 pub by_ten : (text : List ℕ) (bound : Bound) → length text ≡ 10 → IsBound text bound → IsDayBound text bound
 unfolding day_text
@@ -61,7 +61,7 @@ pub record IsSecondBound (text : List ℕ) (bound : Bound) : Type 0 where
   pub within : second < 86_400
   pub date : take 10 text ≡ date_text (calendar_day days)
   pub time : drop 10 text ≡ time_text second
-  pub is : bound ≡ OneSecond (pos (86_400 * days) -ℤ pos 62_167_219_200 +ℤ pos second)
+  pub is : bound ≡ OneSecond (midnight_of days +ℤ pos second)
 
 -- the day stands in front of the text of the second
 pub day_in_second : (t : ℤ) → take 10 (second_text t) ≡ day_text t

@@ -4,4 +4,5 @@ pub mod ClockLemmas
 pub mod DateLemmas
 pub mod DigitLemmas
 pub mod ReadingLemmas
+pub mod SecondTexts
 pub mod StampLemmas

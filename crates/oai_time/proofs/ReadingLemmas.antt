@@ -1,5 +1,5 @@
 -- A text stands for one bound at most, and `bound_of` finds it.
-use Rattle.std.proofs.Common.{◌≡◌, ℕ, zero, suc, ◌+◌, ◌*◌, ◌/◌, ◌%◌, ◌<◌, Bool, true, false, cond, inl, inr, List, length, Option, None, Some, Result, Ok, Err, IfOk, OnErr, refl, sym, ap, subst, ◌∙◌, arith, ℤ, pos, ◌+ℤ◌, ◌-ℤ◌, get_or}
+use Rattle.std.proofs.Common.{◌≡◌, ℕ, zero, suc, ◌+◌, ◌*◌, ◌/◌, ◌%◌, ◌<◌, Bool, true, false, cond, inl, inr, List, length, Option, None, Some, Result, Ok, Err, IfOk, OnErr, refl, sym, ap, subst, ◌∙◌, arith, ℤ, pos, ◌+ℤ◌, get_or}
 use Rattle.std.specs.Prelude.{bytes_eq, ◌⊎◌}
 use Rattle.std.specs.Option.{option_map, option_or}
 use Rattle.std.specs.Result.{result_ok}
@@ -9,7 +9,7 @@ use Rattle.jiff_core.proofs.SignedLemmas.{signed_arith, int_rem_euclid-parts}
 use Rattle.oai_time.specs.declared.bound.BadDate.{BadDate}
 use Rattle.oai_time.specs.declared.bound.Bound.{Bound}
 use Rattle.oai_time.specs.declared.bound.Bound.TheVariants.{Day as WholeDay, Second as OneSecond}
-use Rattle.oai_time.specs.Bound.{IsBound, IsMidnight, last_below, second_of_era, midnight_of, day_of, second_of, bound_of}
+use Rattle.oai_time.specs.Bound.{IsBound, IsMidnight, last_below, second_after, midnight_of, day_of, second_of, bound_of}
 use Rattle.oai_time.specs.Calendar.{CalendarDay, calendar_day}
 use Rattle.oai_time.specs.TimeTexts.{date_text, time_text, day_text, second_text, seconds_of_era}
 use Rattle.oai_time.proofs.BoundLemmas.{IsDayBound, IsSecondBound, by_ten, by_twenty, length-day_text, length-second_text, day_below, era, midnight_is}
@@ -74,15 +74,15 @@ same_time s t first second same =
 one_day : (text : List ℕ) (a b : Bound) → IsDayBound text a → IsDayBound text b → a ≡ b
 one_day text a b first second =
     let same = same_day first.days second.days first.below second.below (sym first.written ∙ second.written) in
-    first.is ∙ ap (λ (n : ℕ). WholeDay (pos (86_400 * n) -ℤ pos 62_167_219_200)) same ∙ sym second.is
+    first.is ∙ ap (λ (n : ℕ). WholeDay (midnight_of n)) same ∙ sym second.is
 
 one_second : (text : List ℕ) (a b : Bound) → IsSecondBound text a → IsSecondBound text b → a ≡ b
 one_second text a b first second =
     let day = same_day first.days second.days first.below second.below (sym first.date ∙ second.date) in
     let time = same_time first.second second.second first.within second.within (sym first.time ∙ second.time) in
     first.is
-    ∙ ap (λ (n : ℕ). OneSecond (pos (86_400 * n) -ℤ pos 62_167_219_200 +ℤ pos first.second)) day
-    ∙ ap (λ (s : ℕ). OneSecond (pos (86_400 * second.days) -ℤ pos 62_167_219_200 +ℤ pos s)) time
+    ∙ ap (λ (n : ℕ). OneSecond (midnight_of n +ℤ pos first.second)) day
+    ∙ ap (λ (s : ℕ). OneSecond (midnight_of second.days +ℤ pos s)) time
     ∙ sym second.is
 
 pub IsBound-unique : (text : List ℕ) (a b : Bound) → IsBound text a → IsBound text b → a ≡ b
@@ -134,24 +134,24 @@ day_is text n e =
       written = (bytes_eq-Decides text (day_text seconds)).0 h.0;
     }
 
-second_is : (text : List ℕ) (n : ℕ) → second_of text ≡ Some n → IsBound text (OneSecond (second_of_era n))
+second_is : (text : List ℕ) (n : ℕ) → second_of text ≡ Some n → IsBound text (OneSecond (second_after n))
 unfolding second_of
 second_is text n e =
-    let h = found (λ n. bytes_eq text (second_text (second_of_era n))) 315_569_520_000 n e in
+    let h = found (λ n. bytes_eq text (second_text (second_after n))) 315_569_520_000 n e in
     let low = h.1 in
     record {
       in_range = omega (arith, signed_arith);
-      written = (bytes_eq-Decides text (second_text (second_of_era n))).0 h.0;
+      written = (bytes_eq-Decides text (second_text (second_after n))).0 h.0;
     }
 
 either_is : (text : List ℕ) (b : Bound) (day second : Option ℕ) → day_of text ≡ day → second_of text ≡ second
-    → option_or (option_map (λ n. WholeDay (midnight_of n)) day) (option_map (λ n. OneSecond (second_of_era n)) second) ≡ Some b → IsBound text b
+    → option_or (option_map (λ n. WholeDay (midnight_of n)) day) (option_map (λ n. OneSecond (second_after n)) second) ≡ Some b → IsBound text b
 either_is text b (Some n) second d s e =
     let same : WholeDay (midnight_of n) ≡ b = cc in
     let Is : Bound → Type 0 = IsBound text in
     subst Is same (day_is text n d)
 either_is text b None (Some n) d s e =
-    let same : OneSecond (second_of_era n) ≡ b = cc in
+    let same : OneSecond (second_after n) ≡ b = cc in
     let Is : Bound → Type 0 = IsBound text in
     subst Is same (second_is text n s)
 either_is text b None None d s e = cc
@@ -173,13 +173,13 @@ some_second : (text : List ℕ) (t : ℤ) → IsBound text (OneSecond t) → (n 
 unfolding second_of
 some_second text t h =
     let n = seconds_of_era t in
-    let is : t ≡ second_of_era n = omega (arith, signed_arith, era t h.in_range) in
-    some (λ n. bytes_eq text (second_text (second_of_era n))) 315_569_520_000 n (omega (arith, signed_arith, era t h.in_range, h.in_range))
-    ((bytes_eq-Decides text (second_text (second_of_era n))).1 (h.written ∙ ap second_text is))
+    let is : t ≡ second_after n = omega (arith, signed_arith, era t h.in_range) in
+    some (λ n. bytes_eq text (second_text (second_after n))) 315_569_520_000 n (omega (arith, signed_arith, era t h.in_range, h.in_range))
+    ((bytes_eq-Decides text (second_text (second_after n))).1 (h.written ∙ ap second_text is))
 
-either_some : (day second : Option ℕ) (n : ℕ) → (day ≡ Some n) ⊎ (second ≡ Some n) → (b : Bound) × (option_or (option_map (λ n. WholeDay (midnight_of n)) day) (option_map (λ n. OneSecond (second_of_era n)) second) ≡ Some b)
+either_some : (day second : Option ℕ) (n : ℕ) → (day ≡ Some n) ⊎ (second ≡ Some n) → (b : Bound) × (option_or (option_map (λ n. WholeDay (midnight_of n)) day) (option_map (λ n. OneSecond (second_after n)) second) ≡ Some b)
 either_some (Some m) second n h = (WholeDay (midnight_of m), refl)
-either_some None (Some m) n h = (OneSecond (second_of_era m), refl)
+either_some None (Some m) n h = (OneSecond (second_after m), refl)
 either_some None None n (inl e) = cc
 either_some None None n (inr e) = cc
 

@@ -59,13 +59,13 @@ unfoldable pub last_below : (ℕ → Bool) → ℕ → Option ℕ
 last_below passes zero = None
 last_below passes (suc n) = if passes n then Some n else last_below passes n
 
--- the second with that number, counted from 0000-01-01T00:00:00Z
-abbrev pub second_of_era : ℕ → ℤ
-second_of_era n = pos n -ℤ pos 62_167_219_200
+-- the second that lies so many after 0000-01-01T00:00:00Z
+abbrev pub second_after : ℕ → ℤ
+second_after n = pos n -ℤ pos 62_167_219_200
 
--- the midnight of the day with that number, counted from 0000-01-01
+-- the midnight that begins the day that lies so many after 0000-01-01
 abbrev pub midnight_of : ℕ → ℤ
-midnight_of n = pos (86_400 * n) -ℤ pos 62_167_219_200
+midnight_of n = second_after (86_400 * n)
 
 -- the day of the years 0000 to 9999 whose text it is
 unfoldable pub day_of : List ℕ → Option ℕ
@@ -73,10 +73,10 @@ day_of text = last_below (λ n. bytes_eq text (day_text (midnight_of n))) 3_652_
 
 -- the second of the years 0000 to 9999 whose text it is
 unfoldable pub second_of : List ℕ → Option ℕ
-second_of text = last_below (λ n. bytes_eq text (second_text (second_of_era n))) 315_569_520_000
+second_of text = last_below (λ n. bytes_eq text (second_text (second_after n))) 315_569_520_000
 
 -- the bound that the text stands for, of all that there are
 unfoldable pub bound_of : List ℕ → Option Bound
 bound_of text =
     option_or (option_map (λ n. WholeDay (midnight_of n)) (day_of text))
-    (option_map (λ n. OneSecond (second_of_era n)) (second_of text))
+    (option_map (λ n. OneSecond (second_after n)) (second_of text))

@@ -1,4 +1,5 @@
--- The clock of a repository: this repository's own, since OAI-PMH only wants that datestamps do not fall behind (section 2.7.1).
+-- The clock of a repository. OAI-PMH 2.0 wants no datestamp below earliestDatestamp (section 4.2), where it starts; that it never goes back is
+-- this repository's own.
 use Rattle.std.specs.Prelude.{ℤ, pos}
 use Rattle.std.specs.Int.{int_max, int_min}
 

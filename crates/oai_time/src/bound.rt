@@ -1,9 +1,9 @@
-ghost use Rattle.std.specs.Prelude.{◌≡◌, ℕ, ◌+◌, ◌*◌, ◌-◌, ◌<◌, min, length, ◌↔◌, pos, ◌-ℤ◌, IsTrue, IfOk, OnErr, IfSome};
+ghost use Rattle.std.specs.Prelude.{◌≡◌, ℕ, ◌+◌, ◌*◌, ◌-◌, ◌<◌, min, length, ◌↔◌, codes, neg_ℤ, pos, IsTrue, IfOk, OnErr, IfSome};
 ghost use Rattle.std.specs.Result.{result_ok};
-ghost use Rattle.oai_time.specs.Bound.{HasEachDate, IsBound, IsWritableBound, bound_of, is_no_finer_than, lower_of, upper_of};
+ghost use Rattle.oai_time.specs.Bound.{HasEachDate, IsBound, IsWritableBound, bound_of, is_no_finer_than, lower_of, midnight_of, upper_of};
 ghost use Rattle.oai_time.specs.Calendar.{calendar_day};
 ghost use Rattle.oai_time.specs.Stamp.{IsWritable};
-ghost use Rattle.oai_time.specs.TimeTexts.{date_text, time_text};
+ghost use Rattle.oai_time.specs.TimeTexts.{date_text, second_text, time_text};
 
 use crate::granularity::Granularity;
 use crate::text::{FIRST_SECOND, write_day, write_second};
@@ -87,10 +87,14 @@ pub fn is_no_finer_than(bound: Bound, granularity: Granularity) -> bool
 }
 
 /// The law of the calendar: each date of a year from 0000 to 9999, a month from 1 to 12, and a day
-/// from 1 to the month's last is the text of a day. It does nothing at run time.
-#[tactic(auto, using(crate::proofs::DateLemmas::has_each_date))]
+/// from 1 to the month's last is the text of a day; and the numbers of the definitions are the seconds
+/// that they are said to be, of which 1970-01-01T00:00:00Z is the 0th. It does nothing at run time.
 pub fn calendar_law()
-    ensures { HasEachDate }
+    ensures dates { HasEachDate }
+    ensures epoch { second_text (pos 0) ≡ codes "1970-01-01T00:00:00Z" }
+    ensures first { second_text (neg_ℤ (pos 62_167_219_200)) ≡ codes "0000-01-01T00:00:00Z" }
+    ensures last { second_text (pos 253_402_300_799) ≡ codes "9999-12-31T23:59:59Z" }
+    ensures last_tick { second_text (pos 253_370_764_799) ≡ codes "9998-12-31T23:59:59Z" }
 {}
 
 /// Whether the text is what is written for the bound.
@@ -125,7 +129,7 @@ fn candidate(text: &[u8]) -> Option<Bound>
 /// The midnight that begins the day with that number, counted from 0000-01-01.
 fn midnight_of(days: u64) -> i64
     requires { days < 3_652_425 }
-    ensures { result ≡ pos (86_400 * days) -ℤ pos 62_167_219_200 }
+    ensures { result ≡ midnight_of days }
 {
     86_400 * days as i64 + FIRST_SECOND
 }

@@ -3,34 +3,16 @@
 
 ghost use Rattle.std.specs.Prelude.{◌≡◌, IfOk};
 ghost use Rattle.std.specs.Process.{exit_status};
-ghost use Rattle.oaihost.specs.Stops as spec;
+ghost use Rattle.oai_edge.specs.Stops as spec;
 
-mod answers;
-mod ask;
-mod configurations;
-mod events;
-mod lines;
-mod output;
-mod parts;
-mod server;
-mod serving;
-mod spelled;
-mod stop;
-#[cfg(test)]
-mod tests;
-mod trace;
-
-use ask::ask_lines;
-use configurations::{host_of, read_config};
+use oai_edge::{
+    MOST_CONNECTIONS, Stop, ask_lines, host_of, read_config, read_number, serve, trace_lines,
+};
 use oai_front::Front;
-use parts::read_number;
-use server::serve;
 use std::env;
 use std::io::{self, BufWriter};
 use std::process::ExitCode;
 use std::rt::{Clock, Env, Files, Net};
-use stop::Stop;
-use trace::{MOST_CONNECTIONS, trace_lines};
 
 /// What the program is called for, with the path of a configuration.
 #[derive(Drop)]

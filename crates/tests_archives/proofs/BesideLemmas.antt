@@ -2,7 +2,7 @@
 use Rattle.std.proofs.Common.{◌≡◌, ◌∙◌, ℕ, Bool, true, false, eqb, List, [], ◌∷◌, IsTrue, Some, refl, ap, subst}
 use Rattle.std.proofs.lemmas.Bool.{cond-false, eqb-true, false_from_ne_true, or_from}
 use Rattle.oai_catalogue.specs.Store.{Lists}
-use Rattle.oai_repo.specs.Config.{Config}
+use Rattle.oai_settings.specs.Config.{Config}
 use Rattle.oai_repo.specs.Held.{Held, IsHeld, IsNew, KeepsOthers, StandsIn, has, numbers_of}
 use Rattle.oai_repo.proofs.NeighbourLemmas.{apart_turned, held_where, stands_where, still_apart, still_held, still_stands}
 use Rattle.oai_repo.proofs.NumberLemmas.{clash, turned, unused_lacks}

@@ -1,7 +1,7 @@
 //! The repositories that tests speak of, by what is told of each.
 use oai_answers::DeletedRecord;
 use oai_names::{Sequence, Text};
-use oai_repo::{FormatSettings, Settings};
+use oai_settings::{FormatSettings, Settings};
 use oai_time::Granularity;
 use std::alloc::{AllocError, Global};
 

@@ -3,7 +3,8 @@ ghost use Rattle.tests_archives.specs.Beside.{AreBeside};
 
 use oai_catalogue::Versions;
 use oai_item::{Change, Fault};
-use oai_repo::{Refusal, Reply, Repo, RepoConfig};
+use oai_repo::{Refusal, Reply, Repo};
+use oai_settings::RepoConfig;
 use std::alloc::Global;
 
 /// One of two repositories.

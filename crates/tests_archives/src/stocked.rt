@@ -4,7 +4,8 @@ ghost use Rattle.oai_repo.specs.Held.{IsHeld, StandsIn};
 
 use oai_catalogue::Versions;
 use oai_item::{Change, Fault};
-use oai_repo::{Refusal, Reply, Repo, RepoConfig};
+use oai_repo::{Refusal, Reply, Repo};
+use oai_settings::RepoConfig;
 use std::alloc::Global;
 
 /// A repository, and the store that has its items.

@@ -124,6 +124,16 @@ fn fronts_and_bytes_left_over(rt: HostRuntime) -> Result<(), Fail> {
 }
 
 #[test]
+fn too_many_bytes(rt: HostRuntime) -> Result<(), Fail> {
+    let bytes = vec![in rt.alloc(); 0xaa; MOST_ITEM_BYTES + 1]?;
+    assert_eq!(rt;
+        Item::decode(rt.alloc(), bytes.as_slice()).err(),
+        Some(DecodeFault::Damaged)
+    );
+    Ok(())
+}
+
+#[test]
 fn texts_of_decode_faults(rt: HostRuntime) -> Result<(), Fail> {
     let alloc = rt.alloc();
     let damaged = format!(in alloc; "{}", DecodeFault::Damaged)?;

@@ -2,7 +2,8 @@
 use oai_answers::DeletedRecord;
 use oai_catalogue::PlainVersions;
 use oai_deposit::{LineFault, read_line};
-use oai_repo::{Refusal, Reply, RepoConfig};
+use oai_repo::{Refusal, Reply};
+use oai_settings::RepoConfig;
 use std::alloc::{AllocError, Global};
 use std::process::Abort;
 use std::test::Fail;

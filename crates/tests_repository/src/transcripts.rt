@@ -4,7 +4,8 @@
 use oai_catalogue::{PlainVersions, Versions};
 use oai_deposit::read_line;
 use oai_item::{Change, Fault};
-use oai_repo::{Refusal, Reply, RepoConfig};
+use oai_repo::{Refusal, Reply};
+use oai_settings::RepoConfig;
 use std::alloc::{AllocError, Global};
 use std::io::Write;
 use std::process::Abort;

@@ -1,6 +1,6 @@
 //! What settings make a configuration, why others make none, and what is told of each fault.
 use oai_answers::DeletedRecord;
-use oai_repo::{ConfigFault, RepoConfig};
+use oai_settings::{ConfigFault, RepoConfig};
 use oai_time::Granularity;
 use std::alloc::{AllocError, Global};
 use std::process::Abort;

@@ -5,7 +5,8 @@ use crate::samples::{
 };
 use oai_catalogue::{PlainVersions, Versions};
 use oai_item::Fault;
-use oai_repo::{Refusal, Reply, RepoConfig};
+use oai_repo::{Refusal, Reply};
+use oai_settings::RepoConfig;
 use std::alloc::Global;
 use std::io::Write;
 use std::process::Abort;

@@ -1,6 +1,6 @@
 ghost use Rattle.std.specs.Prelude.{◌≡◌, Bool, IfOk};
 ghost use Rattle.oai_item.specs.Rules.{has_repeat};
-ghost use Rattle.oai_repo.specs.Settings.{has_number};
+ghost use Rattle.oai_settings.specs.Settings.{has_number};
 ghost use Rattle.oai_host.specs.declared.faults.ReadFault.{ReadFault};
 ghost use Rattle.oai_host.specs.Configs as rule;
 ghost use Rattle.oai_host.specs.Causes as spec;
@@ -9,7 +9,7 @@ ghost use Rattle.oai_host.specs.ReadingWork.{AreMade, IsHostedOr, IsLowestOf, fi
 use crate::config::HostedConfig;
 use crate::faults::ReadFault;
 use oai_names::Sequence;
-use oai_repo::{RepoConfig, Settings};
+use oai_settings::{RepoConfig, Settings};
 use std::alloc::{AllocError, Global};
 use std::collections::BTreeSet;
 

@@ -5,9 +5,10 @@ ghost use Rattle.oai_host.specs.Shapes as shape;
 ghost use Rattle.oai_host.specs.ReadingWork.{Gives};
 
 use crate::faults::ReadFault;
-use crate::readings::members::{copy_at, has_members, texts_at};
+use crate::readings::members::{copy_at, texts_at};
+use oai_deposit::has_members;
 use oai_names::Sequence;
-use oai_repo::FormatSettings;
+use oai_settings::FormatSettings;
 use serde_json::Value;
 use std::alloc::Global;
 

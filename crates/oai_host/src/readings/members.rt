@@ -1,8 +1,6 @@
-ghost use Rattle.std.specs.Prelude.{◌≡◌, is_some, map};
-ghost use Rattle.std.specs.List.{list_all};
-ghost use Rattle.serde_json.specs.Find.{as_str, get};
+ghost use Rattle.std.specs.Prelude.{map};
+ghost use Rattle.serde_json.specs.Find.{as_str};
 ghost use Rattle.serde_json.specs.View.{view};
-ghost use Rattle.oai_deposit.specs.Json as json;
 ghost use Rattle.oai_host.specs.Readings.{each_of};
 ghost use Rattle.oai_host.specs.Shapes as shape;
 ghost use Rattle.oai_host.specs.ReadingWork.{Answers, Gives};
@@ -11,38 +9,6 @@ use crate::faults::ReadFault;
 use oai_names::{Sequence, Text};
 use serde_json::Value;
 use std::alloc::Global;
-
-/// Whether the value is an object of exactly these members.
-#[tactic(auto, using(oai_deposit::proofs::JsonLemmas::has_members_map))]
-pub(super) fn has_members(value: &Value, names: &[&str]) -> bool
-    ensures { result ≡ json.has_members (map (λ name. name.now) names.now) (view value.now) }
-{
-    size(value) == names.len() && has_each(value, names)
-}
-
-/// Whether the value has a member of each of these names.
-fn has_each(value: &Value, names: &[&str]) -> bool
-    ensures { result ≡ list_all (λ name. is_some (get name.now (view value.now))) names.now }
-{
-    names.iter().all(|name| has(value, name))
-}
-
-/// Whether the value is an object with a member of that name.
-fn has(value: &Value, name: &str) -> bool
-    ensures { result ≡ is_some (get name.now (view value.now)) }
-{
-    value.get(name).is_some()
-}
-
-/// How many members an object has, and 0 at any other value.
-fn size(value: &Value) -> usize
-    ensures { result ≡ json.size (view value.now) }
-{
-    match value {
-        Value::Object(members) => members.len(),
-        _ => 0,
-    }
-}
 
 /// The text of the member of that name; `BadShape` where there is no such string.
 #[tactic(auto, unfolding(crate::specs::Shapes::text_at))]

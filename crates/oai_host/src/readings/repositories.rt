@@ -7,10 +7,11 @@ ghost use Rattle.oai_host.specs.ReadingWork.{Answers, Gives};
 
 use crate::faults::ReadFault;
 use crate::readings::formats::each_format;
-use crate::readings::members::{copy_at, elements_at, has_members, number_at, text_at, texts_at};
+use crate::readings::members::{copy_at, elements_at, number_at, text_at, texts_at};
 use oai_answers::DeletedRecord;
+use oai_deposit::has_members;
 use oai_names::{Sequence, Text};
-use oai_repo::{FormatSettings, Settings};
+use oai_settings::{FormatSettings, Settings};
 use oai_time::Granularity;
 use serde_json::Value;
 use std::alloc::Global;

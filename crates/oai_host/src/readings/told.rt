@@ -4,11 +4,12 @@ ghost use Rattle.oai_host.specs.ReadingWork.{Answers, Gives, IsJson, IsText};
 ghost use Rattle.oai_host.specs.Written.{ShapeLaw};
 
 use crate::faults::ReadFault;
-use crate::readings::members::{has_members, number_at, text_at};
+use crate::readings::members::{number_at, text_at};
 use crate::readings::repositories::repositories_at;
+use oai_deposit::has_members;
 use oai_item::is_short_text;
 use oai_names::Sequence;
-use oai_repo::Settings;
+use oai_settings::Settings;
 use serde_json::Value;
 use std::alloc::Global;
 

@@ -5,7 +5,8 @@ ghost use Rattle.oai_item.specs.Workings.{IsCheck};
 ghost use Rattle.oai_item.specs.Rules.{are_names, are_uris, has_repeat, is_element_name, is_first_byte, is_name, is_name_byte, is_space, is_uri};
 
 use super::{Format, FormatFault, format_named};
-use oai_names::{Text, is_xml_text};
+use crate::short_texts::is_short_text;
+use oai_names::Text;
 use std::alloc::{AllocError, Global};
 use std::collections::BTreeSet;
 
@@ -17,9 +18,6 @@ const MOST_FIELDS: usize = 256;
 
 /// The most bytes that the name of an element has.
 const MOST_NAME_BYTES: usize = 64;
-
-/// The most bytes that the URL of a schema or a namespace has.
-const MOST_URI_BYTES: usize = 512;
 
 /// Whether the format may stand beside these: the first cause against it.
 #[tactic(auto, unfolding(crate::specs::Declaring::declare_fault))]
@@ -109,7 +107,7 @@ fn are_uris(format: &Format) -> bool
 fn is_uri(text: &str) -> bool
     ensures { result ≡ is_uri text.now }
 {
-    !text.is_empty() && text.len() <= MOST_URI_BYTES && is_xml_text(text) && !has_space(text)
+    is_short_text(text) && !has_space(text)
 }
 
 fn has_space(text: &str) -> bool

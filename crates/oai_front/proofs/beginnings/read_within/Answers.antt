@@ -1,21 +1,23 @@
 -- What the parser answers on the first bytes holds of all, whatever comes behind them.
-use Rattle.std.proofs.Common.{◌≡◌, ◌≤◌, ℕ, List, length, subst, refl, arith, inl, inr}
+use Rattle.std.proofs.Common.{◌≡◌, ◌≤◌, ℕ, List, length, take, Err, ap, subst, refl, arith, inl, inr}
 use Rattle.std.proofs.lemmas.Bool.{lt-ltb, le-ltb, cases_lt}
-use Rattle.httparse.specs.Grammar.{HasNoRequest}
-use Rattle.oai_front.specs.Messages.{HasNoHead, NeverHasHead}
+use Rattle.std.proofs.lemmas.List.{take_all}
+use Rattle.httparse.specs.Grammar.{HasNoRequest, MayBecomeRequest, NeverHasRequest}
+use Rattle.httparse.specs.Spans.{RequestExceeds}
+use Rattle.oai_front.specs.Messages.{HasNoHead, MayBegin, NeverHasHead}
 use Rattle.oai_front.specs.Workings.{IsBeginning, beginning_unless_full}
 use Rattle.oai_front.specs.declared.beginnings.Beginning.{Beginning}
-use Rattle.oai_front.specs.declared.beginnings.TheConstants.{MOST_HEAD_BYTES}
-use Rattle.oai_front.proofs.HeadLemmas.{kept_in_front, none_in_front, never_in_front, never_after, none_after}
+use Rattle.oai_front.specs.declared.beginnings.TheConstants.{MOST_FIELDS, MOST_HEAD_BYTES}
+use Rattle.oai_front.proofs.HeadLemmas.{kept_in_front, none_in_front, never_in_front, never_after, never_request, none_after}
 use Rattle.oai_front.proofs.beginnings.read_within.Goals as goal
 
 -- no head so far; and none ever, where there are as many bytes as one may have
-unless_full : (bytes : List ℕ) (most : ℕ) (b : Beginning) → most ≡ MOST_HEAD_BYTES → HasNoHead bytes → (most ≤ length bytes → NeverHasHead bytes)
+unless_full : (bytes : List ℕ) (most : ℕ) (b : Beginning) → most ≡ MOST_HEAD_BYTES → HasNoHead bytes → MayBegin (take most bytes) → (most ≤ length bytes → NeverHasHead bytes)
     → b ≡ beginning_unless_full most bytes → IsBeginning bytes b
-unless_full bytes most b is none never e =
+unless_full bytes most b is none begins never e =
     elim (cases_lt (length bytes) most) [
-      | inl few ↦ rw (e, lt-ltb (length bytes) most few) (none, omega (arith, is, few))
-      | inr full ↦ rw (e, le-ltb (length bytes) most full) (inl (never full, refl))
+      | inl few ↦ rw (e, lt-ltb (length bytes) most few) (none, omega (arith, is, few), subst MayBegin (take_all most bytes (omega (arith, few))) begins)
+      | inr full ↦ rw (e, le-ltb (length bytes) most full) (inl ((never full, inr (omega (arith, is, full))), refl))
     ]
 
 pub returns-in-Ok-Complete : goal.returns-in-Ok-Complete
@@ -25,15 +27,24 @@ returns-in-Ok-Complete c =
 pub returns-in-Ok-Partial : goal.returns-in-Ok-Partial
 returns-in-Ok-Partial c =
     let none = subst HasNoRequest c.front_of-front.ensures (rw c.in-Ok-Partial.field-0-is at c.in-Ok-Partial.ensures.partial) in
+    let begins = subst MayBecomeRequest c.front_of-front.ensures (rw c.in-Ok-Partial.field-0-is at c.in-Ok-Partial.ensures.unfinished) in
     unless_full c.args.bytes.now c.args.most c.unless_full.result c.requires
-    (none_in_front c.args.bytes.now c.args.most (omega (arith, c.requires)) none)
+    (none_in_front c.args.bytes.now c.args.most (omega (arith, c.requires)) none) (inl begins)
     (λ full. never_in_front c.args.bytes.now c.args.most (omega (arith, c.requires)) full none) c.unless_full.ensures
 
-pub returns-in-Err-TooManyHeaders : goal.returns-in-Err-TooManyHeaders
-returns-in-Err-TooManyHeaders c =
-    let never = never_after c.args.bytes.now c.args.most (rw c.front_of-front.ensures at c.in-Err-TooManyHeaders.ensures.no_room) in
-    unless_full c.args.bytes.now c.args.most c.unless_full-in-Err-TooManyHeaders.result c.requires (none_after c.args.bytes.now never) (λ full. never) c.unless_full-in-Err-TooManyHeaders.ensures
+pub returns-in-TooManyHeaders : goal.returns-in-TooManyHeaders
+returns-in-TooManyHeaders c =
+    let never = never_after c.args.bytes.now c.args.most (rw c.front_of-front.ensures at c.in-Err.ensures.no_room) in
+    let many = subst (λ (front : List ℕ). RequestExceeds MOST_FIELDS front) c.front_of-front.ensures (c.in-Err.ensures.too_many (ap (λ e. Err e) c.in-TooManyHeaders.is)) in
+    unless_full c.args.bytes.now c.args.most c.unless_full-in-TooManyHeaders.result c.requires (none_after c.args.bytes.now never) (inr many) (λ full. never) c.unless_full-in-TooManyHeaders.ensures
 
-pub returns-in-Err : goal.returns-in-Err
-returns-in-Err c =
-    inl (never_after c.args.bytes.now c.args.most (rw c.front_of-front.ensures at c.in-Err.ensures.no_room), refl)
+pub returns-in_default : goal.returns-in_default
+returns-in_default c =
+    let never = subst NeverHasRequest c.front_of-front.ensures (c.in-Err.ensures.invalid c.in_default.not-TooManyHeaders) in
+    inl (
+      (
+        never_after c.args.bytes.now c.args.most (rw c.front_of-front.ensures at c.in-Err.ensures.no_room),
+        inl (never_request c.args.bytes.now c.args.most never),
+      ),
+      refl,
+    )

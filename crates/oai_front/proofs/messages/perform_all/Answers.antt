@@ -1,7 +1,7 @@
 -- Each step is a lemma on what was performed so far. The moment lies in the range of its type, so that it is passed on as it is.
 use Rattle.std.proofs.Common.{List, ℕ, length, FitsSigned, w64, to_z-of_z, ap, arith}
 use Rattle.std.specs.List.{concat}
-use Rattle.oai_front.proofs.MessageLemmas.{length_behind, sofar_fault, sofar_last, sofar_more, sofar_none, sofar_refused}
+use Rattle.oai_front.proofs.MessageLemmas.{length_behind, sofar_fault, sofar_last, sofar_more, sofar_none, sofar_refused, sofar_untold}
 use Rattle.oai_front.specs.Performing.{asked_by}
 use Rattle.oai_front.proofs.messages.perform_all.Goals as goal
 
@@ -34,6 +34,12 @@ returns-in-Err-perform-clause-left g c =
     let same = c.in-Err-perform.ensures.err in
     sofar_refused g.H.Handler.step c.args.moment c.args.handler.now c.messages.handler c.perform.new.handler c.args.bytes.now _ _ _ c.messages.rest.now c.messages.known c.in-Message.head
     (simp to_z-of_z at c.messages.invariant.sofar) stands.0 stands.1 same.0 (ap (λ (buffers : List (List ℕ)). concat buffers) same.1)
+
+pub returns-in-Err-clause-left : goal.returns-in-Err-clause-left
+returns-in-Err-clause-left g c =
+    let fits : FitsSigned w64 c.args.moment = c.ranges.moment in
+    sofar_untold g.H.Handler.step c.args.moment c.args.handler.now c.messages.handler c.args.bytes.now _ _ _ c.messages.rest.now c.messages.known c.in-Faulty.status
+    (simp to_z-of_z at c.messages.invariant.sofar) (rw c.in-Faulty.is at c.next_in.ensures) (ap (λ (buffers : List (List ℕ)). concat buffers) c.in-Err.ensures.err)
 
 pub messages-smaller : goal.messages-smaller
 messages-smaller g c =

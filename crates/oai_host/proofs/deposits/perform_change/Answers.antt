@@ -3,7 +3,7 @@ use Rattle.std.proofs.Common.{◌≡◌, ◌∙◌, ℤ, ◌∷◌, [], ◌++◌
 use Rattle.std.proofs.lemmas.Int.{to_z-of_z}
 use Rattle.oai_time.specs.TimeTexts.{datestamp_text}
 use Rattle.oai_item.specs.Refusals.{in_repository, refusal_line}
-use Rattle.oai_repo.specs.Config.{Config}
+use Rattle.oai_settings.specs.Config.{Config}
 use Rattle.oai_repo.specs.Machine.{accepted, refused, written}
 use Rattle.oai_repo.specs.declared.refusals.Refusal.TheVariants as refusal
 use Rattle.oai_host.proofs.DepositLemmas.{told_line}

@@ -4,6 +4,7 @@ use Rattle.std.proofs.lemmas.Int.{to_z-of_z}
 use Rattle.oai_host.specs.Bodies.{lines_in}
 use Rattle.oai_host.specs.Housed.{IsKept}
 use Rattle.oai_host.proofs.DepositLemmas.{AreDone, line_failed, one_done}
+use Rattle.oai_host.proofs.FaultLemmas.{deposit_left}
 use Rattle.oai_host.proofs.deposits.perform_lines.Goals as goal
 
 pub loop-text-preserved : goal.loop-text-preserved
@@ -39,3 +40,8 @@ returns-in-Err-clause-tried g c = λ honest.
     rw (c.of_fault.ensures, repo, lists)
     (line_failed (V.honest c.args.store.now) c.args.repo.now c.loop-text.repo (V.lists c.args.store.now) (V.lists c.loop-text.store) c.args.moment (lines_in c.args.body.now) c.next.new.self c.in-Some.text.now c.loop-text.told.items c.loop-text.done c.in-Err.fault
     so_far honest)
+
+pub returns-in-Err-clause-left : goal.returns-in-Err-clause-left
+returns-in-Err-clause-left g c =
+    let lists = g.V.Versions.lists in
+    rw c.of_fault.ensures (deposit_left ((c.perform_line.new.repo ≡ c.args.repo.now) × (lists c.perform_line.new.store ≡ lists c.args.store.now)) c.in-Err.fault c.loop-text.done)

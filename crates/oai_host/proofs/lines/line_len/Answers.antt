@@ -1,15 +1,17 @@
 -- The place is the first at which the test passes, since it passes nowhere before.
-use Rattle.std.proofs.Common.{◌≡◌, length, arith, sym, eq-eqb}
+use Rattle.std.proofs.Common.{◌≡◌, ◌∙◌, ℕ, List, Option, Some, None, length, arith, sym, le_refl, unwrap_or}
+use Rattle.std.specs.List.{position_or_len}
 use Rattle.std.proofs.lemmas.List.Sums.{position_or_len_is}
+use Rattle.std.proofs.lemmas.Bool.{false_from_ne_true}
+use Rattle.memchr.specs.Find.{IsFirstByte, is_byte}
 use Rattle.oai_host.specs.Bodies.{is_line_end}
 use Rattle.oai_host.proofs.lines.line_len.Goals as goal
 
-pub returns-then-b-eq10-clause-length : goal.returns-then-b-eq10-clause-length
-returns-then-b-eq10-clause-length c =
-    sym (position_or_len_is is_line_end c.args.text.now c.loop-at.at 0 (omega arith) (λ k h. c.loop-at.invariant k 0 h) (λ _. eq-eqb _ 10 c.if-b-eq10.true))
+first : (text : List ℕ) (found : Option ℕ) → IsFirstByte (is_byte 10) text found → unwrap_or found (length text) ≡ position_or_len is_line_end text
+first text None none =
+    sym (position_or_len_is is_line_end text (length text) 0 (le_refl (length text)) (λ k h. false_from_ne_true _ (none k (omega arith) h)) (λ h. absurd (omega arith)))
+first text (Some at) found =
+    sym (position_or_len_is is_line_end text at 0 (omega (arith, found.0.high)) (λ k h. false_from_ne_true _ (found.0.before k (omega arith) h)) (λ _. found.1))
 
 pub returns-clause-length : goal.returns-clause-length
-returns-clause-length c =
-    let text = c.args.text.now in
-    let at_end : c.loop-at.at ≡ length text = omega arith in
-    sym (position_or_len_is is_line_end text (length text) 0 (omega arith) (λ k h. c.loop-at.invariant k 0 (omega arith)) (λ h. absurd (omega arith)))
+returns-clause-length c = c.unwrap_or.ensures ∙ first c.args.text.now c.memchr.result c.memchr.ensures

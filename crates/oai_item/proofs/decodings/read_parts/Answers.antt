@@ -11,31 +11,31 @@ use Rattle.oai_item.proofs.decodings.read_parts.Goals as goal
 pub returns-in_err-live : goal.returns-in_err-live
 returns-in_err-live c =
     let p = err_from_is_err_and c.from_residual.result c.from_residual.ensures.1 in
-    rw (p.1, p.2) (parts_fail _ _ c.args.bytes.now c.args.bytes.now c.in_err-live.field-0.0 (live_stands c.args.bytes.now) c.in_err-live.ensures)
+    rw (p.1, p.2) (parts_fail _ _ c.args.bytes.now c.args.bytes.now c.in_err-live.field-0.0 (omega (arith, c.if-bytes-gt-MOST_ITEM_BYTES.false)) (live_stands c.args.bytes.now) c.in_err-live.ensures)
 
 pub returns-in_err-stamp : goal.returns-in_err-stamp
 returns-in_err-stamp c =
     let p = err_from_is_err_and c.from_residual-in_err-stamp.result c.from_residual-in_err-stamp.ensures.1 in
-    rw (p.1, p.2) (parts_fail _ _ c.args.bytes.now c.in_ok-live.rest.now c.in_err-stamp.field-0.0
+    rw (p.1, p.2) (parts_fail _ _ c.args.bytes.now c.in_ok-live.rest.now c.in_err-stamp.field-0.0 (omega (arith, c.if-bytes-gt-MOST_ITEM_BYTES.false))
     (stamp_stands c.args.bytes.now c.in_ok-live.rest.now c.in_ok-live.live c.in_ok-live.ensures.1) c.in_err-stamp.ensures)
 
 pub returns-in_err-identifier : goal.returns-in_err-identifier
 returns-in_err-identifier c =
     let p = err_from_is_err_and c.from_residual-in_err-identifier.result c.from_residual-in_err-identifier.ensures.1 in
-    rw (p.1, p.2) (parts_fail _ _ c.args.bytes.now c.in_ok-stamp.rest.now c.in_err-identifier.field-0.0
+    rw (p.1, p.2) (parts_fail _ _ c.args.bytes.now c.in_ok-stamp.rest.now c.in_err-identifier.field-0.0 (omega (arith, c.if-bytes-gt-MOST_ITEM_BYTES.false))
     (identifier_stands c.args.bytes.now c.in_ok-live.rest.now c.in_ok-stamp.rest.now c.in_ok-live.live c.in_ok-stamp.stamp c.in_ok-live.ensures.1 c.in_ok-stamp.ensures) c.in_err-identifier.ensures)
 
 pub returns-in_err-sets : goal.returns-in_err-sets
 returns-in_err-sets c =
     let p = err_from_is_err_and c.from_residual-in_err-sets.result c.from_residual-in_err-sets.ensures.1 in
-    rw (p.1, p.2) (parts_fail _ _ c.args.bytes.now c.in_ok-identifier.rest.now c.in_err-sets.field-0.0
+    rw (p.1, p.2) (parts_fail _ _ c.args.bytes.now c.in_ok-identifier.rest.now c.in_err-sets.field-0.0 (omega (arith, c.if-bytes-gt-MOST_ITEM_BYTES.false))
     (sets_stand c.args.bytes.now c.in_ok-live.rest.now c.in_ok-stamp.rest.now c.in_ok-identifier.rest.now c.in_ok-live.live c.in_ok-stamp.stamp c.in_ok-identifier.identifier
     c.in_ok-live.ensures.1 c.in_ok-stamp.ensures c.in_ok-identifier.ensures.1) c.in_err-sets.ensures)
 
 pub returns-in_err-formats : goal.returns-in_err-formats
 returns-in_err-formats c =
     let p = err_from_is_err_and c.from_residual-in_err-formats.result c.from_residual-in_err-formats.ensures.1 in
-    rw (p.1, p.2) (parts_fail _ _ c.args.bytes.now c.in_ok-sets.rest.now c.in_err-formats.field-0.0
+    rw (p.1, p.2) (parts_fail _ _ c.args.bytes.now c.in_ok-sets.rest.now c.in_err-formats.field-0.0 (omega (arith, c.if-bytes-gt-MOST_ITEM_BYTES.false))
     (records_stand c.args.bytes.now c.in_ok-live.rest.now c.in_ok-stamp.rest.now c.in_ok-identifier.rest.now c.in_ok-sets.rest.now c.in_ok-live.live c.in_ok-stamp.stamp c.in_ok-identifier.identifier c.in_ok-sets.sets
     c.in_ok-live.ensures.1 c.in_ok-stamp.ensures c.in_ok-identifier.ensures.1 c.in_ok-sets.ensures.1) c.in_err-formats.ensures)
 

@@ -1,8 +1,9 @@
-use Rattle.std.proofs.Common.{rules, ◌≡◌, ℕ, ◌*◌, ◌<◌, ℤ, pos, ◌+ℤ◌, ◌-ℤ◌, ap, arith, ◌∙◌, sym, FitsSigned, to_z, of_z, to_z-of_z, w64}
+use Rattle.std.proofs.Common.{rules, ◌≡◌, ℕ, ◌*◌, ◌<◌, ℤ, pos, ◌+ℤ◌, ap, arith, ◌∙◌, sym, FitsSigned, to_z, of_z, to_z-of_z, w64}
 use Rattle.std.specs.Prelude.{Some}
 use Rattle.std.proofs.lemmas.Int.{ints}
 use Rattle.jiff.proofs.SpanFacts.{signed_arith}
 use Rattle.oai_time.specs.declared.bound.Bound.TheVariants.{Day, Second}
+use Rattle.oai_time.specs.Bound.{midnight_of, second_after}
 use Rattle.oai_time.proofs.BoundLemmas.{by_ten, by_twenty, by_no_other}
 use Rattle.oai_time.proofs.bound.candidate.Goals as goal
 
@@ -25,7 +26,7 @@ returns-in_err-days-2-clause-only c bound b =
     cc (c.in_err-days-2.ensures.only d.days d.below (c.split_at.ensures.front ∙ d.date))
 
 -- the midnight and the seconds of the day add up without a wrap
-sum_is : (a s : ℕ) (midnight : ℤ) → midnight ≡ pos a -ℤ pos 62_167_219_200 → a < 315_569_520_000 → s < 86_400 → to_z w64 (of_z w64 (to_z w64 (of_z w64 midnight) +ℤ to_z w64 s)) ≡ pos a -ℤ pos 62_167_219_200 +ℤ pos s
+sum_is : (a s : ℕ) (midnight : ℤ) → midnight ≡ second_after a → a < 315_569_520_000 → s < 86_400 → to_z w64 (of_z w64 (to_z w64 (of_z w64 midnight) +ℤ to_z w64 s)) ≡ second_after a +ℤ pos s
 sum_is a s midnight is below within =
     let first : FitsSigned w64 midnight = omega (arith, signed_arith) in
     let second : to_z w64 s ≡ pos s = omega (arith, ints) in
@@ -39,7 +40,7 @@ returns-then-text-eq20-clause-only c bound b =
     let time = c.second_of_day.ensures.only d.second d.within (c.split_at.ensures.back ∙ d.time) in
     let midnight = rw same at c.midnight_of-then-text-eq20.ensures in
     let second = sum_is (86_400 * d.days) c.second_of_day.result c.midnight_of-then-text-eq20.result midnight (omega (arith, d.below)) c.second_of_day.ensures.in_range in
-    let shown = ap (λ n. pos (86_400 * d.days) -ℤ pos 62_167_219_200 +ℤ pos n) time in
+    let shown = ap (λ n. midnight_of d.days +ℤ pos n) time in
     ap (λ z. Some (Second z)) (second ∙ shown) ∙ ap Some (sym d.is)
 
 pub returns-clause-only : goal.returns-clause-only

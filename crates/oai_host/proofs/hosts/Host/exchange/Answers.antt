@@ -1,11 +1,15 @@
 -- An exchange is done by the repository at the place, or is no repository's.
-use Rattle.std.proofs.Common.{◌≡◌, Bool, List, FitsSigned, IsTrue, ap, subst, sym, w64}
+use Rattle.std.proofs.Common.{◌≡◌, ◌∙◌, Bool, List, FitsSigned, IsTrue, ap, ap₂, subst, sym, true, w64}
 use Rattle.std.proofs.lemmas.Int.{to_z-of_z}
-use Rattle.oai_host.specs.Hosts.{Hosting, IsAnswered, Repository}
+use Rattle.oai_host.specs.Hosts.{Hosting, IsAnswered, LeavesOthers, Repository, is_of_none}
 use Rattle.oai_host.specs.Housed.{AreHoused, repositories_of}
 use Rattle.oai_host.specs.Props.{housed_props}
-use Rattle.oai_host.specs.Workings.{call_of}
-use Rattle.oai_host.proofs.HostLemmas.{answered_nowhere, answered_there}
+use Rattle.oai_host.specs.Tasks.{call_of}
+use Rattle.oai_host.specs.declared.housed.Housed.{Housed}
+use Rattle.oai_catalogue.specs.Store.{Lists}
+use Rattle.oai_host.proofs.FaultLemmas.{left_then}
+use Rattle.oai_host.proofs.HostLemmas.{answered_nowhere, answered_there, none_there}
+use Rattle.oai_host.proofs.HousedLemmas.{others_same}
 use Rattle.oai_host.proofs.hosts.Host.exchange.Goals as goal
 
 -- that repositories stand apart is one fact, so a host that has not changed is the one that it was
@@ -38,3 +42,37 @@ returns-in-None-clause-answered g c = λ honest.
     let answer = rw c.status_of.ensures at c.of_status.ensures in
     subst (λ (rs : List Repository). IsAnswered (call_of c.args.moment c.args.exchange.now) c.of_status.result rs rs) before
     (answered_nowhere host.repositories (V.lists host.store) (call_of c.args.moment c.args.exchange.now) c.of_status.result c.in-None.ensures.nowhere answer)
+
+-- ---- over every store
+
+pub returns-in-Some-clause-others : goal.returns-in-Some-clause-others
+returns-in-Some-clause-others g c =
+    let V = g.V.Versions in
+    let host = c.self.inside in
+    let before : repositories_of host.repositories (V.lists host.store) ≡ c.args.self.now.repositories = ap (λ (h : Hosting). h.repositories) c.self.view_is in
+    subst (λ (rs : List Repository). LeavesOthers c.args.exchange.now.target.now rs (repositories_of c.perform.new.self (V.lists c.perform.new.store))) before c.perform.ensures.others
+
+pub returns-in-None-clause-others : goal.returns-in-None-clause-others
+returns-in-None-clause-others g c = others_same c.args.exchange.now.target.now c.args.self.now.repositories
+
+pub returns-in-Some-clause-none : goal.returns-in-Some-clause-none
+returns-in-Some-clause-none g c = λ none.
+    let V = g.V.Versions in
+    let host = c.self.inside in
+    let call = call_of c.args.moment c.args.exchange.now in
+    let before : repositories_of host.repositories (V.lists host.store) ≡ c.args.self.now.repositories = ap (λ (h : Hosting). h.repositories) c.self.view_is in
+    let of_none : is_of_none (repositories_of host.repositories (V.lists host.store)) call ≡ true = ap (λ (rs : List Repository). is_of_none rs call) before ∙ none in
+    none_there host.repositories c.in-Some.place c.in-Some.kind (V.lists host.store) call c.perform.result c.in-Some.ensures.place of_none
+
+pub returns-in-None-clause-none : goal.returns-in-None-clause-none
+returns-in-None-clause-none g c = λ _. rw c.status_of.ensures at c.of_status.ensures
+
+pub returns-in-Some-clause-left : goal.returns-in-Some-clause-left
+returns-in-Some-clause-left g c =
+    let V = g.V.Versions in
+    let host = c.self.inside in
+    let before : repositories_of host.repositories (V.lists host.store) ≡ c.args.self.now.repositories = ap (λ (h : Hosting). h.repositories) c.self.view_is in
+    let lists = V.lists c.perform.new.store in
+    left_then ((c.perform.new.self ≡ host.repositories) × (lists ≡ V.lists host.store)) (repositories_of c.perform.new.self lists ≡ c.args.self.now.repositories) c.perform.result
+    (λ (same : (c.perform.new.self ≡ host.repositories) × (lists ≡ V.lists host.store)). ap₂ (λ (housed : List Housed) (all : Lists). repositories_of housed all) same.0 same.1 ∙ before)
+    c.perform.ensures.left

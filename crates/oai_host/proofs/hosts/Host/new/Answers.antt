@@ -55,3 +55,6 @@ returns-in_err-routes-clause-cause g c = record { last = c.args.store; device = 
 
 pub returns-in_err-begin-clause-cause : goal.returns-in_err-begin-clause-cause
 returns-in_err-begin-clause-cause g c = record { last = c.begin.new.store; device = search rules; honesty = search rules }
+
+pub returns-clause-count : goal.returns-clause-count
+returns-clause-count g c = c.loop-hosted.invariant.count

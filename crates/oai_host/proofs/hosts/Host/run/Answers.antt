@@ -1,6 +1,7 @@
 -- One more exchange is answered, and in the end all are; those of each repository without failures are those that it alone answers.
 use Rattle.std.proofs.Common.{◌≡◌, ◌∙◌, ◌+◌, ◌∷◌, ◌++◌, [], suc, take, List, Bool, IsTrue, arith, rules, refl, sym, ap, subst}
 use Rattle.oai_host.specs.declared.exchanges.Call.{Call}
+use Rattle.oai_host.proofs.FaultLemmas.{counted_last, honest_last}
 use Rattle.oai_host.proofs.RunLemmas.{all_alone, answered_last, answered_none, one_longer, take_more, take_whole}
 use Rattle.oai_host.proofs.hosts.Host.run.Goals as goal
 
@@ -10,6 +11,8 @@ loop-call-init g c =
     record {
       answered = λ _. rw items (answered_none c.args.self.now.repositories);
       many = rw items refl;
+      device = rw items tt;
+      damaged = rw items tt;
       room = search rules;
       count = omega arith;
       honesty = refl;
@@ -30,9 +33,11 @@ loop-call-preserved g c =
           (answered_last (take at calls) c.loop-call.answers.items call c.perform-answer.result c.args.self.now.repositories c.loop-call.self.repositories
           c.perform-answer.new.self.repositories (c.loop-call.invariant.answered honest) (c.perform-answer.ensures.answered (subst (λ (b : Bool). IsTrue b) (sym c.loop-call.invariant.honesty) honest)));
       many = rw (next, items) (one_longer c.loop-call.answers.items c.perform-answer.result at c.loop-call.invariant.many);
+      device = rw items (counted_last c.loop-call.answers.items c.perform-answer.result c.args.self.now.failures c.loop-call.self.failures c.perform-answer.new.self.failures c.loop-call.invariant.count c.loop-call.invariant.device c.perform-answer.ensures.device);
+      damaged = rw items (honest_last c.loop-call.answers.items c.perform-answer.result c.args.self.now.honest c.loop-call.self.honest c.perform-answer.new.self.honest c.loop-call.invariant.honesty c.loop-call.invariant.damaged c.perform-answer.ensures.honesty);
       room = search rules;
-      count = omega (arith, c.loop-call.invariant.count, c.perform-answer.ensures.count);
-      honesty = c.perform-answer.ensures.honesty ∙ c.loop-call.invariant.honesty;
+      count = omega (arith, c.loop-call.invariant.count, c.perform-answer.ensures.device.count);
+      honesty = c.perform-answer.ensures.honesty.same ∙ c.loop-call.invariant.honesty;
     }
 
 pub returns-clause-answered : goal.returns-clause-answered
@@ -46,3 +51,9 @@ returns-clause-alone g c = λ honest none.
     let answered = rw whole at (c.loop-call.invariant.answered honest) in
     let none_so = rw c.new.ensures at none in
     rw c.new.ensures (all_alone c.args.calls.now c.loop-call.answers.items c.args.self.now.repositories c.loop-call.self.repositories answered none_so)
+
+pub returns-clause-device : goal.returns-clause-device
+returns-clause-device g c = rw c.new.ensures c.loop-call.invariant.device
+
+pub returns-clause-damaged : goal.returns-clause-damaged
+returns-clause-damaged g c = rw c.new.ensures c.loop-call.invariant.damaged

@@ -1,6 +1,6 @@
 use Rattle.std.proofs.Common.{◌≡◌, List, length}
 use Rattle.std.specs.Vec.Iter.{into_iter_items, into_iter_len}
-use Rattle.oai_repo.specs.declared.settings.Settings.{Settings}
+use Rattle.oai_settings.specs.declared.settings.Settings.{Settings}
 use Rattle.oai_host.proofs.HostedLemmas.{IsSoFar}
 use Rattle.oai_host.proofs.readings.causes.each_hosted.Given as goal
 

@@ -5,7 +5,7 @@ use Rattle.std.proofs.lemmas.Bool.{not-false, not-true, or_from}
 use Rattle.std.proofs.lemmas.List.{take_more, get_or-map, length-map}
 use Rattle.oai_item.specs.Rules.{has_repeat}
 use Rattle.oai_item.proofs.Repeats.{has_repeat_at, has_repeat-push, seen_more}
-use Rattle.oai_repo.specs.declared.settings.Settings.{Settings}
+use Rattle.oai_settings.specs.declared.settings.Settings.{Settings}
 use Rattle.oai_host.specs.Causes.{names_told}
 use Rattle.oai_host.proofs.readings.causes.has_repeat.Goals as goal
 

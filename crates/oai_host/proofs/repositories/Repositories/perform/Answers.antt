@@ -2,9 +2,9 @@
 use Rattle.std.proofs.Common.{◌≡◌, ◌∙◌, FitsSigned, w64, sym, ap}
 use Rattle.std.proofs.lemmas.Int.{to_z-of_z}
 use Rattle.std.proofs.lemmas.Option.{get_or_from_slice_get}
-use Rattle.oai_host.specs.Workings.{call_of}
+use Rattle.oai_host.specs.Tasks.{call_of}
 use Rattle.oai_host.specs.declared.housed.Housed.{Housed}
-use Rattle.oai_host.proofs.HousedLemmas.{held_at, housed_set, stands_at, steps_set}
+use Rattle.oai_host.proofs.HousedLemmas.{held_at, housed_set, left_set, others_set, stands_at, steps_set}
 use Rattle.oai_host.proofs.PlaceLemmas.{names_set}
 use Rattle.oai_host.proofs.repositories.Repositories.perform.Goals as goal
 
@@ -54,3 +54,25 @@ returns-clause-housed g c =
     let housed = rw (← c.self.view_is) at c.requires.housed in
     let kept = rw one at c.perform.ensures.kept in
     rw one (housed_set (V.honest c.args.store.now) (V.honest c.perform.new.store) inside c.args.place p.one c.perform.new.repo (V.lists c.args.store.now) (V.lists c.perform.new.store) c.perform.ensures.honesty.same there housed kept)
+
+pub returns-clause-others : goal.returns-clause-others
+returns-clause-others g c =
+    let V = g.V.Versions in
+    let p = c.requires.place in
+    let inside = c.self.inside.housed.items in
+    let there = rw (← c.self.view_is) at p.there in
+    let one : c.index_mut.result.now ≡ p.one = c.index_mut.ensures.value ∙ get_or_from_slice_get inside c.args.place p.one c.index_mut.result.now there in
+    let housed = rw (← c.self.view_is) at c.requires.housed in
+    let kept = rw one at c.perform.ensures.kept in
+    rw (← c.self.view_is, one)
+    (others_set (V.honest c.args.store.now) c.args.exchange.now.target.now c.args.kind inside c.args.place p.one c.perform.new.repo (V.lists c.args.store.now) (V.lists c.perform.new.store) there housed kept p.path)
+
+pub returns-clause-left : goal.returns-clause-left
+returns-clause-left g c =
+    let V = g.V.Versions in
+    let p = c.requires.place in
+    let inside = c.self.inside.housed.items in
+    let there = rw (← c.self.view_is) at p.there in
+    let one : c.index_mut.result.now ≡ p.one = c.index_mut.ensures.value ∙ get_or_from_slice_get inside c.args.place p.one c.index_mut.result.now there in
+    let left = rw one at c.perform.ensures.left in
+    rw (← c.self.view_is, one) (left_set c.perform.result inside c.args.place p.one c.perform.new.repo (V.lists c.args.store.now) (V.lists c.perform.new.store) there left)

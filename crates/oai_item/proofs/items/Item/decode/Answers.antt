@@ -4,7 +4,7 @@ use Rattle.std.proofs.lemmas.Int.{to_z-of_z}
 use Rattle.std.proofs.lemmas.Result.{err_from_is_err_and}
 use Rattle.oai_item.specs.Encoding.{Spells}
 use Rattle.oai_item.specs.Item.{IsItem, ItemState, Metadata}
-use Rattle.oai_item.specs.Membership.{AreApart, reduced}
+use Rattle.oai_item.specs.Membership.{NoneCovers, reduced}
 use Rattle.oai_item.specs.Workings.{SpellsParts, item_of, may_be_records}
 use Rattle.oai_item.proofs.Kept.{reduced_apart}
 use Rattle.oai_item.proofs.Numbers.{stamp_fits}
@@ -25,6 +25,12 @@ returns-then-not-may_be_records c =
     no_item c.args.bytes.now made read (λ valid.
     both_ways _ (sym c.may_be_records.ensures ∙ c.if-not-may_be_records.true) (ap test c.as_slice.ensures ∙ records_of_item made valid))
 
+pub returns-in_err-sets : goal.returns-in_err-sets
+returns-in_err-sets c =
+    let read : SpellsParts c.args.bytes.now (item_of c.in_ok-live.field-0) = c.in_ok-live.ensures in
+    let p = err_from_is_err_and c.from_residual-in_err-sets.result c.from_residual-in_err-sets.ensures.1 in
+    rw (p.1, p.2) read.few
+
 pub returns-then-as_slice-many : goal.returns-then-as_slice-many
 returns-then-as_slice-many c =
     let made : ItemState = item_of c.in_ok-live.field-0 in
@@ -43,7 +49,7 @@ invariant_of-result c =
     omega (arith, c.if-as_slice-many.false, ap length c.in_ok-sets.ensures.kept, ap length c.as_slice-2.ensures, ap length c.as_slice-many.ensures) in
     let whole : reduced made.sets ≡ made.sets = reduced_whole made.sets many in
     let same : c.in_ok-sets.sets ≡ made.sets = c.in_ok-sets.ensures.kept ∙ whole in
-    let apart : AreApart made.sets = subst AreApart whole (reduced_apart made.sets) in
+    let apart : NoneCovers made.sets = subst NoneCovers whole (reduced_apart made.sets) in
     let test : List Metadata → Bool = may_be_records made.live in
     let good : may_be_records made.live made.formats ≡ true = ap test (sym c.as_slice.ensures) ∙ sym c.may_be_records.ensures ∙ c.if-not-may_be_records.false in
     let valid : IsItem made = (item_spelled c.args.bytes.now made read apart good).valid in
@@ -60,7 +66,7 @@ returns c =
     omega (arith, c.if-as_slice-many.false, ap length c.in_ok-sets.ensures.kept, ap length c.as_slice-2.ensures, ap length c.as_slice-many.ensures) in
     let whole : reduced made.sets ≡ made.sets = reduced_whole made.sets many in
     let same : c.in_ok-sets.sets ≡ made.sets = c.in_ok-sets.ensures.kept ∙ whole in
-    let apart : AreApart made.sets = subst AreApart whole (reduced_apart made.sets) in
+    let apart : NoneCovers made.sets = subst NoneCovers whole (reduced_apart made.sets) in
     let test : List Metadata → Bool = may_be_records made.live in
     let good : may_be_records made.live made.formats ≡ true = ap test (sym c.as_slice.ensures) ∙ sym c.may_be_records.ensures ∙ c.if-not-may_be_records.false in
     let with_sets : List (List ℕ) → ItemState = λ sets. record { identifier = made.identifier; stamp = made.stamp; live = made.live; sets = sets; formats = made.formats } in

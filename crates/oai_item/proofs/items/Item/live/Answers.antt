@@ -4,7 +4,7 @@ use Rattle.std.proofs.lemmas.Int.{to_z-of_z}
 use Rattle.oai_names.specs.Names.{may_be_identifier}
 use Rattle.oai_item.proofs.Kept.{reduced_apart}
 use Rattle.oai_item.specs.Item.{are_prefixed, are_set_specs}
-use Rattle.oai_item.specs.Membership.{AreApart, reduced}
+use Rattle.oai_item.specs.Membership.{NoneCovers, reduced}
 use Rattle.oai_item.proofs.items.Item.live.Goals as goal
 
 -- the sets that stay are apart; what is not required, the types of the parts say
@@ -17,7 +17,7 @@ invariant_of-result c =
       identified = subst IsIdentifier c.drop.view_is c.drop.invariant;
       stamped = simp to_z-of_z c.requires.stamped;
       in_sets = ap are_set_specs (c.in_ok-reduced.ensures.kept) ∙ c.in_ok-reduced.ensures.names;
-      apart = subst AreApart (sym sets) (reduced_apart c.args.sets);
+      apart = subst NoneCovers (sym sets) (reduced_apart c.args.sets);
       prefixed = ap are_prefixed (sym c.as_slice.ensures) ∙ c.see_prefixes.ensures;
       rising = c.requires.rising;
       carries = c.requires.carries;

@@ -1,8 +1,8 @@
 use Rattle.std.proofs.Common.{rules, ◌≡◌, ◌≢◌, ◌∙◌, ◌+◌, ◌++◌, ◌∷◌, [], ℕ, ℤ, FitsSigned, Fits, List, ap, arith, subst, sym, w64}
 use Rattle.std.specs.Int.{int_min}
 use Rattle.std.proofs.lemmas.Int.{to_z-of_z}
-use Rattle.oai_lists.specs.Bounds.{IsHeld}
-use Rattle.oai_lists.specs.OpenLists.{Table, with_list}
+use Rattle.oai_lists.specs.Workings.{IsHeld}
+use Rattle.oai_lists.specs.OpenLists.{Table, with_opened}
 use Rattle.oai_lists.specs.declared.open_lists.OpenList.{OpenList}
 use Rattle.oai_lists.specs.declared.lists.TheConstants.{LAST_NUMBER}
 use Rattle.oai_lists.proofs.Ends.{held_push, opening_free, opening_refused}
@@ -53,5 +53,5 @@ returns c =
       free.1,
       ap (λ (lists : List OpenList). record { limit = c.self.inside.limit; next = c.in-Ok.number + 1; lists = lists }) pushed
           ∙ ap (λ (n : ℕ). record { limit = c.self.inside.limit; next = n + 1; lists = items ++ named n ∷ [] }) same
-          ∙ ap (λ (t : Table). with_list t (named t.next)) c.self.view_is,
+          ∙ ap (λ (t : Table). with_opened t (named t.next)) c.self.view_is,
     )

@@ -1,0 +1,235 @@
+-- The lines of an input are performed one after the other, and what comes of it.
+use Rattle.std.proofs.Common.{◌≡◌, ◌∙◌, inl, inr, ℕ, ◌+◌, ◌-◌, ◌^◌, min, Bool, true, false, ◌&&◌, List, [], ◌∷◌, ◌++◌, length, map, filter, Option, None, Some, IfErr, IfSome, OnOk, Result, Ok, Err, is_none, IsTrue, refl, sym, ap, subst, arith, append_assoc, append-nil}
+use Rattle.std.specs.Io.KnownBytes.{Appends, Keeps}
+use Rattle.std.specs.List.{flat_map}
+use Rattle.std.proofs.lemmas.Bool.{cases_Bool, cond-true, cond-false}
+use Rattle.std.proofs.lemmas.Grind.{flat_map-append}
+use Rattle.std.proofs.lemmas.List.{map-append}
+use Rattle.std.proofs.lemmas.List.Elements.{filter-append}
+use Rattle.oai_host.proofs.RunLemmas.{answered_last, answered_none}
+use Rattle.oai_host.specs.Hosts.{Hosting}
+use Rattle.oai_host.specs.declared.exchanges.Call.{Call}
+use Rattle.oai_edge.specs.Asked.{AreAsked, AreBegun, AreDone, count_of, lines_of}
+use Rattle.oai_edge.specs.Inputs.{IsNext, IsUnread, left, unread}
+use Rattle.oai_edge.specs.Lines.{IsLineDone, is_bad, is_filled, shown, spelled}
+use Rattle.oai_edge.specs.Workings.{AreEnded, IsEnded, IsReadSoFar}
+use Rattle.oai_edge.specs.declared.stop.Stop.{Stop}
+use Rattle.oai_edge.specs.declared.stop.Stop.TheVariants.{BadConfig, BadExchange, BadPiece, CannotRead, InputFault, NoMemory, OutputFault, SocketFault, TooManyConnections, Usage}
+use Rattle.oai_edge.proofs.KnownLemmas.{appends_both, appends_kept, appends_none}
+
+-- ---- lines that are done
+
+pub ended_none : (host : Hosting) (known : Option (List ℕ)) → AreEnded [] host host 0 (Appends known known)
+ended_none host known = record {
+  honest = refl;
+  counted = refl;
+  done = record { calls = []; answers = []; read = refl; answered = λ honest. answered_none host.repositories; written = appends_none known };
+}
+
+-- an empty line more
+done_empty : (front : List (List ℕ)) (line : List ℕ) (old new : Hosting) (Writes : List ℕ → Type 0) → is_filled line ≡ false → AreDone front old new Writes
+    → AreDone (front ++ line ∷ []) old new Writes
+done_empty front line old new Writes empty done = record {
+  calls = done.calls;
+  answers = done.answers;
+  read =
+      let none : filter is_filled (line ∷ []) ≡ [] = cond-false (is_filled line) (line ∷ []) [] empty in
+      ap (map spelled) (filter-append is_filled front (line ∷ []) ∙ ap (λ (ls : List (List ℕ)). filter is_filled front ++ ls) none ∙ append-nil (filter is_filled front)) ∙ done.read;
+  answered = done.answered;
+  written = done.written;
+}
+
+-- a line more that spells an exchange
+done_line : (front : List (List ℕ)) (line : List ℕ) (old mid new : Hosting) (from was is : Option (List ℕ)) → is_filled line ≡ true → mid.honest ≡ old.honest
+    → AreDone front old mid (Appends from was) → IsLineDone line mid new (Appends was is) → AreDone (front ++ line ∷ []) old new (Appends from is)
+done_line front line old mid new from was is full honest done last = record {
+  calls = done.calls ++ last.call ∷ [];
+  answers = done.answers ++ last.answer ∷ [];
+  read =
+      let one : filter is_filled (line ∷ []) ≡ line ∷ [] = cond-true (is_filled line) (line ∷ []) [] full in
+      ap (map spelled) (filter-append is_filled front (line ∷ []) ∙ ap (λ (ls : List (List ℕ)). filter is_filled front ++ ls) one)
+      ∙ map-append spelled (filter is_filled front) (line ∷ [])
+      ∙ ap (λ (xs : List (Option Call)). xs ++ spelled line ∷ []) done.read
+      ∙ ap (λ (x : Option Call). map Some done.calls ++ x ∷ []) last.read
+      ∙ sym (map-append Some done.calls (last.call ∷ []));
+  answered = λ honestly.
+      answered_last done.calls done.answers last.call last.answer old.repositories mid.repositories new.repositories (done.answered honestly)
+      (last.answered (subst (λ (b : Bool). IsTrue b) (sym honest) honestly));
+  written =
+      let all : flat_map shown (done.answers ++ last.answer ∷ []) ≡ flat_map shown done.answers ++ shown last.answer =
+      flat_map-append shown done.answers (last.answer ∷ []) ∙ ap (λ (xs : List ℕ). flat_map shown done.answers ++ xs) (append-nil (shown last.answer)) in
+      subst (Appends from is) (sym all) (appends_both from was is (flat_map shown done.answers) (shown last.answer) done.written last.written);
+}
+
+number_next : (ended lines : ℕ) → ended ≡ min lines (2 ^ 64 - 1) → min (ended + 1) (2 ^ 64 - 1) ≡ min (lines + 1) (2 ^ 64 - 1)
+number_next ended lines is = omega (arith, is)
+
+length_next : (front : List (List ℕ)) (line : List ℕ) → length (front ++ line ∷ []) ≡ length front + 1
+length_next [] line = refl
+length_next (f ∷ front) line = omega (arith, length_next front line)
+
+ended_as : (front : List (List ℕ)) (line : List ℕ) (old mid new : Hosting) (was is : ℕ) (Before Writes : List ℕ → Type 0) → is ≡ min (was + 1) (2 ^ 64 - 1) → new.honest ≡ mid.honest
+    → AreEnded front old mid was Before → AreDone (front ++ line ∷ []) old new Writes → AreEnded (front ++ line ∷ []) old new is Writes
+ended_as front line old mid new was is Before Writes counted honest ended done = record {
+  honest = honest ∙ ended.honest;
+  counted = counted ∙ number_next was (length front) ended.counted ∙ ap (λ (n : ℕ). min n (2 ^ 64 - 1)) (sym (length_next front line));
+  done = done;
+}
+
+pub ended_empty : (front : List (List ℕ)) (line : List ℕ) (old new : Hosting) (was is : ℕ) (Writes : List ℕ → Type 0) → is ≡ min (was + 1) (2 ^ 64 - 1) → is_filled line ≡ false
+    → AreEnded front old new was Writes → AreEnded (front ++ line ∷ []) old new is Writes
+ended_empty front line old new was is Writes counted empty ended =
+    ended_as front line old new new was is Writes Writes counted refl ended (done_empty front line old new Writes empty ended.done)
+
+ended_line : (front : List (List ℕ)) (line : List ℕ) (old mid new : Hosting) (was is : ℕ) (from before after : Option (List ℕ)) → is ≡ min (was + 1) (2 ^ 64 - 1)
+    → is_filled line ≡ true → new.honest ≡ mid.honest → IsLineDone line mid new (Appends before after) → AreEnded front old mid was (Appends from before)
+    → AreEnded (front ++ line ∷ []) old new is (Appends from after)
+ended_line front line old mid new was is from before after counted full honest last ended =
+    ended_as front line old mid new was is (Appends from before) (Appends from after) counted honest ended
+    (done_line front line old mid new from before after full ended.honest ended.done last)
+
+-- a line that is bad, or at which the program stops for another cause
+ended_stopped : (front : List (List ℕ)) (line : List ℕ) (old mid new : Hosting) (was is : ℕ) (from before after : Option (List ℕ)) (stop : Stop) → is ≡ min (was + 1) (2 ^ 64 - 1)
+    → is_filled line ≡ true
+    → (is_none (spelled line) ≡ true → (stop ≡ BadExchange is) × (new ≡ mid) × (after ≡ before))
+    → (is_none (spelled line) ≡ false → stop ≡ OutputFault)
+    → AreEnded front old mid was (Appends from before) → IsEnded front line old (Err stop) new is (Appends from after)
+ended_stopped front line old mid new was is from before after stop counted full bad good ended = elim (cases_Bool (is_none (spelled line))) [
+  | inl none ↦
+      let so = bad none in
+      let number : is ≡ count_of (length front + 1) = counted ∙ number_next was (length front) ended.counted in
+      let is_so : is_bad line ≡ true = ap (λ (b : Bool). b && is_none (spelled line)) full ∙ none in
+      let done : AreDone front old new (Appends from after) =
+      subst (λ (known : Option (List ℕ)). AreDone front old new (Appends from known)) (sym so.2)
+      (subst (λ (host : Hosting). AreDone front old host (Appends from before)) (sym so.1) ended.done) in
+      subst (λ (s : Stop). IsEnded front line old (Err s) new is (Appends from after)) (sym so.0) (is_so, number, done)
+  | inr some ↦ subst (λ (s : Stop). IsEnded front line old (Err s) new is (Appends from after)) (sym (good some)) refl
+]
+
+abbrev stop_in : Result Unit Stop → Stop
+stop_in (Ok done) = NoMemory
+stop_in (Err stop) = stop
+
+-- whatever comes of the line
+pub ended_so : (front : List (List ℕ)) (line : List ℕ) (old mid new : Hosting) (was is : ℕ) (from before after : Option (List ℕ)) (result : Result Unit Stop) → is ≡ min (was + 1) (2 ^ 64 - 1)
+    → is_filled line ≡ true → (is_none (spelled line) ≡ true → result ≡ Err (BadExchange is)) → (is_none (spelled line) ≡ true → new ≡ mid) → (is_none (spelled line) ≡ true → after ≡ before)
+    → (is_none (spelled line) ≡ false → IfErr result (λ (stop : Stop). stop ≡ OutputFault)) → OnOk result (IsLineDone line mid new (Appends before after)) → new.honest ≡ mid.honest
+    → AreEnded front old mid was (Appends from before) → IsEnded front line old result new is (Appends from after)
+ended_so front line old mid new was is from before after (Ok done) counted full bad bad_host bad_written good last honest ended =
+    ended_line front line old mid new was is from before after counted full honest last ended
+ended_so front line old mid new was is from before after (Err stop) counted full bad bad_host bad_written good last honest ended =
+    ended_stopped front line old mid new was is from before after stop counted full (λ none. (ap stop_in (bad none), bad_host none, bad_written none)) good ended
+
+-- ---- the whole input
+
+pub read_none : (known : Option (List ℕ)) (host : Hosting) (written : Option (List ℕ)) → IsReadSoFar known (left unread known) host host 0 (Appends written written)
+read_none None host written = tt
+read_none (Some input) host written = ([], refl, ended_none host written)
+
+-- one line more
+pub read_more : (known : Option (List ℕ)) (lines others : Option (List (List ℕ))) (line : List ℕ) (old mid new : Hosting) (was is : ℕ) (Before Writes : List ℕ → Type 0)
+    → IsNext lines (Ok true) line others → ((front : List (List ℕ)) → AreEnded front old mid was Before → IsEnded front line old (Ok tt) new is Writes)
+    → IsReadSoFar known lines old mid was Before → IsReadSoFar known others old new is Writes
+read_more None lines others line old mid new was is Before Writes next goes so_far = tt
+read_more (Some input) None others line old mid new was is Before Writes next goes so_far = absurd so_far
+read_more (Some input) (Some ls) None line old mid new was is Before Writes next goes so_far = absurd next
+read_more (Some input) (Some ls) (Some os) line old mid new was is Before Writes next goes so_far =
+    (so_far.0 ++ line ∷ [], so_far.1 ∙ ap (λ (xs : List (List ℕ)). so_far.0 ++ xs) next ∙ sym (append_assoc so_far.0 (line ∷ []) os), goes so_far.0 so_far.2)
+
+stopped_there : (front lines others : List (List ℕ)) (line : List ℕ) (old new : Hosting) (is : ℕ) (Writes : List ℕ → Type 0) (stop : Stop) → lines ≡ front ++ line ∷ others
+    → IsEnded front line old (Err stop) new is Writes → AreAsked lines old (Err stop) new Writes
+stopped_there front lines others line old new is Writes (BadExchange number) cut ended =
+    record { front = front; line = line; others = others; cut = cut; numbered = ended.1; bad = ended.0; done = ended.2 }
+stopped_there front lines others line old new is Writes OutputFault cut ended = tt
+stopped_there front lines others line old new is Writes Usage cut ended = absurd cc
+stopped_there front lines others line old new is Writes CannotRead cut ended = absurd cc
+stopped_there front lines others line old new is Writes (BadConfig fault) cut ended = absurd cc
+stopped_there front lines others line old new is Writes (BadPiece number) cut ended = absurd cc
+stopped_there front lines others line old new is Writes (TooManyConnections number) cut ended = absurd cc
+stopped_there front lines others line old new is Writes InputFault cut ended = absurd cc
+stopped_there front lines others line old new is Writes SocketFault cut ended = absurd cc
+stopped_there front lines others line old new is Writes NoMemory cut ended = absurd cc
+
+-- it stops at a line
+pub asked_stopped : (known : Option (List ℕ)) (lines others : Option (List (List ℕ))) (line : List ℕ) (old mid new : Hosting) (was is : ℕ) (Before Writes : List ℕ → Type 0) (stop : Stop)
+    → IsNext lines (Ok true) line others → ((front : List (List ℕ)) → AreEnded front old mid was Before → IsEnded front line old (Err stop) new is Writes)
+    → IsReadSoFar known lines old mid was Before → IfSome known (λ (input : List ℕ). AreAsked (lines_of input) old (Err stop) new Writes)
+asked_stopped None lines others line old mid new was is Before Writes stop next goes so_far = tt
+asked_stopped (Some input) None others line old mid new was is Before Writes stop next goes so_far = absurd so_far
+asked_stopped (Some input) (Some ls) None line old mid new was is Before Writes stop next goes so_far = absurd next
+asked_stopped (Some input) (Some ls) (Some os) line old mid new was is Before Writes stop next goes so_far =
+    stopped_there so_far.0 (lines_of input) os line old new is Writes stop (so_far.1 ∙ ap (λ (xs : List (List ℕ)). so_far.0 ++ xs) next) (goes so_far.0 so_far.2)
+
+-- there is no line more
+pub asked_whole : (known : Option (List ℕ)) (lines others : Option (List (List ℕ))) (line : List ℕ) (old new : Hosting) (count : ℕ) (Writes : List ℕ → Type 0)
+    → IsNext lines (Ok false) line others → IsReadSoFar known lines old new count Writes → IfSome known (λ (input : List ℕ). AreAsked (lines_of input) old (Ok tt) new Writes)
+asked_whole None lines others line old new count Writes next so_far = tt
+asked_whole (Some input) None others line old new count Writes next so_far = absurd so_far
+asked_whole (Some input) (Some ls) others line old new count Writes next so_far =
+    subst (λ (ls : List (List ℕ)). AreDone ls old new Writes) (sym (so_far.1 ∙ ap (λ (xs : List (List ℕ)). so_far.0 ++ xs) next ∙ append-nil so_far.0)) so_far.2.done
+
+-- the input is not read to its end: the lines that were read are done
+begun_so : (lines : List (List ℕ)) (old new : Hosting) (Writes : List ℕ → Type 0) (stop : Stop) → IsUnread stop → AreBegun lines old new Writes → AreAsked lines old (Err stop) new Writes
+begun_so lines old new Writes stop (inl is) begun = subst (λ (s : Stop). AreAsked lines old (Err s) new Writes) (sym is) begun
+begun_so lines old new Writes stop (inr is) begun = subst (λ (s : Stop). AreAsked lines old (Err s) new Writes) (sym is) begun
+
+pub asked_unread : (known : Option (List ℕ)) (lines : Option (List (List ℕ))) (old new : Hosting) (count : ℕ) (Writes : List ℕ → Type 0) (stop : Stop) → IsUnread stop
+    → IsReadSoFar known lines old new count Writes → IfSome known (λ (input : List ℕ). AreAsked (lines_of input) old (Err stop) new Writes)
+asked_unread None lines old new count Writes stop cause so_far = tt
+asked_unread (Some input) None old new count Writes stop cause so_far = absurd so_far
+asked_unread (Some input) (Some ls) old new count Writes stop cause so_far =
+    begun_so (lines_of input) old new Writes stop cause (record { front = so_far.0; others = ls; cut = so_far.1; done = so_far.2.done })
+
+-- nothing of it is read
+pub asked_none : (known : Option (List ℕ)) (host : Hosting) (written : Option (List ℕ)) (stop : Stop) → stop ≡ NoMemory
+    → IfSome known (λ (input : List ℕ). AreAsked (lines_of input) host (Err stop) host (Appends written written))
+asked_none known host written stop is = asked_unread known (left unread known) host host 0 (Appends written written) stop (inr is) (read_none known host written)
+
+-- ---- what was written is kept
+
+done_kept : (lines : List (List ℕ)) (old new : Hosting) (a b c : Option (List ℕ)) → Keeps b c → AreDone lines old new (Appends a b) → AreDone lines old new (Appends a c)
+done_kept lines old new a b c kept done = record {
+  calls = done.calls;
+  answers = done.answers;
+  read = done.read;
+  answered = done.answered;
+  written = appends_kept a b c (flat_map shown done.answers) done.written kept;
+}
+
+begun_kept : (lines : List (List ℕ)) (old new : Hosting) (a b c : Option (List ℕ)) → Keeps b c → AreBegun lines old new (Appends a b) → AreBegun lines old new (Appends a c)
+begun_kept lines old new a b c kept begun =
+    record { front = begun.front; others = begun.others; cut = begun.cut; done = done_kept begun.front old new a b c kept begun.done }
+
+kept_so : (lines : List (List ℕ)) (old new : Hosting) (a b c : Option (List ℕ)) (result : Result Unit Stop) → Keeps b c → AreAsked lines old result new (Appends a b)
+    → AreAsked lines old result new (Appends a c)
+kept_so lines old new a b c (Ok done) kept asked = done_kept lines old new a b c kept asked
+kept_so lines old new a b c (Err (BadExchange number)) kept asked = record {
+  front = asked.front;
+  line = asked.line;
+  others = asked.others;
+  cut = asked.cut;
+  numbered = asked.numbered;
+  bad = asked.bad;
+  done = done_kept asked.front old new a b c kept asked.done;
+}
+kept_so lines old new a b c (Err OutputFault) kept asked = tt
+kept_so lines old new a b c (Err Usage) kept asked = begun_kept lines old new a b c kept asked
+kept_so lines old new a b c (Err CannotRead) kept asked = begun_kept lines old new a b c kept asked
+kept_so lines old new a b c (Err (BadConfig fault)) kept asked = begun_kept lines old new a b c kept asked
+kept_so lines old new a b c (Err (BadPiece number)) kept asked = begun_kept lines old new a b c kept asked
+kept_so lines old new a b c (Err (TooManyConnections number)) kept asked = begun_kept lines old new a b c kept asked
+kept_so lines old new a b c (Err InputFault) kept asked = begun_kept lines old new a b c kept asked
+kept_so lines old new a b c (Err SocketFault) kept asked = begun_kept lines old new a b c kept asked
+kept_so lines old new a b c (Err NoMemory) kept asked = begun_kept lines old new a b c kept asked
+
+-- what was asked is flushed
+pub asked_kept : (known : Option (List ℕ)) (old new : Hosting) (a b c : Option (List ℕ)) (result : Result Unit Stop) → Keeps b c
+    → IfSome known (λ (input : List ℕ). AreAsked (lines_of input) old result new (Appends a b)) → IfSome known (λ (input : List ℕ). AreAsked (lines_of input) old result new (Appends a c))
+asked_kept None old new a b c result kept asked = tt
+asked_kept (Some input) old new a b c result kept asked = kept_so (lines_of input) old new a b c result kept asked
+
+-- where that fails nothing is said
+pub asked_unwritten : (known : Option (List ℕ)) (old new : Hosting) (Writes : List ℕ → Type 0)
+    → IfSome known (λ (input : List ℕ). AreAsked (lines_of input) old (Err OutputFault) new Writes)
+asked_unwritten None old new Writes = tt
+asked_unwritten (Some input) old new Writes = tt

@@ -1,0 +1,80 @@
+-- What a line of a trace does to its connection, and what is written of it.
+use Rattle.std.proofs.Common.{◌≡◌, ◌∙◌, ℕ, ℤ, Bool, true, false, cond, List, [], ◌++◌, append-nil, Option, None, Some, Result, Ok, Err, refl, sym, ap, subst, ◌≢◌}
+use Rattle.std.specs.Prelude.{OnOk, is_ok, unwrap_or}
+use Rattle.std.specs.Io.KnownBytes.{Appends}
+use Rattle.std.specs.Option.{option_map}
+use Rattle.std.proofs.lemmas.Bool.{false_from_ne_true}
+use Rattle.oai_front.specs.Connections.{Connection}
+use Rattle.oai_front.specs.Fronts.{IsPiece, State, connection_numbered}
+use Rattle.oai_front.specs.Performing.{Steps}
+use Rattle.oai_front.specs.Stages.{is_closing}
+use Rattle.oai_front.specs.declared.faults.PieceFault.{PieceFault}
+use Rattle.oai_edge.specs.Events.{shown_close, shown_output}
+use Rattle.oai_edge.specs.Outputs.{ComesOn, EndsOn, IsEmptied, IsTraced, is_over, left_on, output_in, output_of, shown_on, with_output}
+use Rattle.oai_edge.specs.declared.events.Event.{Event}
+use Rattle.oai_edge.proofs.KnownLemmas.{appends_both}
+
+-- ---- what came
+
+pub came_piece : {H : Type 0} (step : Steps H) (number : ℕ) (moment : ℤ) (piece : Option (List ℕ)) (bytes : List ℕ) (old : State H) (told : Result Unit PieceFault) (whole : Bool) (new : State H)
+    → piece ≡ Some bytes → IsPiece step number moment bytes old told new → is_ok told ≡ whole → ComesOn step number moment piece old whole new
+came_piece {H} step number moment piece bytes old told whole new is taken same =
+    subst (λ (p : Option (List ℕ)). ComesOn step number moment p old whole new) (sym is) (told, taken, same)
+
+pub came_end : {H : Type 0} (step : Steps H) (number : ℕ) (moment : ℤ) (piece : Option (List ℕ)) (old new : State H) → piece ≡ None → EndsOn number old new
+    → ComesOn step number moment piece old true new
+came_end {H} step number moment piece old new is ended = subst (λ (p : Option (List ℕ)). ComesOn step number moment p old true new) (sym is) (ended, refl)
+
+-- ---- what is told of it
+
+-- whether it reads nothing any more
+pub over_so : (o : Option Connection) → unwrap_or (option_map (λ (c : Connection). is_closing c.stage) o) false ≡ is_over o
+over_so None = refl
+over_so (Some c) = refl
+
+over_emptied : (o : Option Connection) → is_over (option_map (with_output []) o) ≡ is_over o
+unfolding with_output
+over_emptied None = refl
+over_emptied (Some c) = refl
+
+over_before : {H : Type 0} (number : ℕ) (old mid : State H) (test : Bool) → IsEmptied number old mid → is_over (connection_numbered number mid.connections) ≡ test
+    → is_over (connection_numbered number old.connections) ≡ test
+over_before number old mid test emptied is = sym (ap is_over emptied ∙ over_emptied (connection_numbered number old.connections)) ∙ is
+
+pub told_over : {H : Type 0} (number label : ℕ) (old mid : State H) (a b c : Option (List ℕ)) → IsEmptied number old mid → is_over (connection_numbered number mid.connections) ≡ true
+    → Appends a b (shown_output label (output_of number old.connections)) → Appends b c (shown_close label true)
+    → Appends a c (shown_on label (connection_numbered number old.connections))
+unfolding output_of shown_on
+told_over number label old mid a b c emptied is put closed =
+    subst (λ (test : Bool). Appends a c (shown_output label (output_in (connection_numbered number old.connections)) ++ shown_close label test))
+    (sym (over_before number old mid true emptied is))
+    (appends_both a b c (shown_output label (output_in (connection_numbered number old.connections))) (shown_close label true) put closed)
+
+pub told_open : {H : Type 0} (number label : ℕ) (old mid : State H) (a b : Option (List ℕ)) → IsEmptied number old mid → is_over (connection_numbered number mid.connections) ≡ false
+    → Appends a b (shown_output label (output_of number old.connections)) → Appends a b (shown_on label (connection_numbered number old.connections))
+unfolding output_of shown_on
+told_open number label old mid a b emptied is put =
+    subst (λ (test : Bool). Appends a b (shown_output label (output_in (connection_numbered number old.connections)) ++ shown_close label test))
+    (sym (over_before number old mid false emptied is))
+    (subst (Appends a b) (sym (append-nil (shown_output label (output_in (connection_numbered number old.connections))))) put)
+
+-- what is left
+pub left_over : {H : Type 0} (number : ℕ) (old mid new : State H) → IsEmptied number old mid → is_over (connection_numbered number mid.connections) ≡ true
+    → connection_numbered number new.connections ≡ None → connection_numbered number new.connections ≡ left_on (connection_numbered number old.connections)
+unfolding left_on
+left_over number old mid new emptied is none =
+    none ∙ sym (ap (λ (test : Bool). cond test None (option_map (with_output []) (connection_numbered number old.connections))) (over_before number old mid true emptied is))
+
+pub left_open : {H : Type 0} (number : ℕ) (old mid : State H) → IsEmptied number old mid → is_over (connection_numbered number mid.connections) ≡ false
+    → connection_numbered number mid.connections ≡ left_on (connection_numbered number old.connections)
+unfolding left_on
+left_open number old mid emptied is =
+    emptied ∙ sym (ap (λ (test : Bool). cond test None (option_map (with_output []) (connection_numbered number old.connections))) (over_before number old mid false emptied is))
+
+-- ---- both
+
+pub traced_so : {H A E : Type 0} (step : Steps H) (number : ℕ) (event : Event) (old mid new : State H) (a b : Option (List ℕ)) (result : Result A E)
+    → ComesOn step number event.moment event.piece old true mid → OnOk result (Appends a b (shown_on event.label (connection_numbered number mid.connections)))
+    → OnOk result (connection_numbered number new.connections ≡ left_on (connection_numbered number mid.connections)) → OnOk result (IsTraced step number event old new (Appends a b))
+traced_so step number event old mid new a b (Ok x) came written left = record { mid = mid; came = came; written = written; left = left }
+traced_so step number event old mid new a b (Err e) came written left = tt

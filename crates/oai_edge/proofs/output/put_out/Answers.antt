@@ -1,0 +1,37 @@
+-- Each turn takes some of the output, puts it behind what was gathered, and takes nothing of another connection.
+use Rattle.std.proofs.Common.{◌≡◌, ◌∙◌, ◌<◌, ℕ, List, [], ◌++◌, Option, take, refl, rules}
+use Rattle.std.specs.Io.KnownBytes.{Appends, append_known}
+use Rattle.oai_edge.specs.Outputs.{output_of}
+use Rattle.oai_edge.proofs.Apart.{apart_same, apart_then, same_begun, same_emptied, taken_less, taken_same, taken_split, taking_apart}
+use Rattle.oai_edge.proofs.KnownLemmas.{on_ok, put_none, put_on, put_whole}
+use Rattle.oai_edge.proofs.output.put_out.Goals as goal
+
+pub loop-count-smaller : goal.loop-count-smaller
+loop-count-smaller g c =
+    let next = rw c.in-Some.is at c.in_ok-count.ensures in
+    taken_less c.args.conn.number c.in-Some.count c.loop-count.front c.taken.new.self c.taken.ensures.change next.0 next.1
+
+pub loop-count-init : goal.loop-count-init
+loop-count-init g c = record {
+  apart = apart_same c.args.conn.number c.args.front.now;
+  handler = refl;
+  same = same_begun c.args.conn.number c.args.front.now;
+  put = put_none (append_known (g.W.Write.contents c.args.writer.now) c.args.gathered.now.bytes.items) (output_of c.args.conn.number c.args.front.now.connections);
+}
+
+pub loop-count-preserved : goal.loop-count-preserved
+loop-count-preserved g c =
+    let number : ℕ = c.args.conn.number in
+    let next = rw c.in-Some.is at c.in_ok-count.ensures in
+    let out : List ℕ = output_of number c.loop-count.front.connections in
+    record {
+      apart = apart_then number c.args.front.now c.loop-count.front c.taken.new.self c.loop-count.invariant.apart
+          (taking_apart number c.in-Some.count c.loop-count.front c.taken.new.self c.taken.ensures.change);
+      handler = c.taken.ensures.handler ∙ c.loop-count.invariant.handler;
+      same = taken_same number c.in-Some.count c.args.front.now c.loop-count.front c.taken.new.self c.taken.ensures.change c.loop-count.invariant.same;
+      put = put_on (append_known (g.W.Write.contents c.args.writer.now) c.args.gathered.now.bytes.items)
+          (append_known (g.W.Write.contents c.loop-count.writer) c.loop-count.gathered.bytes.items)
+          (append_known (g.W.Write.contents c.put_next.new.writer) c.put_next.new.gathered.bytes.items)
+          (take c.in-Some.count out) (output_of number c.taken.new.self.connections) out (output_of number c.args.front.now.connections)
+          c.loop-count.invariant.put next.2 (taken_split number c.in-Some.count c.loop-count.front c.taken.new.self c.taken.ensures.change);
+    }

@@ -1,0 +1,31 @@
+-- What is written is what the connection was to put out, and that it is closed.
+use Rattle.std.proofs.Common.{◌≡◌, None, Option, List, ℕ, sym, ◌∙◌}
+use Rattle.std.specs.Io.KnownBytes.{Appends}
+use Rattle.std.specs.Prelude.{OnOk}
+use Rattle.oai_front.specs.Fronts.{connection_numbered}
+use Rattle.oai_edge.specs.Outputs.{left_on, shown_on}
+use Rattle.oai_edge.proofs.KnownLemmas.{on_ok_so}
+use Rattle.oai_edge.proofs.Traced.{left_open, left_over, told_open, told_over}
+use Rattle.oai_edge.proofs.trace.tell.Goals as goal
+
+pub returns-then-reads_nothing-clause-written : goal.returns-then-reads_nothing-clause-written
+returns-then-reads_nothing-clause-written g c =
+    on_ok_so c.forget.result _
+    (told_over c.args.conn.number c.args.label c.args.front.now c.write_output.new.front (g.W.Write.contents c.args.writer.now) (g.W.Write.contents c.write_output.new.writer)
+    (g.W.Write.contents c.write_close.new.writer) c.in_ok-write_output.ensures.emptied (sym c.reads_nothing.ensures ∙ c.if-reads_nothing.true)
+    c.in_ok-write_output.ensures.written c.in_ok-write_close.ensures)
+
+pub returns-then-reads_nothing-clause-left : goal.returns-then-reads_nothing-clause-left
+returns-then-reads_nothing-clause-left g c =
+    on_ok_so c.forget.result _
+    (left_over c.args.conn.number c.args.front.now c.write_output.new.front c.forget.new.front c.in_ok-write_output.ensures.emptied
+    (sym c.reads_nothing.ensures ∙ c.if-reads_nothing.true) c.forget.ensures.none)
+
+pub returns-clause-written : goal.returns-clause-written
+returns-clause-written g c =
+    told_open c.args.conn.number c.args.label c.args.front.now c.write_output.new.front (g.W.Write.contents c.args.writer.now) (g.W.Write.contents c.write_output.new.writer)
+    c.in_ok-write_output.ensures.emptied (sym c.reads_nothing.ensures ∙ c.if-reads_nothing.false) c.in_ok-write_output.ensures.written
+
+pub returns-clause-left : goal.returns-clause-left
+returns-clause-left g c =
+    left_open c.args.conn.number c.args.front.now c.write_output.new.front c.in_ok-write_output.ensures.emptied (sym c.reads_nothing.ensures ∙ c.if-reads_nothing.false)

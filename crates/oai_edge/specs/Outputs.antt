@@ -1,0 +1,102 @@
+-- What is done with one connection of a front, and what it leaves of the others. This repository's own.
+use Rattle.std.specs.Prelude.{◌≡◌, ◌≢◌, ℕ, ℤ, ◌+◌, ◌<◌, Bool, true, false, List, [], ◌++◌, take, Option, Some, None, Result, Ok, Err, is_ok, if◌then◌else◌}
+use Rattle.std.specs.Option.{option_map}
+use Rattle.oai_front.specs.Connections.{Connection}
+use Rattle.oai_front.specs.Fronts.{HasOutput, IsEnding, IsOpening, IsPiece, State, connection_numbered}
+use Rattle.oai_front.specs.Performing.{Steps}
+use Rattle.oai_front.specs.Runs.{Served, Serves}
+use Rattle.oai_front.specs.Stages.{is_closing}
+use Rattle.oai_front.specs.declared.faults.NoSuchConnection.{NoSuchConnection as Absent}
+use Rattle.oai_front.specs.declared.faults.PieceFault.{PieceFault}
+use Rattle.oai_edge.specs.Events.{shown_close, shown_output}
+use Rattle.oai_edge.specs.declared.events.Event.{Event}
+use Rattle.oai_edge.specs.declared.serving.StreamFault.{StreamFault}
+use Rattle.oai_edge.specs.declared.serving.StreamFault.TheVariants.{NotOpened}
+
+-- ---- what is to be put out
+
+-- the bytes to be written on a connection; none where it is not open
+abbrev pub output_in : Option Connection → List ℕ
+output_in None = []
+output_in (Some c) = c.output
+
+unfoldable pub output_of : ℕ → List Connection → List ℕ
+output_of number connections = output_in (connection_numbered number connections)
+
+-- the connection, with these bytes to be written on it
+unfoldable pub with_output : List ℕ → Connection → Connection
+with_output bytes c = record c { output = bytes }
+
+-- the bytes to be put out next were put so; or there are none
+abbrev pub IsNext : ℕ → List Connection → Option ℕ → (List ℕ → Type 0) → Type 0
+IsNext number connections None Puts = (output_of number connections ≡ []) × Puts []
+IsNext number connections (Some count) Puts =
+    (0 < count) × HasOutput number count connections × Puts (take count (output_of number connections))
+
+-- all that the connection of the number was to put out was taken, and nothing else of it was changed
+abbrev pub IsEmptied : {H : Type 0} → ℕ → State H → State H → Type 0
+IsEmptied number old new = connection_numbered number new.connections ≡ option_map (with_output []) (connection_numbered number old.connections)
+
+-- ---- one connection alone
+
+-- no connection but that of the number is another than before
+abbrev pub OthersStay : {H : Type 0} → ℕ → State H → State H → Type 0
+OthersStay number old new = (other : ℕ) → other ≢ number → connection_numbered other new.connections ≡ connection_numbered other old.connections
+
+-- so it is; as many connections may be open as before, and no number was given
+pub record IsApart {H : Type 0} (number : ℕ) (old new : State H) : Type 0 where
+  pub others : OthersStay number old new
+  pub limit : new.limit ≡ old.limit
+  pub last : new.last ≡ old.last
+
+-- ---- what is performed
+
+-- the handler performed messages, one after the other
+pub record IsServing {H : Type 0} (step : Steps H) (old new : H) : Type 0 where
+  pub served : List Served
+  pub run : Serves step old served new
+
+-- ---- a stream that was served
+
+-- a piece came on the connection at that moment, and all its messages were performed; all that the connection then was to put out was written
+pub record IsAnswered {H : Type 0} (step : Steps H) (number : ℕ) (moment : ℤ) (piece : List ℕ) (old new : State H) (Writes : List ℕ → Type 0) : Type 0 where
+  pub mid : State H
+  pub taken : IsPiece step number moment piece old (Ok tt) mid
+  pub written : Writes (output_of number mid.connections)
+  pub emptied : IsEmptied number mid new
+
+-- the connection with the next number was opened, and is not open any more; or none was opened, for that cause, and all is as before
+abbrev pub IsForgotten : {H : Type 0} → State H → Result Unit StreamFault → State H → Type 0
+IsForgotten old (Err (NotOpened fault)) new = IsOpening old (Err fault) new
+IsForgotten old result new = (new.last ≡ old.last + 1) × (connection_numbered (old.last + 1) new.connections ≡ None)
+
+-- ---- a line of a trace
+
+-- the end of the connection of the number came, where it is open
+abbrev pub EndsOn : {H : Type 0} → ℕ → State H → State H → Type 0
+EndsOn number old new = (told : Result Unit Absent) × IsEnding number old told new
+
+-- a piece came on the connection of the number at that moment, and was taken with all that it completes, or was not; or its end came
+abbrev pub ComesOn : {H : Type 0} → Steps H → ℕ → ℤ → Option (List ℕ) → State H → Bool → State H → Type 0
+ComesOn step number moment (Some bytes) old whole new = (told : Result Unit PieceFault) × IsPiece step number moment bytes old told new × (is_ok told ≡ whole)
+ComesOn step number moment None old whole new = EndsOn number old new × (whole ≡ true)
+
+-- the connection is open, and reads nothing any more
+abbrev pub is_over : Option Connection → Bool
+is_over None = false
+is_over (Some c) = is_closing c.stage
+
+-- what is written of the connection of that label: what it was to put out, and that it is closed, where it reads nothing any more
+unfoldable pub shown_on : ℕ → Option Connection → List ℕ
+shown_on label c = shown_output label (output_in c) ++ shown_close label (is_over c)
+
+-- what is left of it then: it has nothing to put out, or it is not open any more
+unfoldable pub left_on : Option Connection → Option Connection
+left_on c = if is_over c then None else option_map (with_output []) c
+
+-- what the line tells came on the connection of the number, and what this put out was written under the label
+pub record IsTraced {H : Type 0} (step : Steps H) (number : ℕ) (event : Event) (old new : State H) (Writes : List ℕ → Type 0) : Type 0 where
+  pub mid : State H
+  pub came : ComesOn step number event.moment event.piece old true mid
+  pub written : Writes (shown_on event.label (connection_numbered number mid.connections))
+  pub left : connection_numbered number new.connections ≡ left_on (connection_numbered number mid.connections)

@@ -1,0 +1,171 @@
+//! What connections put out.
+ghost use Rattle.std.specs.Prelude.{◌≡◌, ◌+◌, ◌++◌, ◌<◌, ◌≤◌, [], length, vec_capacity, vec_len, IfOk, IfErr, OnOk};
+ghost use Rattle.std.specs.Io.KnownBytes.{append_known, Appends, Keeps};
+ghost use Rattle.oai_front.specs.Fronts.{HasOutput};
+ghost use Rattle.oai_front.specs.Queues.{IsFrontOf};
+ghost use Rattle.oai_edge.specs.Outputs as spec;
+ghost use Rattle.oai_edge.specs.declared.output.TheConstants.{SHORT_BYTES};
+ghost use Rattle.oai_edge.specs.declared.stop.Stop.TheVariants.{NoMemory};
+
+use crate::stop::Stop;
+use oai_front::{ConnId, Front};
+use std::alloc::{AllocError, Global};
+use std::io::{self, Write};
+
+/// What is shorter than so many bytes is gathered before it is written.
+const SHORT_BYTES: usize = 4_096;
+
+/// Takes all that the connection puts out. The error is `NoMemory`.
+pub(crate) fn take_output<H>(
+    alloc: Global,
+    front: &mut Front<H>,
+    conn: ConnId,
+) -> Result<Vec<u8>, Stop>
+    ensures bytes { IfOk result (λ bytes. bytes.items ≡ spec.output_of conn.number
+        front.old.connections) }
+    ensures emptied { OnOk result (spec.IsEmptied conn.number front.old front.new) }
+    ensures apart { spec.IsApart conn.number front.old front.new }
+    ensures handler { front.new.handler ≡ front.old.handler }
+    ensures err { IfErr result (λ stop. stop ≡ NoMemory) }
+{
+    let mut bytes = Vec::new(alloc);
+    while let Some(count) = add_next(front, conn, &mut bytes)? {
+        front.taken(conn, count);
+    }
+    Ok(bytes)
+}
+
+/// Adds what the connection puts out next; how many bytes, None where there are none.
+fn add_next<H>(front: &Front<H>, conn: ConnId, bytes: &mut Vec<u8>) -> Result<Option<usize>, Stop>
+    ensures next { IfOk result (λ next. spec.IsNext conn.number front.now.connections next
+        (λ front. bytes.new.items ≡ bytes.old.items ++ front)) }
+    ensures err { IfErr result (λ stop. stop ≡ NoMemory) }
+{
+    let next = next_output(front, conn);
+    if next.is_empty() {
+        return Ok(None);
+    }
+    if bytes.extend_from_slice(next).is_err() {
+        return Err(Stop::NoMemory);
+    }
+    Ok(Some(next.len()))
+}
+
+/// The bytes that the connection puts out next; none where there are none, or it is not open.
+fn next_output<H>(front: &Front<H>, conn: ConnId) -> &[u8]
+    ensures front { IsFrontOf result.now (spec.output_of conn.number front.now.connections) }
+    ensures has { 0 < length result.now → HasOutput conn.number (length result.now)
+        front.now.connections }
+{
+    match front.output(conn) {
+        Some(bytes) => bytes,
+        None => &[],
+    }
+}
+
+/// Bytes that wait to be written together.
+#[derive(Drop)]
+pub(crate) struct Gathered {
+    bytes: Vec<u8>,
+    ghost room: { SHORT_BYTES ≤ vec_capacity bytes },
+}
+
+impl Gathered {
+    /// None so far, with room for those that are short.
+    pub(crate) fn new(alloc: Global) -> Result<Gathered, AllocError> {
+        Ok(Gathered {
+            bytes: Vec::with_capacity(alloc, SHORT_BYTES)?,
+        })
+    }
+
+    /// Gathers short bytes; longer ones are written as they are, behind what was gathered.
+    fn put<W: Write>(&mut self, bytes: &[u8], writer: &mut W) -> io::Result<()>
+        ensures { OnOk result (Appends
+            (append_known (W.Write.contents writer.old) self.old.bytes.items)
+            (append_known (W.Write.contents writer.new) self.new.bytes.items) bytes.now) }
+    {
+        if bytes.len() >= SHORT_BYTES {
+            self.write(writer)?;
+            return writer.write_all(bytes);
+        }
+        self.make_room(bytes.len(), writer)?;
+        add(bytes, &mut self.bytes);
+        Ok(())
+    }
+
+    /// Writes what was gathered, where there is no room for so many bytes more.
+    fn make_room<W: Write>(&mut self, count: usize, writer: &mut W) -> io::Result<()>
+        requires { count < SHORT_BYTES }
+        ensures room { OnOk result (vec_len self.new.bytes + count ≤ SHORT_BYTES) }
+        ensures kept { OnOk result (Keeps
+            (append_known (W.Write.contents writer.old) self.old.bytes.items)
+            (append_known (W.Write.contents writer.new) self.new.bytes.items)) }
+    {
+        if self.bytes.len() > SHORT_BYTES - count {
+            return self.write(writer);
+        }
+        Ok(())
+    }
+
+    /// Writes what was gathered.
+    fn write<W: Write>(&mut self, writer: &mut W) -> io::Result<()>
+        ensures written { OnOk result (Appends (W.Write.contents writer.old)
+            (W.Write.contents writer.new) self.old.bytes.items) }
+        ensures none { OnOk result (self.new.bytes.items ≡ []) }
+        ensures len { OnOk result (vec_len self.new.bytes ≡ 0) }
+    {
+        writer.write_all(&self.bytes)?;
+        self.bytes.clear();
+        Ok(())
+    }
+}
+
+/// Puts bytes behind others, where there is room.
+fn add(bytes: &[u8], others: &mut Vec<u8>)
+    requires { vec_len others.old + length bytes.now ≤ vec_capacity others.old }
+    ensures items { others.new.items ≡ others.old.items ++ bytes.now }
+    ensures room { vec_capacity others.old ≤ vec_capacity others.new }
+{
+    others.extend_from_slice(bytes).unwrap();
+}
+
+/// Writes all that the connection puts out. What is shorter than 4,096 bytes is gathered before it is
+/// written, and what is longer is written as it is.
+pub(crate) fn put_out<H, W: Write>(
+    front: &mut Front<H>,
+    conn: ConnId,
+    gathered: &mut Gathered,
+    writer: &mut W,
+) -> io::Result<()>
+    ensures written { OnOk result (Appends (W.Write.contents writer.old)
+        (W.Write.contents writer.new)
+        (gathered.old.bytes.items ++ spec.output_of conn.number front.old.connections)) }
+    ensures none { OnOk result (gathered.new.bytes.items ≡ []) }
+    ensures emptied { OnOk result (spec.IsEmptied conn.number front.old front.new) }
+    ensures apart { spec.IsApart conn.number front.old front.new }
+    ensures handler { front.new.handler ≡ front.old.handler }
+{
+    while let Some(count) = put_next(front, conn, gathered, writer)? {
+        front.taken(conn, count);
+    }
+    gathered.write(writer)
+}
+
+/// Puts what the connection puts out next to the others; how many bytes, None where there are none.
+fn put_next<H, W: Write>(
+    front: &Front<H>,
+    conn: ConnId,
+    gathered: &mut Gathered,
+    writer: &mut W,
+) -> io::Result<Option<usize>>
+    ensures { IfOk result (λ next. spec.IsNext conn.number front.now.connections next (Appends
+        (append_known (W.Write.contents writer.old) gathered.old.bytes.items)
+        (append_known (W.Write.contents writer.new) gathered.new.bytes.items))) }
+{
+    let next = next_output(front, conn);
+    if next.is_empty() {
+        return Ok(None);
+    }
+    gathered.put(next, writer)?;
+    Ok(Some(next.len()))
+}

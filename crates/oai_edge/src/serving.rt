@@ -1,0 +1,168 @@
+//! Connections over streams.
+ghost use Rattle.std.specs.Prelude.{◌≡◌, ◌+◌, ◌++◌, None, IfErr, OnOk};
+ghost use Rattle.std.specs.Io.KnownBytes.{Appends};
+ghost use Rattle.oai_front.specs.Fronts.{IsPiece, connection_numbered};
+ghost use Rattle.oai_edge.specs.Outputs.{IsAnswered, IsApart, IsForgotten, IsServing, OthersStay};
+ghost use Rattle.oai_edge.specs.Workings.{IsOfOpened};
+
+use crate::limits::{MOST_READS, READ_BYTES};
+use crate::output::{Gathered, put_out};
+use oai_front::{ConnId, Front, Handler, OpenFault, PieceFault};
+use std::alloc::Global;
+use std::io::{Read, Write};
+use std::rt::Clock;
+use thiserror::Error;
+
+/// Why a connection ended before its stream did, and before it was closed.
+#[derive(Clone, Copy, Debug, PartialEq, Eq, Error)]
+pub enum StreamFault {
+    /// No connection could be opened.
+    #[error("no connection could be opened: {0}")]
+    NotOpened(OpenFault),
+    /// Memory was refused; what was answered by then was written.
+    #[error("out of memory")]
+    NoMemory,
+    /// The stream could not be read.
+    #[error("the stream could not be read")]
+    ReadFault,
+    /// The stream could not be written.
+    #[error("the stream could not be written")]
+    WriteFault,
+    /// The clock could not be read.
+    #[error("the clock could not be read")]
+    ClockFault,
+    /// The stream had not ended within 1,000,000 reads.
+    #[error("the stream has not ended")]
+    Endless,
+}
+
+/// Serves the stream as one connection of the front: what is read comes on it at the clock's moment, and
+/// what it puts out is written, until it is closing and all was written, or the stream ends. A read is of
+/// at most 65,536 bytes. The connection is forgotten then, also at each fault; no other connection changes.
+pub fn serve_stream<H: Handler, S: Read + Write, C: Clock>(
+    alloc: Global,
+    front: &mut Front<H>,
+    stream: &mut S,
+    clock: &C,
+) -> Result<(), StreamFault>
+    ensures forgotten { IsForgotten front.old result front.new }
+    ensures others { OthersStay (front.old.last + 1) front.old front.new }
+    ensures limit { front.new.limit ≡ front.old.limit }
+    ensures handler { IsServing H.step front.old.handler front.new.handler }
+{
+    match front.open() {
+        Ok(conn) => {
+            let served = serve_connection(alloc, front, conn, stream, clock);
+            forget_connection(front, conn);
+            served
+        }
+        Err(fault) => Err(StreamFault::NotOpened(fault)),
+    }
+}
+
+/// Serves the stream as that connection, up to its end.
+fn serve_connection<H: Handler, S: Read + Write, C: Clock>(
+    alloc: Global,
+    front: &mut Front<H>,
+    conn: ConnId,
+    stream: &mut S,
+    clock: &C,
+) -> Result<(), StreamFault>
+    ensures apart { IsApart conn.number front.old front.new }
+    ensures handler { IsServing H.step front.old.handler front.new.handler }
+    ensures err { IfErr result IsOfOpened }
+{
+    let Ok(mut buffer) = vec![in alloc; 0u8; READ_BYTES] else {
+        return Err(StreamFault::NoMemory);
+    };
+    let Ok(mut gathered) = Gathered::new(alloc) else {
+        return Err(StreamFault::NoMemory);
+    };
+    for _ in 0..MOST_READS {
+        if !read_on(front, conn, &mut buffer, &mut gathered, stream, clock)? {
+            return Ok(());
+        }
+    }
+    Err(StreamFault::Endless)
+}
+
+/// Reads once, and answers what came; whether the stream is to be read on.
+fn read_on<H: Handler, S: Read + Write, C: Clock>(
+    front: &mut Front<H>,
+    conn: ConnId,
+    buffer: &mut [u8],
+    gathered: &mut Gathered,
+    stream: &mut S,
+    clock: &C,
+) -> Result<bool, StreamFault>
+    ensures apart { IsApart conn.number front.old front.new }
+    ensures handler { IsServing H.step front.old.handler front.new.handler }
+    ensures err { IfErr result IsOfOpened }
+{
+    let Ok(count) = stream.read(buffer) else {
+        return Err(StreamFault::ReadFault);
+    };
+    if count == 0 {
+        return Ok(false);
+    }
+    let moment = moment_of(clock)?;
+    answer(front, conn, moment, &buffer[..count], gathered, stream)
+}
+
+/// Lets the piece come on the connection, and writes what that puts out; whether it is to be read on.
+fn answer<H: Handler, S: Write>(
+    front: &mut Front<H>,
+    conn: ConnId,
+    moment: i64,
+    piece: &[u8],
+    gathered: &mut Gathered,
+    stream: &mut S,
+) -> Result<bool, StreamFault>
+    ensures answered { OnOk result (IsAnswered H.step conn.number moment piece.now front.old
+        front.new (λ bytes. Appends (S.Write.contents stream.old) (S.Write.contents stream.new)
+        (gathered.old.bytes.items ++ bytes))) }
+    ensures apart { IsApart conn.number front.old front.new }
+    ensures handler { IsServing H.step front.old.handler front.new.handler }
+    ensures err { IfErr result IsOfOpened }
+{
+    let taken = take_in(front, conn, moment, piece);
+    let written = put_out(front, conn, gathered, stream);
+    match (taken, written) {
+        (_, Err(_)) => Err(StreamFault::WriteFault),
+        (Err(_), Ok(())) => Err(StreamFault::NoMemory),
+        (Ok(()), Ok(())) => Ok(front.closing(conn) == Some(false)),
+    }
+}
+
+/// Lets the piece come on the connection, and performs what it completes.
+pub(crate) fn take_in<H: Handler>(
+    front: &mut Front<H>,
+    conn: ConnId,
+    moment: i64,
+    piece: &[u8],
+) -> Result<(), PieceFault>
+    ensures piece { IsPiece H.step conn.number moment piece.now front.old result front.new }
+    ensures apart { IsApart conn.number front.old front.new }
+    ensures handler { IsServing H.step front.old.handler front.new.handler }
+{
+    front.piece(conn, moment, piece)
+}
+
+/// Forgets the connection.
+pub(crate) fn forget_connection<H>(front: &mut Front<H>, conn: ConnId)
+    ensures none { connection_numbered conn.number front.new.connections ≡ None }
+    ensures apart { IsApart conn.number front.old front.new }
+    ensures handler { front.new.handler ≡ front.old.handler }
+{
+    let _ = front.forget(conn);
+}
+
+/// The clock's moment, in seconds from 1970 on.
+fn moment_of<C: Clock>(clock: &C) -> Result<i64, StreamFault>
+    ensures { IfErr result IsOfOpened }
+{
+    match clock.since_1970() {
+        Ok(time) => Ok(i64::try_from(time.as_secs()).unwrap_or(i64::MAX)),
+        Err(_) => Err(StreamFault::ClockFault),
+    }
+}

@@ -1,0 +1,10 @@
+-- A request that failed has left all as it was.
+use Rattle.std.proofs.Common.{◌≡◌}
+use Rattle.oai_host.proofs.FaultLemmas.{left_so}
+use Rattle.oai_host.proofs.requests.perform_request.Goals as goal
+
+pub returns-in-Err-clause-left : goal.returns-in-Err-clause-left
+returns-in-Err-clause-left g c =
+    let lists = g.V.Versions.lists in
+    let left = rw c.in-Err.is at c.ask.ensures.left in
+    left_so ((c.ask.new.self ≡ c.args.repo.now) × (lists c.ask.new.store ≡ lists c.args.store.now)) c.of_fault.result left

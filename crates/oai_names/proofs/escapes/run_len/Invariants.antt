@@ -1,7 +1,0 @@
-use Rattle.std.proofs.Common.{◌≡◌, take}
-use Rattle.oai_names.specs.Escapes.{escaped}
-use Rattle.oai_names.proofs.escapes.run_len.Given as goal
-
--- the bytes so far are spelled as they are
-abbrev pub invariant-loop-i : goal.invariant-loop-i
-invariant-loop-i l = escaped l.place (take l.i l.bytes) ≡ take l.i l.bytes

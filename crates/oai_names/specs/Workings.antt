@@ -1,0 +1,13 @@
+-- Words of the code's own: no public contract names them.
+use Rattle.std.specs.Prelude.{ℕ, Bool, true, List, [], ◌∷◌}
+use Rattle.std.specs.Int.{is_in_range}
+use Rattle.oai_names.specs.Names.{is_colon}
+
+-- a part of a path ends where these bytes begin
+abbrev pub ends_part : List ℕ → Bool
+ends_part [] = true
+ends_part (b ∷ bytes) = is_colon b
+
+-- the byte is a character of ASCII from the space on, all of which documents may hold
+abbrev pub is_plain_byte : ℕ → Bool
+is_plain_byte b = is_in_range 0x20 0x7F b

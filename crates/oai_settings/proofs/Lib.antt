@@ -1,0 +1,2 @@
+pub mod ConfigLemmas
+pub mod FoldLemmas

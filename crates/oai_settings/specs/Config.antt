@@ -1,0 +1,77 @@
+-- A repository as it is configured, and the rules of its configuration.
+use Rattle.std.specs.Prelude.{◌≡◌, ℕ, ℤ, pos, neg_ℤ, Bool, true, ◌==◌, ◌||◌, ◌&&◌, not, int_lt, List, length}
+use Rattle.std.specs.Char.{is_ascii_digit, is_ascii_lowercase}
+use Rattle.std.specs.Int.{is_in_range}
+use Rattle.std.specs.List.{list_all}
+use Rattle.std.specs.Ordering.{int_eq}
+use Rattle.oai_names.specs.Characters.{is_xml_text}
+use Rattle.oai_time.specs.Stamp.{stamp_of}
+use Rattle.oai_time.specs.declared.granularity.Granularity.{Granularity}
+use Rattle.oai_item.specs.ShortTexts.{is_short_text}
+use Rattle.oai_item.specs.declared.formats.Format.{Format}
+use Rattle.oai_answers.specs.declared.identify.DeletedRecord.{DeletedRecord}
+
+-- what Identify tells of a repository (OAI-PMH 2.0, section 4.2), the most that it holds, and its metadata formats
+pub record Config : Type 0 where
+  pub base : List ℕ
+  pub repository_name : List ℕ
+  pub addresses : List (List ℕ)
+  pub earliest : ℤ
+  pub deleted : DeletedRecord
+  pub granularity : Granularity
+  pub chunk : ℕ
+  pub lifetime : ℕ
+  pub lists : ℕ
+  pub items : ℕ
+  pub formats : List Format
+
+-- a character of a repository's name: [a-z0-9-], this repository's own
+abbrev pub is_repository_byte : ℕ → Bool
+is_repository_byte b = is_ascii_lowercase b || is_ascii_digit b || b == 45
+
+-- a repository's name in its base URL: 1 to 32 of these, this repository's own rule
+unfoldable pub is_repository_name : List ℕ → Bool
+is_repository_name name = is_in_range 1 32 (length name) && list_all is_repository_byte name
+
+-- a name for people, and 1 to 16 addresses (OAI-PMH 2.0, section 4.2; the numbers are this repository's own)
+unfoldable pub is_described : List ℕ → List (List ℕ) → Bool
+is_described name addresses =
+    is_short_text name && is_in_range 1 16 (length addresses) && list_all is_short_text addresses
+
+-- a second of the years 0001 to 9998, this repository's own rule
+abbrev pub is_in_years : ℤ → Bool
+is_in_years seconds =
+    not (int_lt seconds (neg_ℤ (pos 62_135_596_800))) && not (int_lt (pos 253_370_764_799) seconds)
+
+-- a datestamp of the granularity (OAI-PMH 2.0, section 2.7.1), of these years
+unfoldable pub is_date : Granularity → ℤ → Bool
+is_date granularity seconds = is_in_years seconds && int_eq (stamp_of granularity seconds) seconds
+
+-- ---- the limits: their ranges are this repository's own
+
+-- records a page
+abbrev pub is_chunk : ℕ → Bool
+is_chunk n = is_in_range 1 1_000 n
+
+-- seconds that a list stays open: a year of 365 days
+abbrev pub is_lifetime : ℕ → Bool
+is_lifetime n = is_in_range 1 31_536_000 n
+
+-- lists that are open at once
+abbrev pub is_lists : ℕ → Bool
+is_lists n = is_in_range 1 10_000 n
+
+-- items, deleted ones included
+abbrev pub is_items : ℕ → Bool
+is_items n = is_in_range 1 1_000_000 n
+
+-- each of the four is in its range
+unfoldable pub are_limits : ℕ → ℕ → ℕ → ℕ → Bool
+are_limits chunk lifetime lists items = is_chunk chunk && is_lifetime lifetime && is_lists lists && is_items items
+
+-- the rules that a configuration keeps
+pub record IsConfig (config : Config) : Type 0 where
+  pub based : is_xml_text config.base ≡ true
+  pub described : is_described config.repository_name config.addresses ≡ true
+  pub dated : is_date config.granularity config.earliest ≡ true
+  pub limited : are_limits config.chunk config.lifetime config.lists config.items ≡ true

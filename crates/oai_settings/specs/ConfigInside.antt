@@ -1,0 +1,19 @@
+-- What contracts see of the fields of a `RepoConfig`.
+use Rattle.oai_settings.specs.Config.{Config}
+use Rattle.oai_settings.specs.declared.config.RepoConfig.TheInside.{Inside}
+
+-- what Identify tells of it, its limits, and its formats
+abbrev pub config_in : Inside → Config
+config_in c = record {
+  base = c.base;
+  repository_name = c.repository_name;
+  addresses = c.addresses;
+  earliest = c.earliest;
+  deleted = c.deleted;
+  granularity = c.granularity;
+  chunk = c.limits.chunk;
+  lifetime = c.limits.lifetime;
+  lists = c.limits.lists;
+  items = c.limits.items;
+  formats = c.formats;
+}

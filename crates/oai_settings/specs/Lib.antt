@@ -1,0 +1,4 @@
+pub mod Config
+pub mod ConfigInside
+pub mod Settings
+pub mod SettingsWork

@@ -1,0 +1,50 @@
+-- The calls behind making a configuration: each answers its value, or that what was told is bad, or that memory was refused.
+use Rattle.std.specs.Prelude.{◌≡◌, ℕ, true, false, List, ◌∷◌, [], ◌++◌, Option, Some, None, is_none, Result, Ok, Err}
+use Rattle.std.specs.Int.{is_in_range}
+use Rattle.oai_names.specs.Names.{may_be_prefix}
+use Rattle.oai_item.specs.Declaring.{HasGoodTexts, declare_fault}
+use Rattle.oai_item.specs.declared.formats.Format.{Format}
+use Rattle.oai_settings.specs.declared.config.parts.Limits.{Limits}
+use Rattle.oai_settings.specs.declared.settings.FormatSettings.{FormatSettings}
+use Rattle.oai_settings.specs.declared.settings.ConfigFault.{ConfigFault}
+use Rattle.oai_settings.specs.declared.settings.ConfigFault.TheVariants.{BadFormat, NoMemory}
+use Rattle.oai_settings.specs.Config.{are_limits}
+use Rattle.oai_settings.specs.Settings.{are_formats, are_numbers, format_of, formats_of, has_number}
+
+-- memory was refused, and so much was found good before it; or the format is a bad one
+abbrev pub IsRefused : ConfigFault → Type 0 → Type 0 → Type 0
+IsRefused NoMemory good bad = good
+IsRefused fault good bad = (fault ≡ BadFormat) × bad
+
+-- the prefix of a format
+abbrev pub IsPrefixOf : List ℕ → Result (List ℕ) ConfigFault → Type 0
+IsPrefixOf text (Ok prefix) = (prefix ≡ text) × (may_be_prefix text ≡ true)
+IsPrefixOf text (Err fault) = IsRefused fault (may_be_prefix text ≡ true) (may_be_prefix text ≡ false)
+
+-- the format that is described, where it has a prefix
+abbrev pub IsFormatOf : FormatSettings → Result Format ConfigFault → Type 0
+IsFormatOf settings (Ok format) = (format ≡ format_of settings) × (may_be_prefix settings.prefix ≡ true)
+IsFormatOf settings (Err fault) = IsRefused fault (may_be_prefix settings.prefix ≡ true) (may_be_prefix settings.prefix ≡ false)
+
+-- the formats with one more
+abbrev pub IsDeclared : List Format → Format → Result (Unit {0}) ConfigFault → List Format → Type 0
+IsDeclared old format (Ok _) new = (is_none (declare_fault old format) ≡ true) × (new ≡ old ++ format ∷ [])
+IsDeclared old format (Err fault) new = IsRefused fault (HasGoodTexts old format) (is_none (declare_fault old format) ≡ false)
+
+-- the formats of a repository
+abbrev pub AreDeclared : List FormatSettings → Result (List Format) ConfigFault → Type 0
+AreDeclared settings (Ok formats) = (are_formats settings ≡ true) × (formats ≡ formats_of settings)
+AreDeclared settings (Err fault) = IsRefused fault (Unit {0}) (are_formats settings ≡ false)
+
+-- the number, where it is one from 1 to the most
+abbrev pub IsLimit : ℕ → Option ℕ → Option ℕ → Type 0
+IsLimit most number (Some n) = (number ≡ Some n) × (is_in_range 1 most n ≡ true)
+IsLimit most number None = has_number (is_in_range 1 most) number ≡ false
+
+-- the limits that are told, where each is a number in its range
+abbrev pub AreLimits : Option ℕ → Option ℕ → Option ℕ → Option ℕ → Option Limits → Type 0
+AreLimits chunk lifetime lists items (Some limits) =
+    (chunk ≡ Some limits.chunk) × (lifetime ≡ Some limits.lifetime) × (lists ≡ Some limits.lists) × (items ≡ Some limits.items)
+    × (are_numbers chunk lifetime lists items ≡ true)
+    × (are_limits limits.chunk limits.lifetime limits.lists limits.items ≡ true)
+AreLimits chunk lifetime lists items None = are_numbers chunk lifetime lists items ≡ false

@@ -1,0 +1,171 @@
+mod parts;
+
+ghost use Rattle.std.specs.Prelude.{◌≡◌};
+ghost use Rattle.oai_time.specs.Stamp.{IsWritable};
+ghost use Rattle.oai_settings.specs.Config.{IsConfig};
+ghost use Rattle.oai_settings.specs.Settings.{IsConfigured};
+
+use crate::settings::{ConfigFault, Settings, has_shape, is_repository_name};
+use oai_answers::DeletedRecord;
+use oai_item::Formats;
+use oai_names::{Sequence, Text};
+use oai_time::Granularity;
+use parts::{Limits, base_url, declared_formats, limits_of, read_earliest};
+use std::alloc::Global;
+use std::marker::Model;
+
+/// The configuration of a repository, which keeps the rules of its settings: its name, addresses
+/// and earliest datestamp, its limits, and the characters of its base URL.
+#[derive(Debug, Drop)]
+pub struct RepoConfig {
+    base: Text,
+    repository_name: Text,
+    addresses: Sequence<Text>,
+    earliest: i64,
+    deleted: DeletedRecord,
+    granularity: Granularity,
+    limits: Limits,
+    formats: Formats,
+}
+
+impl Model for RepoConfig {
+    ghost use Rattle.oai_settings.specs.Config.{Config, IsConfig};
+
+    ghost Value = { Config };
+
+    ghost use Rattle.oai_settings.specs.ConfigInside.{config_in};
+
+    ghost view = { config_in };
+
+    ghost invariant = { λ c. IsConfig (config_in c) };
+}
+
+impl RepoConfig {
+    /// The configuration of these settings: the base URL is the base, `/oai/` and the name. The
+    /// errors, in this order: `BadShape`, `BadName`, `BadFormat`, `BadDate`, `BadNumber`; and
+    /// `NoMemory`, which may come in place of any but the first two: their causes are looked for
+    /// before any memory is taken. Of the texts only the prefixes of the formats are copied, and
+    /// the base where the name finds no room behind it.
+    #[tactic(auto, unfolding(crate::specs::Settings::config_fault))]
+    pub fn new(alloc: Global, settings: Settings) -> Result<RepoConfig, ConfigFault>
+        ensures { IsConfigured settings result }
+    {
+        if !has_shape(&settings) {
+            return Err(ConfigFault::BadShape);
+        }
+        if !is_repository_name(settings.name.as_str()) {
+            return Err(ConfigFault::BadName);
+        }
+        let formats = declared_formats(alloc, settings.formats)?;
+        let Some(earliest) = read_earliest(settings.granularity, settings.earliest.as_str()) else {
+            return Err(ConfigFault::BadDate);
+        };
+        let Some(limits) = limits_of(
+            settings.chunk,
+            settings.lifetime,
+            settings.lists,
+            settings.items,
+        ) else {
+            return Err(ConfigFault::BadNumber);
+        };
+        let base = base_url(settings.base, settings.name.as_str())?;
+        Ok(RepoConfig {
+            base,
+            repository_name: settings.repository_name,
+            addresses: settings.addresses,
+            earliest,
+            deleted: settings.deleted,
+            granularity: settings.granularity,
+            limits,
+            formats,
+        })
+    }
+
+    /// The base URL: its characters may stand in an XML document.
+    pub fn base(&self) -> &str
+        ensures base { result.now ≡ self.now.base }
+        ensures valid { IsConfig self.now }
+    {
+        self.base.as_str()
+    }
+
+    /// The name for people: 1 to 512 bytes.
+    pub fn repository_name(&self) -> &str
+        ensures name { result.now ≡ self.now.repository_name }
+        ensures valid { IsConfig self.now }
+    {
+        self.repository_name.as_str()
+    }
+
+    /// The addresses of the administrators: 1 to 16, of 1 to 512 bytes each.
+    pub fn addresses(&self) -> &[Text]
+        ensures addresses { result.now ≡ self.now.addresses }
+        ensures valid { IsConfig self.now }
+    {
+        self.addresses.as_slice()
+    }
+
+    /// The lower limit of all datestamps, in seconds from 1970 on, of the years 0001 to 9998, and a
+    /// midnight where the granularity is days.
+    #[tactic(auto, unfolding(crate::specs::Config::is_date))]
+    pub fn earliest(&self) -> i64
+        ensures earliest { result ≡ self.now.earliest }
+        ensures in_range { IsWritable self.now.earliest }
+        ensures valid { IsConfig self.now }
+    {
+        self.earliest
+    }
+
+    /// What is kept of deleted records.
+    pub fn deleted(&self) -> DeletedRecord
+        ensures { result ≡ self.now.deleted }
+    {
+        self.deleted
+    }
+
+    /// How fine the datestamps are.
+    pub fn granularity(&self) -> Granularity
+        ensures { result ≡ self.now.granularity }
+    {
+        self.granularity
+    }
+
+    /// Records a page: 1 to 1,000.
+    pub fn chunk(&self) -> u64
+        ensures chunk { result ≡ self.now.chunk }
+        ensures valid { IsConfig self.now }
+    {
+        self.limits.chunk
+    }
+
+    /// Seconds that a list stays open after each of its pages: 1 to 31,536,000.
+    pub fn lifetime(&self) -> u64
+        ensures lifetime { result ≡ self.now.lifetime }
+        ensures valid { IsConfig self.now }
+    {
+        self.limits.lifetime
+    }
+
+    /// Lists that are open at once: 1 to 10,000.
+    pub fn lists(&self) -> u64
+        ensures lists { result ≡ self.now.lists }
+        ensures valid { IsConfig self.now }
+    {
+        self.limits.lists
+    }
+
+    /// Items, deleted ones counted: 1 to 1,000,000.
+    pub fn items(&self) -> u64
+        ensures items { result ≡ self.now.items }
+        ensures valid { IsConfig self.now }
+    {
+        self.limits.items
+    }
+
+    /// The metadata formats, oai_dc first.
+    pub fn formats(&self) -> &Formats
+        ensures { result.now ≡ self.now.formats }
+    {
+        &self.formats
+    }
+}

@@ -1,0 +1,9 @@
+//! What is told of a repository, and the configuration that it makes: the rules of its names, its limits
+//! and its metadata formats.
+#![tactic(auto)]
+
+mod config;
+mod settings;
+
+pub use config::RepoConfig;
+pub use settings::{ConfigFault, FormatSettings, Settings};

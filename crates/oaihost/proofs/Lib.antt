@@ -1,5 +1,0 @@
-pub mod Apart
-mod AskedLemmas
-mod InputLemmas
-mod KnownLemmas
-pub mod Performed

@@ -1,6 +1,0 @@
-use Rattle.oaihost.specs.Outputs.{IsServing}
-use Rattle.oaihost.proofs.trace.trace_all.Given as goal
-
--- messages were performed
-abbrev pub invariant-loop : goal.invariant-loop
-invariant-loop g l = IsServing g.H.Handler.step l.fn.front.handler l.front.handler

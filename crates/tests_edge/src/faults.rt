@@ -1,0 +1,123 @@
+//! A store that fails: the exchange that meets the failure is answered 500 and changes nothing, and the
+//! same exchange again is answered as if nothing had happened.
+use crate::asking::{push_wanted, worked_configuration};
+use oai_catalogue::{FaultyVersions, PlainVersions, Versions};
+use oai_edge::{config_in, write_answer};
+use oai_host::{Answer, Exchange, Host};
+use oai_item::Fault;
+use std::alloc::Global;
+use std::process::Abort;
+use std::test::Fail;
+
+/// A second, a target, and of a deposit its line.
+type Asked = (i64, &'static str, &'static str);
+
+/// How many calls of the store that can fail a new host and these exchanges make: one for the version
+/// of each of its three repositories; of a new item one, of a state at another datestamp four, of one at the same two; of a list
+/// two, of a deletion four, and of a record one.
+const CALLS: u64 = 17;
+
+/// An item that is deposited, at another datestamp and at the same again, listed, deleted and asked for.
+fn exchanges() -> [Asked; 6] {
+    let deposit = r#"{"deposit":"oai:a:1","sets":[],"records":{"oai_dc":[]}}"#;
+    [
+        (1_704_067_200, "/deposit/a", deposit),
+        (1_704_067_205, "/deposit/a", deposit),
+        (1_704_067_205, "/deposit/a", deposit),
+        (
+            1_704_067_206,
+            "/oai/a?verb=ListIdentifiers&metadataPrefix=oai_dc",
+            "",
+        ),
+        (1_704_067_207, "/deposit/a", r#"{"delete":"oai:a:1"}"#),
+        (
+            1_704_067_208,
+            "/oai/a?verb=GetRecord&identifier=oai:a:1&metadataPrefix=oai_dc",
+            "",
+        ),
+    ]
+}
+
+/// What they are answered.
+fn answers() -> &'static str {
+    r#"200
+ok 2024-01-01T00:00:00Z
+200
+ok 2024-01-01T00:00:05Z
+200
+ok 2024-01-01T00:00:05Z
+200
+DOC <responseDate>2024-01-01T00:00:06Z</responseDate><request verb="ListIdentifiers" metadataPrefix="oai_dc">http://host.example/oai/a</request><ListIdentifiers><header><identifier>oai:a:1</identifier><datestamp>2024-01-01T00:00:05Z</datestamp></header></ListIdentifiers></OAI-PMH>
+200
+ok 2024-01-01T00:00:07Z
+200
+DOC <responseDate>2024-01-01T00:00:08Z</responseDate><request verb="GetRecord" identifier="oai:a:1" metadataPrefix="oai_dc">http://host.example/oai/a</request><GetRecord><record><header status="deleted"><identifier>oai:a:1</identifier><datestamp>2024-01-01T00:00:07Z</datestamp></header></record></GetRecord></OAI-PMH>"#
+}
+
+/// Asks the host.
+fn answer_of<V: Versions + Drop>(host: &mut Host<V>, asked: Asked) -> Answer {
+    let (moment, target, body) = asked;
+    let method: &[u8] = if body.is_empty() { b"GET" } else { b"POST" };
+    let exchange = Exchange {
+        method,
+        target: target.as_bytes(),
+        content_type: None,
+        body: body.as_bytes(),
+    };
+    host.exchange(moment, &exchange)
+}
+
+/// Performs the exchange, and where the store fails, which it says, performs it again.
+fn answer<V: Versions + Drop>(
+    rt: &impl Abort,
+    host: &mut Host<V>,
+    asked: Asked,
+    output: &mut Vec<u8>,
+) -> Result<bool, Fail> {
+    let first = answer_of(host, asked);
+    let Some(fault) = first.fault else {
+        write_answer(&first, output)?;
+        return Ok(false);
+    };
+    assert_eq!(rt; fault, Fault::Device);
+    assert_eq!(rt; first.status.number(), 500);
+    write_answer(&answer_of(host, asked), output)?;
+    Ok(true)
+}
+
+/// Performs the exchanges over a store whose k-th call fails, and says whether one did: no more may.
+fn assert_answers(rt: &impl Abort, alloc: Global, k: u64) -> Result<bool, Fail> {
+    let store = FaultyVersions::new(PlainVersions::new(alloc), k);
+    let config = config_in(alloc, worked_configuration().as_bytes())?;
+    let mut host = match Host::new(alloc, config, store) {
+        Ok(host) => host,
+        Err(fault) => {
+            assert_eq!(rt; fault, Fault::Device);
+            return Ok(true);
+        }
+    };
+    let mut output = Vec::new(alloc);
+    let mut failed = false;
+    for asked in exchanges() {
+        if answer(rt, &mut host, asked, &mut output)? {
+            assert!(rt; !failed);
+            failed = true;
+        }
+    }
+    let mut wanted = String::new(alloc);
+    for line in answers().lines() {
+        push_wanted(line, &mut wanted)?;
+    }
+    assert_eq!(rt; output.as_slice(), wanted.as_bytes(), "call {k}");
+    Ok(failed)
+}
+
+/// Each call of the store fails once.
+#[test]
+fn each_call_fails(rt: HostRuntime) -> Result<(), Fail> {
+    for k in 1..=CALLS {
+        assert!(rt; assert_answers(&rt, rt.alloc(), k)?);
+    }
+    assert!(rt; !assert_answers(&rt, rt.alloc(), CALLS + 1)?);
+    Ok(())
+}

@@ -1,0 +1,477 @@
+//! Connections over streams: of the tests, and of the system.
+use crate::asking::worked_configuration;
+use crate::tracing::{
+    answer_with, but_the_last, later_set_answer, not_found, set_again_answer, set_answer,
+    set_message,
+};
+use crate::transcripts;
+use oai_catalogue::PlainVersions;
+use oai_edge::{StreamFault, config_in, host_of, serve_stream};
+use oai_front::{ConnId, Front};
+use oai_host::Host;
+use std::alloc::{AllocError, Global};
+use std::cell::Cell;
+use std::io::{self, ErrorKind, Read, Write};
+use std::net::{Ipv4Addr, Shutdown, SocketAddr, SocketAddrV4, TcpListener, TcpStream};
+use std::process::Abort;
+use std::rt::Clock;
+use std::test::Fail;
+use std::time::Duration;
+
+/// The moment 1704067200.
+struct StandingClock;
+
+impl Clock for StandingClock {
+    fn monotonic(&self) -> io::Result<Duration> {
+        Ok(Duration::ZERO)
+    }
+
+    fn since_1970(&self) -> io::Result<Duration> {
+        Ok(Duration::from_secs(1_704_067_200))
+    }
+}
+
+/// A clock that cannot be read.
+struct StoppedClock;
+
+impl Clock for StoppedClock {
+    fn monotonic(&self) -> io::Result<Duration> {
+        Err(io::Error::from(ErrorKind::Unsupported))
+    }
+
+    fn since_1970(&self) -> io::Result<Duration> {
+        Err(io::Error::from(ErrorKind::Unsupported))
+    }
+}
+
+/// A clock that others move; it tells seconds from 1970 on.
+#[derive(Drop)]
+struct MovedClock(Cell<u64>);
+
+impl Clock for MovedClock {
+    fn monotonic(&self) -> io::Result<Duration> {
+        Ok(Duration::ZERO)
+    }
+
+    fn since_1970(&self) -> io::Result<Duration> {
+        Ok(Duration::from_secs(self.0.get()))
+    }
+}
+
+/// Gives its text in reads of at most so many bytes and keeps what is written, until so many reads and
+/// so many writes were made; the next one fails.
+#[derive(Drop)]
+struct Wire<'a> {
+    text: &'a [u8],
+    piece: usize,
+    reads: usize,
+    writes: usize,
+    written: Vec<u8>,
+}
+
+impl Read for Wire<'_> {
+    fn read(&mut self, buffer: &mut [u8]) -> io::Result<usize> {
+        if self.reads == 0 {
+            return Err(io::Error::from(ErrorKind::ConnectionReset));
+        }
+        self.reads -= 1;
+        let most = self.piece.min(self.text.len());
+        let mut piece = &self.text[..most];
+        let count = piece.read(buffer)?;
+        self.text = self.text.get(count..).unwrap_or(&[]);
+        Ok(count)
+    }
+}
+
+impl Write for Wire<'_> {
+    fn write(&mut self, bytes: &[u8]) -> io::Result<usize> {
+        if self.writes == 0 || self.written.extend_from_slice(bytes).is_err() {
+            return Err(io::Error::from(ErrorKind::ConnectionReset));
+        }
+        self.writes -= 1;
+        Ok(bytes.len())
+    }
+
+    fn flush(&mut self) -> io::Result<()> {
+        Ok(())
+    }
+}
+
+/// A wire on which nothing fails.
+fn wire_of(alloc: Global, text: &[u8], piece: usize) -> Wire<'_> {
+    Wire {
+        text,
+        piece,
+        reads: 1_000,
+        writes: 1_000,
+        written: Vec::new(alloc),
+    }
+}
+
+/// A wire each read of which takes ten seconds.
+#[derive(Drop)]
+struct SlowWire<'a> {
+    wire: Wire<'a>,
+    clock: &'a MovedClock,
+}
+
+impl Read for SlowWire<'_> {
+    fn read(&mut self, buffer: &mut [u8]) -> io::Result<usize> {
+        let seconds = self.clock.0.get();
+        self.clock.0.set(seconds.saturating_add(10));
+        self.wire.read(buffer)
+    }
+}
+
+impl Write for SlowWire<'_> {
+    fn write(&mut self, bytes: &[u8]) -> io::Result<usize> {
+        self.wire.write(bytes)
+    }
+
+    fn flush(&mut self) -> io::Result<()> {
+        self.wire.flush()
+    }
+}
+
+/// A front with a new host, on which one connection may be open.
+fn new_front(alloc: Global) -> Result<Front<Host<PlainVersions>>, Fail> {
+    let config = config_in(alloc, worked_configuration().as_bytes())?;
+    Ok(Front::new(alloc, host_of(alloc, config)?, 1))
+}
+
+/// A connection on which a set is added is answered so, and another one can be opened behind it.
+fn assert_set(
+    rt: &impl Abort,
+    alloc: Global,
+    front: &mut Front<Host<PlainVersions>>,
+    wanted: &str,
+) -> Result<(), Fail> {
+    let mut stream = wire_of(alloc, set_message().as_bytes(), 1_000);
+    let served = serve_stream(alloc, front, &mut stream, &StandingClock);
+    assert_eq!(rt; served, Ok(()));
+    assert_eq!(rt; stream.written.as_slice(), wanted.as_bytes());
+    Ok(())
+}
+
+/// Two messages, the second of which is the last, and one that is not read any more.
+fn three_messages(alloc: Global) -> Result<String, AllocError> {
+    let mut text = String::from_str(alloc, set_message())?;
+    text.push_str("GET / HTTP/1.1\r\nHost: h\r\nConnection: close\r\n\r\n")?;
+    text.push_str(set_message())?;
+    Ok(text)
+}
+
+/// The answers to the two.
+fn two_answers(alloc: Global) -> Result<String, AllocError> {
+    let mut text = String::from_str(alloc, set_answer())?;
+    text.push_str("HTTP/1.1 404 Not Found\r\nConnection: close\r\nContent-Length: 0\r\n\r\n")?;
+    Ok(text)
+}
+
+/// However the bytes are cut, the answers are the same, and nothing is read once the connection closes.
+#[test]
+fn streams_in_pieces(rt: HostRuntime) -> Result<(), Fail> {
+    let alloc = rt.alloc();
+    let text = three_messages(alloc)?;
+    let wanted = two_answers(alloc)?;
+    for piece in 1..=text.len() {
+        let mut front = new_front(alloc)?;
+        let mut stream = wire_of(alloc, text.as_bytes(), piece);
+        let served = serve_stream(alloc, &mut front, &mut stream, &StandingClock);
+        assert_eq!(rt; served, Ok(()), "{piece}");
+        assert_eq!(rt; stream.written.as_slice(), wanted.as_bytes(), "{piece}");
+        assert_set(&rt, alloc, &mut front, set_again_answer())?;
+    }
+    Ok(())
+}
+
+/// A stream ends in the middle of a message: nothing is performed of it.
+#[test]
+fn stream_ends_in_a_body(rt: HostRuntime) -> Result<(), Fail> {
+    let alloc = rt.alloc();
+    let mut front = new_front(alloc)?;
+    let message = set_message().as_bytes();
+    let mut stream = wire_of(alloc, but_the_last(message), 1_000);
+    let served = serve_stream(alloc, &mut front, &mut stream, &StandingClock);
+    assert_eq!(rt; served, Ok(()));
+    assert!(rt; stream.written.is_empty());
+    assert_set(&rt, alloc, &mut front, set_answer())
+}
+
+/// Each read fails in turn. What was performed stays, and the next connection is served.
+#[test]
+fn reads_of_a_stream_fail(rt: HostRuntime) -> Result<(), Fail> {
+    let alloc = rt.alloc();
+    let message = set_message().as_bytes();
+    for reads in 0..=message.len() {
+        let mut front = new_front(alloc)?;
+        let mut stream = wire_of(alloc, message, 1);
+        stream.reads = reads;
+        let served = serve_stream(alloc, &mut front, &mut stream, &StandingClock);
+        assert_eq!(rt; served, Err(StreamFault::ReadFault), "{reads}");
+        let is_done = reads == message.len();
+        let wanted = if is_done { set_answer() } else { "" };
+        assert_eq!(rt; stream.written.as_slice(), wanted.as_bytes(), "{reads}");
+        let next = if is_done {
+            set_again_answer()
+        } else {
+            set_answer()
+        };
+        assert_set(&rt, alloc, &mut front, next)?;
+    }
+    Ok(())
+}
+
+/// Each write fails in turn. What was performed stays, and the next connection is served.
+#[test]
+fn writes_of_a_stream_fail(rt: HostRuntime) -> Result<(), Fail> {
+    let alloc = rt.alloc();
+    let text = three_messages(alloc)?;
+    let wanted = two_answers(alloc)?;
+    for writes in 0..2 {
+        let mut front = new_front(alloc)?;
+        let mut stream = wire_of(alloc, text.as_bytes(), set_message().len());
+        stream.writes = writes;
+        let served = serve_stream(alloc, &mut front, &mut stream, &StandingClock);
+        assert_eq!(rt; served, Err(StreamFault::WriteFault), "{writes}");
+        let is_front = wanted.as_bytes().starts_with(stream.written.as_slice());
+        assert!(rt; is_front, "{writes}");
+        assert_set(&rt, alloc, &mut front, set_again_answer())?;
+    }
+    Ok(())
+}
+
+#[test]
+fn clock_of_a_stream_fails(rt: HostRuntime) -> Result<(), Fail> {
+    let alloc = rt.alloc();
+    let mut front = new_front(alloc)?;
+    let mut stream = wire_of(alloc, set_message().as_bytes(), 1_000);
+    let served = serve_stream(alloc, &mut front, &mut stream, &StoppedClock);
+    assert_eq!(rt; served, Err(StreamFault::ClockFault));
+    assert!(rt; stream.written.is_empty());
+    assert_set(&rt, alloc, &mut front, set_answer())
+}
+
+/// A message is performed at the moment that the clock tells behind the read that completes it: the second
+/// read ends twenty seconds behind the first moment.
+#[test]
+fn moments_of_a_stream(rt: HostRuntime) -> Result<(), Fail> {
+    let alloc = rt.alloc();
+    let clock = MovedClock(Cell::new(1_704_067_210));
+    let mut front = new_front(alloc)?;
+    let mut stream = SlowWire {
+        wire: wire_of(alloc, set_message().as_bytes(), 60),
+        clock: &clock,
+    };
+    let served = serve_stream(alloc, &mut front, &mut stream, &clock);
+    assert_eq!(rt; served, Ok(()));
+    assert_eq!(rt;
+        stream.wire.written.as_slice(),
+        later_set_answer().as_bytes()
+    );
+    Ok(())
+}
+
+/// Where as many connections are open as may be, none is opened, and the one that is stays.
+#[test]
+fn no_room_for_a_stream(rt: HostRuntime) -> Result<(), Fail> {
+    let alloc = rt.alloc();
+    let mut front = new_front(alloc)?;
+    let conn = front.open()?;
+    let mut stream = wire_of(alloc, set_message().as_bytes(), 1_000);
+    let served = serve_stream(alloc, &mut front, &mut stream, &StandingClock);
+    assert!(rt; matches!(served, Err(StreamFault::NotOpened(_))));
+    assert_eq!(rt; front.closing(conn), Some(false));
+    assert_eq!(rt; front.closing(ConnId { number: 2 }), None);
+    Ok(())
+}
+
+/// A deposit of a record whose title is so many of the letter, a request of it, and one of what is not there.
+fn long_record(alloc: Global, letter: &str, letters: usize) -> Result<String, AllocError> {
+    let mut line = String::from_str(
+        alloc,
+        "{\"deposit\":\"oai:a:1\",\"sets\":[],\"records\":{\"oai_dc\":[[\"title\",\"",
+    )?;
+    for _ in 0..letters {
+        line.push_str(letter)?;
+    }
+    line.push_str("\"]]}}")?;
+    format!(in alloc;
+        "POST /deposit/a HTTP/1.1\r\nHost: h\r\nContent-Length: {}\r\n\r\n{}GET /oai/a?verb=GetRecord&identifier=oai:a:1&metadataPrefix=oai_dc HTTP/1.1\r\nHost: h\r\n\r\nGET / HTTP/1.1\r\nHost: h\r\n\r\n",
+        line.len(),
+        line
+    )
+}
+
+/// The document of that record up to its title.
+fn front_of_the_record() -> &'static str {
+    r#"DOC <responseDate>2024-01-01T00:00:00Z</responseDate><request verb="GetRecord" identifier="oai:a:1" metadataPrefix="oai_dc">http://host.example/oai/a</request><GetRecord><record><header><identifier>oai:a:1</identifier><datestamp>2024-01-01T00:00:00Z</datestamp></header><metadata>{dc}<dc:title>"#
+}
+
+/// The answers to the three, where the letter is shown so.
+fn long_answers(alloc: Global, shown: &str, letters: usize) -> Result<String, AllocError> {
+    let mut document = String::from_str(alloc, front_of_the_record())?;
+    for _ in 0..letters {
+        document.push_str(shown)?;
+    }
+    document.push_str("</dc:title></oai_dc:dc></metadata></record></GetRecord></OAI-PMH>")?;
+    let answer = answer_with(alloc, document.as_str())?;
+    format!(in alloc; "{}{}{}", set_answer(), answer, not_found())
+}
+
+/// What comes on the stream is answered so, and that is all that is written.
+fn assert_served(rt: &impl Abort, alloc: Global, text: &str, wanted: &str) -> Result<(), Fail> {
+    let mut front = new_front(alloc)?;
+    let mut stream = wire_of(alloc, text.as_bytes(), 65_536);
+    let served = serve_stream(alloc, &mut front, &mut stream, &StandingClock);
+    assert_eq!(rt; served, Ok(()));
+    assert_eq!(rt; stream.written.as_slice(), wanted.as_bytes());
+    Ok(())
+}
+
+/// A record of a short document, one whose document is not gathered, and one whose document has 79,725 bytes of
+/// title: each byte is written, and each head before its body.
+#[test]
+fn long_outputs(rt: HostRuntime) -> Result<(), Fail> {
+    let alloc = rt.alloc();
+    for (letter, shown, letters) in [("t", "t", 1), ("t", "t", 4_096), ("&", "&amp;", 15_945)] {
+        let text = long_record(alloc, letter, letters)?;
+        let wanted = long_answers(alloc, shown, letters)?;
+        assert_served(&rt, alloc, text.as_str(), wanted.as_str())?;
+    }
+    Ok(())
+}
+
+/// The text so many times.
+fn times(alloc: Global, text: &str, count: usize) -> Result<String, AllocError> {
+    let mut all = String::new(alloc);
+    for _ in 0..count {
+        all.push_str(text)?;
+    }
+    Ok(all)
+}
+
+/// A hundred short answers, which are more bytes than are gathered.
+#[test]
+fn many_short_outputs(rt: HostRuntime) -> Result<(), Fail> {
+    let alloc = rt.alloc();
+    let text = times(alloc, "GET / HTTP/1.1\r\nHost: h\r\n\r\n", 100)?;
+    let wanted = times(alloc, not_found(), 100)?;
+    assert_served(&rt, alloc, text.as_str(), wanted.as_str())
+}
+
+/// What is short is written together: an answer, the head of the next, then its long body, and the last.
+#[test]
+fn short_outputs_are_gathered(rt: HostRuntime) -> Result<(), Fail> {
+    let alloc = rt.alloc();
+    let text = long_record(alloc, "t", 4_096)?;
+    for (writes, wanted) in [(2, Err(StreamFault::WriteFault)), (3, Ok(()))] {
+        let mut front = new_front(alloc)?;
+        let mut stream = wire_of(alloc, text.as_bytes(), 65_536);
+        stream.writes = writes;
+        let served = serve_stream(alloc, &mut front, &mut stream, &StandingClock);
+        assert_eq!(rt; served, wanted, "{writes}");
+    }
+    Ok(())
+}
+
+/// Gives the head of a message of 1,048,576 bytes, and then one byte a read, for ever.
+#[derive(Drop)]
+struct EndlessWire<'a> {
+    head: &'a [u8],
+    reads: u64,
+}
+
+impl Read for EndlessWire<'_> {
+    fn read(&mut self, buffer: &mut [u8]) -> io::Result<usize> {
+        self.reads = self.reads.saturating_add(1);
+        if self.head.is_empty() {
+            let mut byte: &[u8] = b"x";
+            return byte.read(buffer);
+        }
+        self.head.read(buffer)
+    }
+}
+
+impl Write for EndlessWire<'_> {
+    fn write(&mut self, bytes: &[u8]) -> io::Result<usize> {
+        Ok(bytes.len())
+    }
+
+    fn flush(&mut self) -> io::Result<()> {
+        Ok(())
+    }
+}
+
+#[test]
+fn endless_streams(rt: HostRuntime) -> Result<(), Fail> {
+    let alloc = rt.alloc();
+    let mut front = new_front(alloc)?;
+    let mut stream = EndlessWire {
+        head: b"POST /deposit/a HTTP/1.1\r\nHost: h\r\nContent-Length: 1048576\r\n\r\n",
+        reads: 0,
+    };
+    let served = serve_stream(alloc, &mut front, &mut stream, &StandingClock);
+    assert_eq!(rt; served, Err(StreamFault::Endless));
+    assert_eq!(rt; stream.reads, 1_000_000);
+    assert_set(&rt, alloc, &mut front, set_answer())
+}
+
+/// What is said of each fault of a stream.
+#[test]
+fn faults_of_streams(rt: HostRuntime) -> Result<(), Fail> {
+    for (fault, text) in [
+        (StreamFault::NoMemory, "out of memory"),
+        (StreamFault::ReadFault, "the stream could not be read"),
+        (StreamFault::WriteFault, "the stream could not be written"),
+        (StreamFault::ClockFault, "the clock could not be read"),
+        (StreamFault::Endless, "the stream has not ended"),
+    ] {
+        let said = format!(in rt.alloc(); "{fault}")?;
+        assert_eq!(rt; said.as_str(), text);
+    }
+    Ok(())
+}
+
+/// Asks for a set and for Identify, and ends its writing side.
+fn ask(client: &mut TcpStream) -> Result<(), Fail> {
+    client.write_all(set_message().as_bytes())?;
+    client.write_all(b"GET /oai/a?verb=Identify HTTP/1.1\r\nHost: h\r\n\r\n")?;
+    client.shutdown(Shutdown::Write)?;
+    Ok(())
+}
+
+/// Serves the next connection to its end.
+fn serve_next(
+    alloc: Global,
+    listener: &TcpListener,
+    front: &mut Front<Host<PlainVersions>>,
+) -> Result<(), Fail> {
+    let (mut stream, _) = listener.accept()?;
+    serve_stream(alloc, front, &mut stream, &StandingClock)?;
+    Ok(())
+}
+
+/// What a client of the system's sockets is answered by a new host.
+fn answers_over_a_socket(rt: &HostRuntime, alloc: Global) -> Result<Vec<u8>, Fail> {
+    let local = SocketAddr::V4(SocketAddrV4::new(Ipv4Addr::LOCALHOST, 0));
+    let listener = TcpListener::bind(rt, local)?;
+    let mut client = TcpStream::connect(rt, listener.local_addr()?)?;
+    ask(&mut client)?;
+    serve_next(alloc, &listener, &mut new_front(alloc)?)?;
+    let mut answers = Vec::new(alloc);
+    client.read_to_end(&mut answers)?;
+    Ok(answers)
+}
+
+/// A client asks, ends its writing side, and reads the answers.
+#[test]
+fn sockets(rt: HostRuntime) -> Result<(), Fail> {
+    let alloc = rt.alloc();
+    let answers = answers_over_a_socket(&rt, alloc)?;
+    let mut wanted = String::from_str(alloc, set_answer())?;
+    let document = answer_with(alloc, transcripts::identify())?;
+    wanted.push_str(document.as_str())?;
+    assert_eq!(rt; answers.as_slice(), wanted.as_bytes());
+    Ok(())
+}
