@@ -11,7 +11,7 @@ use Rattle.oai_args.specs.Arguments.{key_of, known_keys, role_of, given, once, i
 use Rattle.oai_args.specs.Asks.{AskOrError, asks, bad_verb, bad_argument, at_most_once, NamesVerb, IsOf, IsGetRecord, IsList, IsAsk, IsAskOrError}
 use Rattle.oai_args.specs.Bounds.{is_none_or_set_spec, are_bounds}
 use Rattle.oai_args.specs.Pairs.{Pair, has_only_keys, has_xml_values}
-use Rattle.oai_args.specs.Requests.{provided, verb_named, list_of_verb, suit, get_record_of, first_list_of, first_of, next_of, form_of, asked_or_bad, asked_of_verb, asked_verb, request_in, request_of, IsReadAs, IsReadFrom, GivesTheAnswer, ◌>>=◌}
+use Rattle.oai_args.specs.Requests.{provided, verb_named, list_of_verb, suit, get_record_of, first_list_of, first_of, next_of, form_of, asked_or_bad, asked_of_verb, asked_verb, request_in, request_of, IsReadFrom, GivesTheAnswer, ◌>>=◌}
 use Rattle.oai_args.specs.Steps.{result_of}
 use Rattle.oai_args.specs.Verbs.{verbs, name_of, verb_of_list}
 use Rattle.oai_args.specs.declared.arguments.Arguments.{Arguments}
@@ -357,22 +357,12 @@ gives_the_answer granularity pairs asked = (answered granularity pairs asked, an
 
 -- ---- what is answered
 
-answered_as : (asked : AskOrError) → IsReadAs (result_of asked) asked
-answered_as (asks request) = refl
-answered_as bad_verb = refl
-answered_as bad_argument = refl
-
-pub read_as : (result : Result Ask ArgFault) (asked : AskOrError) → result ≡ result_of asked → IsReadAs result asked
-read_as result asked e =
-    let Is : Result Ask ArgFault → Type 0 = λ r. IsReadAs r asked in
-    subst Is (sym e) (answered_as asked)
-
-answered_from : (granularity : Granularity) (pairs : List Pair) (asked : AskOrError) → request_of granularity pairs ≡ asked → IsReadFrom granularity pairs (result_of asked)
-answered_from granularity pairs (asks request) is = answered granularity pairs (asks request) is
-answered_from granularity pairs bad_verb is = answered granularity pairs bad_verb is
-answered_from granularity pairs bad_argument is = answered granularity pairs bad_argument is
+answered_as : (granularity : Granularity) (pairs : List Pair) (asked : AskOrError) → request_of granularity pairs ≡ asked → IsReadFrom granularity pairs (result_of asked)
+answered_as granularity pairs (asks request) is = is
+answered_as granularity pairs bad_verb is = is
+answered_as granularity pairs bad_argument is = is
 
 pub read_from : (granularity : Granularity) (pairs : List Pair) (result : Result Ask ArgFault) → result ≡ result_of (request_of granularity pairs) → IsReadFrom granularity pairs result
 read_from granularity pairs result e =
     let Is : Result Ask ArgFault → Type 0 = λ r. IsReadFrom granularity pairs r in
-    subst Is (sym e) (answered_from granularity pairs (request_of granularity pairs) refl)
+    subst Is (sym e) (answered_as granularity pairs (request_of granularity pairs) refl)

@@ -1,4 +1,4 @@
--- The arguments `from`, `until` and `set` of a list. OAI-PMH 2.0, sections 2.6 and 2.7.1.
+-- The arguments `from`, `until` and `set` of a list. OAI-PMH 2.0, sections 2.6, 2.7.1, 2.7.2 and 3.3.1.
 use Rattle.std.specs.Prelude.{int_le, ℕ, Bool, true, false, ◌&&◌, List, Option, Some, None}
 use Rattle.oai_names.specs.Sets.{is_set_spec}
 use Rattle.oai_time.specs.Bound.{bound_of, is_no_finer_than}

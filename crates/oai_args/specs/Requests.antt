@@ -50,12 +50,15 @@ suit part verb given =
     && suits part (role_of verb key.Set) given.set
     && suits part (role_of verb key.ResumptionToken) given.token
 
+-- GetRecord (section 4.1): an identifier, and a metadataPrefix of its syntax
 unfoldable pub get_record_of : Arguments → Option Ask
 get_record_of given = do
   identifier ← once given.identifier
   prefix ← once given.prefix
   provided (is_prefix prefix) (ask.Get identifier prefix)
 
+-- a first ListIdentifiers or ListRecords (sections 4.3 and 4.5): a metadataPrefix, and where they are given from, until and set,
+-- each of its syntax
 unfoldable pub first_list_of : Granularity → ListVerb → Arguments → Option Ask
 first_list_of granularity verb given = do
   prefix ← once given.prefix
@@ -113,23 +116,16 @@ request_of granularity pairs = request_in granularity (arguments_in pairs)
 
 -- ---- what reading them answers
 
--- the answer is this request or this error, unless memory is refused
-abbrev pub IsReadAs : Result Ask ArgFault → AskOrError → Type 0
-IsReadAs (Ok request) asked = asked ≡ asks request
-IsReadAs (Err BadVerb) asked = asked ≡ bad_verb
-IsReadAs (Err BadArgument) asked = asked ≡ bad_argument
-IsReadAs (Err NoMemory) asked = Unit {0}
-
 -- the answer is what the pairs ask for; or memory is refused, where there are pairs to store
 abbrev pub IsReadFrom : Granularity → List Pair → Result Ask ArgFault → Type 0
-IsReadFrom granularity pairs (Ok request) = IsAskOrError granularity pairs (asks request)
-IsReadFrom granularity pairs (Err BadVerb) = IsAskOrError granularity pairs bad_verb
-IsReadFrom granularity pairs (Err BadArgument) = IsAskOrError granularity pairs bad_argument
+IsReadFrom granularity pairs (Ok request) = request_of granularity pairs ≡ asks request
+IsReadFrom granularity pairs (Err BadVerb) = request_of granularity pairs ≡ bad_verb
+IsReadFrom granularity pairs (Err BadArgument) = request_of granularity pairs ≡ bad_argument
 IsReadFrom granularity pairs (Err NoMemory) = pairs ≢ []
 
 -- ---- the law of the function and the relation
 
--- every list of pairs asks for one thing, and the function gives it
+-- every list of pairs asks for one thing, in the words of the relation, and the function gives it
 abbrev pub GivesTheAnswer : Type 0
 GivesTheAnswer = (granularity : Granularity) (pairs : List Pair) (asked : AskOrError)
     → (request_of granularity pairs ≡ asked) ↔ IsAskOrError granularity pairs asked

@@ -44,7 +44,7 @@ fn are_not_turned(from: &Option<Text>, until: &Option<Text>) -> bool
     }
 }
 
-/// The bound that an argument gives.
+/// The bound that an argument gives; None where it is not given, or is no bound. It takes no memory.
 pub fn given_bound(argument: &Option<Text>) -> Option<Bound>
     ensures value { result ≡ spec.given_bound argument.now }
     ensures writable { IfSome result IsWritableBound }

@@ -1,6 +1,5 @@
-ghost use Rattle.std.specs.Prelude.{◌≡◌};
 ghost use Rattle.oai_args.specs.Pairs.{decoded_pairs};
-ghost use Rattle.oai_args.specs.Requests.{GivesTheAnswer, IsReadAs, IsReadFrom, request_of};
+ghost use Rattle.oai_args.specs.Requests.{GivesTheAnswer, IsReadFrom};
 
 use crate::arguments::Arguments;
 use oai_names::{ListVerb, Text};
@@ -69,8 +68,7 @@ pub enum ArgFault {
 /// granularity. `NoMemory` is told while the arguments are stored, before their meaning is looked at,
 /// and never of an empty query; then `BadVerb` comes before `BadArgument`.
 pub fn read_request(alloc: Global, query: &[u8], granularity: Granularity) -> Result<Ask, ArgFault>
-    ensures value { IsReadAs result (request_of granularity (decoded_pairs query.now)) }
-    ensures relation { IsReadFrom granularity (decoded_pairs query.now) result }
+    ensures { IsReadFrom granularity (decoded_pairs query.now) result }
 {
     match Arguments::read(alloc, query) {
         Ok(arguments) => arguments.into_request(granularity),

@@ -3,7 +3,7 @@ use Rattle.oai_args.specs.Pairs.{decoded_pairs}
 use Rattle.oai_args.specs.Requests.{request_in, request_of}
 use Rattle.oai_args.specs.Steps.{result_of}
 use Rattle.oai_args.specs.declared.arguments.Arguments.{Arguments}
-use Rattle.oai_args.proofs.RequestLemmas.{read_as, read_from}
+use Rattle.oai_args.proofs.RequestLemmas.{read_from}
 use Rattle.oai_args.proofs.requests.read_request.Goals as goal
 
 -- the arguments that were read are those of the pairs
@@ -11,8 +11,5 @@ answer : (c : goal.After-into_request) → c.into_request.result ≡ result_of (
 unfolding request_of
 answer c = c.into_request.ensures ∙ ap (λ (a : Arguments). result_of (request_in c.args.granularity a)) c.in-Ok.ensures.read
 
-pub returns-in-Ok-clause-value : goal.returns-in-Ok-clause-value
-returns-in-Ok-clause-value c = read_as c.into_request.result _ (answer c)
-
-pub returns-in-Ok-clause-relation : goal.returns-in-Ok-clause-relation
-returns-in-Ok-clause-relation c = read_from c.args.granularity _ c.into_request.result (answer c)
+pub returns-in-Ok : goal.returns-in-Ok
+returns-in-Ok c = read_from c.args.granularity _ c.into_request.result (answer c)
