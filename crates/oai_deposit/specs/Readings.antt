@@ -24,8 +24,13 @@ each_of read (x ∷ xs) = do
 abbrev pub tested : {A : Type 0} → (A → Bool) → LineRefusal → A → Result A LineRefusal
 tested passes refusal x = if passes x then Ok x else Err refusal
 
--- a call answered the reading; or that memory was refused, and then the condition is true
+-- a call answered the reading, seen by the view; or that memory was refused, and then the condition is true
+abbrev pub GivesBy : {A B : Type 0} → (A → B) → Type 0
+    → Result A LineFault → Result B LineRefusal → Type 0
+GivesBy view condition (Ok x) reading = reading ≡ Ok (view x)
+GivesBy view condition (Err (Refused refusal)) reading = reading ≡ Err refusal
+GivesBy view condition (Err NoMemory) reading = condition
+
+-- the same of an answer that is seen as it is
 abbrev pub Gives : {A : Type 0} → Type 0 → Result A LineFault → Result A LineRefusal → Type 0
-Gives condition (Ok x) reading = reading ≡ Ok x
-Gives condition (Err (Refused refusal)) reading = reading ≡ Err refusal
-Gives condition (Err NoMemory) reading = condition
+Gives condition result reading = GivesBy (λ x. x) condition result reading

@@ -2,10 +2,10 @@ ghost use Rattle.std.specs.Prelude.{◌≡◌, true, is_ok, is_some, map};
 ghost use Rattle.std.specs.List.{list_all};
 ghost use Rattle.serde_json.specs.Find.{get};
 ghost use Rattle.serde_json.specs.View.{view};
-ghost use Rattle.oai_deposit.specs.Calls.{Answers, Anywhere, GivesBy};
+ghost use Rattle.oai_deposit.specs.Calls.{Anywhere, Reads};
 ghost use Rattle.oai_deposit.specs.Json as json;
 ghost use Rattle.oai_deposit.specs.Lines as lines;
-ghost use Rattle.oai_deposit.specs.Readings.{each_of};
+ghost use Rattle.oai_deposit.specs.Readings.{GivesBy, each_of};
 
 use crate::faults::LineFault;
 use oai_item::LineRefusal;
@@ -48,7 +48,7 @@ fn size(value: &Value) -> usize
 /// The member of that name; `BadCommand` where there is none.
 #[tactic(auto, unfolding(crate::specs::Lines::member_of))]
 pub(crate) fn member_of<'v>(value: &'v Value, name: &str) -> Result<&'v Value, LineRefusal>
-    ensures { Answers (λ v. view v.now) result (lines.member_of name.now (view value.now)) }
+    ensures { Reads (λ v. view v.now) result (lines.member_of name.now (view value.now)) }
 {
     match value.get(name) {
         Some(member) => Ok(member),
@@ -59,7 +59,7 @@ pub(crate) fn member_of<'v>(value: &'v Value, name: &str) -> Result<&'v Value, L
 /// The elements of an array; `BadCommand` at any other value.
 #[tactic(auto, unfolding(crate::specs::Lines::elements_of))]
 pub(crate) fn elements_of(value: &Value) -> Result<&[Value], LineRefusal>
-    ensures { Answers (λ values. map view values.now) result (lines.elements_of (view value.now)) }
+    ensures { Reads (λ values. map view values.now) result (lines.elements_of (view value.now)) }
 {
     match value.as_array() {
         Some(values) => Ok(values.as_slice()),
@@ -70,7 +70,7 @@ pub(crate) fn elements_of(value: &Value) -> Result<&[Value], LineRefusal>
 /// The text of a string; `BadCommand` at any other value.
 #[tactic(auto, unfolding(crate::specs::Lines::text_of))]
 pub(crate) fn text_of(value: &Value) -> Result<&str, LineRefusal>
-    ensures { Answers (λ text. text.now) result (lines.text_of (view value.now)) }
+    ensures { Reads (λ text. text.now) result (lines.text_of (view value.now)) }
 {
     match value.as_str() {
         Some(text) => Ok(text),

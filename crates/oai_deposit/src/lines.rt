@@ -4,9 +4,9 @@ ghost use Rattle.oai_names.specs.Names.{may_be_identifier};
 ghost use Rattle.oai_names.specs.Sets.{may_be_set_spec};
 ghost use Rattle.oai_item.specs.ShortTexts.{is_short_text};
 ghost use Rattle.oai_item.specs.declared.refusals.LineRefusal.TheVariants.{BadIdentifier, BadSetSpec, BadText};
-ghost use Rattle.oai_deposit.specs.Calls.{Anywhere, GivesBy, asked_by, has_command_members};
+ghost use Rattle.oai_deposit.specs.Calls.{Anywhere, asked_by, has_command_members};
 ghost use Rattle.oai_deposit.specs.Lines as lines;
-ghost use Rattle.oai_deposit.specs.Readings.{Gives, each_of, tested};
+ghost use Rattle.oai_deposit.specs.Readings.{Gives, GivesBy, each_of, tested};
 ghost use Rattle.oai_deposit.specs.Shapes.{ShapeLaw};
 
 use crate::faults::LineFault;
