@@ -6,7 +6,6 @@ use Rattle.oai_item.specs.Selection.{Filter}
 use Rattle.oai_lists.specs.declared.open_lists.OpenList.{OpenList}
 use Rattle.oai_lists.specs.declared.lists.OpenFault.{OpenFault}
 use Rattle.oai_lists.specs.declared.lists.OpenFault.TheVariants.{Full, NumbersSpent, NoMemory}
-use Rattle.oai_lists.specs.declared.lists.TheConstants.{LAST_NUMBER}
 
 -- the lists that are held, in the order in which they were opened, how many may be open, and the number of the next
 pub record Table : Type 0 where
@@ -44,11 +43,11 @@ open_numbered number now lists = find (λ list. is_numbered number list && is_op
 
 -- ---- opening
 
--- why no list may be opened at that moment: the first cause. The table is full, or no number is left
+-- why no list may be opened at that moment: the first cause. The table is full, or no number is left (the last of 64 bits is given to none)
 unfoldable pub open_fault : Table → ℤ → Option OpenFault
 open_fault table now =
     if nat_le table.limit (length (open_ones now table.lists)) then Some Full
-    else (if table.next == LAST_NUMBER then Some NumbersSpent
+    else (if table.next == 18_446_744_073_709_551_615 then Some NumbersSpent
     else None)
 
 -- the number that the next list gets, or why none may be opened

@@ -82,9 +82,9 @@ impl Lists {
         Ok(self.next)
     }
 
-    /// Opens a list at `now`, and gives its number, the next one. On an error the lists are as before;
-    /// the errors are those of `OpenFault`, the first that applies. It costs what `next` does, and a
-    /// place at the end.
+    /// Opens a list of `size` records of that version at `now`, which ends at `end`, both in seconds from
+    /// 1970 on, and gives its number, the next one. On an error the lists are as before; the errors are
+    /// those of `OpenFault`, the first that applies. It costs what `next` does, and a place at the end.
     pub fn open(
         &mut self,
         now: i64,
@@ -118,8 +118,8 @@ impl Lists {
         Ok(number)
     }
 
-    /// The list of that number, where its end is above `now`. It takes no memory. Of n lists it looks
-    /// at about log n.
+    /// The list of that number, where its end is above `now`, in seconds from 1970 on. It takes no
+    /// memory. Of n lists it looks at about log n.
     pub fn find(&self, number: u64, now: i64) -> Option<&OpenList>
         ensures found { option_copied result ≡ open_numbered number now self.now.lists }
         ensures held { OnSome result (IsSome (list_numbered number self.now.lists)) }
@@ -134,7 +134,8 @@ impl Lists {
         }
     }
 
-    /// Sets the end of the list of that number. It takes no memory. Of n lists it looks at about log n.
+    /// Sets the end of the list of that number, in seconds from 1970 on. It takes no memory. Of n lists
+    /// it looks at about log n.
     pub fn renew(&mut self, number: u64, end: i64)
         requires { IsSome (list_numbered number self.old.lists) }
         ensures { self.new ≡ record self.old { lists = renewed number end self.old.lists } }
@@ -147,9 +148,9 @@ impl Lists {
         self.earliest = self.earliest.min(end);
     }
 
-    /// Drops the first list whose end is not above `now`, and gives its version, which is then to be
-    /// released; None where there is none. It takes no memory. It looks at the lists only where one of
-    /// them may have ended.
+    /// Drops the first list whose end is not above `now`, in seconds from 1970 on, and gives its version,
+    /// which is then to be released; None where there is none. It takes no memory. It looks at the lists
+    /// only where one of them may have ended.
     pub fn expire(&mut self, now: i64) -> Option<u64>
         ensures version { result
             ≡ option_map (λ list. list.version) (find (has_ended now) self.old.lists) }
@@ -167,8 +168,8 @@ impl Lists {
         }
     }
 
-    /// The end of the list that ends first, or None where no list is held. It takes no memory. It
-    /// looks at each list.
+    /// The end of the list that ends first, in seconds from 1970 on, or None where no list is held. It
+    /// takes no memory. It looks at each list.
     pub fn earliest_end(&self) -> Option<i64>
         ensures { IsEarliest self.now.lists result }
     {
