@@ -103,10 +103,10 @@ fn element_run_len(bytes: &[u8]) -> usize
     ensures run { spec.escaped Element (take result bytes.now) ≡ take result bytes.now }
 {
     let unmarked = unmarked_len(bytes);
-    line_len(&bytes[..unmarked])
+    len_before_cr(&bytes[..unmarked])
 }
 
-/// How many bytes stand before the first `&`, `<` or `>` of the next `MOST_RUN`. It looks no further,
+/// How many bytes stand before the first `&`, `<` or `>` of the next 256. It looks no further,
 /// since what stands behind a CR is looked at again.
 fn unmarked_len(bytes: &[u8]) -> usize
     ensures within { result ≤ length bytes.now }
@@ -117,7 +117,7 @@ fn unmarked_len(bytes: &[u8]) -> usize
 }
 
 /// How many bytes stand before the first CR.
-fn line_len(bytes: &[u8]) -> usize
+fn len_before_cr(bytes: &[u8]) -> usize
     ensures within { result ≤ length bytes.now }
     ensures before { (k : ℕ) → k < result → slice_index bytes.now k ≢ 13 }
 {

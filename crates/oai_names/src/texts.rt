@@ -31,7 +31,7 @@ fn are_plain(bytes: &[u8]) -> bool
 {
     let mut plain = true;
     for b in bytes {
-        plain = plain & (*b >= b' ' && *b <= 127);
+        plain = plain & (*b >= b' ' && *b <= 0x7f);
     }
     plain
 }

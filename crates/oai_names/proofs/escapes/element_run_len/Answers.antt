@@ -31,4 +31,4 @@ both bytes unmarked n within less markup line =
 
 pub returns-clause-run : goal.returns-clause-run
 returns-clause-run c =
-    both _ _ _ c.unmarked_len-unmarked.ensures.within c.line_len.ensures.within c.unmarked_len-unmarked.ensures.before c.line_len.ensures.before
+    both _ _ _ c.unmarked_len-unmarked.ensures.within c.len_before_cr.ensures.within c.unmarked_len-unmarked.ensures.before c.len_before_cr.ensures.before
