@@ -1,5 +1,5 @@
 -- Items, and the records that they carry. OAI-PMH 2.0, sections 2.3 to 2.6.
-use Rattle.std.specs.Prelude.{◌≡◌, ◌≢◌, ℕ, ℤ, pos, negsuc, ◌≤ℤ◌, Bool, true, false, ◌==◌, ◌&&◌, List, [], ◌∷◌, length, map, find, Option, None, Some, is_some}
+use Rattle.std.specs.Prelude.{◌≡◌, ◌≢◌, ℕ, ℤ, pos, neg_ℤ, ◌≤ℤ◌, Bool, true, false, ◌==◌, ◌&&◌, List, [], ◌∷◌, length, map, find, Option, None, Some, is_some}
 use Rattle.std.specs.List.{list_all}
 use Rattle.std.specs.Str.{bytes_eq}
 use Rattle.std.specs.Ordering.{nat_cmp, is_lt}
@@ -32,9 +32,9 @@ are_rising [] = true
 are_rising (a ∷ []) = true
 are_rising (a ∷ b ∷ formats) = is_before a.0 b.0 && are_rising (b ∷ formats)
 
--- the seconds of years 0000 to 9999, which a datestamp can name
+-- the seconds of years 0000 to 9999, which a datestamp can name (as `IsWritable` of oai_time)
 abbrev pub IsStamp : ℤ → Type 0
-IsStamp stamp = (negsuc 62167219199 ≤ℤ stamp) × (stamp ≤ℤ pos 253402300799)
+IsStamp stamp = (neg_ℤ (pos 62_167_219_200) ≤ℤ stamp) × (stamp ≤ℤ pos 253_402_300_799)
 
 -- a live item of these parts
 abbrev pub live_item : List ℕ → ℤ → List (List ℕ) → List Metadata → ItemState

@@ -294,5 +294,5 @@ fn are_rising(records: &[(Prefix, Sequence<Field>)]) -> bool
 fn have_no_fields(records: &[(Prefix, Sequence<Field>)]) -> bool
     ensures { result ≡ have_no_fields records.now }
 {
-    records.iter().all(|format| format.1.as_slice().is_empty())
+    records.iter().all(|record| record.1.as_slice().is_empty())
 }

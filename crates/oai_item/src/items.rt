@@ -237,7 +237,7 @@ fn see_prefixes(formats: &[(Prefix, Sequence<Field>)])
     }
 }
 
-/// Whether an item of these setSpecs is in the set.
+/// Whether an item of these setSpecs is in the set. It takes no memory.
 #[tactic(auto, unfolding(crate::specs::Membership::is_in))]
 pub fn is_in(set: &SetSpec, sets: &[SetSpec]) -> bool
     ensures { result ≡ is_in set.now sets.now }
