@@ -21,7 +21,8 @@ use Rattle.oai_answers.specs.declared.tokens.Extent.{Extent}
 
 -- The root and the request. Section 3.2
 
--- the XML declaration, a line end, and the start tag of the root, with its namespaces and its schema
+-- the XML declaration (XML 1.0, section 2.8), a line end, and the start tag of the root, with its namespaces (Namespaces in XML 1.0,
+-- section 3) and its schema (XML Schema Part 1, section 2.6.3)
 unfoldable pub head : List ℕ
 head = codes "<?xml version=\"1.0\" encoding=\"UTF-8\"?>\n<OAI-PMH xmlns=\"http://www.openarchives.org/OAI/2.0/\" xmlns:xsi=\"http://www.w3.org/2001/XMLSchema-instance\" xsi:schemaLocation=\"http://www.openarchives.org/OAI/2.0/ http://www.openarchives.org/OAI/2.0/OAI-PMH.xsd\">"
 
@@ -41,6 +42,7 @@ attributes asked =
     ++ given_attribute (codes "set") asked.set
     ++ given_attribute (codes "resumptionToken") asked.token
 
+-- the request: its arguments as attributes, and the base URL
 unfoldable pub request_element : Document → List ℕ
 request_element d =
     plain (codes "<request") ++ attributes (arguments_told d.answer d.asked) ++ plain (codes ">")
@@ -49,6 +51,7 @@ request_element d =
 
 -- Errors. Section 3.6; the texts are this repository's own
 
+-- the code of an error
 abbrev pub code_of : ErrorCode → List ℕ
 code_of BadVerb = codes "badVerb"
 code_of BadArgument = codes "badArgument"
@@ -59,6 +62,7 @@ code_of NoRecordsMatch = codes "noRecordsMatch"
 code_of NoMetadataFormats = codes "noMetadataFormats"
 code_of NoSetHierarchy = codes "noSetHierarchy"
 
+-- what is told to a person beside it
 abbrev pub message_of : ErrorCode → List ℕ
 message_of BadVerb = codes "The verb is missing, repeated or illegal."
 message_of BadArgument = codes "An argument is illegal, missing, repeated or of illegal syntax."
@@ -69,6 +73,7 @@ message_of NoRecordsMatch = codes "No records match."
 message_of NoMetadataFormats = codes "The item has no metadata formats."
 message_of NoSetHierarchy = codes "The repository has no sets."
 
+-- an error: its code as an attribute, and its text
 unfoldable pub error_element : ErrorCode → List ℕ
 error_element code =
     plain (codes "<error")
@@ -79,15 +84,18 @@ error_element code =
 
 -- Identify. Section 4.2
 
+-- what is kept of deleted records
 abbrev pub deleted_text : DeletedRecord → List ℕ
 deleted_text No = codes "no"
 deleted_text Transient = codes "transient"
 deleted_text Persistent = codes "persistent"
 
+-- how fine datestamps are
 abbrev pub granularity_text : Granularity → List ℕ
 granularity_text Day = codes "YYYY-MM-DD"
 granularity_text Second = codes "YYYY-MM-DDThh:mm:ssZ"
 
+-- a repository, at its base URL
 unfoldable pub identify_element : List ℕ → Description → List ℕ
 identify_element base d = element (codes "Identify")
     (text_element (codes "repositoryName") d.name
@@ -127,23 +135,24 @@ sets_element sets = element (codes "ListSets") (flat_map set_element sets)
 unfoldable pub field_element : List ℕ → Field → List ℕ
 field_element qualifier field = text_element (qualifier ++ field.name) field.text
 
--- the start tag of unqualified Dublin Core, with its namespaces and its schema
+-- the start tag of unqualified Dublin Core, with its namespaces and its schema (the OAI's guidelines for repository implementers, oai_dc)
 unfoldable pub dublin_core_start : List ℕ
 dublin_core_start = codes "<oai_dc:dc xmlns:oai_dc=\"http://www.openarchives.org/OAI/2.0/oai_dc/\" xmlns:dc=\"http://purl.org/dc/elements/1.1/\" xmlns:xsi=\"http://www.w3.org/2001/XMLSchema-instance\" xsi:schemaLocation=\"http://www.openarchives.org/OAI/2.0/oai_dc/ http://www.openarchives.org/OAI/2.0/oai_dc.xsd\">"
 
--- unqualified Dublin Core
+-- unqualified Dublin Core: an element for each field, of the names of DCES 1.1
 unfoldable pub dublin_core_metadata : List Field → List ℕ
 dublin_core_metadata fields =
     dublin_core_start
     ++ flat_map (field_element (codes "dc:")) fields
     ++ end_tag (codes "oai_dc:dc")
 
--- where the schema of a namespace lies: the two, with a space between them
+-- where the schema of a namespace lies: the two, with a space between them (XML Schema Part 1, section 2.6.3)
 unfoldable pub schema_location : Format → List ℕ
 schema_location format = spelled_attribute (codes "xsi:schemaLocation")
     (escaped_attribute format.namespace ++ plain (codes " ") ++ escaped_attribute format.schema)
 
--- the start tag of a declared format, with its namespaces and its schema
+-- the start tag of a declared format, with its namespaces and its schema: the first is the default one, so that no name in it needs a
+-- prefix (Namespaces in XML 1.0, sections 3 and 6.2)
 unfoldable pub declared_start : Format → List ℕ
 declared_start format =
     plain (codes "<") ++ plain format.root

@@ -2,7 +2,7 @@
 use Rattle.std.specs.Prelude.{ℕ, List, ◌++◌, codes}
 use Rattle.oai_names.specs.Escapes.{escaped_text, escaped_attribute}
 
--- bytes that stand as they are
+-- bytes that stand as they are: the bytes themselves. It marks them for the prover, and changes nothing
 unfoldable pub plain : List ℕ → List ℕ
 plain bytes = bytes
 
