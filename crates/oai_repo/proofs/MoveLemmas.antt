@@ -17,6 +17,16 @@ held_with config clock shelf sets table = record { config = config; clock = cloc
 abbrev pub dropped : ℤ → Table → Table
 dropped now table = record table { lists = open_ones now table.lists }
 
+-- the same state in other words, where nothing but the clock is another
+pub state_moved : (config : Config) (c now t : ℤ) (shelf a : Shelf) (sets b : List NamedSet) (table : Table) (before between : Lists) → now ≡ t → a ≡ shelf → b ≡ sets → between ≡ before
+    → at_clock now (state_of (held_with config c a b table) between) ≡ at_clock t (state_of (held_with config c shelf sets table) before)
+state_moved config c now t shelf a sets b table before between is same_shelf same_sets same_lists =
+    let after : ℤ → Shelf → List NamedSet → Lists → State = λ clock s n all. at_clock clock (state_of (held_with config c s n table) all) in
+    ap (λ (s : Shelf). after now s b between) same_shelf
+    ∙ ap (λ (n : List NamedSet). after now shelf n between) same_sets
+    ∙ ap (λ (all : Lists). after now shelf sets all) same_lists
+    ∙ ap (λ (clock : ℤ). after clock shelf sets before) is
+
 pub state_dropped : (config : Config) (c now : ℤ) (shelf : Shelf) (sets : List NamedSet) (table : Table) (all : Lists) → c ≤ℤ now → StandsIn (held_with config c shelf sets table) all
     → state_of (held_with config now shelf sets (dropped now table)) (without_lists (versions_ended now table) all) ≡ at_clock now (state_of (held_with config c shelf sets table) all)
 state_dropped config c now shelf sets table all later stands =

@@ -52,6 +52,12 @@ fault_in (Ok _) = Ok tt
 fault_in (Err (refusal.Refused cause)) = Ok tt
 fault_in (Err (refusal.Fault fault)) = Err fault
 
+-- a change was refused, which is no fault
+abbrev pub OnRefused : {A : Type 0} → Result A Refusal → Type 0 → Type 0
+OnRefused (Ok _) P = Unit {0}
+OnRefused (Err (refusal.Refused cause)) P = P
+OnRefused (Err (refusal.Fault fault)) P = Unit {0}
+
 -- a call that failed has left the repository and all lists as they were; any other has moved the clock, and kept the configuration
 abbrev pub IsLeft : {A : Type 0} → Result A Fault → ℤ → Held → Lists → Held → Lists → Type 0
 IsLeft (Ok _) moment old before new after = (new.clock ≡ tick old.clock moment) × (new.config ≡ old.config)

@@ -7,7 +7,7 @@ use Rattle.oai_item.specs.Item.{ItemState}
 use Rattle.oai_item.specs.Items.{are_apart, item_named}
 use Rattle.oai_item.specs.Selection.{selected}
 use Rattle.oai_catalogue.specs.Store.{Lists, list_at, with_list}
-use Rattle.oai_lists.specs.OpenLists.{Table, open_ones}
+use Rattle.oai_lists.specs.OpenLists.{Table, is_open, open_ones}
 use Rattle.oai_lists.specs.declared.open_lists.OpenList.{OpenList}
 use Rattle.oai_settings.specs.Config.{Config}
 use Rattle.oai_repo.specs.Kept.{AreKept}
@@ -89,6 +89,10 @@ are_counted table lists = list_all (is_counted lists) table.lists
 pub record IsHeld (held : Held) (lists : Lists) : Type 0 where
   pub shelved : IsShelved held.config held.shelf held.sets lists
   pub counted : are_counted held.table lists ≡ true
+
+-- no list that has ended is held any more
+abbrev pub HoldsOpenLists : Held → Type 0
+HoldsOpenLists held = list_all (is_open held.clock) held.table.lists ≡ true
 
 -- ---- whose lists they are
 

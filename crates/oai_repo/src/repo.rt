@@ -1,9 +1,9 @@
-ghost use Rattle.std.specs.Prelude.{◌≡◌, ◌≤◌, ◌≤ℤ◌, true, IfOk, IsTrue, OnErr};
+ghost use Rattle.std.specs.Prelude.{◌≡◌, ◌≤◌, ◌≤ℤ◌, true, IfOk, IsTrue, OnErr, OnOk};
 ghost use Rattle.oai_time.specs.Stamp.{IsWritable};
 ghost use Rattle.oai_catalogue.specs.Store.{IsCounted, IsHonest};
-ghost use Rattle.oai_repo.specs.Calls.{IsAsked, IsChanged, IsLeft, fault_in};
+ghost use Rattle.oai_repo.specs.Calls.{IsAsked, IsChanged, IsLeft, OnRefused, fault_in};
 ghost use Rattle.oai_settings.specs.Config.{is_in_years};
-ghost use Rattle.oai_repo.specs.Held.{IsHeld, IsNew, KeepsOthers, StandsIn, numbers_of, state_of};
+ghost use Rattle.oai_repo.specs.Held.{HoldsOpenLists, IsHeld, IsNew, KeepsOthers, StandsIn, holdings_of, numbers_of, state_of};
 ghost use Rattle.oai_repo.specs.State.{at_clock, moved};
 
 use crate::changes::make;
@@ -100,6 +100,9 @@ impl Repo {
             (V.lists store.new)) }
         ensures left { IsLeft result moment self.old (V.lists store.old) self.new
             (V.lists store.new) }
+        ensures kept { holdings_of self.new.shelf self.new.sets (V.lists store.new)
+            ≡ holdings_of self.old.shelf self.old.sets (V.lists store.old) }
+        ensures dropped { OnOk result (HoldsOpenLists self.new) }
         ensures stands { StandsIn self.new (V.lists store.new) }
         ensures held { IsTrue (V.honest store.old) → IsHeld self.new (V.lists store.new) }
         ensures others { KeepsOthers (numbers_of self.old) (V.lists store.old) (numbers_of self.new)
@@ -141,6 +144,9 @@ impl Repo {
         ensures dated { IfOk result IsWritable }
         ensures left { IsLeft (fault_in result) moment self.old (V.lists store.old) self.new
             (V.lists store.new) }
+        ensures refused { OnRefused result (state_of self.new (V.lists store.new)
+            ≡ moved moment (state_of self.old (V.lists store.old))) }
+        ensures dropped { OnOk (fault_in result) (HoldsOpenLists self.new) }
         ensures stands { StandsIn self.new (V.lists store.new) }
         ensures held { IsTrue (V.honest store.old) → IsHeld self.new (V.lists store.new) }
         ensures others { KeepsOthers (numbers_of self.old) (V.lists store.old) (numbers_of self.new)
@@ -181,6 +187,7 @@ impl Repo {
         ensures moved { state_of self.new (V.lists store.new)
             ≡ moved moment (state_of self.old (V.lists store.old)) }
         ensures config { self.new.config ≡ self.old.config }
+        ensures dropped { HoldsOpenLists self.new }
         ensures stands { StandsIn self.new (V.lists store.new) }
         ensures held { IsTrue (V.honest store.old) → IsHeld self.new (V.lists store.new) }
         ensures others { KeepsOthers (numbers_of self.old) (V.lists store.old) (numbers_of self.new)
@@ -203,6 +210,7 @@ impl Repo {
             ≡ at_clock clock (state_of self.old (V.lists store.old)) }
         ensures clock { self.new.clock ≡ clock }
         ensures config { self.new.config ≡ self.old.config }
+        ensures dropped { HoldsOpenLists self.new }
         ensures stands { StandsIn self.new (V.lists store.new) }
         ensures held { IsTrue (V.honest store.old) → IsHeld self.new (V.lists store.new) }
         ensures others { KeepsOthers (numbers_of self.old) (V.lists store.old) (numbers_of self.new)

@@ -10,7 +10,7 @@ use Rattle.oai_repo.specs.Answers.{arguments_of_request}
 use Rattle.oai_repo.specs.Calls.{told_in}
 use Rattle.oai_repo.specs.Held.{begun_of, holdings_of, numbers_of, versions_in}
 use Rattle.oai_repo.specs.Machine.{Told}
-use Rattle.oai_repo.specs.State.{OpenLists, State}
+use Rattle.oai_repo.specs.State.{Holdings, OpenLists, State}
 use Rattle.oai_repo.proofs.BegunLemmas.{shelved_at, still_same}
 use Rattle.oai_repo.proofs.ClockLemmas.{in_years-tick}
 use Rattle.oai_repo.proofs.NumberLemmas.{kept_twice}
@@ -61,6 +61,12 @@ returns-clause-step g c = λ honest.
     ∙ ap (λ (xs : List ItemState). telling (at now (record { items = xs; sets = inside.sets }) (begun_of now table between))) (sym items)
     ∙ ap (λ (b : OpenLists). telling (at now (holdings_of inside.shelf inside.sets between) b)) (sym (still_same inside.clock now table between c.tick.ensures.never_back))
     ∙ ap telling (sym c.move_to.ensures.moved))
+
+pub returns-clause-kept : goal.returns-clause-kept
+returns-clause-kept g c =
+    let inside = c.self.inside in
+    let with_items : List ItemState → Holdings = λ items. record { items = items; sets = inside.sets } in
+    rw (← c.self.view_is) (ap (λ (state : State). state.holdings) c.move_to.ensures.moved ∙ ap with_items c.in_ok-reply.ensures.left.items)
 
 pub returns-clause-others : goal.returns-clause-others
 returns-clause-others g c =

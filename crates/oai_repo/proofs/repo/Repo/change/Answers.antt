@@ -11,6 +11,7 @@ use Rattle.oai_repo.specs.Workings.{IsMade}
 use Rattle.oai_repo.specs.declared.refusals.Refusal.TheVariants as refusal
 use Rattle.oai_repo.proofs.BegunLemmas.{all_counted, begun_same}
 use Rattle.oai_repo.proofs.ClockLemmas.{in_years-tick}
+use Rattle.oai_repo.proofs.MoveLemmas.{state_moved}
 use Rattle.oai_repo.proofs.NumberLemmas.{in_use_moved, kept_moved, kept_twice, moved_others}
 use Rattle.oai_repo.proofs.StepLemmas.{at_later, step-made, step-refused}
 use Rattle.oai_repo.proofs.repo.Repo.change.Goals as goal
@@ -96,6 +97,24 @@ returns-in-Err-Refused-clause-changed g c = λ honest.
     let done = step-refused inside.config now (tick inside.clock c.args.moment) c.stamp-stamp.result (holdings_of inside.shelf inside.sets before) (holdings_of after.shelf after.sets between) (begun_of inside.clock inside.lists before) c.args.change.now c.in-Err-Refused.cause moved dated made in
     rw (← c.self.view_is)
     (done ∙ ap (λ (b : OpenLists). told (at_later now (holdings_of after.shelf after.sets between) b)) (sym begun) ∙ ap told (sym c.move_to-in-Err-Refused.ensures.moved))
+
+pub returns-in-Err-Refused-clause-refused : goal.returns-in-Err-Refused-clause-refused
+returns-in-Err-Refused-clause-refused g c =
+    let fits : FitsSigned w64 c.args.moment = c.ranges.moment in
+    let inside = c.self.inside in
+    let after = c.make-made.new in
+    let before = g.V.Versions.lists c.args.store.now in
+    let between = g.V.Versions.lists after.store in
+    let now : ℤ = c.tick.new.self in
+    let moved : now ≡ tick inside.clock c.args.moment = simp to_z-of_z at c.tick.ensures.moved in
+    let known = rw c.in-Err-Refused.is at c.in-Err-Refused.field-0-is in
+    let cause : c.make-made.result ≡ Err (refusal.Refused c.in-Err-Refused.cause) = c.in-Err-Refused.is ∙ ap (λ r. Err r) known in
+    let same_shelf : after.shelf ≡ inside.shelf = rw cause at c.make-made.ensures.err in
+    let same_sets : after.sets ≡ inside.sets = rw cause at c.make-made.ensures.err_sets in
+    let same_lists : between ≡ before = rw cause at c.make-made.ensures.err_lists in
+    rw (← c.self.view_is)
+    (c.move_to-in-Err-Refused.ensures.moved
+    ∙ state_moved inside.config inside.clock now (tick inside.clock c.args.moment) inside.shelf after.shelf inside.sets after.sets inside.lists before between moved same_shelf same_sets same_lists)
 
 pub returns-in-Ok-clause-others : goal.returns-in-Ok-clause-others
 returns-in-Ok-clause-others g c =
