@@ -1,5 +1,5 @@
 -- What a command does to a state is an effect that is possible, and each effect that is possible leaves a sound state sound.
-use Rattle.std.proofs.Common.{◌≡◌, ◌∙◌, ℕ, ℤ, pos, ◌+◌, ◌<◌, ◌≤◌, ◌+ℤ◌, Bool, true, false, not, ◌&&◌, eqb, cond, List, [], ◌∷◌, ◌++◌, length, map, codes, Option, None, Some, is_some, is_none, refl, sym, ap, subst, arith}
+use Rattle.std.proofs.Common.{◌≡◌, ◌≢◌, ◌∙◌, ℕ, ℤ, pos, ◌+◌, ◌<◌, ◌≤◌, ◌+ℤ◌, Bool, true, false, not, ◌&&◌, eqb, cond, List, [], ◌∷◌, ◌++◌, length, map, codes, Option, None, Some, is_some, is_none, refl, sym, ap, subst, arith}
 use Rattle.std.specs.Prelude.{filter, find, nat_le, nat_lt}
 use Rattle.std.specs.List.{list_all}
 use Rattle.std.specs.Str.{bytes_eq}
@@ -34,7 +34,7 @@ use Rattle.oai_answers.specs.declared.identify.DeletedRecord.TheVariants.{No, Tr
 use Rattle.oai_repo.specs.Answers.{filter_of}
 use Rattle.oai_repo.specs.Changes.{after_deletion, after_purge, changed, dead_refusal, deposit_refusal, drops_format, is_one_too_many, is_transient, item_refusal, limit_of, missing_refusal, purge_refusal, purged, refusal_of, stamp_at, with_new, with_tombstone}
 use Rattle.oai_settings.specs.Config.{Config}
-use Rattle.oai_laws.specs.Effects.{Effect, is_formed, is_well_formed, IsEffected, IsPossible, IsPut, IsSound, effected, holding, is_given, item_put, item_taken, items_purged, list_opened, list_renewed, set_added, unchanged}
+use Rattle.oai_laws.specs.Effects.{Effect, is_formed, has_known_records, is_live, IsEffected, IsLeftOver, IsPossible, IsPut, IsSound, effected, goes_below, holding, is_given, item_put, item_taken, items_purged, list_opened, list_renewed, set_added, unchanged}
 use Rattle.oai_repo.specs.Kept.{AreKept, is_too_large, is_well_kept}
 use Rattle.oai_repo.specs.Listing.{Said, answer_to, begins, continues, has_no_sets, list_answer, list_begun, list_continued, prolonged_at, told_in, told_items, token_answer, wait_at}
 use Rattle.oai_repo.specs.Machine.{Command, act, act_on_change, asking, changing, refusing}
@@ -45,7 +45,7 @@ use Rattle.oai_repo.proofs.KeptLemmas.{emptied-record, few-new, fits, kept-none,
 
 -- a repository that begins
 pub sound_empty : (config : Config) → IsSound config (empty_state config)
-sound_empty config = record { kept = kept-none config; given = refl; formed = refl; few = omega arith }
+sound_empty config = record { kept = kept-none config; live = λ _. refl; given = refl; formed = refl; few = omega arith }
 
 -- what is true of all is true of those that a test keeps
 pub all_kept : {A : Type 0} (p q : A → Bool) (xs : List A) → list_all p xs ≡ true → list_all p (filter q xs) ≡ true
@@ -55,6 +55,7 @@ all_kept p q xs h = list_all-from_AllPass p (filter q xs) (All-filter q (λ x. p
 pub sound_moved : (config : Config) (moment : ℤ) (state : State) → IsSound config state → IsSound config (moved moment state)
 sound_moved config moment state sound = record {
   kept = sound.kept;
+  live = sound.live;
   given = all_kept (is_given state.begun.next) (is_open_at (moved moment state).clock) state.begun.lists sound.given;
   formed = all_kept (is_formed config) (is_open_at (moved moment state).clock) state.begun.lists sound.formed;
   few = sound.few;
@@ -72,6 +73,14 @@ put_kept config state item put kept =
       well = all-placed (is_well_kept config state.holdings.sets) item (without item.identifier items) put.well
           (well-without (is_well_kept config state.holdings.sets) item.identifier items kept.well);
     }
+
+-- which is live where no deleted one is kept
+put_live : (config : Config) (state : State) (item : ItemState) → IsPut config state item → config.deleted ≡ No → item.live ≡ true
+put_live config state item put none = by_test item.live put.dead
+  where
+    by_test : (live : Bool) → (live ≡ false → IsLeftOver config state item) → live ≡ true
+    by_test true dead = refl
+    by_test false dead = absurd ((dead refl).policy none)
 
 -- a list that stays open, or does not, has the number that it had
 pub same_number : (config : Config) (clock : ℤ) (number : ℕ) (list : FrozenList) → (prolonged_at config clock number list).number ≡ list.number
@@ -105,7 +114,7 @@ renewed_formed config clock number [] h = refl
 renewed_formed config clock number (x ∷ lists) h =
     let parts = and_parts (is_formed config x) (list_all (is_formed config) lists) h in
     and_from (is_formed config (prolonged_at config clock number x)) (list_all (is_formed config) (map (prolonged_at config clock number) lists))
-    (ap (λ (items : List ItemState). list_all (is_well_formed config) items) (same_items config clock number x) ∙ parts.0)
+    (ap (λ (items : List ItemState). list_all (has_known_records config) items) (same_items config clock number x) ∙ parts.0)
     (renewed_formed config clock number lists parts.1)
 
 -- numbers that were given were given before the next one too
@@ -119,7 +128,7 @@ given_more next (x ∷ lists) h =
     above n below = grind (arith, nat_tests)
 
 -- nothing keeps a list waiting: there is room, and a number
-passed : {A : Type 0} (test : Bool) (cause : A) (later : Option A) → cond test (Some cause) later ≡ None → (test ≡ false) × (later ≡ None)
+pub passed : {A : Type 0} (test : Bool) (cause : A) (later : Option A) → cond test (Some cause) later ≡ None → (test ≡ false) × (later ≡ None)
 passed true cause later h = cc
 passed false cause later h = (refl, h)
 
@@ -143,18 +152,39 @@ opened_given next list lists is h =
 pub sound_effected : (config : Config) (state : State) (effect : Effect) → IsPossible config state effect → IsSound config state → IsSound config (effected config state effect)
 unfolding purged
 sound_effected config state unchanged possible sound = sound
-sound_effected config state (item_put item) possible sound = record { kept = put_kept config state item possible sound.kept; given = sound.given; formed = sound.formed; few = sound.few }
-sound_effected config state (item_taken identifier) possible sound = record { kept = taken config state.holdings identifier sound.kept; given = sound.given; formed = sound.formed; few = sound.few }
-sound_effected config state (items_purged limit) possible sound = record { kept = purged_kept config state.holdings limit sound.kept; given = sound.given; formed = sound.formed; few = sound.few }
-sound_effected config state (set_added set) possible sound = record { kept = set_kept config state.holdings set sound.kept; given = sound.given; formed = sound.formed; few = sound.few }
+sound_effected config state (item_put item) possible sound = record {
+  kept = put_kept config state item possible sound.kept;
+  live = λ none. all-placed is_live item (without item.identifier state.holdings.items) (put_live config state item possible none)
+      (well-without is_live item.identifier state.holdings.items (sound.live none));
+  given = sound.given;
+  formed = sound.formed;
+  few = sound.few;
+}
+sound_effected config state (item_taken identifier) possible sound = record {
+  kept = taken config state.holdings identifier sound.kept;
+  live = λ none. well-without is_live identifier state.holdings.items (sound.live none);
+  given = sound.given;
+  formed = sound.formed;
+  few = sound.few;
+}
+sound_effected config state (items_purged limit) possible sound = record {
+  kept = purged_kept config state.holdings limit sound.kept;
+  live = λ none. all_kept is_live (λ item. not (goes_below limit item)) state.holdings.items (sound.live none);
+  given = sound.given;
+  formed = sound.formed;
+  few = sound.few;
+}
+sound_effected config state (set_added set) possible sound = record { kept = set_kept config state.holdings set sound.kept; live = sound.live; given = sound.given; formed = sound.formed; few = sound.few }
 sound_effected config state (list_renewed number) possible sound = record {
   kept = sound.kept;
+  live = sound.live;
   given = renewed_given config state.clock number state.begun.next state.begun.lists sound.given;
   formed = renewed_formed config state.clock number state.begun.lists sound.formed;
   few = sound.few;
 }
 sound_effected config state (list_opened list) possible sound = record {
   kept = sound.kept;
+  live = sound.live;
   given = opened_given state.begun.next list state.begun.lists possible.number sound.given;
   formed = list_all-append (is_formed config) state.begun.lists (list ∷ []) ∙ and_from (list_all (is_formed config) state.begun.lists) (is_formed config list && true) sound.formed (and_from (is_formed config list) true possible.formed refl);
   few = let less = number_left config state.clock state.begun possible.admitted sound.few in omega (arith, less);
@@ -174,7 +204,7 @@ nothing : (config : Config) (state : State) → IsEffected config state state
 nothing config state = record { effect = unchanged; possible = tt; done = refl }
 
 -- what a repository keeps, it tells
-pub kept_formed : (config : Config) (sets : List NamedSet) (item : ItemState) → is_well_kept config sets item ≡ true → is_well_formed config item ≡ true
+pub kept_formed : (config : Config) (sets : List NamedSet) (item : ItemState) → is_well_kept config sets item ≡ true → has_known_records config item ≡ true
 kept_formed config sets item h =
     let size = and_parts _ (not (is_too_large item)) h in
     let in_sets = and_parts _ (list_all (has_set sets) item.sets) size.0 in
@@ -182,13 +212,13 @@ kept_formed config sets item h =
     let core = and_parts (has_record (codes "oai_dc") item.formats) (list_all (has_format config.formats) item.formats) fields.0 in
     and_from (list_all (has_format config.formats) item.formats) (list_all (has_known_fields config.formats) item.formats) core.1 fields.1
 
-pub selected_formed : (config : Config) (holdings : Holdings) (asked : Filter) → AreKept config holdings → list_all (is_well_formed config) (selected asked holdings.items) ≡ true
+pub selected_formed : (config : Config) (holdings : Holdings) (asked : Filter) → AreKept config holdings → list_all (has_known_records config) (selected asked holdings.items) ≡ true
 unfolding selected
 selected_formed config holdings asked kept =
-    all_kept (is_well_formed config) (passes asked) holdings.items
-    (all-weaker (is_well_kept config holdings.sets) (is_well_formed config) (kept_formed config holdings.sets) holdings.items kept.well)
+    all_kept (has_known_records config) (passes asked) holdings.items
+    (all-weaker (is_well_kept config holdings.sets) (has_known_records config) (kept_formed config holdings.sets) holdings.items kept.well)
 
-begun_by : (config : Config) (state : State) (verb : ListVerb) (format : Format) (items : List ItemState) (wait : Option ℤ) → list_all (is_well_formed config) items ≡ true → wait_at config state.clock state.begun ≡ wait
+begun_by : (config : Config) (state : State) (verb : ListVerb) (format : Format) (items : List ItemState) (wait : Option ℤ) → list_all (has_known_records config) items ≡ true → wait_at config state.clock state.begun ≡ wait
     → IsBegunBy config state (begins config state.begun format (list_begun config state.clock state.begun verb format.prefix items) wait)
 begun_by config state verb format items (Some seconds) formed is = nothing config state
 begun_by config state verb format items None formed is = record {
@@ -197,7 +227,7 @@ begun_by config state verb format items None formed is = record {
   done = refl;
 }
 
-told_by_items : (config : Config) (state : State) (verb : ListVerb) (format : Format) (items : List ItemState) → list_all (is_well_formed config) items ≡ true
+told_by_items : (config : Config) (state : State) (verb : ListVerb) (format : Format) (items : List ItemState) → list_all (has_known_records config) items ≡ true
     → IsBegunBy config state (told_items config state.clock state.begun verb format items)
 unfolding told_items
 told_by_items config state verb format items formed =
@@ -205,12 +235,12 @@ told_by_items config state verb format items formed =
     (λ _. nothing config state)
     (λ _. begun_by config state verb format items (wait_at config state.clock state.begun) formed refl)
 
-told_by_format : (config : Config) (state : State) (verb : ListVerb) (format : Option Format) (items : List ItemState) → list_all (is_well_formed config) items ≡ true
+told_by_format : (config : Config) (state : State) (verb : ListVerb) (format : Option Format) (items : List ItemState) → list_all (has_known_records config) items ≡ true
     → IsBegunBy config state (told_in config state.clock state.begun verb format items)
 told_by_format config state verb None items formed = nothing config state
 told_by_format config state verb (Some format) items formed = told_by_items config state verb format items formed
 
-listed : (config : Config) (state : State) (verb : ListVerb) (prefix : List ℕ) (set : Option (List ℕ)) (items : List ItemState) → list_all (is_well_formed config) items ≡ true
+listed : (config : Config) (state : State) (verb : ListVerb) (prefix : List ℕ) (set : Option (List ℕ)) (items : List ItemState) → list_all (has_known_records config) items ≡ true
     → IsBegunBy config state (list_answer config state.clock state.begun state.holdings.sets verb prefix set items)
 listed config state verb prefix set items formed =
     cond_both (is_some set && has_no_sets state.holdings.sets) _ _ (λ (done : Said × OpenLists). IsBegunBy config state done)
@@ -274,41 +304,47 @@ none_dropped records (x ∷ kept) h =
     and_from _ _ (emptied-record x.0 records ∙ parts.0) (none_dropped records kept parts.1)
 
 -- a deleted item takes the place of a live one that is there
-tombstone_put : (config : Config) (state : State) (identifier : List ℕ) (item : ItemState) → item_named identifier state.holdings.items ≡ Some item → item.live ≡ true
+tombstone_put : (config : Config) (state : State) (identifier : List ℕ) (item : ItemState) → config.deleted ≢ No → item_named identifier state.holdings.items ≡ Some item → item.live ≡ true
     → AreKept config state.holdings → IsPut config state (tombstone_of (stamp_at config state.clock) item)
 unfolding is_one_too_many
-tombstone_put config state identifier item is live kept =
+tombstone_put config state identifier item policy is live kept =
     let found : item_named item.identifier state.holdings.items ≡ Some item = ap (λ (id : List ℕ). item_named id state.holdings.items) (found_name identifier state.holdings.items item is) ∙ is in
     record {
       dated = refl;
       well = well-tombstone config state.holdings.sets (stamp_at config state.clock) item (of_found (is_well_kept config state.holdings.sets) identifier state.holdings.items item is kept.well);
       formats = ap (λ (o : Option ItemState). drops_format o (map emptied item.formats)) found ∙ ap not (none_dropped item.formats item.formats (has_own item.formats));
       room = ap (λ (o : Option ItemState). is_none o && nat_le config.items (length state.holdings.items)) found;
-      lived = λ dead. (item, found, live);
+      dead = λ _. record { policy = policy; before = item; there = found; lived = live; left = refl };
     }
 
 -- the holdings are others after a change, and nothing else is
 abbrev pub IsChangedBy : Config → State → Holdings → Type 0
 IsChangedBy config state holdings = IsEffected config state (record state { holdings = holdings })
 
-was_live : {A : Type 0} (cause : A) (live : Bool) → cond live None (Some cause) ≡ None → live ≡ true
+pub was_live : {A : Type 0} (cause : A) (live : Bool) → cond live None (Some cause) ≡ None → live ≡ true
 was_live cause true h = refl
 was_live cause false h = cc
 
-buried_by : (config : Config) (state : State) (identifier : List ℕ) (found : Option ItemState) → item_named identifier state.holdings.items ≡ found → dead_refusal found ≡ None → AreKept config state.holdings
+buried_by : (config : Config) (state : State) (identifier : List ℕ) (found : Option ItemState) → config.deleted ≢ No → item_named identifier state.holdings.items ≡ found → dead_refusal found ≡ None → AreKept config state.holdings
     → IsEffected config state (holding state (with_tombstone (stamp_at config state.clock) found state.holdings.items))
-buried_by config state identifier None is dead kept = nothing config state
-buried_by config state identifier (Some item) is dead kept = record {
+buried_by config state identifier None policy is dead kept = nothing config state
+buried_by config state identifier (Some item) policy is dead kept = record {
   effect = item_put (tombstone_of (stamp_at config state.clock) item);
-  possible = tombstone_put config state identifier item is (was_live AlreadyDeleted item.live dead) kept;
+  possible = tombstone_put config state identifier item policy is (was_live AlreadyDeleted item.live dead) kept;
   done = refl;
 }
+
+keeps_transient : Transient ≡ No → ⊥
+keeps_transient same = cc
+
+keeps_persistent : Persistent ≡ No → ⊥
+keeps_persistent same = cc
 
 deleted_by : (config : Config) (state : State) (identifier : List ℕ) (policy : DeletedRecord) → config.deleted ≡ policy → dead_refusal (item_named identifier state.holdings.items) ≡ None → AreKept config state.holdings
     → IsEffected config state (holding state (after_deletion policy (stamp_at config state.clock) identifier state.holdings.items))
 deleted_by config state identifier No is dead kept = record { effect = item_taken identifier; possible = is; done = refl }
-deleted_by config state identifier Transient is dead kept = buried_by config state identifier (item_named identifier state.holdings.items) refl dead kept
-deleted_by config state identifier Persistent is dead kept = buried_by config state identifier (item_named identifier state.holdings.items) refl dead kept
+deleted_by config state identifier Transient is dead kept = buried_by config state identifier (item_named identifier state.holdings.items) (λ none. keeps_transient (sym is ∙ none)) refl dead kept
+deleted_by config state identifier Persistent is dead kept = buried_by config state identifier (item_named identifier state.holdings.items) (λ none. keeps_persistent (sym is ∙ none)) refl dead kept
 
 deposited_by : (config : Config) (state : State) (identifier : List ℕ) (sets : List (List ℕ)) (records : List Metadata)
     → deposit_refusal config state.holdings.sets sets records ≡ None
@@ -322,15 +358,15 @@ deposited_by config state identifier sets records first later =
       well = well-deposited config state.holdings identifier stamp sets records (stands config state.holdings.sets sets records first) fit;
       formats = fit.formats;
       room = fit.room;
-      lived = λ dead. cc;
+      dead = λ dead. cc;
     }
 
-of_transient : (policy : DeletedRecord) → is_transient policy ≡ true → policy ≡ Transient
+pub of_transient : (policy : DeletedRecord) → is_transient policy ≡ true → policy ≡ Transient
 of_transient No h = cc
 of_transient Transient h = refl
 of_transient Persistent h = cc
 
-not_not : (b : Bool) → not b ≡ false → b ≡ true
+pub not_not : (b : Bool) → not b ≡ false → b ≡ true
 not_not true h = refl
 not_not false h = cc
 

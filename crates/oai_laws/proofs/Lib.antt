@@ -1,10 +1,12 @@
 pub mod EffectLemmas
 pub mod SameLemmas
+pub mod ChangingLemmas
 pub mod WaitingLemmas
 pub mod StandLemmas
 pub mod FollowLemmas
 pub mod ChainLemmas
 pub mod GivenLemmas
+pub mod SelectingLemmas
 pub mod WorkedLemmas
 pub mod ShownLemmas
 pub mod ReadLemmas

@@ -25,7 +25,7 @@ use Rattle.oai_answers.specs.Answers.{Attributes, Page}
 use Rattle.oai_answers.specs.Seen.{IsGoodFormat, IsRegular, has_own_fields}
 use Rattle.oai_repo.specs.Answers.{arguments_of_request, disseminated, filter_of, formats_answer, item_formats_answer, record_answer, sets_answer}
 use Rattle.oai_settings.specs.Config.{Config}
-use Rattle.oai_laws.specs.Effects.{IsSound, is_formed, is_well_formed}
+use Rattle.oai_laws.specs.Effects.{IsSound, is_formed, has_known_records}
 use Rattle.oai_repo.specs.Listing.{Said, answer_to, begins, continues, has_no_sets, is_continued, list_answer, list_begun, part_from, part_told, prolonged, says, told_by, told_in, told_items, told_whole, token_answer, wait_at, waits, where_continued, whole_page, has_number}
 use Rattle.oai_repo.specs.Machine.{Command, act, act_on_change, asking, changing, outcome_of, refusing}
 use Rattle.oai_repo.specs.Changes.{refusal_of, stamp_at}
@@ -70,14 +70,14 @@ known_fields formats prefix format (r ∷ records) named all =
     by_test true same here later = ap (λ (o : Option Format). are_fields_of o r.1) (sym named ∙ ap (λ (p : List ℕ). format_named p formats) (sym (same refl))) ∙ here
     by_test false same here later = later
 
-own_fields : (config : Config) (prefix : List ℕ) (format : Format) (item : ItemState) → format_named prefix config.formats ≡ Some format → is_well_formed config item ≡ true → has_own_fields format item ≡ true
+own_fields : (config : Config) (prefix : List ℕ) (format : Format) (item : ItemState) → format_named prefix config.formats ≡ Some format → has_known_records config item ≡ true → has_own_fields format item ≡ true
 own_fields config prefix format item found formed =
     let parts = and_parts (list_all (has_format config.formats) item.formats) (list_all (has_known_fields config.formats) item.formats) formed in
     ap (λ (p : List ℕ). are_fields_of (Some format) (fields_in p item.formats)) (named prefix config.formats format found) ∙ known_fields config.formats prefix format item.formats found parts.1
 
-all_own : (config : Config) (prefix : List ℕ) (format : Format) (items : List ItemState) → format_named prefix config.formats ≡ Some format → list_all (is_well_formed config) items ≡ true
+all_own : (config : Config) (prefix : List ℕ) (format : Format) (items : List ItemState) → format_named prefix config.formats ≡ Some format → list_all (has_known_records config) items ≡ true
     → list_all (has_own_fields format) items ≡ true
-all_own config prefix format items found formed = all-weaker (is_well_formed config) (has_own_fields format) (λ item h. own_fields config prefix format item found h) items formed
+all_own config prefix format items found formed = all-weaker (has_known_records config) (has_own_fields format) (λ item h. own_fields config prefix format item found h) items formed
 
 -- ---- what is said to a request
 
@@ -125,13 +125,13 @@ regular_items config clock begun verb format items good own =
     (λ _. regular_begun config begun format (list_begun config clock begun verb format.prefix items) (wait_at config clock begun) good own)
 
 regular_in : (config : Config) (clock : ℤ) (begun : OpenLists) (verb : ListVerb) (prefix : List ℕ) (format : Option Format) (items : List ItemState) → AreRepositoryFormats config.formats
-    → format_named prefix config.formats ≡ format → list_all (is_well_formed config) items ≡ true → IsRegularDone (told_in config clock begun verb format items)
+    → format_named prefix config.formats ≡ format → list_all (has_known_records config) items ≡ true → IsRegularDone (told_in config clock begun verb format items)
 regular_in config clock begun verb prefix None items rules found formed = tt
 regular_in config clock begun verb prefix (Some format) items rules found formed =
     regular_items config clock begun verb format items (found_good prefix config.formats format rules found) (all_own config prefix format items found formed)
 
 regular_list : (config : Config) (clock : ℤ) (begun : OpenLists) (sets : List NamedSet) (verb : ListVerb) (prefix : List ℕ) (set : Option (List ℕ)) (items : List ItemState)
-    → AreRepositoryFormats config.formats → list_all (is_well_formed config) items ≡ true → IsRegularDone (list_answer config clock begun sets verb prefix set items)
+    → AreRepositoryFormats config.formats → list_all (has_known_records config) items ≡ true → IsRegularDone (list_answer config clock begun sets verb prefix set items)
 regular_list config clock begun sets verb prefix set items rules formed =
     cond_both (is_some set && has_no_sets sets) _ _ IsRegularDone (λ _. tt) (λ _. regular_in config clock begun verb prefix (format_named prefix config.formats) items rules refl formed)
 
@@ -161,7 +161,7 @@ regular_token config state verb (Some token) rules sound =
 -- ---- GetRecord
 
 regular_disseminated : (config : Config) (item : ItemState) (prefix : List ℕ) (format : Option Format) → AreRepositoryFormats config.formats → format_named prefix config.formats ≡ format
-    → is_well_formed config item ≡ true → IsRegular (disseminated config item format)
+    → has_known_records config item ≡ true → IsRegular (disseminated config item format)
 regular_disseminated config item prefix None rules found formed = tt
 regular_disseminated config item prefix (Some format) rules found formed =
     cond_both (has_record format.prefix item.formats) _ _ IsRegular

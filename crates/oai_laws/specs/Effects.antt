@@ -1,8 +1,8 @@
 -- What a command can do to a state, and what is true of every state that commands lead to. This repository's own.
-use Rattle.std.specs.Prelude.{◌≡◌, ◌≤◌, ℕ, ℤ, pos, ◌+ℤ◌, int_lt, Bool, true, false, ◌&&◌, not, List, [], ◌∷◌, ◌++◌, length, filter, None, Some, nat_lt}
+use Rattle.std.specs.Prelude.{◌≡◌, ◌≢◌, ◌≤◌, ℕ, ℤ, pos, ◌+ℤ◌, int_lt, Bool, true, false, ◌&&◌, not, List, [], ◌∷◌, ◌++◌, length, filter, None, Some, nat_lt}
 use Rattle.std.specs.List.{list_all}
 use Rattle.oai_lists.specs.declared.lists.TheConstants.{LAST_NUMBER}
-use Rattle.oai_item.specs.Item.{ItemState}
+use Rattle.oai_item.specs.Item.{ItemState, tombstone_of}
 use Rattle.oai_item.specs.Items.{item_named, without}
 use Rattle.oai_item.specs.Known.{has_format, has_known_fields}
 use Rattle.oai_answers.specs.declared.identify.DeletedRecord.TheVariants.{No, Transient}
@@ -47,25 +47,38 @@ effected config state (list_opened list) = record state { begun = with_begun lis
 
 -- ---- when it can be done
 
+-- the item is what is left of a live one of its identifier that is there: the same sets and prefixes, no fields, and its own datestamp. No
+-- such item comes where nothing is kept of deleted records (section 2.5.1)
+pub record IsLeftOver (config : Config) (state : State) (item : ItemState) : Type 0 where
+  pub policy : config.deleted ≢ No
+  pub before : ItemState
+  pub there : item_named item.identifier state.holdings.items ≡ Some before
+  pub lived : before.live ≡ true
+  pub left : item ≡ tombstone_of item.stamp before
+
 -- an item is put: it has the datestamp of the clock and is as the repository keeps its items; it has a record in each format in which
--- the one that it replaces has one; where it replaces none there is room for it; and a deleted one replaces a live one
+-- the one that it replaces has one; where it replaces none there is room for it; and a deleted one is what is left of a live one
 pub record IsPut (config : Config) (state : State) (item : ItemState) : Type 0 where
   pub dated : item.stamp ≡ stamp_at config state.clock
   pub well : is_well_kept config state.holdings.sets item ≡ true
   pub formats : drops_format (item_named item.identifier state.holdings.items) item.formats ≡ false
   pub room : is_one_too_many config (item_named item.identifier state.holdings.items) (length state.holdings.items) ≡ false
-  pub lived : item.live ≡ false → (before : ItemState) × (item_named item.identifier state.holdings.items ≡ Some before) × (before.live ≡ true)
+  pub dead : item.live ≡ false → IsLeftOver config state item
 
 -- each record of the item is in a format of the repository and has no field but that format's
-abbrev pub is_well_formed : Config → ItemState → Bool
-is_well_formed config item = list_all (has_format config.formats) item.formats && list_all (has_known_fields config.formats) item.formats
+abbrev pub has_known_records : Config → ItemState → Bool
+has_known_records config item = list_all (has_format config.formats) item.formats && list_all (has_known_fields config.formats) item.formats
+
+-- the items of the list, as they were, are such as the repository tells
+abbrev pub is_formed : Config → FrozenList → Bool
+is_formed config list = list_all (has_known_records config) list.items
 
 -- a list is opened: nothing keeps it waiting, it gets the next number, it is open for its lifetime, and its items are such
 pub record IsOpened (config : Config) (state : State) (list : FrozenList) : Type 0 where
   pub admitted : wait_at config state.clock state.begun ≡ None
   pub number : list.number ≡ state.begun.next
   pub lasting : list.end ≡ state.clock +ℤ pos config.lifetime
-  pub formed : list_all (is_well_formed config) list.items ≡ true
+  pub formed : is_formed config list ≡ true
 
 -- it can be done. Nothing of an item is forgotten but where the repository keeps nothing of deleted records (section 2.5.1)
 abbrev pub IsPossible : Config → State → Effect → Type 0
@@ -97,14 +110,15 @@ is_of_no_list request = true
 abbrev pub is_given : ℕ → FrozenList → Bool
 is_given next list = nat_lt list.number next
 
--- the items of the list, as they were, are such as the repository tells
-abbrev pub is_formed : Config → FrozenList → Bool
-is_formed config list = list_all (is_well_formed config) list.items
+-- the item is live
+abbrev pub is_live : ItemState → Bool
+is_live item = item.live
 
--- what is held is as a repository keeps it; each open list has a number that was given, and items that the repository tells; and the last
--- number of 64 bits was not given
+-- what is held is as a repository keeps it, and where nothing is kept of deleted records no item is a deleted one (section 2.5.1); each open
+-- list has a number that was given, and items that the repository tells; and the last number of 64 bits was not given
 pub record IsSound (config : Config) (state : State) : Type 0 where
   pub kept : AreKept config state.holdings
+  pub live : config.deleted ≡ No → list_all is_live state.holdings.items ≡ true
   pub given : list_all (is_given state.begun.next) state.begun.lists ≡ true
   pub formed : list_all (is_formed config) state.begun.lists ≡ true
   pub few : state.begun.next ≤ LAST_NUMBER

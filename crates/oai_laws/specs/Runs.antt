@@ -2,7 +2,6 @@
 use Rattle.std.specs.Prelude.{◌≡◌, ◌⊎◌, ℕ, ℤ, Bool, true, ◌&&◌, not, nat_lt, List, [], ◌∷◌, filter, map}
 use Rattle.std.specs.List.{flat_map, list_all}
 use Rattle.oai_names.specs.Names.{is_one_of}
-use Rattle.oai_lists.specs.declared.lists.TheConstants.{LAST_NUMBER}
 use Rattle.oai_settings.specs.Config.{Config}
 use Rattle.oai_repo.specs.Machine.{Command, Outcome, act_at}
 use Rattle.oai_repo.specs.State.{FrozenList, OpenLists, State, moved}
@@ -62,4 +61,4 @@ are_rising (n ∷ numbers) = list_all (nat_lt n) numbers && are_rising numbers
 
 -- each number is below 18446744073709551615
 abbrev pub are_never_last : List ℕ → Bool
-are_never_last numbers = list_all (λ n. nat_lt n LAST_NUMBER) numbers
+are_never_last numbers = list_all (λ n. nat_lt n 18_446_744_073_709_551_615) numbers

@@ -2,7 +2,9 @@
 //! laws are of the machine by whose definitions the calls of [`Repo`](oai_repo::Repo) are specified.
 
 ghost use Rattle.std.specs.Prelude.{◌≡◌, ℕ, ℤ, List, ◌∷◌, Some, true};
+ghost use Rattle.std.specs.List.{list_all};
 ghost use Rattle.oai_names.specs.declared.list_verbs.ListVerb.{ListVerb};
+ghost use Rattle.oai_item.specs.Refusals.{Cause};
 ghost use Rattle.oai_item.specs.declared.changes.Change.{Change};
 ghost use Rattle.oai_args.specs.Asks.{AskOrError, asks};
 ghost use Rattle.oai_args.specs.declared.requests.Ask.TheVariants as ask;
@@ -11,9 +13,10 @@ ghost use Rattle.oai_answers.specs.declared.errors.ErrorCode.TheVariants.{BadRes
 ghost use Rattle.oai_answers.specs.Documents.{document};
 ghost use Rattle.oai_answers.specs.Seen.{document_seen};
 ghost use Rattle.oai_settings.specs.Config.{Config, IsConfig};
+ghost use Rattle.oai_laws.specs.Changing.{IsAccepted};
 ghost use Rattle.oai_laws.specs.Effects.{Effect, IsEffected, IsPossible, IsSound, effected, is_of_no_list};
 ghost use Rattle.oai_laws.specs.Following.{IsChain, IsFollowed, Wish, answer_told, selection_in};
-ghost use Rattle.oai_repo.specs.Machine.{Command, act, asking, changing};
+ghost use Rattle.oai_repo.specs.Machine.{Command, accepted, act, asking, changing, refused};
 ghost use Rattle.oai_laws.specs.Runs.{
   Exchange,
   Throughout,
@@ -23,6 +26,7 @@ ghost use Rattle.oai_laws.specs.Runs.{
   numbers_given,
   run,
 };
+ghost use Rattle.oai_laws.specs.Selecting.{IsSelection, is_dated};
 ghost use Rattle.oai_laws.specs.Shown.{
   IsFollowedList,
   IsSomeAnswer,
@@ -37,12 +41,12 @@ ghost use Rattle.oai_laws.specs.Worked.{IsWorked, worked_config};
 
 /// What a command can do: in a sound state it leaves the state, puts an item, takes one out, lets the
 /// deleted ones below a limit go, adds a set, lets a list stay open or opens one, and each of these only
-/// where it may be done. A state is sound where what is held is as a repository keeps it, and where each
-/// open list has a number that was given, which the last one of 64 bits never is. A repository begins so,
-/// and stays so. A request changes nothing that is held, and leaves the state where it neither begins a
-/// list nor continues one, or where its token is refused; a change leaves the open lists. And a request
-/// that is told to wait is told to wait for a second or more; where the table was full, a list has ended
-/// by then.
+/// where it may be done. A state is sound where what is held is as a repository keeps it, with no deleted
+/// item where nothing is kept of deleted records, and where each open list has a number that was given,
+/// which the last one of 64 bits never is. A repository begins so, and stays so. A request changes
+/// nothing that is held, and leaves the state where it neither begins a list nor continues one, or where
+/// its token is refused; a change leaves the open lists. And a request that is told to wait is told to
+/// wait for a second or more; where the table was full, a list has ended by then.
 pub fn effect_law()
     ensures does { (config : Config) (state : State) (command : Command) → IsSound config state
         → IsEffected config state (act config state command).1 }
@@ -66,6 +70,20 @@ pub fn effect_law()
         → IsWait config clock (still_open clock begun) seconds }
 {}
 
+/// What a change does (OAI-PMH 2.0, sections 2.3 to 2.6). One that is accepted is answered with the
+/// datestamp of the clock. With it a deposit puts a live item of what was given in place of the item of
+/// its identifier, if there is one; a deletion takes a live item out, or puts what is left of it in its
+/// place, as the policy on deleted records has it; a purge takes out the deleted items of earlier
+/// datestamps than its bound, all of them and no others; and a set is added. Nothing else is changed, and
+/// nothing at all where the line is refused.
+pub fn change_law()
+    ensures accepted { (config : Config) (state : State) (change : Change) (stamp : ℤ)
+        → (let done = act config state (changing change) in
+        done.0 ≡ accepted stamp → IsAccepted config change state done.1 stamp) }
+    ensures refused { (config : Config) (state : State) (command : Command) (cause : Cause)
+        → (let done = act config state command in done.0 ≡ refused cause → done.1 ≡ state) }
+{}
+
 /// The numbers of lists. Whatever a repository is asked from its beginning on, and whenever: each
 /// command finds a sound state and leaves one; the numbers of the lists that are opened rise, so that
 /// none is given twice; and 18446744073709551615 is never given.
@@ -77,6 +95,22 @@ pub fn number_law()
         → are_rising (numbers_given (run config (empty_state config) commands)) ≡ true }
     ensures never_last { (config : Config) (commands : List Timed)
         → are_never_last (numbers_given (run config (empty_state config) commands)) ≡ true }
+{}
+
+/// Selective harvesting (OAI-PMH 2.0, sections 2.6, 2.7, 4.3 and 4.5). Whatever a repository is asked
+/// from its beginning on, and whenever, and whatever is deposited and deleted meanwhile: a list request
+/// selects, of the items that are held when it comes, just those that have a record in the metadataPrefix
+/// that it names, have a datestamp that is not before `from` and not after `until`, and are in the set or
+/// in one below it; of these three arguments, as far as they are given. Each stands in the selection
+/// once, in the order of datestamps and identifiers. And every datestamp is one of the repository's
+/// granularity, not before earliestDatestamp and not after the clock.
+pub fn selected_law()
+    ensures selected { (config : Config) (commands : List Timed) (wish : Wish) → IsConfig config
+        → Throughout (λ (exchange : Exchange). IsSelection wish exchange.found.holdings.items
+        (selection_in exchange.found wish)) (run config (empty_state config) commands) }
+    ensures dated { (config : Config) (commands : List Timed) → IsConfig config
+        → Throughout (λ (exchange : Exchange). list_all (is_dated config exchange.left.clock)
+        exchange.left.holdings.items ≡ true) (run config (empty_state config) commands) }
 {}
 
 /// Following a list (OAI-PMH 2.0, section 3.5). Whatever a repository is asked from its beginning on,

@@ -3,4 +3,6 @@
 
 mod laws;
 
-pub use laws::{effect_law, following_law, number_law, shown_law, worked_law};
+pub use laws::{
+    change_law, effect_law, following_law, number_law, selected_law, shown_law, worked_law,
+};
