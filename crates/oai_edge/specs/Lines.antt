@@ -7,7 +7,7 @@ use Rattle.std.specs.Fmt.{signed_decimal}
 use Rattle.std.specs.Str.Parse.{digits_value}
 use Rattle.oai_host.specs.Hosts.{Hosting, IsAnswered}
 use Rattle.oai_host.specs.Statuses.{number_of}
-use Rattle.oai_host.specs.Workings.{call_of}
+use Rattle.oai_host.specs.Tasks.{call_of}
 use Rattle.oai_host.specs.declared.exchanges.Answer.{Answer}
 use Rattle.oai_host.specs.declared.exchanges.Call.{Call}
 use Rattle.oai_host.specs.declared.exchanges.Exchange.{Exchange}

@@ -8,7 +8,6 @@ use Rattle.oai_repo.specs.Held.{Held, state_of}
 use Rattle.oai_repo.specs.Machine.{line, step}
 use Rattle.oai_host.specs.Alone.{with_end}
 use Rattle.oai_host.specs.Targets.{front_of, leads_to_repository, path_of}
-pub use Rattle.oai_host.specs.Tasks.{call_of}
 use Rattle.oai_host.specs.declared.housed.Housed.{Housed}
 use Rattle.oai_host.specs.declared.routes.Kind.{Kind}
 
