@@ -1,6 +1,6 @@
 -- Exchanges one after the other: what they do to each repository, and that it is what they would do to it alone.
-use Rattle.std.proofs.Common.{◌≡◌, ◌∙◌, ◌<◌, ◌≤◌, inl, inr, ℕ, zero, suc, Bool, true, false, not, ◌&&◌, List, [], ◌∷◌, ◌++◌, length, take, get_or, filter, cond, Option, None, Some, is_none, refl, sym, ap, subst, arith}
-use Rattle.std.specs.List.{AllZip, list_all}
+use Rattle.std.proofs.Common.{◌≡◌, ◌∙◌, ◌<◌, ◌≤◌, inl, inr, ℕ, zero, suc, Bool, true, false, not, ◌&&◌, List, [], ◌∷◌, ◌++◌, length, take, map, get_or, filter, cond, Option, None, Some, is_none, refl, sym, ap, subst, arith}
+use Rattle.std.specs.List.{AllZip, list_all, zip}
 use Rattle.std.proofs.lemmas.List.{take_all}
 use Rattle.std.proofs.lemmas.Bool.{and_from, and_parts, cases_Bool, cond-true, cond-false, not_from_false}
 use Rattle.oai_item.specs.declared.faults.Fault.{Fault}
@@ -42,31 +42,54 @@ other_call_last : (name : List ℕ) (calls : List Call) (call : Call) → leads_
 other_call_last name [] call leads = cond-false (leads_to_repository name call.target) (call ∷ []) [] leads
 other_call_last name (c ∷ calls) call leads = ap (λ (cs : List Call). cond (leads_to_repository name c.target) (c ∷ cs) cs) (other_call_last name calls call leads)
 
+-- the answers to one exchange and others
+own_first : (name : List ℕ) (call : Call) (calls : List Call) (answer : Answer) (answers : List Answer) → leads_to_repository name call.target ≡ true
+    → own_answers name (call ∷ calls) (answer ∷ answers) ≡ answer ∷ own_answers name calls answers
+own_first name call calls answer answers own =
+    let others = filter (λ (p : Call × Answer). leads_to_repository name p.0.target) (zip calls answers) in
+    ap (map (λ (p : Call × Answer). p.1)) (cond-true (leads_to_repository name call.target) ((call, answer) ∷ others) others own)
+
+other_first : (name : List ℕ) (call : Call) (calls : List Call) (answer : Answer) (answers : List Answer) → leads_to_repository name call.target ≡ false
+    → own_answers name (call ∷ calls) (answer ∷ answers) ≡ own_answers name calls answers
+other_first name call calls answer answers other =
+    let others = filter (λ (p : Call × Answer). leads_to_repository name p.0.target) (zip calls answers) in
+    ap (map (λ (p : Call × Answer). p.1)) (cond-false (leads_to_repository name call.target) ((call, answer) ∷ others) others other)
+
 own_answer_last : (repositories : List Repository) (name : List ℕ) (calls : List Call) (answers : List Answer) (call : Call) (answer : Answer) → AreRefused repositories calls answers
     → leads_to_repository name call.target ≡ true → own_answers name (calls ++ call ∷ []) (answers ++ answer ∷ []) ≡ own_answers name calls answers ++ answer ∷ []
-own_answer_last rs name [] [] call answer same leads = cond-true (leads_to_repository name call.target) (answer ∷ []) [] leads
+own_answer_last rs name [] [] call answer same leads = own_first name call [] answer [] leads
 own_answer_last rs name [] (a ∷ answers) call answer same leads = absurd same
 own_answer_last rs name (c ∷ calls) [] call answer same leads = absurd same
 own_answer_last rs name (c ∷ calls) (a ∷ answers) call answer same leads =
-    let rest = own_answers name (calls ++ call ∷ []) (answers ++ answer ∷ []) in
+    let others = own_answer_last rs name calls answers call answer same.1 leads in
     elim (cases_Bool (leads_to_repository name c.target)) [
       | inl own ↦
-          cond-true (leads_to_repository name c.target) (a ∷ rest) rest own
-          ∙ ap (λ (xs : List Answer). a ∷ xs) (own_answer_last rs name calls answers call answer same.1 leads)
-          ∙ ap (λ (xs : List Answer). xs ++ answer ∷ []) (sym (cond-true (leads_to_repository name c.target) (a ∷ own_answers name calls answers) (own_answers name calls answers) own))
+          own_first name c (calls ++ call ∷ []) a (answers ++ answer ∷ []) own
+          ∙ ap (λ (xs : List Answer). a ∷ xs) others
+          ∙ ap (λ (xs : List Answer). xs ++ answer ∷ []) (sym (own_first name c calls a answers own))
       | inr other ↦
-          cond-false (leads_to_repository name c.target) (a ∷ rest) rest other
-          ∙ own_answer_last rs name calls answers call answer same.1 leads
-          ∙ ap (λ (xs : List Answer). xs ++ answer ∷ []) (sym (cond-false (leads_to_repository name c.target) (a ∷ own_answers name calls answers) (own_answers name calls answers) other))
+          other_first name c (calls ++ call ∷ []) a (answers ++ answer ∷ []) other
+          ∙ others
+          ∙ ap (λ (xs : List Answer). xs ++ answer ∷ []) (sym (other_first name c calls a answers other))
     ]
 
 other_answer_last : (repositories : List Repository) (name : List ℕ) (calls : List Call) (answers : List Answer) (call : Call) (answer : Answer) → AreRefused repositories calls answers
     → leads_to_repository name call.target ≡ false → own_answers name (calls ++ call ∷ []) (answers ++ answer ∷ []) ≡ own_answers name calls answers
-other_answer_last rs name [] [] call answer same leads = cond-false (leads_to_repository name call.target) (answer ∷ []) [] leads
+other_answer_last rs name [] [] call answer same leads = other_first name call [] answer [] leads
 other_answer_last rs name [] (a ∷ answers) call answer same leads = absurd same
 other_answer_last rs name (c ∷ calls) [] call answer same leads = absurd same
 other_answer_last rs name (c ∷ calls) (a ∷ answers) call answer same leads =
-    ap (λ (xs : List Answer). cond (leads_to_repository name c.target) (a ∷ xs) xs) (other_answer_last rs name calls answers call answer same.1 leads)
+    let others = other_answer_last rs name calls answers call answer same.1 leads in
+    elim (cases_Bool (leads_to_repository name c.target)) [
+      | inl own ↦
+          own_first name c (calls ++ call ∷ []) a (answers ++ answer ∷ []) own
+          ∙ ap (λ (xs : List Answer). a ∷ xs) others
+          ∙ sym (own_first name c calls a answers own)
+      | inr other ↦
+          other_first name c (calls ++ call ∷ []) a (answers ++ answer ∷ []) other
+          ∙ others
+          ∙ sym (other_first name c calls a answers other)
+    ]
 
 own_run_last : (repositories : List Repository) (calls : List Call) (answers : List Answer) (call : Call) (answer : Answer) (before between after : Repository) → AreRefused repositories calls answers
     → IsOwnRun calls answers before between → IsStep call answer between after → IsOwnRun (calls ++ call ∷ []) (answers ++ answer ∷ []) before after
@@ -172,10 +195,8 @@ own_none_failed name (call ∷ calls) (answer ∷ answers) none =
     let parts = and_parts (is_none answer.fault) (none_failed answers) none in
     let others = own_none_failed name calls answers parts.1 in
     elim (cases_Bool (leads_to_repository name call.target)) [
-      | inl own ↦
-          ap none_failed (cond-true (leads_to_repository name call.target) (answer ∷ own_answers name calls answers) (own_answers name calls answers) own)
-          ∙ and_from (is_none answer.fault) (none_failed (own_answers name calls answers)) parts.0 others
-      | inr other ↦ ap none_failed (cond-false (leads_to_repository name call.target) (answer ∷ own_answers name calls answers) (own_answers name calls answers) other) ∙ others
+      | inl own ↦ ap none_failed (own_first name call calls answer answers own) ∙ and_from (is_none answer.fault) (none_failed (own_answers name calls answers)) parts.0 others
+      | inr other ↦ ap none_failed (other_first name call calls answer answers other) ∙ others
     ]
 
 each_alone : (calls : List Call) (answers : List Answer) (before after : List Repository) → AllZip (IsOwnRun calls answers) before after → none_failed answers ≡ true → AreAsAlone calls answers before

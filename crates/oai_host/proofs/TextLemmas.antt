@@ -86,15 +86,13 @@ unfolding told_in
 memory_taken text told is = takes-told (json_in text) text told refl is
 
 pub made_of_told : (text : List ℕ) (told : Told) (result : Result HostConfig ReadFault) → told_in text ≡ Some told → IsMade told result → IsRead text result
-made_of_told text told (Ok config) is made = (
-  told,
-  record {
-    faultless = λ cause. sym (applies_told text told is cause) ∙ made.0 cause;
-    tells = is;
-    cache = made.1;
-    repositories = made.2;
-  },
-)
+made_of_told text told (Ok config) is made = record {
+  told = told;
+  tells = is;
+  faultless = λ cause. sym (applies_told text told is cause) ∙ made.0 cause;
+  cache = made.1;
+  repositories = made.2;
+}
 made_of_told text told (Err BadJson) is made = lowest_told text told BadJson is made
 made_of_told text told (Err BadShape) is made = lowest_told text told BadShape is made
 made_of_told text told (Err BadName) is made = lowest_told text told BadName is made

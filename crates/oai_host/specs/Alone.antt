@@ -1,5 +1,6 @@
 -- One repository alone: what it is answered to its own exchanges, one after the other. This repository's own, over the machine of OAI-PMH 2.0.
-use Rattle.std.specs.Prelude.{◌≡◌, ◌⊎◌, ◌<◌, ℕ, ℤ, Bool, if◌then◌else◌, List, [], ◌∷◌, ◌++◌, length, take, filter, Option, None, Some}
+use Rattle.std.specs.Prelude.{◌≡◌, ◌⊎◌, ◌<◌, ℕ, ℤ, List, [], ◌∷◌, ◌++◌, length, take, filter, map, Option, None, Some}
+use Rattle.std.specs.List.{zip}
 use Rattle.oai_deposit.specs.Lines.{line_of}
 use Rattle.oai_item.specs.declared.faults.Fault.{Fault}
 use Rattle.oai_settings.specs.Config.{Config}
@@ -53,10 +54,8 @@ own_calls name calls = filter (λ (call : Call). leads_to_repository name call.t
 
 -- the answers to these
 abbrev pub own_answers : List ℕ → List Call → List Answer → List Answer
-own_answers name [] answers = []
-own_answers name (call ∷ calls) [] = []
-own_answers name (call ∷ calls) (answer ∷ answers) =
-    if leads_to_repository name call.target then answer ∷ own_answers name calls answers else own_answers name calls answers
+own_answers name calls answers =
+    map (λ (p : Call × Answer). p.1) (filter (λ (p : Call × Answer). leads_to_repository name p.0.target) (zip calls answers))
 
 -- ---- with failures
 

@@ -20,10 +20,11 @@ pub record IsHosted (settings : Settings) (hosted : Hosted) : Type 0 where
 abbrev pub AreHosted : List Settings → List Hosted → Type 0
 AreHosted settings hosted = AllZip IsHosted settings hosted
 
--- no cause applies, and the configuration is what the text tells
-pub record IsConfigOf (text : List ℕ) (told : Told) (config : HostConfig) : Type 0 where
-  pub faultless : (fault : ReadFault) → applies fault text ≡ false
+-- the text tells something to which no cause applies, and the configuration is that
+pub record IsConfigOf (text : List ℕ) (config : HostConfig) : Type 0 where
+  pub told : Told
   pub tells : told_in text ≡ Some told
+  pub faultless : (fault : ReadFault) → applies fault text ≡ false
   pub cache : told.cache ≡ Some config.cache
   pub repositories : AreHosted told.repositories config.repositories
 
@@ -34,7 +35,7 @@ pub record IsLowest (causes : ReadFault → Bool) (fault : ReadFault) : Type 0 w
 
 -- what reading a text answers; memory may be refused where some is taken, for a text in UTF-8 that is not empty
 abbrev pub IsRead : List ℕ → Result HostConfig ReadFault → Type 0
-IsRead text (Ok config) = (told : Told) × IsConfigOf text told config
+IsRead text (Ok config) = IsConfigOf text config
 IsRead text (Err NoMemory) = TakesMemory text
 IsRead text (Err fault) = IsLowest (λ cause. applies cause text) fault
 
