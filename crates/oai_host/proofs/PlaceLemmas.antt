@@ -9,7 +9,7 @@ use Rattle.oai_item.specs.Rules.{has_repeat}
 use Rattle.oai_host.specs.Configs.{AreNamed}
 use Rattle.oai_host.specs.Housed.{housed_names, place_in}
 use Rattle.oai_settings.specs.Config.{is_repository_name}
-use Rattle.oai_host.specs.Targets.{front_of, leads_to_repository, path_of}
+use Rattle.oai_host.specs.Targets.{front_of, leads_to, leads_to_repository, path_of}
 use Rattle.oai_host.specs.Tasks.{kind_of}
 use Rattle.oai_host.specs.declared.housed.Housed.{Housed}
 use Rattle.oai_host.specs.declared.routes.Kind.{Kind}
@@ -70,6 +70,19 @@ kind_there Deposits one = refl
 
 pub kind_is : (kind : Kind) (one target : List ℕ) → path_of target ≡ front_of kind ++ one → kind_of target ≡ kind
 kind_is kind one target path = ap (λ (p : List ℕ). cond (bytes_eq (take 9 p) (front_of Deposits)) Deposits Requests) path ∙ kind_there kind one
+
+-- what a path leads to tells what its target is for
+pub kind_leads : (kind : Kind) (name target : List ℕ) → leads_to kind name target ≡ true → kind_of target ≡ kind
+kind_leads kind name target leads = kind_is kind name target (bytes_equal (path_of target) (front_of kind ++ name) leads)
+
+-- and it leads to one repository
+pub one_leads : (one other target : List ℕ) → leads_to_repository one target ≡ true → leads_to_repository other target ≡ true → one ≡ other
+one_leads one other target first second =
+    let by = leads_by one target first in
+    elim (cases_Bool (bytes_eq one other)) [
+      | inl same ↦ bytes_equal one other same
+      | inr apart ↦ clash (leads_to_repository other target) second (leads_not by.0 one other target by.1 apart)
+    ]
 
 -- ---- places
 

@@ -22,4 +22,5 @@ pub use exchanges::{Answer, Call, Exchange};
 pub use faults::{ReadFault, fault_law};
 pub use hosts::Host;
 pub use readings::told::shape_law;
+pub use routes::path_law;
 pub use statuses::Status;

@@ -5,6 +5,7 @@ ghost use Rattle.oai_settings.specs.Config.{is_repository_name};
 ghost use Rattle.matchit.specs.Seek.{first};
 ghost use Rattle.oai_host.specs.Rows.{both_rows, kind_in};
 ghost use Rattle.oai_host.specs.Targets as spec;
+ghost use Rattle.oai_host.specs.Tasks.{kind_of};
 
 use matchit::Router;
 use std::alloc::{AllocError, Global};
@@ -99,6 +100,15 @@ fn kind_at(router: &Router<Kind>, path: &str) -> Option<Kind>
         Err(_) => None,
     }
 }
+
+/// What a target is for is what its path leads to, at whatever repository; and no target leads to two
+/// repositories. The contract is the law; the call does nothing.
+pub fn path_law()
+    ensures kind { (kind : Kind) (name target : List ℕ) → spec.leads_to kind name target ≡ true
+        → kind_of target ≡ kind }
+    ensures one { (one other target : List ℕ) → spec.leads_to_repository one target ≡ true
+        → spec.leads_to_repository other target ≡ true → one ≡ other }
+{}
 
 /// Whether the target begins with `/`.
 pub(crate) fn is_rooted(target: &[u8]) -> bool

@@ -1,7 +1,7 @@
 //! What texts tell, and how many repositories they may tell of.
 use crate::answers::answer_to;
 use crate::worked::{assert_table, worked, worked_with};
-use oai_host::{Config, shape_law};
+use oai_host::{Config, fault_law, path_law, shape_law};
 use std::alloc::{AllocError, Global};
 use std::process::Abort;
 use std::test::Fail;
@@ -12,6 +12,8 @@ fn worked_configuration(rt: HostRuntime) -> Result<(), Fail> {
     assert_eq!(rt; config.len(), 3);
     assert_eq!(rt; config.cache(), 1);
     shape_law();
+    fault_law();
+    path_law();
     Ok(())
 }
 
