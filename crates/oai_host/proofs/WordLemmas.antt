@@ -5,37 +5,38 @@ use Rattle.std.proofs.lemmas.Slice.Eq.{bytes_eq-Decides}
 use Rattle.serde_json.specs.Data.{Data, string}
 use Rattle.oai_time.specs.declared.granularity.Granularity.{Granularity}
 use Rattle.oai_time.specs.declared.granularity.Granularity.TheVariants.{Day, Second}
+use Rattle.oai_answers.specs.Documents.{deleted_text}
 use Rattle.oai_answers.specs.declared.identify.DeletedRecord.{DeletedRecord}
 use Rattle.oai_answers.specs.declared.identify.DeletedRecord.TheVariants.{No, Transient, Persistent}
 use Rattle.oai_host.specs.Readings.{◌>>=◌}
-use Rattle.oai_host.specs.Shapes.{text_at, deleted_of, deleted_at, granularity_of, granularity_at}
-use Rattle.oai_host.specs.Written.{HasText, deleted_word, granularity_word}
+use Rattle.oai_host.specs.Shapes.{text_at, deleted_of, deleted_at, granularity_of, granularity_at, granularity_word}
+use Rattle.oai_host.specs.Written.{HasText}
 use Rattle.oai_host.proofs.MemberLemmas.{Some-injective, bind-Some, text_again, text_takes}
 
 -- ---- what is kept
 
 deleted_among : (t : List ℕ) (x : DeletedRecord) (no transient persistent : Bool) → bytes_eq t (codes "no") ≡ no → bytes_eq t (codes "transient") ≡ transient → bytes_eq t (codes "persistent") ≡ persistent
-    → cond no (Some No) (cond transient (Some Transient) (cond persistent (Some Persistent) None)) ≡ Some x → t ≡ deleted_word x
-deleted_among t x true transient persistent a b c is = (bytes_eq-Decides t (codes "no")).0 a ∙ ap deleted_word (Some-injective No x is)
-deleted_among t x false true persistent a b c is = (bytes_eq-Decides t (codes "transient")).0 b ∙ ap deleted_word (Some-injective Transient x is)
-deleted_among t x false false true a b c is = (bytes_eq-Decides t (codes "persistent")).0 c ∙ ap deleted_word (Some-injective Persistent x is)
+    → cond no (Some No) (cond transient (Some Transient) (cond persistent (Some Persistent) None)) ≡ Some x → t ≡ deleted_text x
+deleted_among t x true transient persistent a b c is = (bytes_eq-Decides t (codes "no")).0 a ∙ ap deleted_text (Some-injective No x is)
+deleted_among t x false true persistent a b c is = (bytes_eq-Decides t (codes "transient")).0 b ∙ ap deleted_text (Some-injective Transient x is)
+deleted_among t x false false true a b c is = (bytes_eq-Decides t (codes "persistent")).0 c ∙ ap deleted_text (Some-injective Persistent x is)
 deleted_among t x false false false a b c is = absurd cc
 
-pub deleted_takes : (d : Data) (x : DeletedRecord) → deleted_at d ≡ Some x → HasText (codes "deletedRecord") (deleted_word x) d
+pub deleted_takes : (d : Data) (x : DeletedRecord) → deleted_at d ≡ Some x → HasText (codes "deletedRecord") (deleted_text x) d
 unfolding deleted_at deleted_of
 deleted_takes d x is =
     let p = bind-Some (text_at (codes "deletedRecord") d) deleted_of x is in
     text_takes (codes "deletedRecord") d p.0 p.1 ∙ ap (λ t. Some (string t)) (deleted_among p.0 x _ _ _ refl refl refl p.2)
 
-deleted_word-read : (x : DeletedRecord) → deleted_of (deleted_word x) ≡ Some x
+deleted_text-read : (x : DeletedRecord) → deleted_of (deleted_text x) ≡ Some x
 unfolding deleted_of
-deleted_word-read No = refl
-deleted_word-read Transient = refl
-deleted_word-read Persistent = refl
+deleted_text-read No = refl
+deleted_text-read Transient = refl
+deleted_text-read Persistent = refl
 
-pub deleted_again : (d : Data) (x : DeletedRecord) → HasText (codes "deletedRecord") (deleted_word x) d → deleted_at d ≡ Some x
+pub deleted_again : (d : Data) (x : DeletedRecord) → HasText (codes "deletedRecord") (deleted_text x) d → deleted_at d ≡ Some x
 unfolding deleted_at
-deleted_again d x is = ap (λ o. o >>= deleted_of) (text_again (codes "deletedRecord") d (deleted_word x) is) ∙ deleted_word-read x
+deleted_again d x is = ap (λ o. o >>= deleted_of) (text_again (codes "deletedRecord") d (deleted_text x) is) ∙ deleted_text-read x
 
 -- ---- how fine
 

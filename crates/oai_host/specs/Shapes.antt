@@ -1,6 +1,7 @@
 -- What the JSON object of a configuration tells, where its members are of their kinds (RFC 8259, sections 3 to 7). The members are this
 -- repository's own.
 use Rattle.std.specs.Prelude.{ℕ, if◌then◌else◌, List, [], ◌∷◌, codes, Option, Some, None, option_map}
+use Rattle.std.specs.List.{find}
 use Rattle.std.specs.Str.{bytes_eq, is_utf8}
 use Rattle.serde_json.specs.Data.{Data}
 use Rattle.serde_json.specs.Read.{read}
@@ -10,6 +11,7 @@ use Rattle.oai_time.specs.declared.granularity.Granularity.TheVariants.{Day, Sec
 use Rattle.oai_item.specs.ShortTexts.{is_short_text}
 use Rattle.oai_answers.specs.declared.identify.DeletedRecord.{DeletedRecord}
 use Rattle.oai_answers.specs.declared.identify.DeletedRecord.TheVariants.{No, Transient, Persistent}
+use Rattle.oai_answers.specs.Documents.{deleted_text}
 use Rattle.oai_deposit.specs.Json.{elements_in, has_members}
 use Rattle.oai_settings.specs.declared.settings.FormatSettings.{FormatSettings}
 use Rattle.oai_settings.specs.declared.settings.Settings.{Settings}
@@ -53,24 +55,22 @@ format_of d = do
 
 -- ---- a repository
 
--- what is kept of deleted records (OAI-PMH 2.0, section 2.5.1)
+-- what is kept of deleted records, by its word in an answer to Identify (OAI-PMH 2.0, sections 2.5.1 and 4.2)
 unfoldable pub deleted_of : List ℕ → Option DeletedRecord
-deleted_of text =
-    if bytes_eq text (codes "no") then Some No
-    else (if bytes_eq text (codes "transient") then Some Transient
-    else (if bytes_eq text (codes "persistent") then Some Persistent
-    else None))
+deleted_of text = find (λ (deleted : DeletedRecord). bytes_eq text (deleted_text deleted)) (No ∷ Transient ∷ Persistent ∷ [])
 
 -- .. as the member of it tells
 unfoldable pub deleted_at : Data → Option DeletedRecord
 deleted_at d = text_at (codes "deletedRecord") d >>= deleted_of
 
--- how fine the datestamps are (OAI-PMH 2.0, section 2.7.1)
+-- the word for how fine the datestamps are: this repository's own, and not what OAI-PMH 2.0, section 2.7.1, writes
+abbrev pub granularity_word : Granularity → List ℕ
+granularity_word Day = codes "days"
+granularity_word Second = codes "seconds"
+
+-- how fine they are, by that word
 unfoldable pub granularity_of : List ℕ → Option Granularity
-granularity_of text =
-    if bytes_eq text (codes "days") then Some Day
-    else (if bytes_eq text (codes "seconds") then Some Second
-    else None)
+granularity_of text = find (λ (granularity : Granularity). bytes_eq text (granularity_word granularity)) (Day ∷ Second ∷ [])
 
 -- .. as the member of it tells
 unfoldable pub granularity_at : Data → Option Granularity

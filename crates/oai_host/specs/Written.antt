@@ -3,16 +3,13 @@ use Rattle.std.specs.Prelude.{◌≡◌, ◌↔◌, ℕ, true, List, map, codes,
 use Rattle.std.specs.List.{AllZip}
 use Rattle.serde_json.specs.Data.{Data, Num, string, number}
 use Rattle.serde_json.specs.Find.{get, as_u64}
-use Rattle.oai_time.specs.declared.granularity.Granularity.{Granularity}
-use Rattle.oai_time.specs.declared.granularity.Granularity.TheVariants.{Day, Second}
 use Rattle.oai_item.specs.ShortTexts.{is_short_text}
-use Rattle.oai_answers.specs.declared.identify.DeletedRecord.{DeletedRecord}
-use Rattle.oai_answers.specs.declared.identify.DeletedRecord.TheVariants.{No, Transient, Persistent}
+use Rattle.oai_answers.specs.Documents.{deleted_text}
 use Rattle.oai_deposit.specs.Json.{size, array_of}
 use Rattle.oai_settings.specs.declared.settings.FormatSettings.{FormatSettings}
 use Rattle.oai_settings.specs.declared.settings.Settings.{Settings}
 use Rattle.oai_host.specs.declared.readings.told.Told.{Told}
-use Rattle.oai_host.specs.Shapes.{told_of}
+use Rattle.oai_host.specs.Shapes.{granularity_word, told_of}
 
 -- ---- a member of an object
 
@@ -42,24 +39,13 @@ pub record IsFormat (format : FormatSettings) (d : Data) : Type 0 where
   pub fields : HasTexts (codes "fields") format.fields d
   pub no_other : size d ≡ 5
 
--- what is kept of deleted records (OAI-PMH 2.0, section 2.5.1)
-abbrev pub deleted_word : DeletedRecord → List ℕ
-deleted_word No = codes "no"
-deleted_word Transient = codes "transient"
-deleted_word Persistent = codes "persistent"
-
--- how fine the datestamps are (OAI-PMH 2.0, section 2.7.1)
-abbrev pub granularity_word : Granularity → List ℕ
-granularity_word Day = codes "days"
-granularity_word Second = codes "seconds"
-
 pub record IsRepository (base : List ℕ) (s : Settings) (d : Data) : Type 0 where
   pub below : s.base ≡ base
   pub name : HasText (codes "name") s.name d
   pub repository_name : HasText (codes "repositoryName") s.repository_name d
   pub addresses : HasTexts (codes "adminEmail") s.addresses d
   pub earliest : HasText (codes "earliestDatestamp") s.earliest d
-  pub deleted : HasText (codes "deletedRecord") (deleted_word s.deleted) d
+  pub deleted : HasText (codes "deletedRecord") (deleted_text s.deleted) d
   pub granularity : HasText (codes "granularity") (granularity_word s.granularity) d
   pub chunk : HasNumber (codes "chunk") s.chunk d
   pub lifetime : HasNumber (codes "lifetime") s.lifetime d
