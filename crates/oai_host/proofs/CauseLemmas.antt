@@ -9,7 +9,7 @@ use Rattle.oai_settings.specs.Settings.{config_fault}
 use Rattle.oai_host.specs.declared.faults.ReadFault.{ReadFault}
 use Rattle.oai_host.specs.declared.faults.ReadFault.TheVariants.{BadJson, BadShape, BadName, DuplicateName, BadFormat, BadDate, BadNumber, TooMany, NoMemory}
 use Rattle.oai_host.specs.Reading.{IsLowest}
-use Rattle.oai_host.specs.Causes.{is_wrong_alone, is_wrong_together, number_of}
+use Rattle.oai_host.specs.Causes.{is_wrong_alone, is_wrong_together, fault_number}
 use Rattle.oai_host.specs.ReadingWork.{IsLowestOf, fault_of, first_together, lower}
 
 abbrev Causes : Type 0
@@ -22,7 +22,7 @@ fault_at n =
     if n == 1 then BadJson else (if n == 2 then BadShape else (if n == 3 then BadName else (if n == 4 then DuplicateName
     else (if n == 5 then BadFormat else (if n == 6 then BadDate else (if n == 7 then BadNumber else (if n == 8 then TooMany else NoMemory)))))))
 
-fault_at-number : (x : ReadFault) → fault_at (number_of x) ≡ x
+fault_at-number : (x : ReadFault) → fault_at (fault_number x) ≡ x
 fault_at-number BadJson = refl
 fault_at-number BadShape = refl
 fault_at-number BadName = refl
@@ -34,18 +34,18 @@ fault_at-number TooMany = refl
 fault_at-number NoMemory = refl
 
 -- faults of one number are one
-same_fault : (x y : ReadFault) → number_of x ≡ number_of y → x ≡ y
+same_fault : (x y : ReadFault) → fault_number x ≡ fault_number y → x ≡ y
 same_fault x y is = sym (fault_at-number x) ∙ ap fault_at is ∙ fault_at-number y
 
 -- ---- one cause after another
 
 -- no cause of a lower number applies
 abbrev NoneBelow : ℕ → Causes → Type 0
-NoneBelow n causes = (other : ReadFault) → number_of other < n → causes other ≡ false
+NoneBelow n causes = (other : ReadFault) → fault_number other < n → causes other ≡ false
 
 -- one more cause does not apply
-next : (causes : Causes) (x : ReadFault) (n : ℕ) → number_of x ≡ n → causes x ≡ false → NoneBelow n causes → NoneBelow (suc n) causes
-next causes x n is not_x below other low = elim (cases_lt (number_of other) n) [
+next : (causes : Causes) (x : ReadFault) (n : ℕ) → fault_number x ≡ n → causes x ≡ false → NoneBelow n causes → NoneBelow (suc n) causes
+next causes x n is not_x below other low = elim (cases_lt (fault_number other) n) [
   | inl lower ↦ below other lower
   | inr least ↦ ap causes (same_fault other x (omega arith)) ∙ not_x
 ]
@@ -81,7 +81,7 @@ IsLowestBy seen causes None = (fault : ReadFault) → causes fault ≡ false
 
 -- the cause is the lowest where it applies, and is looked past where it does not
 step : {F : Type 0} (seen : F → ReadFault) (causes : Causes) (x : F) (n : ℕ) (b : Bool) (others : Option F)
-    → number_of (seen x) ≡ n → causes (seen x) ≡ b → (NoneBelow (suc n) causes → IsLowestBy seen causes others)
+    → fault_number (seen x) ≡ n → causes (seen x) ≡ b → (NoneBelow (suc n) causes → IsLowestBy seen causes others)
     → NoneBelow n causes → IsLowestBy seen causes (cond b (Some x) others)
 step seen causes x n true others is applies more below = record { applies = applies; lowest = λ other low. below other (rw (← is) low) }
 step seen causes x n false others is applies more below = more (next causes (seen x) n is applies below)
@@ -124,7 +124,7 @@ lowest_together cache settings = as_it_is _ (first_together cache settings) (low
 
 -- ---- two sets of causes
 
-lower_first : (first second : Causes) (lowest fault : ReadFault) (b : Bool) → nat_le (number_of lowest) (number_of fault) ≡ b → IsLowest first lowest → IsLowest second fault
+lower_first : (first second : Causes) (lowest fault : ReadFault) (b : Bool) → nat_le (fault_number lowest) (fault_number fault) ≡ b → IsLowest first lowest → IsLowest second fault
     → IsLowest (λ cause. first cause || second cause) (cond b lowest fault)
 lower_first first second lowest fault true is one two = record {
   applies = or_left _ _ one.applies;

@@ -14,7 +14,7 @@ use Rattle.oai_settings.specs.Config.{is_repository_name}
 use Rattle.oai_settings.specs.Settings.{IsConfigured, config_fault, has_number}
 use Rattle.oai_host.specs.declared.faults.ReadFault.{ReadFault}
 use Rattle.oai_host.specs.declared.faults.ReadFault.TheVariants.{BadJson, BadShape, BadName, DuplicateName, BadFormat, BadDate, BadNumber, TooMany, NoMemory}
-use Rattle.oai_host.specs.declared.readings.told.Told.{Told}
+use Rattle.oai_host.specs.declared.readings.told.HostSettings.{HostSettings}
 use Rattle.oai_host.specs.Configs.{Hosted, IsHostConfig, is_cache, names_of}
 use Rattle.oai_host.specs.Reading.{IsHosted, AreHosted, IsLowest}
 use Rattle.oai_host.specs.Causes.{is_wrong_alone, is_wrong_together, names_told}
@@ -188,7 +188,7 @@ keeps_rules cache settings n hosted is none are =
 
 -- ---- the whole
 
-pub made_or : (told : Told) (fault : ReadFault) → AreMade (λ cause. is_wrong_together cause told.cache told.repositories) told.repositories (Err fault) → IsMade told (Err fault)
+pub made_or : (told : HostSettings) (fault : ReadFault) → AreMade (λ cause. is_wrong_together cause told.cache told.repositories) told.repositories (Err fault) → IsMade told (Err fault)
 made_or told BadJson is = is
 made_or told BadShape is = is
 made_or told BadName is = is

@@ -12,7 +12,7 @@ use Rattle.serde_json.proofs.OnLiterals.{serde_json_on_literals}
 use Rattle.oai_deposit.specs.Json.{elements_in}
 use Rattle.oai_deposit.specs.Lines.{TakesMemory}
 use Rattle.oai_deposit.proofs.JsonLemmas.{elements_in-items_view}
-use Rattle.oai_host.specs.Readings.{◌>>=◌}
+use Rattle.oai_host.specs.Optional.{◌>>=◌}
 use Rattle.oai_host.specs.Shapes.{elements_at, json_in}
 
 pub elements_at-Some : (name : List ℕ) (d m : Data) (vs : List Value) → get name d ≡ Some m → Some (items_view vs) ≡ as_array m → elements_at name d ≡ Some (map view vs)

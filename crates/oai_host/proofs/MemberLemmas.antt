@@ -5,7 +5,7 @@ use Rattle.std.specs.Option.{option_map}
 use Rattle.serde_json.specs.Data.{Data, Num, null, boolean, number, string, array, object, Items, no_items, item}
 use Rattle.serde_json.specs.Find.{get, as_str, as_array, as_number, as_u64}
 use Rattle.oai_deposit.specs.Json.{elements_in, items_of, array_of}
-use Rattle.oai_host.specs.Readings.{◌>>=◌, each_of}
+use Rattle.oai_host.specs.Optional.{◌>>=◌, each_of}
 use Rattle.oai_host.specs.Shapes.{text_at, number_at, elements_at, texts_at}
 use Rattle.oai_host.specs.Written.{HasText, HasNumber, HasTexts, HasList}
 

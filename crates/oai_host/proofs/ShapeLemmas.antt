@@ -8,8 +8,8 @@ use Rattle.oai_item.specs.ShortTexts.{is_short_text}
 use Rattle.oai_deposit.specs.Json.{size, has_members, has_each}
 use Rattle.oai_settings.specs.declared.settings.FormatSettings.{FormatSettings}
 use Rattle.oai_settings.specs.declared.settings.Settings.{Settings}
-use Rattle.oai_host.specs.declared.readings.told.Told.{Told}
-use Rattle.oai_host.specs.Readings.{◌>>=◌, tested}
+use Rattle.oai_host.specs.declared.readings.told.HostSettings.{HostSettings}
+use Rattle.oai_host.specs.Optional.{◌>>=◌, tested}
 use Rattle.oai_host.specs.Shapes.{text_at, number_at, texts_at, format_members, format_of, deleted_at, granularity_at, formats_at, repository_members, settings_of, base_at, repositories_at, host_members, told_of}
 use Rattle.oai_host.specs.Written.{HasText, HasNumber, HasList, IsFormat, IsRepository, IsHost, ShapeLaw}
 use Rattle.oai_host.proofs.MemberLemmas.{Some-injective, Undoes, bind-Some, list_again, list_takes, number_again, number_takes, text_again, text_takes, texts_are, texts_take}
@@ -240,22 +240,22 @@ repositories_again : (base : List ℕ) (d : Data) (ss : List Settings) → HasLi
 unfolding repositories_at
 repositories_again base d ss is = list_again (settings_of base) (IsRepository base) (one_repository base) (codes "repositories") d ss is
 
-abbrev told_from : Data → Option Told
+abbrev told_from : Data → Option HostSettings
 told_from d = do
   base ← base_at d
   cache ← number_at (codes "cache") d
   repositories ← repositories_at base d
   Some (record { cache = cache; repositories = repositories })
 
-host_parts : (d : Data) (told : Told) → size d ≡ 3 → told_from d ≡ Some told → (base : List ℕ) × IsHost base told d
+host_parts : (d : Data) (told : HostSettings) → size d ≡ 3 → told_from d ≡ Some told → (base : List ℕ) × IsHost base told d
 host_parts d told three is =
     let base = bind-Some (base_at d) _ told is in
     let cache = bind-Some (number_at (codes "cache") d) _ told base.2 in
     let repositories = bind-Some (repositories_at base.0 d) _ told cache.2 in
     let based = base_takes d base.0 base.1 in
-    let made : Told = record { cache = cache.0; repositories = repositories.0 } in (
+    let made : HostSettings = record { cache = cache.0; repositories = repositories.0 } in (
       base.0,
-      subst (λ (t : Told). IsHost base.0 t d) (Some-injective made told repositories.2) (record {
+      subst (λ (t : HostSettings). IsHost base.0 t d) (Some-injective made told repositories.2) (record {
         based = based.0;
         short = based.1;
         cache = number_takes _ d cache.0 cache.1;
@@ -264,13 +264,13 @@ host_parts d told three is =
       }),
     )
 
-host_takes : (d : Data) (told : Told) → told_of d ≡ Some told → (base : List ℕ) × IsHost base told d
+host_takes : (d : Data) (told : HostSettings) → told_of d ≡ Some told → (base : List ℕ) × IsHost base told d
 unfolding told_of
 host_takes d told is =
     let p = passed (has_members host_members) told_from d told is in
     host_parts d told (of_size host_members d p.0) p.1
 
-are_host : (base : List ℕ) (d : Data) (told : Told) → IsHost base told d → has_members host_members d ≡ true
+are_host : (base : List ℕ) (d : Data) (told : HostSettings) → IsHost base told d → has_members host_members d ≡ true
 unfolding has_members
 are_host base d told is =
     and_from _ _ (same_size d 3 is.no_other)
@@ -278,7 +278,7 @@ are_host base d told is =
     (and_from _ _ (number_there (codes "cache") told.cache d is.cache)
     (and_from _ _ (is_there _ _ is.repositories.1) refl)))
 
-host_again : (d : Data) (told : Told) (base : List ℕ) → IsHost base told d → told_of d ≡ Some told
+host_again : (d : Data) (told : HostSettings) (base : List ℕ) → IsHost base told d → told_of d ≡ Some told
 unfolding told_of
 host_again d told base is =
     rw (are_host base d told is, base_again d base is.based is.short, number_again (codes "cache") d told.cache is.cache, repositories_again base d told.repositories is.repositories) refl

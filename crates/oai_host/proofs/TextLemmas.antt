@@ -9,11 +9,11 @@ use Rattle.oai_deposit.specs.Lines.{TakesMemory}
 use Rattle.oai_settings.specs.declared.settings.Settings.{Settings}
 use Rattle.oai_host.specs.declared.faults.ReadFault.{ReadFault}
 use Rattle.oai_host.specs.declared.faults.ReadFault.TheVariants.{BadJson, BadShape, BadName, DuplicateName, BadFormat, BadDate, BadNumber, TooMany, NoMemory}
-use Rattle.oai_host.specs.declared.readings.told.Told.{Told}
+use Rattle.oai_host.specs.declared.readings.told.HostSettings.{HostSettings}
 use Rattle.oai_host.specs.Configs.{HostConfig}
-use Rattle.oai_host.specs.Readings.{◌>>=◌}
+use Rattle.oai_host.specs.Optional.{◌>>=◌}
 use Rattle.oai_host.specs.Shapes.{json_in, told_in, told_of}
-use Rattle.oai_host.specs.Causes.{is_wrong_alone, is_wrong, applies, number_of}
+use Rattle.oai_host.specs.Causes.{is_wrong_alone, is_wrong, applies, fault_number}
 use Rattle.oai_host.specs.Reading.{IsLowest, IsRead}
 use Rattle.oai_host.specs.ReadingWork.{Gives, IsJson, IsText, IsMade}
 use Rattle.oai_host.proofs.CauseLemmas.{same_lowest}
@@ -24,7 +24,7 @@ use Rattle.oai_host.proofs.JsonLemmas.{takes-read}
 none_after : (o : Option Data) → o ≡ None → (o >>= told_of) ≡ None
 none_after o none = ap (λ o. o >>= told_of) none
 
-pub told_of_value : (text : List ℕ) (value : Value) (result : Result Told ReadFault) → json_in text ≡ Some (view value)
+pub told_of_value : (text : List ℕ) (value : Value) (result : Result HostSettings ReadFault) → json_in text ≡ Some (view value)
     → Gives result (told_of (view value)) → IsText text result
 unfolding told_in
 told_of_value text value (Ok told) is gives = ap (λ o. o >>= told_of) is ∙ gives
@@ -55,12 +55,12 @@ none_of : (settings : List Settings) → list_any (is_wrong_alone BadJson) setti
 none_of [] = refl
 none_of (s ∷ settings) = none_of settings
 
-there_is : (o : Option Data) (told : Told) → (o >>= told_of) ≡ Some told → is_none o ≡ false
+there_is : (o : Option Data) (told : HostSettings) → (o >>= told_of) ≡ Some told → is_none o ≡ false
 there_is (Some d) told is = refl
 there_is None told is = absurd cc
 
 -- where the text tells something, what applies to the text is what is wrong with that
-pub applies_told : (text : List ℕ) (told : Told) → told_in text ≡ Some told → (cause : ReadFault) → is_wrong cause told ≡ applies cause text
+pub applies_told : (text : List ℕ) (told : HostSettings) → told_in text ≡ Some told → (cause : ReadFault) → is_wrong cause told ≡ applies cause text
 unfolding told_in
 applies_told text told is BadJson = none_of told.repositories ∙ sym (there_is (json_in text) told is)
 applies_told text told is BadShape = sym (ap (λ o. option_map_or (is_wrong BadShape) o true) is)
@@ -74,18 +74,18 @@ applies_told text told is NoMemory = sym (ap (λ o. option_map_or (is_wrong NoMe
 
 -- ---- the answer
 
-lowest_told : (text : List ℕ) (told : Told) (fault : ReadFault) → told_in text ≡ Some told → IsLowest (λ cause. is_wrong cause told) fault → IsLowest (λ cause. applies cause text) fault
+lowest_told : (text : List ℕ) (told : HostSettings) (fault : ReadFault) → told_in text ≡ Some told → IsLowest (λ cause. is_wrong cause told) fault → IsLowest (λ cause. applies cause text) fault
 lowest_told text told fault is lowest = same_lowest (λ cause. is_wrong cause told) (λ cause. applies cause text) fault (applies_told text told is) lowest
 
-takes-told : (o : Option Data) (text : List ℕ) (told : Told) → json_in text ≡ o → (o >>= told_of) ≡ Some told → TakesMemory text
+takes-told : (o : Option Data) (text : List ℕ) (told : HostSettings) → json_in text ≡ o → (o >>= told_of) ≡ Some told → TakesMemory text
 takes-told (Some d) text told is tells = takes-read text d is
 takes-told None text told is tells = absurd cc
 
-memory_taken : (text : List ℕ) (told : Told) → told_in text ≡ Some told → TakesMemory text
+memory_taken : (text : List ℕ) (told : HostSettings) → told_in text ≡ Some told → TakesMemory text
 unfolding told_in
 memory_taken text told is = takes-told (json_in text) text told refl is
 
-pub made_of_told : (text : List ℕ) (told : Told) (result : Result HostConfig ReadFault) → told_in text ≡ Some told → IsMade told result → IsRead text result
+pub made_of_told : (text : List ℕ) (told : HostSettings) (result : Result HostConfig ReadFault) → told_in text ≡ Some told → IsMade told result → IsRead text result
 made_of_told text told (Ok config) is made = record {
   told = told;
   tells = is;
@@ -104,7 +104,7 @@ made_of_told text told (Err TooMany) is made = lowest_told text told TooMany is 
 made_of_told text told (Err NoMemory) is made = memory_taken text told is
 
 -- nothing is of a lower number than the first
-first_of_all : (causes : ReadFault → Bool) (other : ReadFault) → number_of other < 1 → causes other ≡ false
+first_of_all : (causes : ReadFault → Bool) (other : ReadFault) → fault_number other < 1 → causes other ≡ false
 first_of_all causes BadJson low = absurd (omega arith)
 first_of_all causes BadShape low = absurd (omega arith)
 first_of_all causes BadName low = absurd (omega arith)
@@ -116,7 +116,7 @@ first_of_all causes TooMany low = absurd (omega arith)
 first_of_all causes NoMemory low = absurd (omega arith)
 
 -- and nothing but the first is of a lower number than the second
-second_of_all : (causes : ReadFault → Bool) → causes BadJson ≡ false → (other : ReadFault) → number_of other < 2 → causes other ≡ false
+second_of_all : (causes : ReadFault → Bool) → causes BadJson ≡ false → (other : ReadFault) → fault_number other < 2 → causes other ≡ false
 second_of_all causes is BadJson low = is
 second_of_all causes is BadShape low = absurd (omega arith)
 second_of_all causes is BadName low = absurd (omega arith)

@@ -8,7 +8,7 @@ use Rattle.oai_time.specs.declared.granularity.Granularity.TheVariants.{Day, Sec
 use Rattle.oai_answers.specs.Documents.{deleted_text}
 use Rattle.oai_answers.specs.declared.identify.DeletedRecord.{DeletedRecord}
 use Rattle.oai_answers.specs.declared.identify.DeletedRecord.TheVariants.{No, Transient, Persistent}
-use Rattle.oai_host.specs.Readings.{◌>>=◌}
+use Rattle.oai_host.specs.Optional.{◌>>=◌}
 use Rattle.oai_host.specs.Shapes.{text_at, deleted_of, deleted_at, granularity_of, granularity_at, granularity_word}
 use Rattle.oai_host.specs.Written.{HasText}
 use Rattle.oai_host.proofs.MemberLemmas.{Some-injective, bind-Some, text_again, text_takes}

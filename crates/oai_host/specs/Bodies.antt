@@ -22,7 +22,7 @@ from_ink text = drop (prefix_len is_space text) text
 abbrev pub to_ink : List ℕ → List ℕ
 to_ink text = take (length text - suffix_len is_space text) text
 
--- the text without white space at its begin and its end
+-- the text without white space at its beginning and its end
 abbrev pub trimmed : List ℕ → List ℕ
 trimmed text = to_ink (from_ink text)
 

@@ -8,7 +8,7 @@ use Rattle.oai_settings.specs.Config.{is_repository_name}
 use Rattle.oai_settings.specs.Settings.{has_shape, are_formats, earliest_of, has_number, are_numbers}
 use Rattle.oai_host.specs.declared.faults.ReadFault.{ReadFault}
 use Rattle.oai_host.specs.declared.faults.ReadFault.TheVariants.{BadJson, BadShape, BadName, DuplicateName, BadFormat, BadDate, BadNumber, TooMany, NoMemory}
-use Rattle.oai_host.specs.declared.readings.told.Told.{Told}
+use Rattle.oai_host.specs.declared.readings.told.HostSettings.{HostSettings}
 use Rattle.oai_host.specs.Configs.{is_cache}
 use Rattle.oai_host.specs.Shapes.{json_in, told_in}
 
@@ -34,7 +34,7 @@ is_wrong_together TooMany cache repositories = nat_lt 1_000 (length repositories
 is_wrong_together fault cache repositories = false
 
 -- a cause that lies anywhere in what is told: in the whole, or in any repository
-abbrev pub is_wrong : ReadFault → Told → Bool
+abbrev pub is_wrong : ReadFault → HostSettings → Bool
 is_wrong fault told =
     is_wrong_together fault told.cache told.repositories || list_any (is_wrong_alone fault) told.repositories
 
@@ -44,14 +44,14 @@ applies BadJson text = is_none (json_in text)
 applies BadShape text = option_map_or (is_wrong BadShape) (told_in text) true
 applies fault text = option_map_or (is_wrong fault) (told_in text) false
 
--- the number of each
-abbrev pub number_of : ReadFault → ℕ
-number_of BadJson = 1
-number_of BadShape = 2
-number_of BadName = 3
-number_of DuplicateName = 4
-number_of BadFormat = 5
-number_of BadDate = 6
-number_of BadNumber = 7
-number_of TooMany = 8
-number_of NoMemory = 9
+-- the number of each fault
+abbrev pub fault_number : ReadFault → ℕ
+fault_number BadJson = 1
+fault_number BadShape = 2
+fault_number BadName = 3
+fault_number DuplicateName = 4
+fault_number BadFormat = 5
+fault_number BadDate = 6
+fault_number BadNumber = 7
+fault_number TooMany = 8
+fault_number NoMemory = 9

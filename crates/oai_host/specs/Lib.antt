@@ -1,6 +1,6 @@
 pub mod Configs
 pub mod ConfigInside
-pub mod Readings
+pub mod Optional
 pub mod Shapes
 pub mod Written
 pub mod Causes

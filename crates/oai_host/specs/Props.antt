@@ -1,4 +1,4 @@
--- That repositories stand apart is one fact.
+-- No definition: that repositories stand apart is one fact, by which the ghost field of `Host` is shown.
 use Rattle.std.proofs.Common.{List, [], ◌∷◌}
 use Rattle.std.specs.List.{AllByRecursion-prop}
 use mathlib.Core.Bool.{Bool-set}

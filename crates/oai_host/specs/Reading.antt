@@ -6,9 +6,9 @@ use Rattle.oai_settings.specs.declared.settings.Settings.{Settings}
 use Rattle.oai_settings.specs.Settings.{Configures}
 use Rattle.oai_host.specs.declared.faults.ReadFault.{ReadFault}
 use Rattle.oai_host.specs.declared.faults.ReadFault.TheVariants.{BadJson, BadShape, BadName, DuplicateName, BadFormat, BadDate, BadNumber, TooMany, NoMemory}
-use Rattle.oai_host.specs.declared.readings.told.Told.{Told}
+use Rattle.oai_host.specs.declared.readings.told.HostSettings.{HostSettings}
 use Rattle.oai_host.specs.Configs.{Hosted, HostConfig}
-use Rattle.oai_host.specs.Causes.{applies, number_of}
+use Rattle.oai_host.specs.Causes.{applies, fault_number}
 use Rattle.oai_host.specs.Shapes.{told_in}
 
 -- the repository is of that name, and configured as is told
@@ -22,7 +22,7 @@ AreHosted settings hosted = AllZip IsHosted settings hosted
 
 -- the text tells something to which no cause applies, and the configuration is that
 pub record IsConfigOf (text : List ℕ) (config : HostConfig) : Type 0 where
-  pub told : Told
+  pub told : HostSettings
   pub tells : told_in text ≡ Some told
   pub faultless : (fault : ReadFault) → applies fault text ≡ false
   pub cache : told.cache ≡ Some config.cache
@@ -31,7 +31,7 @@ pub record IsConfigOf (text : List ℕ) (config : HostConfig) : Type 0 where
 -- of the causes the fault applies, and none of a lower number
 pub record IsLowest (causes : ReadFault → Bool) (fault : ReadFault) : Type 0 where
   pub applies : causes fault ≡ true
-  pub lowest : (other : ReadFault) → number_of other < number_of fault → causes other ≡ false
+  pub lowest : (other : ReadFault) → fault_number other < fault_number fault → causes other ≡ false
 
 -- what reading a text answers; memory may be refused where some is taken, for a text in UTF-8 that is not empty
 abbrev pub IsRead : List ℕ → Result HostConfig ReadFault → Type 0

@@ -1,4 +1,5 @@
--- What the calls answer that the reading of a text is made of: words that the contract of the whole needs none of.
+-- What the calls give that the reading of a text is made of, step by step. Words that tie the code to the definitions; the contract of the whole
+-- (`Reading`) needs none of them.
 use Rattle.std.specs.Prelude.{◌≡◌, ◌||◌, ℕ, Bool, false, nat_le, if◌then◌else◌, List, Option, Some, None, is_none, Result, Ok, Err}
 use Rattle.std.specs.List.{list_any}
 use Rattle.serde_json.specs.View.{view}
@@ -9,21 +10,21 @@ use Rattle.oai_settings.specs.declared.settings.ConfigFault.TheVariants as alone
 use Rattle.oai_settings.specs.declared.settings.Settings.{Settings}
 use Rattle.oai_host.specs.declared.faults.ReadFault.{ReadFault}
 use Rattle.oai_host.specs.declared.faults.ReadFault.TheVariants.{BadJson, BadShape, BadName, DuplicateName, BadFormat, BadDate, BadNumber, TooMany, NoMemory}
-use Rattle.oai_host.specs.declared.readings.told.Told.{Told}
+use Rattle.oai_host.specs.declared.readings.told.HostSettings.{HostSettings}
 use Rattle.oai_host.specs.Configs.{Hosted, HostConfig}
 use Rattle.oai_host.specs.Shapes.{json_in, told_in}
-use Rattle.oai_host.specs.Causes.{is_wrong_alone, is_wrong_together, is_wrong, number_of}
+use Rattle.oai_host.specs.Causes.{is_wrong_alone, is_wrong_together, is_wrong, fault_number}
 use Rattle.oai_host.specs.Reading.{IsHosted, AreHosted, IsLowest}
 
 -- ---- the shape
 
--- a call that takes no memory answered the reading, seen by the view
-abbrev pub Answers : {A B : Type 0} → (A → B) → Result A ReadFault → Option B → Type 0
-Answers view (Ok x) reading = reading ≡ Some (view x)
-Answers view (Err BadShape) reading = reading ≡ None
-Answers view (Err fault) reading = ⊥
+-- a call that takes no memory gave what the reading gives, seen by the view
+abbrev pub GivesView : {A B : Type 0} → (A → B) → Result A ReadFault → Option B → Type 0
+GivesView view (Ok x) reading = reading ≡ Some (view x)
+GivesView view (Err BadShape) reading = reading ≡ None
+GivesView view (Err fault) reading = ⊥
 
--- a call answered the reading, or memory was refused
+-- a call gave what the reading gives, or memory was refused
 abbrev pub Gives : {A : Type 0} → Result A ReadFault → Option A → Type 0
 Gives (Ok x) reading = reading ≡ Some x
 Gives (Err BadShape) reading = reading ≡ None
@@ -38,7 +39,7 @@ IsJson text (Err NoMemory) = TakesMemory text
 IsJson text (Err fault) = ⊥
 
 -- what the text tells
-abbrev pub IsText : List ℕ → Result Told ReadFault → Type 0
+abbrev pub IsText : List ℕ → Result HostSettings ReadFault → Type 0
 IsText text (Ok told) = told_in text ≡ Some told
 IsText text (Err BadJson) = json_in text ≡ None
 IsText text (Err BadShape) = (is_none (json_in text) ≡ false) × (told_in text ≡ None)
@@ -73,7 +74,7 @@ IsLowestOf causes None = (fault : ReadFault) → causes fault ≡ false
 -- the fault, or the one before it where that is not higher
 abbrev pub lower : Option ReadFault → ReadFault → ReadFault
 lower None fault = fault
-lower (Some lowest) fault = if nat_le (number_of lowest) (number_of fault) then lowest else fault
+lower (Some lowest) fault = if nat_le (fault_number lowest) (fault_number fault) then lowest else fault
 
 -- the repository that is told, or the lowest fault in it
 abbrev pub IsHostedOr : Settings → Result Hosted ReadFault → Type 0
@@ -92,7 +93,7 @@ AreMade causes settings (Err NoMemory) = Unit {0}
 AreMade causes settings (Err fault) = IsLowest (or_alone causes settings) fault
 
 -- the configuration that is told, or the lowest fault
-abbrev pub IsMade : Told → Result HostConfig ReadFault → Type 0
+abbrev pub IsMade : HostSettings → Result HostConfig ReadFault → Type 0
 IsMade told (Ok config) =
     ((fault : ReadFault) → is_wrong fault told ≡ false)
     × (told.cache ≡ Some config.cache) × AreHosted told.repositories config.repositories

@@ -15,8 +15,8 @@ use Rattle.oai_answers.specs.Documents.{deleted_text}
 use Rattle.oai_deposit.specs.Json.{elements_in, has_members}
 use Rattle.oai_settings.specs.declared.settings.FormatSettings.{FormatSettings}
 use Rattle.oai_settings.specs.declared.settings.Settings.{Settings}
-use Rattle.oai_host.specs.declared.readings.told.Told.{Told}
-use Rattle.oai_host.specs.Readings.{◌>>=◌, each_of, tested}
+use Rattle.oai_host.specs.declared.readings.told.HostSettings.{HostSettings}
+use Rattle.oai_host.specs.Optional.{◌>>=◌, each_of, tested}
 
 -- ---- a member of an object, of a kind
 
@@ -131,7 +131,7 @@ abbrev pub host_members : List (List ℕ)
 host_members = codes "base" ∷ codes "cache" ∷ codes "repositories" ∷ []
 
 -- {"base":TEXT,"cache":NUMBER,"repositories":[REPOSITORY,..]}, and no other member
-unfoldable pub told_of : Data → Option Told
+unfoldable pub told_of : Data → Option HostSettings
 told_of d = do
   d ← tested (has_members host_members) d
   base ← base_at d
@@ -146,5 +146,5 @@ unfoldable pub json_in : List ℕ → Option Data
 json_in text = if is_utf8 text then read text else None
 
 -- what the text tells, where it is JSON of the shape
-unfoldable pub told_in : List ℕ → Option Told
+unfoldable pub told_in : List ℕ → Option HostSettings
 told_in text = json_in text >>= told_of

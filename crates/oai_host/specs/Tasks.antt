@@ -48,7 +48,7 @@ abbrev pub task_in : Kind → Call → Task
 task_in Requests call = request_in call
 task_in Deposits call = deposit_in call
 
--- of the path of a repository: what it is for
+-- what a target is for, where its path is a repository's; of any other it says `Requests`
 abbrev pub kind_of : List ℕ → Kind
 kind_of target = if bytes_eq (take 9 (path_of target)) (front_of Deposits) then Deposits else Requests
 

@@ -1,4 +1,4 @@
--- Words that tie the code to the definitions.
+-- Words that tie the code to the definitions. No contract of a public function speaks of them.
 use Rattle.std.specs.Prelude.{◌≡◌, ℕ, ℤ, false, List, ◌++◌, Result, Some}
 use Rattle.std.specs.List.{AllByRecursion, slice_get}
 use Rattle.oai_item.specs.declared.changes.Change.{Change}

@@ -8,7 +8,7 @@ use Rattle.oai_answers.specs.Documents.{deleted_text}
 use Rattle.oai_deposit.specs.Json.{size, array_of}
 use Rattle.oai_settings.specs.declared.settings.FormatSettings.{FormatSettings}
 use Rattle.oai_settings.specs.declared.settings.Settings.{Settings}
-use Rattle.oai_host.specs.declared.readings.told.Told.{Told}
+use Rattle.oai_host.specs.declared.readings.told.HostSettings.{HostSettings}
 use Rattle.oai_host.specs.Shapes.{granularity_word, told_of}
 
 -- ---- a member of an object
@@ -55,7 +55,7 @@ pub record IsRepository (base : List ℕ) (s : Settings) (d : Data) : Type 0 whe
   pub no_other : size d ≡ 11
 
 -- the base of all base URLs has 1 to 512 bytes, of characters that a document may hold (XML 1.0, section 2.2)
-pub record IsHost (base : List ℕ) (told : Told) (d : Data) : Type 0 where
+pub record IsHost (base : List ℕ) (told : HostSettings) (d : Data) : Type 0 where
   pub based : HasText (codes "base") base d
   pub short : is_short_text base ≡ true
   pub cache : HasNumber (codes "cache") told.cache d
@@ -64,4 +64,4 @@ pub record IsHost (base : List ℕ) (told : Told) (d : Data) : Type 0 where
 
 -- the law of the shape: a value tells this exactly where it is the object that this is written as, on some base
 abbrev pub ShapeLaw : Type 0
-ShapeLaw = (d : Data) (told : Told) → (told_of d ≡ Some told) ↔ ((base : List ℕ) × IsHost base told d)
+ShapeLaw = (d : Data) (told : HostSettings) → (told_of d ≡ Some told) ↔ ((base : List ℕ) × IsHost base told d)

@@ -5,7 +5,7 @@ ghost use Rattle.oai_host.specs.ReadingWork.{IsMade};
 
 use crate::faults::ReadFault;
 use crate::readings::causes::{each_hosted, fault_together};
-use crate::readings::told::{Told, told_in};
+use crate::readings::told::{HostSettings, told_in};
 use oai_names::{Sequence, Text};
 use oai_settings::RepoConfig;
 use std::alloc::Global;
@@ -62,10 +62,10 @@ impl Config {
     }
 
     /// The configuration of what is told.
-    fn of(alloc: Global, told: Told) -> Result<Config, ReadFault>
+    fn of(alloc: Global, told: HostSettings) -> Result<Config, ReadFault>
         ensures { IsMade told result }
     {
-        let Told {
+        let HostSettings {
             cache,
             repositories,
         } = told;

@@ -44,7 +44,7 @@ pub enum ReadFault {
 impl ReadFault {
     /// The fault's number: 1 to 9.
     pub fn number(self) -> u8
-        ensures { result ≡ spec.number_of self }
+        ensures { result ≡ spec.fault_number self }
     {
         match self {
             ReadFault::BadJson => 1,

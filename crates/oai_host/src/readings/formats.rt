@@ -1,6 +1,6 @@
 ghost use Rattle.std.specs.Prelude.{map};
 ghost use Rattle.serde_json.specs.View.{view};
-ghost use Rattle.oai_host.specs.Readings.{each_of};
+ghost use Rattle.oai_host.specs.Optional.{each_of};
 ghost use Rattle.oai_host.specs.Shapes as shape;
 ghost use Rattle.oai_host.specs.ReadingWork.{Gives};
 

@@ -1,9 +1,9 @@
 ghost use Rattle.std.specs.Prelude.{map};
 ghost use Rattle.serde_json.specs.Find.{as_str};
 ghost use Rattle.serde_json.specs.View.{view};
-ghost use Rattle.oai_host.specs.Readings.{each_of};
+ghost use Rattle.oai_host.specs.Optional.{each_of};
 ghost use Rattle.oai_host.specs.Shapes as shape;
-ghost use Rattle.oai_host.specs.ReadingWork.{Answers, Gives};
+ghost use Rattle.oai_host.specs.ReadingWork.{GivesView, Gives};
 
 use crate::faults::ReadFault;
 use oai_names::{Sequence, Text};
@@ -13,7 +13,7 @@ use std::alloc::Global;
 /// The text of the member of that name; `BadShape` where there is no such string.
 #[tactic(auto, unfolding(crate::specs::Shapes::text_at))]
 pub(super) fn text_at<'v>(value: &'v Value, name: &str) -> Result<&'v str, ReadFault>
-    ensures { Answers (λ text. text.now) result (shape.text_at name.now (view value.now)) }
+    ensures { GivesView (λ text. text.now) result (shape.text_at name.now (view value.now)) }
 {
     match value.get(name) {
         Some(member) => text_of(member),
@@ -23,7 +23,7 @@ pub(super) fn text_at<'v>(value: &'v Value, name: &str) -> Result<&'v str, ReadF
 
 /// The text of a string; `BadShape` at any other value.
 fn text_of(value: &Value) -> Result<&str, ReadFault>
-    ensures { Answers (λ text. text.now) result (as_str (view value.now)) }
+    ensures { GivesView (λ text. text.now) result (as_str (view value.now)) }
 {
     match value.as_str() {
         Some(text) => Ok(text),
@@ -42,7 +42,7 @@ pub(super) fn copy_at(alloc: Global, value: &Value, name: &str) -> Result<Text, 
 /// negative; `BadShape` where there is no such number.
 #[tactic(auto, unfolding(crate::specs::Shapes::number_at))]
 pub(super) fn number_at(value: &Value, name: &str) -> Result<Option<u64>, ReadFault>
-    ensures { Answers (λ number. number) result (shape.number_at name.now (view value.now)) }
+    ensures { GivesView (λ number. number) result (shape.number_at name.now (view value.now)) }
 {
     let Some(member) = value.get(name) else {
         return Err(ReadFault::BadShape);
@@ -56,7 +56,7 @@ pub(super) fn number_at(value: &Value, name: &str) -> Result<Option<u64>, ReadFa
 /// The elements of the member of that name; `BadShape` where there is no such list.
 #[tactic(auto, unfolding(crate::specs::Shapes::elements_at))]
 pub(super) fn elements_at<'v>(value: &'v Value, name: &str) -> Result<&'v [Value], ReadFault>
-    ensures { Answers (λ values. map view values.now) result (shape.elements_at name.now (view value.now)) }
+    ensures { GivesView (λ values. map view values.now) result (shape.elements_at name.now (view value.now)) }
 {
     let Some(member) = value.get(name) else {
         return Err(ReadFault::BadShape);

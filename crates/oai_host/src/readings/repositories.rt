@@ -1,9 +1,9 @@
 ghost use Rattle.std.specs.Prelude.{◌≡◌, map};
 ghost use Rattle.oai_deposit.specs.Json.{has_members};
 ghost use Rattle.serde_json.specs.View.{view};
-ghost use Rattle.oai_host.specs.Readings.{each_of};
+ghost use Rattle.oai_host.specs.Optional.{each_of};
 ghost use Rattle.oai_host.specs.Shapes as shape;
-ghost use Rattle.oai_host.specs.ReadingWork.{Answers, Gives};
+ghost use Rattle.oai_host.specs.ReadingWork.{GivesView, Gives};
 
 use crate::faults::ReadFault;
 use crate::readings::formats::each_format;
@@ -95,14 +95,14 @@ fn is_repository(value: &Value) -> bool
 /// What is kept of deleted records, as the member of it tells.
 #[tactic(auto, unfolding(crate::specs::Shapes::deleted_at))]
 fn deleted_at(value: &Value) -> Result<DeletedRecord, ReadFault>
-    ensures { Answers (λ deleted. deleted) result (shape.deleted_at (view value.now)) }
+    ensures { GivesView (λ deleted. deleted) result (shape.deleted_at (view value.now)) }
 {
     deleted_of(text_at(value, "deletedRecord")?)
 }
 
 #[tactic(auto, unfolding(crate::specs::Shapes::deleted_of))]
 fn deleted_of(text: &str) -> Result<DeletedRecord, ReadFault>
-    ensures { Answers (λ deleted. deleted) result (shape.deleted_of text.now) }
+    ensures { GivesView (λ deleted. deleted) result (shape.deleted_of text.now) }
 {
     match text {
         "no" => Ok(DeletedRecord::No),
@@ -115,14 +115,14 @@ fn deleted_of(text: &str) -> Result<DeletedRecord, ReadFault>
 /// How fine the datestamps are, as the member of it tells.
 #[tactic(auto, unfolding(crate::specs::Shapes::granularity_at))]
 fn granularity_at(value: &Value) -> Result<Granularity, ReadFault>
-    ensures { Answers (λ granularity. granularity) result (shape.granularity_at (view value.now)) }
+    ensures { GivesView (λ granularity. granularity) result (shape.granularity_at (view value.now)) }
 {
     granularity_of(text_at(value, "granularity")?)
 }
 
 #[tactic(auto, unfolding(crate::specs::Shapes::granularity_of))]
 fn granularity_of(text: &str) -> Result<Granularity, ReadFault>
-    ensures { Answers (λ granularity. granularity) result (shape.granularity_of text.now) }
+    ensures { GivesView (λ granularity. granularity) result (shape.granularity_of text.now) }
 {
     match text {
         "days" => Ok(Granularity::Day),

@@ -1,6 +1,6 @@
 ghost use Rattle.serde_json.specs.View.{view};
 ghost use Rattle.oai_host.specs.Shapes as shape;
-ghost use Rattle.oai_host.specs.ReadingWork.{Answers, Gives, IsJson, IsText};
+ghost use Rattle.oai_host.specs.ReadingWork.{GivesView, Gives, IsJson, IsText};
 ghost use Rattle.oai_host.specs.Written.{ShapeLaw};
 
 use crate::faults::ReadFault;
@@ -15,7 +15,7 @@ use std::alloc::Global;
 
 /// What is told of a host, before it is looked at.
 #[derive(Debug, Drop)]
-pub(crate) struct Told {
+pub(crate) struct HostSettings {
     /// The pages that the cache holds: 1 to 65,536. None where a number is told that is none of 64
     /// bits, whole and not negative.
     pub cache: Option<u64>,
@@ -31,7 +31,7 @@ pub fn shape_law()
 
 /// What the text tells: `BadJson` where it is no JSON text, `BadShape` where that is not of the
 /// shape of a configuration.
-pub(crate) fn told_in(alloc: Global, text: &[u8]) -> Result<Told, ReadFault>
+pub(crate) fn told_in(alloc: Global, text: &[u8]) -> Result<HostSettings, ReadFault>
     ensures { IsText text.now result }
 {
     let value = json_in(alloc, text)?;
@@ -55,14 +55,14 @@ fn json_in(alloc: Global, text: &[u8]) -> Result<Value, ReadFault>
 
 /// What an object of exactly the members of a configuration tells; `BadShape` at any other value.
 #[tactic(auto, unfolding(crate::specs::Shapes::told_of))]
-fn told_of(alloc: Global, value: &Value) -> Result<Told, ReadFault>
+fn told_of(alloc: Global, value: &Value) -> Result<HostSettings, ReadFault>
     ensures { Gives result (shape.told_of (view value.now)) }
 {
     if !has_members(value, &["base", "cache", "repositories"]) {
         return Err(ReadFault::BadShape);
     }
     let base = base_at(value)?;
-    Ok(Told {
+    Ok(HostSettings {
         cache: number_at(value, "cache")?,
         repositories: repositories_at(alloc, base, value)?,
     })
@@ -71,7 +71,7 @@ fn told_of(alloc: Global, value: &Value) -> Result<Told, ReadFault>
 /// The base, as the member of it tells: it is tested before it is copied for each repository.
 #[tactic(auto, unfolding(crate::specs::Shapes::base_at))]
 fn base_at(value: &Value) -> Result<&str, ReadFault>
-    ensures { Answers (λ base. base.now) result (shape.base_at (view value.now)) }
+    ensures { GivesView (λ base. base.now) result (shape.base_at (view value.now)) }
 {
     let base = text_at(value, "base")?;
     if is_short_text(base) {

@@ -1,6 +1,6 @@
 use Rattle.std.proofs.Common.{◌≡◌, map, drop}
 use Rattle.serde_json.specs.View.{view}
-use Rattle.oai_host.specs.Readings.{each_of}
+use Rattle.oai_host.specs.Optional.{each_of}
 use Rattle.oai_host.specs.Shapes.{format_of}
 use Rattle.oai_host.proofs.ReadingLemmas.{with_front}
 use Rattle.oai_host.proofs.readings.formats.each_format.Given as goal

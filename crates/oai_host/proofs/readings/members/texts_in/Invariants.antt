@@ -1,7 +1,7 @@
 use Rattle.std.proofs.Common.{◌≡◌, map, drop}
 use Rattle.serde_json.specs.Find.{as_str}
 use Rattle.serde_json.specs.View.{view}
-use Rattle.oai_host.specs.Readings.{each_of}
+use Rattle.oai_host.specs.Optional.{each_of}
 use Rattle.oai_host.proofs.ReadingLemmas.{with_front}
 use Rattle.oai_host.proofs.readings.members.texts_in.Given as goal
 

@@ -1,7 +1,7 @@
--- A reading that may find nothing: what is read, or none. And what a call answers that reads. This repository's own words.
+-- What may be missing: a reading gives what is read, or none. This repository's own words.
 use Rattle.std.specs.Prelude.{Bool, if◌then◌else◌, Option, Some, None, List, [], ◌∷◌}
 
--- a reading after a reading: where nothing is read, nothing is
+-- a reading after a reading: where nothing is read, nothing is. `x >>= f` is std's `option_and_then f x`, in the words of `do`
 infixl 10 ◌>>=◌
 abbrev pub ◌>>=◌ : {A B : Type 0} → Option A → (A → Option B) → Option B
 (Some x) >>= f = f x
