@@ -1,8 +1,9 @@
-//! What the bodies of messages are.
-ghost use Rattle.std.specs.Prelude.{◌≡◌, ◌≤◌, length};
-ghost use Rattle.std.specs.List.{position_or_len};
+//! Of which type the bodies of messages are.
+ghost use Rattle.std.specs.Prelude.{◌≡◌};
 ghost use Rattle.std.specs.Option.{option_copied};
 ghost use Rattle.oai_host.specs.Bodies as spec;
+
+use crate::bytes::len_before;
 
 /// The type of a body that is a form.
 const FORM: &[u8] = b"application/x-www-form-urlencoded";
@@ -28,23 +29,10 @@ fn is_form_type(value: &[u8]) -> bool
 fn media_type(value: &[u8]) -> &[u8]
     ensures { result.now ≡ spec.media_type value.now }
 {
-    trimmed(&value[..type_len(value)])
+    trimmed(&value[..len_before(b';', value)])
 }
 
-/// How many bytes stand before the first `;`.
-fn type_len(value: &[u8]) -> usize
-    ensures length { result ≡ position_or_len spec.is_semicolon value.now }
-    ensures within { result ≤ length value.now }
-{
-    for (at, b) in value.iter().enumerate() {
-        if *b == b';' {
-            return at;
-        }
-    }
-    value.len()
-}
-
-/// The text without the spaces and tabs at its begin and its end.
+/// The text without the spaces and tabs at its beginning and its end.
 fn trimmed(text: &[u8]) -> &[u8]
     ensures { result.now ≡ spec.trimmed text.now }
 {
@@ -81,11 +69,4 @@ fn is_space(b: u8) -> bool
     ensures { result ≡ spec.is_space b }
 {
     b == b' ' || b == b'\t'
-}
-
-/// Whether it is a line of nothing but spaces, tabs and CR.
-pub(crate) fn is_blank(text: &[u8]) -> bool
-    ensures { result ≡ spec.is_blank text.now }
-{
-    text.iter().all(|b| matches!(*b, b' ' | b'\t' | b'\r'))
 }

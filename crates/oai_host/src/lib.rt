@@ -3,6 +3,7 @@
 #![tactic(auto)]
 
 mod bodies;
+mod bytes;
 mod config;
 mod deposits;
 mod exchanges;
@@ -22,5 +23,5 @@ pub use exchanges::{Answer, Call, Exchange};
 pub use faults::{ReadFault, fault_law};
 pub use hosts::Host;
 pub use readings::told::shape_law;
-pub use routes::path_law;
+pub use routes::{DEPOSITS_FRONT, REQUESTS_FRONT, path_law};
 pub use statuses::Status;

@@ -1,13 +1,11 @@
 //! The lines of a deposit.
 ghost use Rattle.std.specs.Prelude.{◌≡◌, ◌<◌, ◌≤◌, ◌+◌, [], ◌∷◌, length, MatchOption, Some};
-ghost use Rattle.std.specs.List.{position_or_len};
 ghost use Rattle.std.specs.Option.{option_copied};
 ghost use Rattle.oai_host.specs.Bodies as spec;
 ghost use Rattle.oai_host.specs.Bodies.{lines_in};
 ghost use Rattle.oai_host.specs.Cuts.{bytes_left, from_line, lines_left};
 
-use crate::bodies::is_blank;
-use memchr::memchr;
+use crate::bytes::len_before;
 use std::marker::Model;
 
 /// The lines of a deposit that are still to be taken: its body is cut at each line end, and a line of
@@ -56,7 +54,7 @@ fn cut(text: &[u8]) -> (&[u8], Option<&[u8]>)
     ensures lines { lines_in text.now ≡ from_line result.0.now (lines_left (option_copied result.1)) }
     ensures less { bytes_left (option_copied result.1) < bytes_left (Some text.now) }
 {
-    let end = line_len(text);
+    let end = len_before(b'\n', text);
     let line = &text[..end];
     if end < text.len() {
         (line, Some(&text[end + 1..]))
@@ -65,10 +63,9 @@ fn cut(text: &[u8]) -> (&[u8], Option<&[u8]>)
     }
 }
 
-/// How many bytes stand before the first line end.
-fn line_len(text: &[u8]) -> usize
-    ensures length { result ≡ position_or_len spec.is_line_end text.now }
-    ensures within { result ≤ length text.now }
+/// Whether it is a line of nothing but spaces, tabs and CR.
+fn is_blank(text: &[u8]) -> bool
+    ensures { result ≡ spec.is_blank text.now }
 {
-    memchr(b'\n', text).unwrap_or(text.len())
+    text.iter().all(|b| matches!(*b, b' ' | b'\t' | b'\r'))
 }

@@ -1,14 +1,20 @@
 //! Where a target leads.
-ghost use Rattle.std.specs.Prelude.{◌≡◌, ◌≤◌, ◌++◌, ℕ, List, true, length, IfSome, MatchOption, Some};
-ghost use Rattle.std.specs.List.{position_or_len};
+ghost use Rattle.std.specs.Prelude.{◌≡◌, ◌++◌, ℕ, List, true, IfSome, MatchOption, Some};
 ghost use Rattle.oai_settings.specs.Config.{is_repository_name};
 ghost use Rattle.matchit.specs.Seek.{first};
 ghost use Rattle.oai_host.specs.Rows.{both_rows, kind_in};
 ghost use Rattle.oai_host.specs.Targets as spec;
 ghost use Rattle.oai_host.specs.Tasks.{kind_of};
 
+use crate::bytes::len_before;
 use matchit::Router;
 use std::alloc::{AllocError, Global};
+
+/// What stands before the name of a repository in the path of its requests.
+pub const REQUESTS_FRONT: &str = "/oai/";
+
+/// What stands before the name of a repository in the path of its deposits.
+pub const DEPOSITS_FRONT: &str = "/deposit/";
 
 /// What a path of a repository is for.
 #[derive(Clone, Copy, Debug, PartialEq, Eq)]
@@ -25,13 +31,13 @@ impl Kind {
         ensures { result.now ≡ spec.front_of self }
     {
         match self {
-            Kind::Requests => "/oai/",
-            Kind::Deposits => "/deposit/",
+            Kind::Requests => REQUESTS_FRONT,
+            Kind::Deposits => DEPOSITS_FRONT,
         }
     }
 }
 
-/// The paths of repositories: `/oai/` or `/deposit/`, and then a name.
+/// The paths of repositories: one of the two fronts, and then a name.
 #[derive(Drop)]
 pub(crate) struct Routes {
     router: Router<Kind>,
@@ -121,30 +127,17 @@ pub(crate) fn is_rooted(target: &[u8]) -> bool
 pub(crate) fn path_of(target: &[u8]) -> &[u8]
     ensures { result.now ≡ spec.path_of target.now }
 {
-    &target[..path_len(target)]
+    &target[..len_before(b'?', target)]
 }
 
 /// What stands behind the first `?`.
 pub(crate) fn query_of(target: &[u8]) -> &[u8]
     ensures { result.now ≡ spec.query_of target.now }
 {
-    let path = path_len(target);
+    let path = len_before(b'?', target);
     if path < target.len() {
         &target[path + 1..]
     } else {
         &[]
     }
-}
-
-/// How many bytes stand before the first `?`.
-fn path_len(target: &[u8]) -> usize
-    ensures length { result ≡ position_or_len spec.is_question_mark target.now }
-    ensures within { result ≤ length target.now }
-{
-    for (at, b) in target.iter().enumerate() {
-        if *b == b'?' {
-            return at;
-        }
-    }
-    target.len()
 }
