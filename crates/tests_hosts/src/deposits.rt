@@ -1,5 +1,6 @@
 //! Deposits: their lines, the answers to them, and the clock.
 use crate::transcripts::assert_transcript;
+use std::alloc::{AllocError, Global};
 use std::test::Fail;
 
 /// A body is cut at each line end, whatever its type, and each line that is not blank is answered. A line
@@ -27,6 +28,26 @@ ok 2024-01-01"#
 #[test]
 fn lines(rt: HostRuntime) -> Result<(), Fail> {
     assert_transcript(&rt, rt.alloc(), lines_asked())
+}
+
+/// A deposit of so many lines, none of which is JSON.
+fn many_lines_asked(alloc: Global, lines: usize) -> Result<String, AllocError> {
+    let mut transcript = String::from_str(alloc, "> 1704067200 POST /deposit/a | - | ")?;
+    for _ in 0..lines {
+        transcript.push_str("[¶")?;
+    }
+    transcript.push_str("\n200")?;
+    for _ in 0..lines {
+        transcript.push_str("\nrefused 1 bad-json")?;
+    }
+    Ok(transcript)
+}
+
+/// However many lines there are, and however long their answer grows, no room is wanting.
+#[test]
+fn many_lines(rt: HostRuntime) -> Result<(), Fail> {
+    let transcript = many_lines_asked(rt.alloc(), 10_000)?;
+    assert_transcript(&rt, rt.alloc(), transcript.as_str())
 }
 
 /// A line of spaces, tabs and CR alone is blank, one of other white space is none; a CR at the end of a

@@ -135,6 +135,26 @@ fn request(rt: HostRuntime) -> Result<(), Fail> {
     assert_transcript_over(&rt, rt.alloc(), store, failing_request())
 }
 
+/// The store once does not find the item that is asked for. Such a request need not be made again, and moves
+/// no clock.
+fn damaged_request() -> &'static str {
+    r#"> 1704067200 POST /deposit/a | - | {"deposit":"oai:a:1","sets":[],"records":{"oai_dc":[]}}
+200
+ok 2024-01-01T00:00:00Z
+> 1704067209 GET /oai/a?verb=GetRecord&identifier=oai:a:1&metadataPrefix=oai_dc
+500 for Damaged
+> 1704067200 GET /oai/a?verb=ListIdentifiers&metadataPrefix=oai_dc
+200
+DOC <responseDate>2024-01-01T00:00:00Z</responseDate><request verb="ListIdentifiers" metadataPrefix="oai_dc">http://host.example/oai/a</request><ListIdentifiers><header><identifier>oai:a:1</identifier><datestamp>2024-01-01T00:00:00Z</datestamp></header></ListIdentifiers></OAI-PMH>"#
+}
+
+#[test]
+fn damage_of_a_request(rt: HostRuntime) -> Result<(), Fail> {
+    let alloc = rt.alloc();
+    let store = LyingVersions::new(alloc, PlainVersions::new(alloc), 0, 1);
+    assert_transcript_over(&rt, alloc, store, damaged_request())
+}
+
 /// A list that does not begin for want of pages, or of memory, takes no number.
 fn list_without_pages() -> &'static str {
     r#"> 1704067200 POST /deposit/a | - | {"deposit":"oai:a:1","sets":[],"records":{"oai_dc":[]}}¶{"deposit":"oai:a:2","sets":[],"records":{"oai_dc":[]}}¶{"deposit":"oai:a:3","sets":[],"records":{"oai_dc":[]}}
