@@ -273,13 +273,13 @@ fn most_fields(rt: HostRuntime) -> Result<(), Fail> {
     Ok(())
 }
 
-/// 64 with oai_dc counted, and one more.
+/// 64 with oai_dc counted, and one more; many more are no want of memory.
 #[test]
 fn most_formats(rt: HostRuntime) -> Result<(), Fail> {
     let alloc = rt.alloc();
     let old = "\"formats\":[]";
     let end = "\",\"schema\":\"s\",\"namespace\":\"n\",\"root\":\"r\",\"fields\":[\"f\"]}";
-    for (number, wanted) in [(63, "ok"), (64, "5 BadFormat")] {
+    for (number, wanted) in [(63, "ok"), (64, "5 BadFormat"), (2_000, "5 BadFormat")] {
         let texts = numbered(alloc, "{\"prefix\":\"p", number, end)?;
         assert_listed(&rt, alloc, old, "formats", texts.as_str(), wanted)?;
     }

@@ -209,3 +209,24 @@ fn runs_in_turn(rt: HostRuntime) -> Result<(), Fail> {
     let alloc = rt.alloc();
     assert_runs_in_turn(&rt, alloc, PlainVersions::new(alloc))
 }
+
+// ---- many of them
+
+/// So many calls, none of which is a repository's.
+fn strangers(alloc: Global, number: usize) -> Result<Vec<Call>, AllocError> {
+    let mut calls = Vec::new(alloc);
+    for _ in 0..number {
+        calls.push(call(alloc, 0, "GET", "/", None, "")?)?;
+    }
+    Ok(calls)
+}
+
+/// However many calls there are, room for their answers is found.
+#[test]
+fn many_calls(rt: HostRuntime) -> Result<(), Fail> {
+    let alloc = rt.alloc();
+    let calls = strangers(alloc, 150_000)?;
+    let answers = answers_to(alloc, PlainVersions::new(alloc), &calls)?;
+    assert_eq!(rt; answers.as_slice().len(), 150_000);
+    Ok(())
+}
