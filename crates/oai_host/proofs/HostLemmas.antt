@@ -1,5 +1,5 @@
 -- Which repository an exchange is for, and what is answered where it is none's.
-use Rattle.std.proofs.Common.{◌≡◌, ◌∙◌, ℕ, zero, suc, Bool, true, false, not, ◌&&◌, List, [], ◌∷◌, ◌++◌, map, Option, None, Some, refl, sym, ap, subst}
+use Rattle.std.proofs.Common.{◌≡◌, ◌∙◌, ℕ, zero, suc, true, false, not, List, [], ◌∷◌, ◌++◌, map, None, Some, refl, sym, ap, subst}
 use Rattle.std.specs.List.{AllZip, list_all, list_any, slice_get}
 use Rattle.std.specs.Str.{bytes_eq}
 use Rattle.std.proofs.lemmas.Bool.{and_parts, false_from_ne_true, not-true, or_from, or_parts}
@@ -7,7 +7,7 @@ use Rattle.oai_catalogue.specs.Store.{Lists}
 use Rattle.oai_item.specs.Rules.{has_repeat}
 use Rattle.oai_host.specs.Configs.{AreNamed, Hosted, names_of}
 use Rattle.oai_host.specs.Hosts.{IsAnswered, IsStep, Repository, begun, is_of_none, refused}
-use Rattle.oai_host.specs.Housed.{housed_names, place_in, repositories_of, repository_of}
+use Rattle.oai_host.specs.Housed.{housed_names, place_in, repositories_of}
 use Rattle.oai_settings.specs.Config.{is_repository_name}
 use Rattle.oai_host.specs.Targets.{front_of, leads_to_repository, path_of}
 use Rattle.oai_host.specs.Workings.{IsPlace, LeadsNowhere}

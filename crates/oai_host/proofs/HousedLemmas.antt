@@ -1,17 +1,17 @@
 -- One of many repositories changes, and the others stay as they were.
-use Rattle.std.proofs.Common.{◌≡◌, ◌∙◌, inl, inr, ℕ, zero, suc, Bool, true, false, not, ◌||◌, ◌&&◌, eqb, List, [], ◌∷◌, ◌++◌, map, Option, None, Some, unwrap_or, slice_set, IsTrue, refl, sym, ap, subst}
+use Rattle.std.proofs.Common.{◌≡◌, ◌∙◌, ℕ, zero, suc, Bool, true, false, eqb, List, [], ◌∷◌, ◌++◌, Option, None, Some, unwrap_or, slice_set, IsTrue, refl, sym, ap, subst}
 use Rattle.std.specs.List.{AllZip, list_any, slice_get}
 use Rattle.std.specs.Str.{bytes_eq}
-use Rattle.std.proofs.lemmas.Bool.{and_parts, cond-false, eqb-true, false_from_ne_true, not-true, not_from_false, or_from, or_left, or_parts, or_right}
+use Rattle.std.proofs.lemmas.Bool.{cond-false, eqb-true, false_from_ne_true, not-true, or_from, or_left, or_parts, or_right}
 use Rattle.oai_item.specs.Item.{ItemState}
 use Rattle.oai_catalogue.specs.Store.{Lists}
 use Rattle.oai_settings.specs.Config.{Config}
 use Rattle.oai_repo.specs.Held.{Held, IsHeld, IsNew, KeepsOthers, StandsIn, begun_of, has, items_on, numbers_of, state_of, versions_in}
-use Rattle.oai_repo.specs.State.{OpenLists, State, empty_state}
+use Rattle.oai_repo.specs.State.{OpenLists, State}
 use Rattle.oai_repo.proofs.BegunLemmas.{begun_same}
 use Rattle.oai_repo.proofs.NeighbourLemmas.{apart_turned, held_where, stands_where, still_apart, still_held, still_stands}
 use Rattle.oai_repo.proofs.NumberLemmas.{same_number, turned, unused_lacks}
-use Rattle.oai_host.specs.Alone.{IsExchange, IsTried}
+use Rattle.oai_host.specs.Alone.{IsTried}
 use Rattle.oai_item.specs.Rules.{has_repeat}
 use Rattle.oai_host.specs.Configs.{AreNamed, Hosted}
 use Rattle.oai_host.specs.Answers.{OnFailed}
@@ -19,7 +19,7 @@ use Rattle.oai_host.specs.Hosts.{IsStep, LeavesOthers, Repository, begun}
 use Rattle.oai_host.specs.Housed.{AllApart, AllHeld, AllStand, AreApart, AreHoused, IsApart, IsKept, housed_names, repositories_of, repository_of}
 use Rattle.oai_settings.specs.Config.{is_repository_name}
 use Rattle.oai_host.specs.Targets.{front_of, leads_to_repository, path_of}
-use Rattle.oai_host.specs.Tasks.{task_in, task_of}
+use Rattle.oai_host.specs.Tasks.{task_in}
 use Rattle.oai_host.specs.declared.exchanges.Answer.{Answer}
 use Rattle.oai_host.specs.declared.exchanges.Call.{Call}
 use Rattle.oai_host.specs.declared.housed.Housed.{Housed}

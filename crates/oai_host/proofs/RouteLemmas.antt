@@ -1,11 +1,10 @@
 -- Which of the two routes a path is found to match.
-use Rattle.std.proofs.Common.{◌≡◌, ◌∙◌, ◌<◌, ℕ, zero, suc, ◌-◌, Bool, true, false, ◌&&◌, ◌==◌, nat_lt, List, [], ◌∷◌, ◌++◌, Option, None, Some, length, cond, refl, sym, ap, arith, tests, codes, lit<, is_some, unwrap_or}
+use Rattle.std.proofs.Common.{◌≡◌, ◌∙◌, ◌<◌, ℕ, zero, suc, ◌-◌, Bool, true, false, ◌==◌, nat_lt, List, [], ◌∷◌, ◌++◌, Option, None, Some, length, cond, refl, sym, ap, arith, tests, codes, lit<, is_some, unwrap_or}
 use Rattle.std.specs.List.{list_all}
 use Rattle.std.specs.Str.{IsAscii, IsUtf8}
 use Rattle.std.proofs.lemmas.Bool.{and_parts, cond-false, false≢true, ltb-true}
 use Rattle.std.proofs.lemmas.Str.{IsUtf8-from_ascii}
 use Rattle.matchit.specs.Rows.{RowsOf, param_token}
-use Rattle.matchit.specs.Router.{RouteOf}
 use Rattle.matchit.specs.Seek.{first, has_slash, or_else, own, param_step, seek, step}
 use Rattle.oai_settings.specs.Config.{is_repository_byte, is_repository_name}
 use Rattle.oai_host.specs.Rows.{both_rows, deposits_row, kind_in, requests_row}

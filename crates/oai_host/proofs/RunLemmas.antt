@@ -1,15 +1,15 @@
 -- Exchanges one after the other: what they do to each repository, and that it is what they would do to it alone.
 use Rattle.std.proofs.Common.{◌≡◌, ◌∙◌, ◌<◌, ◌≤◌, inl, inr, ℕ, zero, suc, Bool, true, false, not, ◌&&◌, List, [], ◌∷◌, ◌++◌, length, take, map, get_or, filter, cond, Option, None, Some, is_none, refl, sym, ap, subst, arith}
-use Rattle.std.specs.List.{AllZip, list_all, zip}
+use Rattle.std.specs.List.{AllZip, zip}
 use Rattle.std.proofs.lemmas.List.{take_all}
 use Rattle.std.proofs.lemmas.Bool.{and_from, and_parts, cases_Bool, cond-true, cond-false, not_from_false}
 use Rattle.oai_item.specs.declared.faults.Fault.{Fault}
 use Rattle.oai_item.specs.declared.faults.Fault.TheVariants.{Damaged, Device, NoMemory, TooManyPages}
 use Rattle.oai_settings.specs.Config.{Config}
 use Rattle.oai_repo.specs.State.{State}
-use Rattle.oai_host.specs.Alone.{HasFailed, IsExchange, IsRun, answers_alone, exchanged_alone, own_answers, own_calls}
+use Rattle.oai_host.specs.Alone.{HasFailed, IsExchange, IsRun, answers_alone, own_answers, own_calls}
 use Rattle.oai_host.specs.Answers.{failed}
-use Rattle.oai_host.specs.Hosts.{AreAnswered, AreAsAlone, AreRefused, IsAnswered, IsAsAlone, IsOwnRun, IsStep, Repository, is_of_none, none_failed, refused}
+use Rattle.oai_host.specs.Hosts.{AreAnswered, AreAsAlone, AreRefused, IsAnswered, IsOwnRun, IsStep, Repository, is_of_none, none_failed, refused}
 use Rattle.oai_host.specs.Targets.{leads_to_repository}
 use Rattle.oai_host.specs.Tasks.{Task, asking, depositing, refusing, task_of}
 use Rattle.oai_host.specs.declared.exchanges.Answer.{Answer}

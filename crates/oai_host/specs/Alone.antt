@@ -1,5 +1,5 @@
 -- One repository alone: what it is answered to its own exchanges, one after the other. This repository's own, over the machine of OAI-PMH 2.0.
-use Rattle.std.specs.Prelude.{◌≡◌, ◌⊎◌, ◌<◌, ℕ, ℤ, List, [], ◌∷◌, ◌++◌, length, take, filter, map, Option, None, Some}
+use Rattle.std.specs.Prelude.{◌≡◌, ◌⊎◌, ◌<◌, ℕ, ℤ, List, [], ◌∷◌, ◌++◌, length, take, filter, map, None, Some}
 use Rattle.std.specs.List.{zip}
 use Rattle.oai_deposit.specs.Lines.{line_of}
 use Rattle.oai_item.specs.declared.faults.Fault.{Fault}

@@ -1,10 +1,12 @@
 -- What an exchange is answered: RFC 9110, sections 10.2.3 and 15; that a request is to be made again later, OAI-PMH 2.0, section 3.1.2.2.
-use Rattle.std.specs.Prelude.{◌≡◌, ℕ, ℤ, pos, Bool, List, [], Option, None, Some, IfSome, Result, Ok, Err}
-use Rattle.std.specs.List.{AllByRecursion}
+use Rattle.std.specs.Prelude.{◌≡◌, ◌≤◌, ℕ, ℤ, pos, Bool, List, [], length, Option, None, Some, IfSome, Result, Ok, Err}
+use Rattle.std.specs.List.{AllByRecursion, count_by}
 use Rattle.oai_catalogue.specs.Store.{IsCounted, IsHonest}
 use Rattle.oai_item.specs.declared.faults.Fault.{Fault}
 use Rattle.oai_item.specs.declared.faults.Fault.TheVariants.{Damaged, Device, NoMemory, TooManyPages}
 use Rattle.oai_repo.specs.Machine.{Told, bytes, wait}
+use Rattle.oai_host.specs.Bodies.{is_line_end}
+use Rattle.oai_host.specs.Tasks.{Task, asking, depositing, refusing}
 use Rattle.oai_host.specs.declared.exchanges.Answer.{Answer}
 use Rattle.oai_host.specs.declared.statuses.Status.{Status}
 use Rattle.oai_host.specs.declared.statuses.Status.TheVariants as status
@@ -61,3 +63,9 @@ AreHonest answers old new = AllByRecursion (λ (answer : Answer). IsHonest (fail
 -- P, where the exchange failed and was no deposit, of which some lines may have been done
 abbrev pub OnFailed : Answer → Type 0 → Type 0
 OnFailed answer P = IfSome answer.fault (λ fault. answer.done ≡ None → P)
+
+-- a deposit that was performed is answered with no fewer lines than it has, over every store
+abbrev pub AnswersLines : Task → Answer → Type 0
+AnswersLines (refusing why) answer = Unit {0}
+AnswersLines (asking arguments) answer = Unit {0}
+AnswersLines (depositing lines) answer = answer.status ≡ status.Ok → length lines ≤ count_by is_line_end answer.body

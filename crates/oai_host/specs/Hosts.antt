@@ -1,5 +1,5 @@
 -- Many repositories, and what exchanges with their host do to each. This repository's own.
-use Rattle.std.specs.Prelude.{◌≡◌, ℕ, Bool, true, false, not, ◌&&◌, is_none, if◌then◌else◌, List, map}
+use Rattle.std.specs.Prelude.{◌≡◌, ℕ, Bool, true, false, not, is_none, if◌then◌else◌, List}
 use Rattle.std.specs.List.{AllByRecursion, AllZip, list_all}
 use Rattle.oai_settings.specs.Config.{Config}
 use Rattle.oai_repo.specs.State.{State, empty_state}

@@ -1,12 +1,13 @@
 -- Words that tie the code to the definitions. No contract of a public function speaks of them.
-use Rattle.std.specs.Prelude.{◌≡◌, ℕ, ℤ, false, List, ◌++◌, Result, Some}
-use Rattle.std.specs.List.{AllByRecursion, slice_get}
+use Rattle.std.specs.Prelude.{◌≡◌, ◌<◌, ℕ, ℤ, false, List, ◌++◌, Result, Some}
+use Rattle.std.specs.List.{AllByRecursion, count_by, slice_get}
 use Rattle.oai_item.specs.declared.changes.Change.{Change}
 use Rattle.oai_item.specs.declared.refusals.LineRefusal.{LineRefusal}
 use Rattle.oai_catalogue.specs.Store.{Lists}
 use Rattle.oai_repo.specs.Held.{Held, state_of}
 use Rattle.oai_repo.specs.Machine.{line, step}
 use Rattle.oai_host.specs.Alone.{with_end}
+use Rattle.oai_host.specs.Bodies.{is_line_end}
 use Rattle.oai_host.specs.Targets.{front_of, leads_to_repository, path_of}
 use Rattle.oai_host.specs.declared.housed.Housed.{Housed}
 use Rattle.oai_host.specs.declared.routes.Kind.{Kind}
@@ -15,6 +16,10 @@ use Rattle.oai_host.specs.declared.routes.Kind.{Kind}
 pub record IsLineDone (old : Held) (before : Lists) (moment : ℤ) (read : Result Change LineRefusal) (was : List ℕ) (new : Held) (after : Lists) (is : List ℕ) : Type 0 where
   pub told : is ≡ was ++ with_end (step old.config (state_of old before) moment (line read)).0
   pub state : state_of new after ≡ (step old.config (state_of old before) moment (line read)).1
+
+-- a line more stands there, or several
+abbrev pub HasMoreLines : List ℕ → List ℕ → Type 0
+HasMoreLines was is = count_by is_line_end was < count_by is_line_end is
 
 -- the path of the exchange is of that kind and ends with the name of the repository at the place
 pub record IsPlace (housed : List Housed) (place : ℕ) (kind : Kind) (target : List ℕ) : Type 0 where

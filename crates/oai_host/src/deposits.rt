@@ -7,11 +7,11 @@ ghost use Rattle.oai_catalogue.specs.Store.{IsCounted, IsHonest};
 ghost use Rattle.oai_repo.specs.Held.{IsHeld, StandsIn, state_of};
 ghost use Rattle.oai_repo.specs.Machine.{line};
 ghost use Rattle.oai_host.specs.Alone.{IsTried};
-ghost use Rattle.oai_host.specs.Answers.{OnFailed, failure_in};
+ghost use Rattle.oai_host.specs.Answers.{AnswersLines, OnFailed, failure_in};
 ghost use Rattle.oai_host.specs.Bodies.{lines_in};
 ghost use Rattle.oai_host.specs.Housed.{IsKept};
 ghost use Rattle.oai_host.specs.Tasks.{depositing};
-ghost use Rattle.oai_host.specs.Workings.{IsLineDone};
+ghost use Rattle.oai_host.specs.Workings.{HasMoreLines, IsLineDone};
 
 use crate::exchanges::Answer;
 use crate::lines::Lines;
@@ -41,6 +41,7 @@ pub(crate) fn perform_lines<V: Versions>(
     ensures tried { IsTrue (V.honest store.old)
         → IsTried repo.old.config (state_of repo.old (V.lists store.old)) moment
         (depositing (lines_in body.now)) result (state_of repo.new (V.lists store.new)) }
+    ensures lines { AnswersLines (depositing (lines_in body.now)) result }
     ensures left { OnFailed result ((repo.new ≡ repo.old)
         × (V.lists store.new ≡ V.lists store.old)) }
     ensures kept { IsKept (V.honest store.old) repo.old (V.lists store.old) repo.new
@@ -75,6 +76,7 @@ fn perform_line<V: Versions>(
     ensures ok { OnOk result (IsTrue (V.honest store.old)
         → IsLineDone repo.old (V.lists store.old) moment (line_of text.now) told.old.items repo.new
         (V.lists store.new) told.new.items) }
+    ensures line { OnOk result (HasMoreLines told.old.items told.new.items) }
     ensures err { OnErr result (repo.new ≡ repo.old) }
     ensures err_lists { OnErr result (V.lists store.new ≡ V.lists store.old) }
     ensures kept { IsKept (V.honest store.old) repo.old (V.lists store.old) repo.new
@@ -108,6 +110,7 @@ fn perform_change<V: Versions>(
     ensures ok { OnOk result (IsTrue (V.honest store.old)
         → IsLineDone repo.old (V.lists store.old) moment (Ok change.now) told.old.items repo.new
         (V.lists store.new) told.new.items) }
+    ensures line { OnOk result (HasMoreLines told.old.items told.new.items) }
     ensures err { OnErr result (repo.new ≡ repo.old) }
     ensures err_lists { OnErr result (V.lists store.new ≡ V.lists store.old) }
     ensures kept { IsKept (V.honest store.old) repo.old (V.lists store.old) repo.new
@@ -138,6 +141,7 @@ fn refuse_line<V: Versions>(
     requires held { IsTrue (V.honest store.old) → IsHeld repo.old (V.lists store.old) }
     ensures done { IsLineDone repo.old (V.lists store.old) moment (Err cause) told.old.items repo.new
         (V.lists store.new) told.new.items }
+    ensures line { HasMoreLines told.old.items told.new.items }
     ensures kept { IsKept (V.honest store.old) repo.old (V.lists store.old) repo.new
         (V.lists store.new) }
     ensures count { V.failures store.old ≤ V.failures store.new }

@@ -4,13 +4,13 @@ ghost use Rattle.std.specs.List.{list_all};
 ghost use Rattle.std.specs.Option.{IfNone};
 ghost use Rattle.oai_settings.specs.Config.{is_repository_name};
 ghost use Rattle.oai_catalogue.specs.Store.{IsCounted, IsHonest};
-ghost use Rattle.oai_host.specs.Answers.{AreCounted, AreHonest, OnFailed, failure_in};
+ghost use Rattle.oai_host.specs.Answers.{AnswersLines, AreCounted, AreHonest, OnFailed, failure_in};
 ghost use Rattle.oai_host.specs.Faults.{HasCause};
 ghost use Rattle.oai_host.specs.Hosts.{AreAnswered, AreAsAlone, IsAnswered, LeavesOthers, begun, is_of_none, none_failed, refused};
 ghost use Rattle.oai_host.specs.Housed.{AreHoused, housed_names};
 ghost use Rattle.oai_host.specs.Props.{housed_props};
 ghost use Rattle.oai_host.specs.Targets as spec;
-ghost use Rattle.oai_host.specs.Tasks.{call_of};
+ghost use Rattle.oai_host.specs.Tasks.{call_of, task_of};
 ghost use Rattle.oai_host.specs.declared.statuses.Status.TheVariants as status;
 ghost use Rattle.oai_host.specs.Workings.{IsPlace, LeadsNowhere};
 
@@ -78,8 +78,8 @@ impl<V: Versions + Drop> Host<V> {
     /// told inside the answer.
     ///
     /// Over a store that does not give back what was written to it as well, an exchange leaves all
-    /// repositories but its own as they were, one that is no repository's is refused, and a request that
-    /// failed has left everything as it was.
+    /// repositories but its own as they were, one that is no repository's is refused, a request that failed
+    /// has left everything as it was, and a deposit that is answered `Ok` has a line for each of its lines.
     pub fn exchange(&mut self, moment: i64, exchange: &Exchange<'_>) -> Answer
         ensures answered { IsTrue self.old.honest → IsAnswered (call_of moment exchange.now) result
             self.old.repositories self.new.repositories }
@@ -87,6 +87,7 @@ impl<V: Versions + Drop> Host<V> {
             self.new.repositories }
         ensures none { is_of_none self.old.repositories (call_of moment exchange.now) ≡ true
             → result ≡ refused (call_of moment exchange.now) }
+        ensures lines { AnswersLines (task_of (call_of moment exchange.now)) result }
         ensures left { OnFailed result (self.new.repositories ≡ self.old.repositories) }
         ensures device { IsCounted (failure_in result) self.old.failures self.new.failures }
         ensures honesty { IsHonest (failure_in result) self.old.honest self.new.honest }

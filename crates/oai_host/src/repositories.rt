@@ -3,12 +3,12 @@ ghost use Rattle.std.specs.Prelude.{◌≡◌, ◌<◌, ◌++◌, ℕ, [], ◌�
 ghost use Rattle.std.specs.List.{AllZip, list_any, position, slice_get};
 ghost use Rattle.std.specs.Str.{bytes_eq};
 ghost use Rattle.oai_catalogue.specs.Store.{IsCounted, IsHonest};
-ghost use Rattle.oai_host.specs.Answers.{OnFailed, failure_in};
+ghost use Rattle.oai_host.specs.Answers.{AnswersLines, OnFailed, failure_in};
 ghost use Rattle.oai_host.specs.Hosts.{IsStep, LeavesOthers, begun};
 ghost use Rattle.oai_host.specs.Housed.{AreHoused, housed_names, place_in, repositories_of};
 ghost use Rattle.oai_settings.specs.Config.{is_repository_name};
 ghost use Rattle.oai_host.specs.Targets.{front_of, path_of};
-ghost use Rattle.oai_host.specs.Tasks.{call_of};
+ghost use Rattle.oai_host.specs.Tasks.{call_of, task_in};
 ghost use Rattle.oai_host.specs.Workings.{IsPlace};
 
 use crate::config::HostedConfig;
@@ -115,6 +115,7 @@ impl Repositories {
             (repositories_of self.old (V.lists store.old)) (repositories_of self.new (V.lists store.new)) }
         ensures others { LeavesOthers exchange.now.target.now
             (repositories_of self.old (V.lists store.old)) (repositories_of self.new (V.lists store.new)) }
+        ensures lines { AnswersLines (task_in kind (call_of moment exchange.now)) result }
         ensures left { OnFailed result ((self.new ≡ self.old)
             × (V.lists store.new ≡ V.lists store.old)) }
         ensures housed { AreHoused (V.honest store.new) self.new (V.lists store.new) }

@@ -1,12 +1,12 @@
 -- What is written is what the step tells.
-use Rattle.std.proofs.Common.{◌≡◌, ◌∙◌, ℤ, ◌∷◌, [], ◌++◌, codes, Ok, Err, refl, ap, sym, FitsSigned, w64}
+use Rattle.std.proofs.Common.{◌≡◌, ◌∙◌, ◌∷◌, [], ◌++◌, codes, Err, refl, ap, FitsSigned, w64}
 use Rattle.std.proofs.lemmas.Int.{to_z-of_z}
 use Rattle.oai_time.specs.TimeTexts.{datestamp_text}
 use Rattle.oai_item.specs.Refusals.{in_repository, refusal_line}
 use Rattle.oai_settings.specs.Config.{Config}
 use Rattle.oai_repo.specs.Machine.{accepted, refused, written}
 use Rattle.oai_repo.specs.declared.refusals.Refusal.TheVariants as refusal
-use Rattle.oai_host.proofs.DepositLemmas.{told_line}
+use Rattle.oai_host.proofs.DepositLemmas.{line_more, told_line}
 use Rattle.oai_host.proofs.deposits.perform_change.Goals as goal
 
 pub returns-in-Ok-clause-ok : goal.returns-in-Ok-clause-ok
@@ -31,3 +31,12 @@ returns-in-Err-Refused-clause-ok g c = λ honest.
     let acted = rw cause at (simp to_z-of_z at (c.change.ensures.changed honest)) in
     told_line c.args.repo.now (lists c.args.store.now) c.args.moment c.args.change.now (refused (in_repository c.in-Err-Refused.cause)) c.change.new.self (lists c.change.new.store) c.args.told.now.items c.put_line.new.out.items
     (refusal_line (in_repository c.in-Err-Refused.cause) ++ 10 ∷ []) acted refl (rw c.answer.ensures.line at c.put_line.ensures)
+
+pub returns-in-Ok-clause-line : goal.returns-in-Ok-clause-line
+returns-in-Ok-clause-line g c =
+    let range = rw c.in-Ok.is at c.change.type_inv in
+    let stamp : FitsSigned w64 c.in-Ok.stamp = record { sfits = range.1.1.1.1.0.1 } in
+    line_more c.args.told.now.items (codes "ok " ++ datestamp_text c.granularity.result c.in-Ok.stamp) c.put_stamp.new.out.items (simp to_z-of_z at c.put_stamp.ensures)
+
+pub returns-in-Err-Refused-clause-line : goal.returns-in-Err-Refused-clause-line
+returns-in-Err-Refused-clause-line g c = line_more c.args.told.now.items c.answer.result.now c.put_line.new.out.items c.put_line.ensures

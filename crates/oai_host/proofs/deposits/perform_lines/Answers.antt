@@ -1,9 +1,9 @@
 -- Each line that was performed is one more of those that were, and a fault ends them.
-use Rattle.std.proofs.Common.{◌≡◌, ◌∙◌, ◌∷◌, FitsSigned, w64, Bool, IsTrue, List, ℕ, arith, subst, sym}
+use Rattle.std.proofs.Common.{◌≡◌, ◌∙◌, ◌∷◌, FitsSigned, w64, Bool, IsTrue, List, ℕ, suc, length, Some, ap, arith, subst, sym}
 use Rattle.std.proofs.lemmas.Int.{to_z-of_z}
 use Rattle.oai_host.specs.Bodies.{lines_in}
 use Rattle.oai_host.specs.Housed.{IsKept}
-use Rattle.oai_host.proofs.DepositLemmas.{AreDone, line_failed, one_done}
+use Rattle.oai_host.proofs.DepositLemmas.{failed_lines, line_failed, one_done}
 use Rattle.oai_host.proofs.FaultLemmas.{deposit_left}
 use Rattle.oai_host.proofs.deposits.perform_lines.Goals as goal
 
@@ -25,6 +25,8 @@ loop-text-preserved g c =
     record {
       lines = simp to_z-of_z (one_done (V.honest c.args.store.now) old mid new before between after c.args.moment (lines_in c.args.body.now) c.next.new.self c.in-Some.text.now c.loop-text.told.items c.perform_line.new.told.items c.loop-text.done
           so_far (λ honest. done (subst (λ (b : Bool). IsTrue b) (sym same) honest)) kept);
+      each = (let many : length c.loop-text.lines ≡ suc (length c.next.new.self) = ap (λ (lines : List (List ℕ)). length lines) next in
+          let each = c.loop-text.invariant.each in let more = rw c.in-Ok.is at c.perform_line.ensures.line in omega (arith, each, many, more));
       count = omega (arith, c.loop-text.invariant.count, c.perform_line.ensures.device.count);
       honesty = c.perform_line.ensures.honesty.same ∙ same;
     }
@@ -40,6 +42,9 @@ returns-in-Err-clause-tried g c = λ honest.
     rw (c.of_fault.ensures, repo, lists)
     (line_failed (V.honest c.args.store.now) c.args.repo.now c.loop-text.repo (V.lists c.args.store.now) (V.lists c.loop-text.store) c.args.moment (lines_in c.args.body.now) c.next.new.self c.in-Some.text.now c.loop-text.told.items c.loop-text.done c.in-Err.fault
     so_far honest)
+
+pub returns-in-Err-clause-lines : goal.returns-in-Err-clause-lines
+returns-in-Err-clause-lines g c = rw c.of_fault.ensures (failed_lines (lines_in c.args.body.now) c.in-Err.fault (Some c.loop-text.done))
 
 pub returns-in-Err-clause-left : goal.returns-in-Err-clause-left
 returns-in-Err-clause-left g c =

@@ -1,5 +1,6 @@
-use Rattle.std.proofs.Common.{◌≡◌, ◌≤◌, length}
-use Rattle.oai_host.specs.Bodies.{lines_in}
+use Rattle.std.proofs.Common.{◌≡◌, ◌≤◌, ◌+◌, length}
+use Rattle.std.specs.List.{count_by}
+use Rattle.oai_host.specs.Bodies.{is_line_end, lines_in}
 use Rattle.oai_host.proofs.DepositLemmas.{AreDone}
 use Rattle.oai_host.proofs.deposits.perform_lines.Given as goal
 
@@ -9,6 +10,7 @@ invariant-loop-text g l =
     let V = g.V.Versions in
     record {
       lines : AreDone (V.honest l.initial.store) l.initial.repo (V.lists l.initial.store) l.moment (lines_in l.body) l.lines l.told.items l.done l.repo (V.lists l.store);
+      each : length (lines_in l.body) ≤ length l.lines + count_by is_line_end l.told.items;
       count : V.failures l.initial.store ≤ V.failures l.store;
       honesty : V.honest l.store ≡ V.honest l.initial.store;
     }

@@ -1,5 +1,5 @@
 -- A path leads to the repository whose name it ends with, or nowhere.
-use Rattle.std.proofs.Common.{◌≡◌, ◌∙◌, sym}
+use Rattle.std.proofs.Common.{◌∙◌, sym}
 use Rattle.oai_host.proofs.HostLemmas.{nowhere_name, nowhere_path, place_found}
 use Rattle.oai_host.proofs.hosts.find.Goals as goal
 

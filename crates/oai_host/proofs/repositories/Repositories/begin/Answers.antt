@@ -1,5 +1,4 @@
 -- The new repository stands under a number of its own.
-use Rattle.std.proofs.Common.{◌≡◌}
 use Rattle.oai_host.proofs.HousedLemmas.{begun_last, housed_last}
 use Rattle.oai_host.proofs.repositories.Repositories.begin.Goals as goal
 

@@ -1,9 +1,8 @@
 -- The repository at the place changes, and the others stay as they were.
-use Rattle.std.proofs.Common.{◌≡◌, ◌∙◌, FitsSigned, w64, sym, ap}
+use Rattle.std.proofs.Common.{◌≡◌, ◌∙◌, FitsSigned, w64}
 use Rattle.std.proofs.lemmas.Int.{to_z-of_z}
 use Rattle.std.proofs.lemmas.Option.{get_or_from_slice_get}
 use Rattle.oai_host.specs.Tasks.{call_of}
-use Rattle.oai_host.specs.declared.housed.Housed.{Housed}
 use Rattle.oai_host.proofs.HousedLemmas.{held_at, housed_set, left_set, others_set, stands_at, steps_set}
 use Rattle.oai_host.proofs.PlaceLemmas.{names_set}
 use Rattle.oai_host.proofs.repositories.Repositories.perform.Goals as goal

@@ -1,5 +1,5 @@
 -- The path of a repository matches one of the two routes.
-use Rattle.std.proofs.Common.{◌≡◌, ◌∙◌, ◌++◌, sym, ap, Some, None}
+use Rattle.std.proofs.Common.{◌≡◌, ◌∙◌, ◌++◌, sym, ap}
 use Rattle.oai_host.specs.Targets.{front_of}
 use Rattle.oai_host.proofs.RouteLemmas.{found_kind, not_some, same_some}
 use Rattle.oai_host.proofs.routes.Routes.find_text.Goals as goal

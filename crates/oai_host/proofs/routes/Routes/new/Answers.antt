@@ -1,5 +1,4 @@
 -- The routes that are put in are these two rows.
-use Rattle.std.proofs.Common.{rules}
 use Rattle.matchit.proofs.OnLiterals.{matchit_on_literals}
 use Rattle.oai_host.proofs.routes.Routes.new.Goals as goal
 
