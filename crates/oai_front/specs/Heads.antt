@@ -1,11 +1,12 @@
 -- The bytes of an answer: RFC 9112, sections 4 and 5; RFC 9110, sections 8.3, 8.6, 10.2.1, 10.2.3 and 7.6.1. Which fields stand in a head,
 -- and in which order, is this repository's own, and so is X-Lines-Done.
-use Rattle.std.specs.Prelude.{ℕ, ℤ, Bool, true, ◌||◌, ◌==◌, if◌then◌else◌, List, [], ◌++◌, length, take, codes, Option, Some, None}
+use Rattle.std.specs.Prelude.{ℕ, ℤ, Bool, true, if◌then◌else◌, List, [], ◌++◌, length, take, codes, Option, Some, None}
 use Rattle.std.specs.Fmt.{decimal, signed_decimal}
 use Rattle.std.specs.Str.{bytes_eq}
 use Rattle.oai_host.specs.Statuses.{number_of, phrase_of}
 use Rattle.oai_host.specs.declared.exchanges.Answer.{Answer}
 use Rattle.oai_host.specs.declared.statuses.Status.{Status}
+use Rattle.oai_host.specs.declared.statuses.Status.TheVariants as status
 use Rattle.oai_front.specs.declared.heads.Place.{Place}
 use Rattle.oai_front.specs.declared.heads.Place.TheVariants.{Requests, Deposits, Elsewhere}
 use Rattle.oai_front.specs.declared.heads.AnswerHead.{AnswerHead}
@@ -30,47 +31,35 @@ place_of target =
     else (if bytes_eq (take 9 target) (codes "/deposit/") then Deposits
     else Elsewhere)
 
--- RFC 9110, section 8.3, and of requests OAI-PMH 2.0, section 3.1.2.1: the type of a 200
-abbrev pub type_at : Place → List ℕ
-type_at Requests = field (codes "Content-Type") (plain (codes "text/xml"))
-type_at Deposits = field (codes "Content-Type") (plain (codes "text/plain; charset=utf-8"))
-type_at Elsewhere = []
+-- the type of a 200: RFC 9110, section 8.3; of requests OAI-PMH 2.0, section 3.1.2.1
+unfoldable pub type_field : Place → List ℕ
+type_field Requests = field (codes "Content-Type") (plain (codes "text/xml"))
+type_field Deposits = field (codes "Content-Type") (plain (codes "text/plain; charset=utf-8"))
+type_field Elsewhere = []
 
-unfoldable pub type_field : Place → Status → List ℕ
-type_field place status = if number_of status == 200 then type_at place else []
+-- the methods that a target takes, where it was asked with another: RFC 9110, sections 10.2.1 and 15.5.6
+unfoldable pub allow_field : Place → List ℕ
+allow_field Requests = field (codes "Allow") (plain (codes "GET, POST"))
+allow_field Deposits = field (codes "Allow") (plain (codes "POST"))
+allow_field Elsewhere = []
 
--- RFC 9110, section 10.2.1: the methods of a target that was asked with another
-abbrev pub allow_at : Place → List ℕ
-allow_at Requests = field (codes "Allow") (plain (codes "GET, POST"))
-allow_at Deposits = field (codes "Allow") (plain (codes "POST"))
-allow_at Elsewhere = []
-
-unfoldable pub allow_field : Place → Status → List ℕ
-allow_field place status = if number_of status == 405 then allow_at place else []
-
--- RFC 9110, section 10.2.3, and OAI-PMH 2.0, section 3.1.2.2: after how many seconds to ask again
-abbrev pub retry_after : Option ℤ → List ℕ
-retry_after None = []
-retry_after (Some seconds) = field (codes "Retry-After") (signed_decimal seconds)
-
-unfoldable pub retry_field : Status → Option ℤ → List ℕ
-retry_field status seconds = if number_of status == 503 then retry_after seconds else []
+-- after how many seconds to ask again: RFC 9110, section 10.2.3, and OAI-PMH 2.0, section 3.1.2.2
+unfoldable pub retry_field : Option ℤ → List ℕ
+retry_field None = []
+retry_field (Some seconds) = field (codes "Retry-After") (signed_decimal seconds)
 
 -- how many lines of a deposit were done before it failed
-unfoldable pub lines_field : Option ℕ → List ℕ
-lines_field None = []
-lines_field (Some lines) = field (codes "X-Lines-Done") (decimal lines)
+unfoldable pub done_field : Place → Option ℕ → List ℕ
+done_field Deposits (Some lines) = field (codes "X-Lines-Done") (decimal lines)
+done_field place lines = []
 
-abbrev pub lines_at : Place → Option ℕ → List ℕ
-lines_at Deposits lines = lines_field lines
-lines_at Requests lines = []
-lines_at Elsewhere lines = []
-
-abbrev pub has_failed : Status → Bool
-has_failed status = number_of status == 500 || number_of status == 503
-
-unfoldable pub done_field : Place → Status → Option ℕ → List ℕ
-done_field place status done = if has_failed status then lines_at place done else []
+-- the fields that the status asks for
+unfoldable pub status_fields : Status → AnswerHead → List ℕ
+status_fields status.Ok head = type_field head.place
+status_fields status.MethodNotAllowed head = allow_field head.place
+status_fields status.InternalServerError head = done_field head.place head.done
+status_fields status.ServiceUnavailable head = retry_field head.seconds ++ done_field head.place head.done
+status_fields other head = []
 
 -- RFC 9110, section 7.6.1: the connection is closed after the answer
 unfoldable pub close_field : Bool → List ℕ
@@ -84,10 +73,7 @@ length_field size = field (codes "Content-Length") (decimal size)
 unfoldable pub answer_head : AnswerHead → List ℕ
 answer_head head =
     status_line head.status
-    ++ type_field head.place head.status
-    ++ allow_field head.place head.status
-    ++ retry_field head.status head.seconds
-    ++ done_field head.place head.status head.done
+    ++ status_fields head.status head
     ++ close_field head.last
     ++ length_field head.size
     ++ plain (codes "\r\n")

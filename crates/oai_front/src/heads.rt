@@ -1,4 +1,4 @@
-ghost use Rattle.std.specs.Prelude.{◌≡◌, ◌≤◌, ◌+◌, ◌++◌, [], length, decimal, vec_len, vec_capacity};
+ghost use Rattle.std.specs.Prelude.{◌≡◌, ◌≤◌, ◌+◌, ◌*◌, ◌++◌, [], length, decimal, vec_len, vec_capacity};
 ghost use Rattle.std.specs.Fmt.{signed_decimal};
 ghost use Rattle.oai_front.specs.Heads as spec;
 
@@ -61,10 +61,7 @@ pub(crate) fn write_head(head: &AnswerHead, out: &mut Vec<u8>)
     ensures { out.new.items ≡ spec.answer_head head.now }
 {
     write_status(head.status, out);
-    write_type(head.place, head.status, out);
-    write_allow(head.place, head.status, out);
-    write_retry(head.status, head.seconds, out);
-    write_done(head.place, head.status, head.done, out);
+    write_fields(head, out);
     write_close(head.last, out);
     write_length(head.size, out);
     put(b"\r\n", out);
@@ -86,17 +83,34 @@ fn write_status(status: Status, out: &mut Vec<u8>)
     put(b"\r\n", out);
 }
 
+/// Writes the fields that the status asks for.
+#[tactic(auto, unfolding(crate::specs::Heads::status_fields))]
+fn write_fields(head: &AnswerHead, out: &mut Vec<u8>)
+    requires { vec_len out.old + 2 * LINE_ROOM ≤ vec_capacity out.old }
+    ensures items { out.new.items ≡ out.old.items ++ spec.status_fields head.now.status head.now }
+    ensures len { vec_len out.new ≤ vec_len out.old + 2 * LINE_ROOM }
+    ensures room { vec_capacity out.old ≤ vec_capacity out.new }
+{
+    match head.status {
+        Status::Ok => write_type(head.place, out),
+        Status::MethodNotAllowed => write_allow(head.place, out),
+        Status::InternalServerError => write_done(head.place, head.done, out),
+        Status::ServiceUnavailable => {
+            write_retry(head.seconds, out);
+            write_done(head.place, head.done, out);
+        }
+        _ => {}
+    }
+}
+
 /// Writes the type of what a 200 has (RFC 9110, section 8.3).
 #[tactic(auto, unfolding(crate::specs::Heads::plain, crate::specs::Heads::type_field))]
-fn write_type(place: Place, status: Status, out: &mut Vec<u8>)
+fn write_type(place: Place, out: &mut Vec<u8>)
     requires { vec_len out.old + LINE_ROOM ≤ vec_capacity out.old }
-    ensures items { out.new.items ≡ out.old.items ++ spec.type_field place status }
+    ensures items { out.new.items ≡ out.old.items ++ spec.type_field place }
     ensures len { vec_len out.new ≤ vec_len out.old + LINE_ROOM }
     ensures room { vec_capacity out.old ≤ vec_capacity out.new }
 {
-    if status.number() != 200 {
-        return;
-    }
     match place {
         Place::Requests => write_field("Content-Type", b"text/xml", out),
         Place::Deposits => write_field("Content-Type", b"text/plain; charset=utf-8", out),
@@ -106,15 +120,12 @@ fn write_type(place: Place, status: Status, out: &mut Vec<u8>)
 
 /// Writes which methods may be used, where another was (RFC 9110, section 10.2.1).
 #[tactic(auto, unfolding(crate::specs::Heads::plain, crate::specs::Heads::allow_field))]
-fn write_allow(place: Place, status: Status, out: &mut Vec<u8>)
+fn write_allow(place: Place, out: &mut Vec<u8>)
     requires { vec_len out.old + LINE_ROOM ≤ vec_capacity out.old }
-    ensures items { out.new.items ≡ out.old.items ++ spec.allow_field place status }
+    ensures items { out.new.items ≡ out.old.items ++ spec.allow_field place }
     ensures len { vec_len out.new ≤ vec_len out.old + LINE_ROOM }
     ensures room { vec_capacity out.old ≤ vec_capacity out.new }
 {
-    if status.number() != 405 {
-        return;
-    }
     match place {
         Place::Requests => write_field("Allow", b"GET, POST", out),
         Place::Deposits => write_field("Allow", b"POST", out),
@@ -124,15 +135,12 @@ fn write_allow(place: Place, status: Status, out: &mut Vec<u8>)
 
 /// Writes after how many seconds to ask again (RFC 9110, section 10.2.3).
 #[tactic(auto, unfolding(crate::specs::Heads::retry_field))]
-fn write_retry(status: Status, seconds: Option<i64>, out: &mut Vec<u8>)
+fn write_retry(seconds: Option<i64>, out: &mut Vec<u8>)
     requires { vec_len out.old + LINE_ROOM ≤ vec_capacity out.old }
-    ensures items { out.new.items ≡ out.old.items ++ spec.retry_field status seconds }
+    ensures items { out.new.items ≡ out.old.items ++ spec.retry_field seconds }
     ensures len { vec_len out.new ≤ vec_len out.old + LINE_ROOM }
     ensures room { vec_capacity out.old ≤ vec_capacity out.new }
 {
-    if status.number() != 503 {
-        return;
-    }
     match seconds {
         Some(seconds) => {
             let mut text = Buffer::new();
@@ -142,45 +150,20 @@ fn write_retry(status: Status, seconds: Option<i64>, out: &mut Vec<u8>)
     }
 }
 
-/// Writes how many lines of a deposit were done before it failed.
+/// Writes how many lines of a deposit were done before it failed, where it is told.
 #[tactic(auto, unfolding(crate::specs::Heads::done_field))]
-fn write_done(place: Place, status: Status, done: Option<u64>, out: &mut Vec<u8>)
+fn write_done(place: Place, done: Option<u64>, out: &mut Vec<u8>)
     requires { vec_len out.old + LINE_ROOM ≤ vec_capacity out.old }
-    ensures items { out.new.items ≡ out.old.items ++ spec.done_field place status done }
+    ensures items { out.new.items ≡ out.old.items ++ spec.done_field place done }
     ensures len { vec_len out.new ≤ vec_len out.old + LINE_ROOM }
     ensures room { vec_capacity out.old ≤ vec_capacity out.new }
 {
-    if !has_failed(status) {
-        return;
-    }
-    match place {
-        Place::Deposits => write_lines(done, out),
-        Place::Requests => {}
-        Place::Elsewhere => {}
-    }
-}
-
-/// Whether the status is one of a deposit that failed.
-fn has_failed(status: Status) -> bool
-    ensures { result ≡ spec.has_failed status }
-{
-    status.number() == 500 || status.number() == 503
-}
-
-/// Writes how many lines were done, where it is told.
-#[tactic(auto, unfolding(crate::specs::Heads::lines_field))]
-fn write_lines(done: Option<u64>, out: &mut Vec<u8>)
-    requires { vec_len out.old + LINE_ROOM ≤ vec_capacity out.old }
-    ensures items { out.new.items ≡ out.old.items ++ spec.lines_field done }
-    ensures len { vec_len out.new ≤ vec_len out.old + LINE_ROOM }
-    ensures room { vec_capacity out.old ≤ vec_capacity out.new }
-{
-    match done {
-        Some(lines) => {
+    match (place, done) {
+        (Place::Deposits, Some(lines)) => {
             let mut text = Buffer::new();
             write_field("X-Lines-Done", text.format(lines).as_bytes(), out)
         }
-        None => {}
+        _ => {}
     }
 }
 

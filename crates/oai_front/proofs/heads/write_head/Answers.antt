@@ -17,6 +17,5 @@ from_empty old new piece e a = a.is ∙ ap (λ (xs : List ℕ). xs ++ piece) e
 pub returns : goal.returns
 unfolding answer_head plain
 returns c =
-    from_empty _ _ _ c.requires.empty (record { is = c.write_status.ensures.items } ⨾ record { is = c.write_type.ensures.items } ⨾ record { is = c.write_allow.ensures.items }
-    ⨾ record { is = c.write_retry.ensures.items } ⨾ record { is = c.write_done.ensures.items } ⨾ record { is = c.write_close.ensures.items }
+    from_empty _ _ _ c.requires.empty (record { is = c.write_status.ensures.items } ⨾ record { is = c.write_fields.ensures.items } ⨾ record { is = c.write_close.ensures.items }
     ⨾ record { is = c.write_length.ensures.items } ⨾ record { is = c.put.ensures.items })
