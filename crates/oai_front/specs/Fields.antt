@@ -63,17 +63,13 @@ is_comma b = b == comma
 unfoldable pub lists_close : List ℕ → Bool
 lists_close value = list_any is_close (slice_split is_comma value)
 
--- the field is Connection and lists `close`
-abbrev pub is_closing : List ℕ × List ℕ → Bool
-is_closing field = is_named (codes "Connection") field && lists_close field.1
-
 -- a field Connection lists `close`
-unfoldable pub list_close : List (List ℕ × List ℕ) → Bool
-list_close fields = list_any is_closing fields
+unfoldable pub any_close : List (List ℕ × List ℕ) → Bool
+any_close fields = list_any lists_close (values_named (codes "Connection") fields)
 
 -- the connection is closed after the message: RFC 9112, section 9.3. That it always is after one of HTTP/1.0 is this repository's own
 abbrev pub is_last : ℕ → List (List ℕ × List ℕ) → Bool
-is_last minor fields = minor == 0 || list_close fields
+is_last minor fields = minor == 0 || any_close fields
 
 -- what comes behind a head that says that a body of that size follows
 abbrev pub plan_sized : ℕ → Bool → Plan

@@ -109,29 +109,21 @@ pub(crate) fn is_last(bytes: &[u8], minor: u8, headers: &[HeaderSpan]) -> bool
     requires { All (IsHeaderWithin (length bytes.now)) headers.now }
     ensures { result ≡ spec.is_last minor (map (header_bytes bytes.now) headers.now) }
 {
-    minor == 0 || list_close(bytes, headers)
+    minor == 0 || any_close(bytes, headers)
 }
 
 /// Whether a field Connection lists `close`.
-#[tactic(auto, unfolding(crate::specs::Fields::list_close))]
-fn list_close(bytes: &[u8], headers: &[HeaderSpan]) -> bool
+#[tactic(auto, unfolding(crate::specs::Fields::any_close, crate::specs::Fields::values_named))]
+fn any_close(bytes: &[u8], headers: &[HeaderSpan]) -> bool
     requires { All (IsHeaderWithin (length bytes.now)) headers.now }
-    ensures { result ≡ spec.list_close (map (header_bytes bytes.now) headers.now) }
+    ensures { result ≡ spec.any_close (map (header_bytes bytes.now) headers.now) }
 {
     for header in headers {
-        if is_closing(bytes, header) {
+        if is_named(bytes, header, b"Connection") && lists_close(header.value.of(bytes)) {
             return true;
         }
     }
     false
-}
-
-/// Whether the field is Connection and lists `close`.
-fn is_closing(bytes: &[u8], header: &HeaderSpan) -> bool
-    requires { IsHeaderWithin (length bytes.now) header.now }
-    ensures { result ≡ spec.is_closing (header_bytes bytes.now header.now) }
-{
-    is_named(bytes, header, b"Connection") && lists_close(header.value.of(bytes))
 }
 
 /// Whether one of the elements between commas is `close` (RFC 9110, sections 5.6.1 and 7.6.1).
