@@ -19,7 +19,7 @@ use Rattle.oai_front.specs.declared.beginnings.Beginning.{Beginning}
 use Rattle.oai_front.specs.declared.beginnings.Beginning.TheVariants.{Unknown, Fault, Whole}
 use Rattle.oai_front.specs.declared.beginnings.Head.{Head}
 use Rattle.oai_front.specs.declared.plans.Plan.{Plan}
-use Rattle.oai_front.specs.declared.beginnings.TheConstants.{MOST_FIELDS, MOST_HEAD_BYTES}
+use Rattle.oai_front.specs.declared.beginnings.TheConstants.{MOST_HEAD_FIELDS, MOST_HEAD_BYTES}
 
 -- ---- more bytes
 
@@ -106,7 +106,7 @@ pub never_request : (bytes : List ℕ) (most : ℕ) → NeverHasRequest (take mo
 never_request bytes most never more = subst HasNoRequest (sym (parted bytes more most)) (never (drop most bytes ++ more))
 
 -- where the parser fails on them, no head ever comes
-pub never_after : (bytes : List ℕ) (most : ℕ) → RequestOverflows MOST_FIELDS (take most bytes) → NeverHasHead bytes
+pub never_after : (bytes : List ℕ) (most : ℕ) → RequestOverflows MOST_HEAD_FIELDS (take most bytes) → NeverHasHead bytes
 never_after bytes most over more head behind b =
     let many = over (drop most bytes ++ more) head behind (subst (λ (all : List ℕ). ReadsRequest all head behind) (parted bytes more most) b.reads) in
     omega (arith, many, b.few)
@@ -117,7 +117,7 @@ none_after bytes never = subst HasNoHead (append-nil bytes) (never [])
 -- ---- a head that was read
 
 pub read_begins : (bytes : List ℕ) (headers : List HeaderSpan) (spans : RequestSpans) (h : RequestHead) → length bytes ≤ MOST_HEAD_BYTES
-    → length headers ≤ MOST_FIELDS → IsRequestWithin bytes headers spans → IsRequestAt bytes headers spans h → Begins bytes h (drop spans.len bytes)
+    → length headers ≤ MOST_HEAD_FIELDS → IsRequestWithin bytes headers spans → IsRequestAt bytes headers spans h → Begins bytes h (drop spans.len bytes)
 read_begins bytes headers spans h short few within at = record {
   reads = at.reads;
   short = omega (arith, at.len, within.section.len_fits, short);

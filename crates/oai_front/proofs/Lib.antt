@@ -1,4 +1,5 @@
 pub mod HeadLemmas
+pub mod ClientLemmas
 pub mod QueueLemmas
 pub mod MessageLemmas
 pub mod ConnectionLemmas

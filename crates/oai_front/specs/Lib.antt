@@ -1,6 +1,7 @@
 pub mod Fields
 pub mod Messages
 pub mod Heads
+pub mod Clients
 pub mod Performing
 pub mod Workings
 pub mod Queues

@@ -8,7 +8,7 @@ use Rattle.oai_host.specs.declared.statuses.Status.TheVariants.{BadRequest}
 use Rattle.oai_front.specs.Fields.{first_value, plan_of, values_named}
 use Rattle.oai_front.specs.declared.plans.Plan.{Plan}
 use Rattle.oai_front.specs.declared.plans.Plan.TheVariants.{Followed, Refused}
-use Rattle.oai_front.specs.declared.beginnings.TheConstants.{MOST_FIELDS, MOST_HEAD_BYTES}
+use Rattle.oai_front.specs.declared.beginnings.TheConstants.{MOST_HEAD_FIELDS, MOST_HEAD_BYTES}
 
 -- what a message asks: its method, its target, the value of its first field Content-Type, and its body
 pub record Asked : Type 0 where
@@ -34,7 +34,7 @@ plan_behind head = plan_of head.minor (fields_of head)
 pub record Begins (bytes : List ℕ) (head : RequestHead) (behind : List ℕ) : Type 0 where
   pub reads : ReadsRequest bytes head behind
   pub short : length (print_request head) ≤ MOST_HEAD_BYTES
-  pub few : length head.fields ≤ MOST_FIELDS
+  pub few : length head.fields ≤ MOST_HEAD_FIELDS
 
 -- the bytes do not begin with such a head
 abbrev pub HasNoHead : List ℕ → Type 0
@@ -68,7 +68,7 @@ IsHopeless bytes = NeverHasHead bytes × (NeverHasRequest bytes ⊎ (MOST_HEAD_B
 -- in bytes without a head one may still begin: they can become a head of the grammar, or they have the lines of one with too many fields, of
 -- which nothing is said before there are as many bytes as a head may have
 abbrev pub MayBegin : List ℕ → Type 0
-MayBegin bytes = MayBecomeRequest bytes ⊎ RequestExceeds MOST_FIELDS bytes
+MayBegin bytes = MayBecomeRequest bytes ⊎ RequestExceeds MOST_HEAD_FIELDS bytes
 
 -- no message can come of the bytes: no head ever stands at their front, or the one that does is refused
 abbrev pub IsFault : List ℕ → Status → Type 0

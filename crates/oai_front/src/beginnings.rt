@@ -12,7 +12,7 @@ use oai_host::Status;
 pub const MOST_HEAD_BYTES: usize = 16_384;
 
 /// The most fields of a head.
-pub const MOST_FIELDS: usize = 64;
+pub const MOST_HEAD_FIELDS: usize = 64;
 
 /// A head that is whole: where its parts are among the bytes that begin with it, and what comes behind
 /// it.
@@ -56,7 +56,7 @@ fn read_within(bytes: &[u8], most: usize) -> Beginning
     requires { most ≡ MOST_HEAD_BYTES }
     ensures { IsBeginning bytes.now result }
 {
-    let mut headers = [EMPTY_HEADER_SPAN; MOST_FIELDS];
+    let mut headers = [EMPTY_HEADER_SPAN; MOST_HEAD_FIELDS];
     let front = front_of(bytes, most);
     match parse_request(front, &mut headers) {
         Ok(Parsed::Complete(spans)) => kept_of(front, &spans, &headers),
@@ -92,7 +92,7 @@ fn unless_full(bytes: &[u8], most: usize) -> Beginning
 /// What is kept of a head that was read, or why it is refused.
 fn kept_of(bytes: &[u8], spans: &RequestSpans, headers: &[HeaderSpan]) -> Beginning
     requires short { length bytes.now ≤ MOST_HEAD_BYTES }
-    requires few { length headers.now ≤ MOST_FIELDS }
+    requires few { length headers.now ≤ MOST_HEAD_FIELDS }
     requires within { IsRequestWithin bytes.now headers.now spans.now }
     requires read { IsRequestOf bytes.now headers.now spans.now }
     ensures { IsKept bytes.now result }

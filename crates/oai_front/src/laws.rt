@@ -1,11 +1,15 @@
-ghost use Rattle.std.specs.Prelude.{◌≡◌, ℕ, List, [], ◌++◌, IsTrue};
+ghost use Rattle.std.specs.Prelude.{◌≡◌, ℕ, Bool, true, List, [], ◌++◌, IsTrue};
 ghost use Rattle.oai_host.specs.Hosts.{Hosting};
+ghost use Rattle.oai_host.specs.declared.exchanges.Answer.{Answer as Given};
+ghost use Rattle.oai_host.specs.declared.statuses.Status.{Status};
+ghost use Rattle.oai_front.specs.Clients.{IsReadBack};
 ghost use Rattle.oai_front.specs.Fronts.{State};
+ghost use Rattle.oai_front.specs.Heads.{answer_bytes, fault_bytes};
 ghost use Rattle.oai_front.specs.Messages.{AreAlike, End, IsClosing, IsUnfinished, Message, Splits, Stream, waits};
 ghost use Rattle.oai_front.specs.HostRuns.{AreHosted};
 ghost use Rattle.oai_front.specs.Runs.{AreServed, Comes, Piece};
 
-use crate::beginnings::{MOST_FIELDS, MOST_HEAD_BYTES};
+use crate::beginnings::{MOST_HEAD_BYTES, MOST_HEAD_FIELDS};
 use crate::handlers::Handler;
 use crate::numbers::LAST_NUMBER;
 use crate::plans::{MOST_BODY_BYTES, MOST_LENGTH_DIGITS};
@@ -55,10 +59,20 @@ pub fn host_law<V: Versions + Drop>()
         → AreHosted old new pieces }
 {}
 
+/// What a client reads of an answer, by the grammar of `httparse` and whatever comes behind it: the status,
+/// one length, which is the body's, and whether the connection is closed. So it knows where the next answer
+/// begins. It does nothing.
+pub fn head_law()
+    ensures answers { (target : List ℕ) (last : Bool) (answer : Given) (others : List ℕ)
+        → IsReadBack (answer_bytes target last answer ++ others) answer.status last answer.body others }
+    ensures faults { (status : Status) (others : List ℕ)
+        → IsReadBack (fault_bytes status ++ others) status true [] others }
+{}
+
 /// The limits in numbers, since definitions read them by their names. It does nothing.
 pub fn limit_law()
     ensures head { MOST_HEAD_BYTES ≡ 16_384 }
-    ensures fields { MOST_FIELDS ≡ 64 }
+    ensures fields { MOST_HEAD_FIELDS ≡ 64 }
     ensures body { MOST_BODY_BYTES ≡ 1_048_576 }
     ensures digits { MOST_LENGTH_DIGITS ≡ 19 }
     ensures number { LAST_NUMBER ≡ 18_446_744_073_709_551_615 }

@@ -18,10 +18,10 @@ mod queues;
 mod stages;
 mod texts;
 
-pub use beginnings::{MOST_FIELDS, MOST_HEAD_BYTES};
+pub use beginnings::{MOST_HEAD_BYTES, MOST_HEAD_FIELDS};
 pub use faults::{NoSuchConnection, OpenFault, PieceFault};
 pub use fronts::Front;
 pub use handlers::Handler;
-pub use laws::{cut_law, host_law, limit_law, run_law, split_law};
+pub use laws::{cut_law, head_law, host_law, limit_law, run_law, split_law};
 pub use numbers::{ConnId, LAST_NUMBER};
 pub use plans::MOST_BODY_BYTES;

@@ -7,7 +7,7 @@ use Rattle.httparse.specs.Spans.{RequestExceeds}
 use Rattle.oai_front.specs.Messages.{HasNoHead, MayBegin, NeverHasHead}
 use Rattle.oai_front.specs.Workings.{IsBeginning, beginning_unless_full}
 use Rattle.oai_front.specs.declared.beginnings.Beginning.{Beginning}
-use Rattle.oai_front.specs.declared.beginnings.TheConstants.{MOST_FIELDS, MOST_HEAD_BYTES}
+use Rattle.oai_front.specs.declared.beginnings.TheConstants.{MOST_HEAD_FIELDS, MOST_HEAD_BYTES}
 use Rattle.oai_front.proofs.HeadLemmas.{kept_in_front, none_in_front, never_in_front, never_after, never_request, none_after}
 use Rattle.oai_front.proofs.beginnings.read_within.Goals as goal
 
@@ -35,7 +35,7 @@ returns-in-Ok-Partial c =
 pub returns-in-TooManyHeaders : goal.returns-in-TooManyHeaders
 returns-in-TooManyHeaders c =
     let never = never_after c.args.bytes.now c.args.most (rw c.front_of-front.ensures at c.in-Err.ensures.no_room) in
-    let many = subst (λ (front : List ℕ). RequestExceeds MOST_FIELDS front) c.front_of-front.ensures (c.in-Err.ensures.too_many (ap (λ e. Err e) c.in-TooManyHeaders.is)) in
+    let many = subst (λ (front : List ℕ). RequestExceeds MOST_HEAD_FIELDS front) c.front_of-front.ensures (c.in-Err.ensures.too_many (ap (λ e. Err e) c.in-TooManyHeaders.is)) in
     unless_full c.args.bytes.now c.args.most c.unless_full-in-TooManyHeaders.result c.requires (none_after c.args.bytes.now never) (inr many) (λ full. never) c.unless_full-in-TooManyHeaders.ensures
 
 pub returns-in_default : goal.returns-in_default

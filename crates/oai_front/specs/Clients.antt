@@ -1,0 +1,22 @@
+-- What a client reads of an answer: RFC 9112, sections 4, 5, 6.3 and 9.6. A head is one of the grammar of `httparse`.
+use Rattle.std.specs.Prelude.{◌≡◌, ℕ, Bool, List, [], ◌∷◌, ◌++◌, length, map, codes}
+use Rattle.std.specs.Fmt.{decimal}
+use Rattle.httparse.specs.Grammar.{ReadsResponse, ResponseHead, status_code}
+use Rattle.httparse.specs.Spans.{name_and_value}
+use Rattle.oai_host.specs.Statuses.{number_of}
+use Rattle.oai_host.specs.declared.statuses.Status.{Status}
+use Rattle.oai_front.specs.Fields.{any_close, values_named}
+
+-- the fields of the head, each its name and its value
+abbrev pub fields_in : ResponseHead → List (List ℕ × List ℕ)
+fields_in head = map name_and_value head.fields
+
+-- the bytes begin with an answer that has that status and that body, and then come others: a head, in which stand the number of the status,
+-- one length, in decimal digits, which is the body's, and no coding in place of it; and `close` where the connection is closed behind it
+pub record IsReadBack (bytes : List ℕ) (status : Status) (last : Bool) (body others : List ℕ) : Type 0 where
+  pub head : ResponseHead
+  pub reads : ReadsResponse bytes head (body ++ others)
+  pub number : status_code head ≡ number_of status
+  pub size : values_named (codes "Content-Length") (fields_in head) ≡ decimal (length body) ∷ []
+  pub coding : values_named (codes "Transfer-Encoding") (fields_in head) ≡ []
+  pub close : any_close (fields_in head) ≡ last
