@@ -10,7 +10,7 @@ import shutil
 import subprocess
 import sys
 import tempfile
-from concurrent.futures import ThreadPoolExecutor
+from concurrent.futures import ThreadPoolExecutor, as_completed
 
 # How many bugs share a check at most: more would print more than a check tells of.
 MOST = 16
@@ -152,7 +152,8 @@ def check(crate, texts, before):
     for file in changed:
         with open(f"{crate}/{file}", "w", encoding="utf-8") as it:
             it.write(texts[file])
-    ran = subprocess.run(["rt", "check"], cwd=crate, stdout=subprocess.PIPE, stderr=subprocess.STDOUT, text=True, errors="replace")
+    # (by one job: a second one would load the libraries anew)
+    ran = subprocess.run(["rt", "check", "--jobs", "1"], cwd=crate, stdout=subprocess.PIPE, stderr=subprocess.STDOUT, text=True, errors="replace")
     for file in changed:
         with open(f"{crate}/{file}", "w", encoding="utf-8") as it:
             it.write(before[file])
@@ -230,10 +231,21 @@ def planted_in(crate, texts):
     return [Edit(f"{folder}/{it}", texts) for it in names if it.endswith(".edit")]
 
 
+def unneeded_for(name):
+    """What a copy of the repository can do without: its history, and the kept proofs of crates but the named one, whose libraries are enough."""
+
+    def unneeded(folder, names):
+        crate, last = os.path.split(folder)
+        is_of_another = last == "out" and os.path.basename(crate) != name
+        return {it for it in names if it == ".git" or (is_of_another and it == "incremental")}
+
+    return unneeded
+
+
 def tried(name):
     """The edits of a crate, and what becomes of each, tried on a copy of the repository."""
     with tempfile.TemporaryDirectory(prefix="planted-") as room:
-        shutil.copytree(".", f"{room}/copy", ignore=shutil.ignore_patterns(".git"), symlinks=True)
+        shutil.copytree(".", f"{room}/copy", ignore=unneeded_for(name), symlinks=True)
         crate = f"{room}/copy/crates/{name}"
         texts = sources_of(crate)
         edits = planted_in(crate, texts)
@@ -258,10 +270,13 @@ def main(names):
         sys.exit(f"planted: there are no planted bugs in {' '.join(unknown)}")
     listed = [it for it in sorted(os.listdir("crates")) if os.path.isdir(f"crates/{it}/planted") and (not names or it in names)]
     refused = others = 0
-    # (a check of a large crate takes two processors)
-    with ThreadPoolExecutor(max(1, (os.cpu_count() or 1) // 2)) as pool:
-        for name, (edits, found) in zip(listed, pool.map(tried, listed)):
-            good = told(name, edits, found)
+    # (the crate with the most bugs is the last to end, so it begins first)
+    listed.sort(key=lambda it: -len(os.listdir(f"crates/{it}/planted")))
+    with ThreadPoolExecutor(os.cpu_count() or 1) as pool:
+        tries = {pool.submit(tried, it): it for it in listed}
+        for done in as_completed(tries):
+            edits, found = done.result()
+            good = told(tries[done], edits, found)
             refused, others = refused + good, others + len(edits) - good
     print(f"{refused} refused, {others} not")
     return 1 if others else 0
