@@ -1,6 +1,6 @@
 -- The store of all versions of all repositories' items: lists of items under numbers. This repository's own view of OAI-PMH 2.0, sections
 -- 2.7 and 3.5: a list request is answered from the items as they stood.
-use Rattle.std.specs.Prelude.{◌≡◌, ◌≢◌, ◌⊎◌, ◌<◌, ◌≤◌, ℕ, Bool, true, false, not, ◌==◌, if◌then◌else◌, List, [], Option, None, Some, filter, unwrap_or, Result, IfErr}
+use Rattle.std.specs.Prelude.{◌≡◌, ◌⊎◌, ◌+◌, ◌<◌, ◌≤◌, ℕ, Bool, true, false, not, ◌==◌, if◌then◌else◌, List, [], Option, None, Some, filter, unwrap_or, Result, IfErr}
 use Rattle.std.specs.List.{list_any}
 use Rattle.oai_item.specs.Item.{ItemState}
 use Rattle.oai_item.specs.Items.{is_at, with_item, without_at}
@@ -52,13 +52,11 @@ pub record IsHonest {A : Type 0} (result : Result A Fault) (old new : Bool) : Ty
   pub same : new ≡ old
   pub damaged : IfErr result (λ fault. fault ≡ Damaged → old ≡ false)
 
--- room is wanted only where the store may be out of it
-abbrev pub NeedsRoom : {A : Type 0} → Result A Fault → Type 0 → Type 0
-NeedsRoom result full = IfErr result (λ fault. fault ≡ TooManyPages → full)
-
--- room is never wanted
-abbrev pub NeedsNoRoom : {A : Type 0} → Result A Fault → Type 0
-NeedsNoRoom result = IfErr result (λ fault. fault ≢ TooManyPages)
+-- room for so many calls is enough: there are too many pages only where the store was sure of room for fewer; and no more than so
+-- much of it is used up
+pub record NeedsRoom {A : Type 0} (calls : ℕ) (result : Result A Fault) (old new : ℕ) : Type 0 where
+  pub enough : IfErr result (λ fault. fault ≡ TooManyPages → old < calls)
+  pub used : old ≤ new + calls
 
 -- ---- a change of one list
 

@@ -1,8 +1,8 @@
-ghost use Rattle.std.specs.Prelude.{◌≡◌, ◌≤◌, None, if◌then◌else◌, is_ok, length, IfOk, IfSome, IsSome, IsTrue, OnErr, OnOk};
+ghost use Rattle.std.specs.Prelude.{◌≡◌, ◌+◌, ◌≤◌, None, if◌then◌else◌, is_ok, length, IfOk, IfSome, IsSome, IsTrue, OnErr, OnOk};
 ghost use Rattle.std.specs.Option.{option_copied};
 ghost use Rattle.oai_item.specs.Encoding.{encoded};
 ghost use Rattle.oai_item.specs.declared.sizes.TheConstants.{MOST_ITEM_BYTES};
-ghost use Rattle.oai_catalogue.specs.Store.{AreInOrder, ChangesOnly, IsCounted, IsHonest, list_at, with_change, with_given, without_each, without_given, without_list};
+ghost use Rattle.oai_catalogue.specs.Store.{AreInOrder, ChangesOnly, IsCounted, IsHonest, NeedsRoom, list_at, with_change, with_given, without_each, without_given, without_list};
 ghost use Rattle.oai_catalogue.specs.Changes.{IsKept};
 
 use crate::versions::Versions;
@@ -11,7 +11,7 @@ use oai_item::{Fault, Item};
 /// Changes a version as a whole or not at all: under a number that was not in use it puts what `v`
 /// holds, without the item of the datestamp and identifier of `gone`, and with `new`, each where it is
 /// given, and lets `v` go. On a fault each list is as before, and no further number is in use. Any
-/// fault may come.
+/// fault may come, and `TooManyPages` only where the store may lack room for three calls.
 pub fn change_item<V: Versions>(
     store: &mut V,
     v: u64,
@@ -28,6 +28,7 @@ pub fn change_item<V: Versions>(
         (list_at (V.lists store.old) v)) }
     ensures err { OnErr result (V.lists store.new ≡ V.lists store.old) }
     ensures rising { OnOk result (AreInOrder (V.lists store.old) × AreInOrder (V.lists store.new)) }
+    ensures room { NeedsRoom 3 result (V.room store.old) (V.room store.new) }
     ensures device { IsCounted result (V.failures store.old) (V.failures store.new) }
     ensures honesty { IsHonest result (V.honest store.old) (V.honest store.new) }
 {
@@ -38,7 +39,8 @@ pub fn change_item<V: Versions>(
 
 /// Takes items out of a version as a whole or not at all: under a number that was not in use it puts
 /// what `v` holds, without the items of the datestamps and identifiers of `gone`, and lets `v` go. On a
-/// fault each list is as before, and no further number is in use. Any fault may come.
+/// fault each list is as before, and no further number is in use. Any fault may come, and `TooManyPages`
+/// only where the store may lack room for one call more than there are items to go.
 pub fn remove_items<V: Versions>(store: &mut V, v: u64, gone: &[Item]) -> Result<u64, Fault>
     requires { IsSome (V.lists store.old v) }
     ensures unused { IfOk result (λ w. V.lists store.old w ≡ None) }
@@ -48,6 +50,7 @@ pub fn remove_items<V: Versions>(store: &mut V, v: u64, gone: &[Item]) -> Result
         ≡ without_each gone.now (list_at (V.lists store.old) v)) }
     ensures err { OnErr result (V.lists store.new ≡ V.lists store.old) }
     ensures rising { OnOk result (AreInOrder (V.lists store.old) × AreInOrder (V.lists store.new)) }
+    ensures room { NeedsRoom (length gone.now + 1) result (V.room store.old) (V.room store.new) }
     ensures device { IsCounted result (V.failures store.old) (V.failures store.new) }
     ensures honesty { IsHonest result (V.honest store.old) (V.honest store.new) }
 {
@@ -69,6 +72,7 @@ fn keep_one<V: Versions>(
         ≡ without_list (if is_ok edited then v else next) (V.lists store.old) }
     ensures ok { IfOk result (λ w. w ≡ next) }
     ensures answer { IsKept edited result }
+    ensures room { V.room store.old ≤ V.room store.new }
     ensures count { V.failures store.old ≤ V.failures store.new }
     ensures honesty { V.honest store.new ≡ V.honest store.old }
     ensures rising { AreInOrder (V.lists store.new) }
@@ -92,6 +96,7 @@ fn take_out_each<V: Versions>(store: &mut V, v: u64, gone: &[Item]) -> Result<()
     ensures others { ChangesOnly v (V.lists store.old) (V.lists store.new) }
     ensures list { OnOk result (IsTrue (V.honest store.old) → list_at (V.lists store.new) v
         ≡ without_each gone.now (list_at (V.lists store.old) v)) }
+    ensures room { NeedsRoom (length gone.now) result (V.room store.old) (V.room store.new) }
     ensures device { IsCounted result (V.failures store.old) (V.failures store.new) }
     ensures honesty { IsHonest result (V.honest store.old) (V.honest store.new) }
 {
@@ -115,6 +120,7 @@ fn edit<V: Versions>(
     ensures list { OnOk result (IsTrue (V.honest store.old) → list_at (V.lists store.new) v
         ≡ with_change (option_copied gone.entry) (option_copied new.entry)
         (list_at (V.lists store.old) v)) }
+    ensures room { NeedsRoom 2 result (V.room store.old) (V.room store.new) }
     ensures device { IsCounted result (V.failures store.old) (V.failures store.new) }
     ensures honesty { IsHonest result (V.honest store.old) (V.honest store.new) }
 {
@@ -128,6 +134,7 @@ fn take_out<V: Versions>(store: &mut V, v: u64, gone: Option<&Item>) -> Result<(
     ensures ok { ChangesOnly v (V.lists store.old) (V.lists store.new) }
     ensures list { OnOk result (IsTrue (V.honest store.old) → list_at (V.lists store.new) v
         ≡ without_given (option_copied gone.entry) (list_at (V.lists store.old) v)) }
+    ensures room { NeedsRoom 1 result (V.room store.old) (V.room store.new) }
     ensures device { IsCounted result (V.failures store.old) (V.failures store.new) }
     ensures honesty { IsHonest result (V.honest store.old) (V.honest store.new) }
 {
@@ -147,6 +154,7 @@ fn put_in<V: Versions>(store: &mut V, v: u64, new: Option<&Item>) -> Result<(), 
     ensures ok { ChangesOnly v (V.lists store.old) (V.lists store.new) }
     ensures list { OnOk result (IsTrue (V.honest store.old) → list_at (V.lists store.new) v
         ≡ with_given (option_copied new.entry) (list_at (V.lists store.old) v)) }
+    ensures room { NeedsRoom 1 result (V.room store.old) (V.room store.new) }
     ensures device { IsCounted result (V.failures store.old) (V.failures store.new) }
     ensures honesty { IsHonest result (V.honest store.old) (V.honest store.new) }
 {

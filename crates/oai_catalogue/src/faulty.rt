@@ -1,4 +1,4 @@
-ghost use Rattle.std.specs.Prelude.{◌≡◌, ◌↔◌, ◌+◌, if◌then◌else◌, is_ok, min};
+ghost use Rattle.std.specs.Prelude.{◌≡◌, ◌+◌, if◌then◌else◌, is_ok, min};
 ghost use Rattle.oai_catalogue.specs.Faulty.{IsTurn};
 
 use crate::filters::Filter;
@@ -23,7 +23,7 @@ impl<V: Versions + Drop> Versions for FaultyVersions<V> {
 
     ghost honest = { λ s. V.honest s.inner };
 
-    ghost is_full = { λ s. V.is_full s.inner };
+    ghost room = { λ s. V.room s.inner };
 
     fn fresh(&mut self) -> Result<u64, Fault> {
         self.turn()?;
@@ -79,7 +79,7 @@ impl<V: Versions + Drop> FaultyVersions<V> {
         ensures failures { ⟦<FaultyVersions<V> as Versions>⟧.failures result
             ≡ min (V.failures inner) MOST_FAILURES }
         ensures honest { ⟦<FaultyVersions<V> as Versions>⟧.honest result ≡ V.honest inner }
-        ensures room { ⟦<FaultyVersions<V> as Versions>⟧.is_full result ↔ V.is_full inner }
+        ensures room { ⟦<FaultyVersions<V> as Versions>⟧.room result ≡ V.room inner }
     {
         FaultyVersions {
             inner,

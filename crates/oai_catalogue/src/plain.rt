@@ -1,4 +1,4 @@
-ghost use Rattle.std.specs.Prelude.{◌≡◌, ◌⊎◌, ◌≤◌, ℕ, None, Some, IsSome, true, unwrap_or, [], IfErr, IfOk, OnErr};
+ghost use Rattle.std.specs.Prelude.{◌≡◌, ◌⊎◌, ◌+◌, ◌-◌, ◌≤◌, ℕ, None, Some, IsSome, true, unwrap_or, [], IfErr, IfOk, OnErr};
 ghost use Rattle.std.specs.BTreeMap.{get};
 ghost use Rattle.std.specs.Ordering.{nat_cmp};
 ghost use Rattle.oai_item.specs.Order.{are_in_order};
@@ -37,7 +37,7 @@ impl Versions for PlainVersions {
 
     ghost honest = { λ s. true };
 
-    ghost is_full = { λ s. s.next ≡ LAST_VERSION };
+    ghost room = { λ s. LAST_VERSION - s.next };
 
     fn fresh(&mut self) -> Result<u64, Fault> {
         self.add(Items::new(self.alloc))
@@ -95,7 +95,7 @@ impl PlainVersions {
         ensures lists { ⟦<PlainVersions as Versions>⟧.lists result ≡ no_lists }
         ensures failures { ⟦<PlainVersions as Versions>⟧.failures result ≡ 0 }
         ensures honest { ⟦<PlainVersions as Versions>⟧.honest result ≡ true }
-        ensures room { ¬ (⟦<PlainVersions as Versions>⟧.is_full result) }
+        ensures room { ⟦<PlainVersions as Versions>⟧.room result ≡ LAST_VERSION - 1 }
     {
         PlainVersions {
             alloc,
@@ -124,6 +124,7 @@ impl PlainVersions {
         ensures err { OnErr result (lists_of self.new.versions ≡ lists_of self.old.versions) }
         ensures fault { IfErr result (λ f. (f ≡ fault.NoMemory)
             ⊎ ((f ≡ fault.TooManyPages) × (self.old.next ≡ LAST_VERSION))) }
+        ensures next { self.new.next ≤ self.old.next + 1 }
     {
         let v = self.next;
         if v == LAST_VERSION {

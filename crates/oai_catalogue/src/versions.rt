@@ -4,7 +4,7 @@ ghost use Rattle.oai_item.specs.Item.{ItemState};
 ghost use Rattle.oai_item.specs.Items.{item_at, with_item, without_at};
 ghost use Rattle.oai_item.specs.Selection.{selected};
 ghost use Rattle.oai_item.specs.declared.sizes.TheConstants.{MOST_ITEM_BYTES};
-ghost use Rattle.oai_catalogue.specs.Store.{AreInOrder, ChangesOnly, IsCounted, IsHonest, NeedsNoRoom, NeedsRoom, list_at, with_list, without_list};
+ghost use Rattle.oai_catalogue.specs.Store.{AreInOrder, ChangesOnly, IsCounted, IsHonest, NeedsRoom, list_at, with_list, without_list};
 
 use crate::filters::Filter;
 use oai_item::{Fault, Item};
@@ -31,8 +31,8 @@ pub trait Versions {
     /// Whether the device gives back what was written to it.
     ghost honest: { Self → Bool };
 
-    /// Where the store may be out of room: no page, no further name of a page, or no number is left.
-    ghost is_full: { Self → Type 0 };
+    /// How many calls are sure to find room: pages, further names of a page, and numbers.
+    ghost room: { Self → ℕ };
 
     /// A number that was not in use, for an empty list. Any fault may come.
     fn fresh(&mut self) -> Result<u64, Fault>
@@ -40,7 +40,7 @@ pub trait Versions {
         ensures ok { IfOk result (λ v. lists self.new ≡ with_list v [] (lists self.old)) }
         ensures err { OnErr result (lists self.new ≡ lists self.old) }
         ensures rising { OnOk result (AreInOrder (lists self.old) × AreInOrder (lists self.new)) }
-        ensures room { NeedsRoom result (is_full self.old) }
+        ensures room { NeedsRoom 1 result (room self.old) (room self.new) }
         ensures device { IsCounted result (failures self.old) (failures self.new) }
         ensures honesty { IsHonest result (honest self.old) (honest self.new) };
 
@@ -52,7 +52,7 @@ pub trait Versions {
             (λ w. lists self.new ≡ with_list w (list_at (lists self.old) v) (lists self.old)) }
         ensures err { OnErr result (lists self.new ≡ lists self.old) }
         ensures rising { OnOk result (AreInOrder (lists self.old) × AreInOrder (lists self.new)) }
-        ensures room { NeedsRoom result (is_full self.old) }
+        ensures room { NeedsRoom 1 result (room self.old) (room self.new) }
         ensures device { IsCounted result (failures self.old) (failures self.new) }
         ensures honesty { IsHonest result (honest self.old) (honest self.new) };
 
@@ -66,7 +66,7 @@ pub trait Versions {
             → list_at (lists self.new) v ≡ with_item item.now (list_at (lists self.old) v)) }
         ensures err { OnErr result (lists self.new ≡ lists self.old) }
         ensures rising { OnOk result (AreInOrder (lists self.old) × AreInOrder (lists self.new)) }
-        ensures room { NeedsRoom result (is_full self.old) }
+        ensures room { NeedsRoom 1 result (room self.old) (room self.new) }
         ensures device { IsCounted result (failures self.old) (failures self.new) }
         ensures honesty { IsHonest result (honest self.old) (honest self.new) };
 
@@ -81,7 +81,7 @@ pub trait Versions {
             ≡ without_at stamp identifier.now (list_at (lists self.old) v)) }
         ensures err { OnErr result (lists self.new ≡ lists self.old) }
         ensures rising { OnOk result (AreInOrder (lists self.old) × AreInOrder (lists self.new)) }
-        ensures room { NeedsRoom result (is_full self.old) }
+        ensures room { NeedsRoom 1 result (room self.old) (room self.new) }
         ensures device { IsCounted result (failures self.old) (failures self.new) }
         ensures honesty { IsHonest result (honest self.old) (honest self.new) };
 
@@ -93,7 +93,7 @@ pub trait Versions {
             → item ≡ item_at stamp identifier.now (list_at (lists self.old) v)) }
         ensures same { lists self.new ≡ lists self.old }
         ensures rising { OnOk result (AreInOrder (lists self.old)) }
-        ensures room { NeedsNoRoom result }
+        ensures room { NeedsRoom 0 result (room self.old) (room self.new) }
         ensures device { IsCounted result (failures self.old) (failures self.new) }
         ensures honesty { IsHonest result (honest self.old) (honest self.new) };
 
@@ -104,7 +104,7 @@ pub trait Versions {
             → n ≡ length (selected filter.now (list_at (lists self.old) v))) }
         ensures same { lists self.new ≡ lists self.old }
         ensures rising { OnOk result (AreInOrder (lists self.old)) }
-        ensures room { NeedsNoRoom result }
+        ensures room { NeedsRoom 0 result (room self.old) (room self.new) }
         ensures device { IsCounted result (failures self.old) (failures self.new) }
         ensures honesty { IsHonest result (honest self.old) (honest self.new) };
 
@@ -122,7 +122,7 @@ pub trait Versions {
             → items ≡ take most (drop skip (selected filter.now (list_at (lists self.old) v)))) }
         ensures same { lists self.new ≡ lists self.old }
         ensures rising { OnOk result (AreInOrder (lists self.old)) }
-        ensures room { NeedsNoRoom result }
+        ensures room { NeedsRoom 0 result (room self.old) (room self.new) }
         ensures device { IsCounted result (failures self.old) (failures self.new) }
         ensures honesty { IsHonest result (honest self.old) (honest self.new) };
 
@@ -131,6 +131,7 @@ pub trait Versions {
         requires { IsSome (lists self.old v) }
         ensures ok { lists self.new ≡ without_list v (lists self.old) }
         ensures rising { AreInOrder (lists self.old) × AreInOrder (lists self.new) }
+        ensures room { room self.old ≤ room self.new }
         ensures count { failures self.old ≤ failures self.new }
         ensures honesty { honest self.new ≡ honest self.old };
 }

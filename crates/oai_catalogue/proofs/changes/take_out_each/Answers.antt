@@ -15,6 +15,7 @@ loop-item-init g c =
       others = sym (with_own c.args.v lists c.requires);
       list = λ honest. sym (without_each-none (list_at lists c.args.v));
       count = omega arith;
+      room = omega arith;
       honesty = refl;
     }
 
@@ -38,5 +39,6 @@ loop-item-preserved g c =
           ∙ ap (λ (x : ItemState). without_at x.stamp x.identifier (without_each (take i gone) (list_at old v))) c.item-item.is
           ∙ sym (without_each-at gone i c.item-item.result (list_at old v) c.loop-item-test.true);
       count = let more = c.in_ok-remove.ensures.device.count in omega (arith, so_far.count);
+      room = let used = c.in_ok-remove.ensures.room.used in omega (arith, used, so_far.room);
       honesty = c.in_ok-remove.ensures.honesty.same ∙ so_far.honesty;
     }
