@@ -6,8 +6,9 @@ use Rattle.std.specs.Ordering.{int_eq}
 use Rattle.std.specs.Str.{bytes_eq}
 use Rattle.std.proofs.lemmas.Bool.{and_parts, cases_Bool, cond-true, cond-false, ltb-true}
 use Rattle.std.proofs.lemmas.Int.{ints}
-use Rattle.std.proofs.lemmas.List.{drop_more, drop-take, length-drop, length-take, take-append-drop, take-take, take_all}
+use Rattle.std.proofs.lemmas.List.{drop_more, drop-take, length-append, length-drop, length-take, take-append-drop, take-take, take_all}
 use Rattle.std.proofs.lemmas.List.Elements.{filter-append}
+use Rattle.std.proofs.lemmas.List.Sums.{count_by-le-length, length-filter}
 use Rattle.std.proofs.lemmas.Slice.Eq.{bytes_eq-Decides}
 use Rattle.oai_item.specs.Item.{ItemState}
 use Rattle.oai_item.specs.Items.{are_apart, is_apart, is_at, item_named, without_at}
@@ -102,6 +103,12 @@ read_on start some most items within =
           ∙ ap (λ (n : ℕ). take n items) (sym (cond-true (nat_lt (length (take some (drop start items))) some) most (start + some) short))
       | inr full ↦ ap (λ (n : ℕ). take n items) (sym (cond-false (nat_lt (length (take some (drop start items))) some) most (start + some) full))
     ])
+
+-- no more of them are deleted than were read
+pub few_more : (gone part : List ItemState) (start some next : ℕ) → length gone ≤ start → length part ≤ some → start + some ≤ next
+    → length (gone ++ filter is_deleted part) ≤ next
+few_more gone part start some next few read further =
+    omega (arith, length-append gone (filter is_deleted part), length-filter is_deleted part, count_by-le-length is_deleted part, few, read, further)
 
 -- ---- what is taken out
 

@@ -1,11 +1,13 @@
 -- What the calls of a repository answer and leave, by the machine's words: this repository's own.
-use Rattle.std.specs.Prelude.{◌≡◌, ℕ, ℤ, List, Option, None, Result, Ok, Err}
+use Rattle.std.specs.Prelude.{◌≡◌, ◌+◌, ℕ, ℤ, List, Option, None, Result, Ok, Err}
 use Rattle.oai_item.specs.Items.{item_named}
 use Rattle.oai_item.specs.Refusals.{in_repository}
 use Rattle.oai_item.specs.declared.changes.Change.{Change}
 use Rattle.oai_item.specs.declared.changes.Change.TheVariants as change
 use Rattle.oai_item.specs.declared.faults.Fault.{Fault}
 use Rattle.oai_item.specs.declared.refusals.ChangeRefusal.{ChangeRefusal}
+use Rattle.oai_args.specs.Asks.{AskOrError, asks}
+use Rattle.oai_args.specs.declared.requests.Ask.TheVariants as ask
 use Rattle.oai_catalogue.specs.Store.{Lists}
 use Rattle.oai_time.specs.Clock.{tick}
 use Rattle.oai_repo.specs.Changes.{deposit_refusal, missing_refusal, purge_refusal, set_refusal}
@@ -43,6 +45,21 @@ IsChanged old before moment change (Ok stamp) new after = act_at old.config (sta
 IsChanged old before moment change (Err (refusal.Refused cause)) new after =
     act_at old.config (state_of old before) moment (changing change) ≡ (refused (in_repository cause), state_of new after)
 IsChanged old before moment change (Err (refusal.Fault fault)) new after = early_refusal old.config (holdings_of old.shelf old.sets before) change ≡ None
+
+-- ---- how much room a call wants, over any store
+
+-- a request: for one call of the store where it may begin a list (section 3.5), and for none elsewhere
+abbrev pub room_to_ask : AskOrError → ℕ
+room_to_ask (asks (ask.List verb prefix from until set)) = 1
+room_to_ask request = 0
+
+-- a change, where there are so many items: a state that takes the place of another wants a version frozen, an item taken out and one put
+-- in; a purge wants a version frozen, and each item taken out at most
+abbrev pub room_to_change : ℕ → Change → ℕ
+room_to_change items (change.Deposit identifier sets records) = 3
+room_to_change items (change.Delete identifier) = 3
+room_to_change items (change.Purge before) = items + 1
+room_to_change items (change.AddSet spec name) = 0
 
 -- ---- what is left, over any store
 

@@ -1,9 +1,9 @@
 //! Changes of a repository: deposits, deletions, purges and new sets.
-ghost use Rattle.std.specs.Prelude.{◌≡◌, ◌≤◌, ◌++◌, [], ◌∷◌, None, IfErr, IsSome, IsTrue, OnErr};
+ghost use Rattle.std.specs.Prelude.{◌≡◌, ◌≤◌, ◌++◌, [], ◌∷◌, None, length, IfErr, IsSome, IsTrue, OnErr};
 ghost use Rattle.oai_item.specs.Item.{IsStamp};
 ghost use Rattle.oai_item.specs.declared.faults.Fault.TheVariants as fault;
-ghost use Rattle.oai_catalogue.specs.Store.{IsCounted, IsHonest};
-ghost use Rattle.oai_repo.specs.Calls.{fault_in};
+ghost use Rattle.oai_catalogue.specs.Store.{IsCounted, IsHonest, NeedsRoom};
+ghost use Rattle.oai_repo.specs.Calls.{fault_in, room_to_change};
 ghost use Rattle.oai_repo.specs.Changes.{set_refusal};
 ghost use Rattle.oai_repo.specs.Held.{IsShelved, holdings_of};
 ghost use Rattle.oai_repo.specs.Workings.{IsDone, IsMade, IsMoved};
@@ -44,6 +44,8 @@ pub(crate) fn make<V: Versions>(
     ensures err { OnErr result (shelf.new ≡ shelf.old) }
     ensures err_sets { OnErr result (sets.new ≡ sets.old) }
     ensures err_lists { OnErr result (V.lists store.new ≡ V.lists store.old) }
+    ensures room { NeedsRoom (room_to_change (length shelf.old.notes) change.now) (fault_in result)
+        (V.room store.old) (V.room store.new) }
     ensures device { IsCounted (fault_in result) (V.failures store.old) (V.failures store.new) }
     ensures honesty { IsHonest (fault_in result) (V.honest store.old) (V.honest store.new) }
 {

@@ -3,7 +3,7 @@ ghost use Rattle.std.specs.Prelude.{◌≡◌, ◌≤◌, true, not, Some, IsSom
 ghost use Rattle.std.specs.List.{list_all};
 ghost use Rattle.oai_item.specs.Item.{IsStamp, tombstone_of};
 ghost use Rattle.oai_item.specs.Items.{item_named};
-ghost use Rattle.oai_catalogue.specs.Store.{IsCounted, IsHonest};
+ghost use Rattle.oai_catalogue.specs.Store.{IsCounted, IsHonest, NeedsRoom};
 ghost use Rattle.oai_repo.specs.Calls.{fault_in};
 ghost use Rattle.oai_repo.specs.Changes.{after_deletion, dead_refusal, missing_refusal, with_new};
 ghost use Rattle.oai_repo.specs.Held.{AreNoted, items_on};
@@ -46,6 +46,7 @@ pub(crate) fn delete<V: Versions>(
         (V.lists store.new) }
     ensures err { OnErr result (shelf.new ≡ shelf.old) }
     ensures err_lists { OnErr result (V.lists store.new ≡ V.lists store.old) }
+    ensures room { NeedsRoom 3 (fault_in result) (V.room store.old) (V.room store.new) }
     ensures device { IsCounted (fault_in result) (V.failures store.old) (V.failures store.new) }
     ensures honesty { IsHonest (fault_in result) (V.honest store.old) (V.honest store.new) }
 {
@@ -85,6 +86,7 @@ fn bury<V: Versions>(
         (V.lists store.new) }
     ensures err { OnErr result (shelf.new ≡ shelf.old) }
     ensures err_lists { OnErr result (V.lists store.new ≡ V.lists store.old) }
+    ensures room { NeedsRoom 3 result (V.room store.old) (V.room store.new) }
     ensures device { IsCounted result (V.failures store.old) (V.failures store.new) }
     ensures honesty { IsHonest result (V.honest store.old) (V.honest store.new) }
 {

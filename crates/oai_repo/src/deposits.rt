@@ -7,7 +7,7 @@ ghost use Rattle.oai_names.specs.Sets.{has_set};
 ghost use Rattle.oai_item.specs.Encoding.{encoded};
 ghost use Rattle.oai_item.specs.Items.{item_named};
 ghost use Rattle.oai_item.specs.declared.sizes.TheConstants.{MOST_ITEM_BYTES};
-ghost use Rattle.oai_catalogue.specs.Store.{IsCounted, IsHonest};
+ghost use Rattle.oai_catalogue.specs.Store.{IsCounted, IsHonest, NeedsRoom};
 ghost use Rattle.oai_item.specs.Item.{IsStamp, Metadata, has_record, live_item, record_named};
 ghost use Rattle.oai_item.specs.Known.{are_fields_of, has_format, has_known_fields};
 ghost use Rattle.oai_item.specs.Membership.{reduced};
@@ -63,6 +63,7 @@ pub(crate) fn put_deposit<V: Versions>(
         (V.lists store.new) }
     ensures err { OnErr result (shelf.new ≡ shelf.old) }
     ensures err_lists { OnErr result (V.lists store.new ≡ V.lists store.old) }
+    ensures room { NeedsRoom 3 (fault_in result) (V.room store.old) (V.room store.new) }
     ensures device { IsCounted (fault_in result) (V.failures store.old) (V.failures store.new) }
     ensures honesty { IsHonest (fault_in result) (V.honest store.old) (V.honest store.new) }
 {
@@ -103,6 +104,7 @@ fn put_item<V: Versions>(
         (V.lists store.new) }
     ensures err { OnErr result (shelf.new ≡ shelf.old) }
     ensures err_lists { OnErr result (V.lists store.new ≡ V.lists store.old) }
+    ensures room { NeedsRoom 3 (fault_in result) (V.room store.old) (V.room store.new) }
     ensures device { IsCounted (fault_in result) (V.failures store.old) (V.failures store.new) }
     ensures honesty { IsHonest (fault_in result) (V.honest store.old) (V.honest store.new) }
 {

@@ -1,7 +1,7 @@
 //! Parts of a list that is too long for one answer (OAI-PMH 2.0, section 3.5).
 ghost use Rattle.std.specs.Prelude.{◌≡◌, ◌≤◌, ◌<◌, ◌+◌, length, take, drop, IfOk, IsSome, IsTrue};
 ghost use Rattle.oai_item.specs.Selection.{selected};
-ghost use Rattle.oai_catalogue.specs.Store.{IsCounted, IsHonest, list_at};
+ghost use Rattle.oai_catalogue.specs.Store.{IsCounted, IsHonest, NeedsRoom, list_at};
 ghost use Rattle.oai_time.specs.Stamp.{IsWritable};
 ghost use Rattle.oai_answers.specs.Borrowed.{attributes_of};
 ghost use Rattle.oai_repo.specs.Found.{page_said};
@@ -48,6 +48,7 @@ pub(crate) fn read_part<V: Versions>(
         ≡ take chunk (drop part.cursor (selected filter.now
         (list_at (V.lists store.old) version)))) }
     ensures same { V.lists store.new ≡ V.lists store.old }
+    ensures room { NeedsRoom 0 result (V.room store.old) (V.room store.new) }
     ensures device { IsCounted result (V.failures store.old) (V.failures store.new) }
     ensures honesty { IsHonest result (V.honest store.old) (V.honest store.new) }
 {

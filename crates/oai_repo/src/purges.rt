@@ -1,5 +1,5 @@
 //! Forgetting deleted items.
-ghost use Rattle.std.specs.Prelude.{◌≡◌, ◌+◌, ◌++◌, ◌-ℤ◌, pos, neg_ℤ, int_le, nat_lt, ◌≤◌, if◌then◌else◌, ℕ, None, true, codes, filter, length, take, IfErr, IfOk, IfSome, IsSome, IsTrue, OnErr, OnOk};
+ghost use Rattle.std.specs.Prelude.{◌≡◌, ◌+◌, ◌++◌, ◌-ℤ◌, pos, neg_ℤ, int_le, nat_lt, ◌≤◌, if◌then◌else◌, ℕ, None, true, codes, drop, filter, length, take, IfErr, IfOk, IfSome, IsSome, IsTrue, OnErr, OnOk};
 ghost use Rattle.std.specs.List.{list_all};
 ghost use Rattle.oai_names.specs.Names.{may_be_prefix};
 ghost use Rattle.oai_time.specs.Bound.{IsWritableBound};
@@ -7,7 +7,7 @@ ghost use Rattle.oai_time.specs.Stamp.{IsWritable};
 ghost use Rattle.oai_item.specs.declared.faults.Fault.TheVariants as fault;
 ghost use Rattle.oai_item.specs.Selection.{selected};
 ghost use Rattle.oai_answers.specs.declared.identify.DeletedRecord.TheVariants as policy;
-ghost use Rattle.oai_catalogue.specs.Store.{IsCounted, IsHonest, list_at};
+ghost use Rattle.oai_catalogue.specs.Store.{IsCounted, IsHonest, NeedsRoom, list_at};
 ghost use Rattle.oai_repo.specs.Calls.{fault_in};
 ghost use Rattle.oai_repo.specs.Changes as spec;
 ghost use Rattle.oai_repo.specs.Held.{AreNoted, is_dated, items_on};
@@ -56,6 +56,7 @@ pub(crate) fn purge<V: Versions>(
         (V.lists store.new) }
     ensures err { OnErr result (shelf.new ≡ shelf.old) }
     ensures err_lists { OnErr result (V.lists store.new ≡ V.lists store.old) }
+    ensures room { NeedsRoom (length shelf.old.notes + 1) (fault_in result) (V.room store.old) (V.room store.new) }
     ensures device { IsCounted (fault_in result) (V.failures store.old) (V.failures store.new) }
     ensures honesty { IsHonest (fault_in result) (V.honest store.old) (V.honest store.new) }
 {
@@ -116,7 +117,9 @@ pub(crate) fn deleted_below<V: Versions>(
     requires limit { IsWritable limit }
     ensures deleted { IfOk result (λ gone. IsTrue (V.honest store.old) → gone.items
         ≡ filter is_deleted (take most (selected (below limit) (list_at (V.lists store.old) v)))) }
+    ensures few { IfOk result (λ gone. length gone.items ≤ most) }
     ensures same { V.lists store.new ≡ V.lists store.old }
+    ensures room { NeedsRoom 0 result (V.room store.old) (V.room store.new) }
     ensures device { IsCounted result (V.failures store.old) (V.failures store.new) }
     ensures honesty { IsHonest result (V.honest store.old) (V.honest store.new) }
 {
@@ -125,12 +128,37 @@ pub(crate) fn deleted_below<V: Versions>(
     let mut start = 0;
     while start < most {
         let some = PART.min(most - start);
-        let part = store.part(v, &asked, start, some)?;
+        let part = read_some(store, v, &asked, start, some)?;
         let next = after_part(start, some, part.as_slice(), most);
         add_deleted(&mut gone, part)?;
         start = next;
     }
     Ok(gone)
+}
+
+/// Of the items that are asked for, in their order, those after the first `skip`, at most `most` of
+/// them. Any fault but `TooManyPages` may come, and `Damaged` where the store gives more.
+fn read_some<V: Versions>(
+    store: &mut V,
+    v: u64,
+    asked: &Filter,
+    skip: usize,
+    most: usize,
+) -> Result<Sequence<Item>, Fault>
+    requires { IsSome (V.lists store.old v) }
+    ensures part { IfOk result (λ items. IsTrue (V.honest store.old) → items
+        ≡ take most (drop skip (selected asked.now (list_at (V.lists store.old) v)))) }
+    ensures few { IfOk result (λ items. length items ≤ most) }
+    ensures same { V.lists store.new ≡ V.lists store.old }
+    ensures room { NeedsRoom 0 result (V.room store.old) (V.room store.new) }
+    ensures device { IsCounted result (V.failures store.old) (V.failures store.new) }
+    ensures honesty { IsHonest result (V.honest store.old) (V.honest store.new) }
+{
+    let items = store.part(v, asked, skip, most)?;
+    if most < items.as_slice().len() {
+        return Err(Fault::Damaged);
+    }
+    Ok(items)
 }
 
 /// How many of `most` items are read where the part came to a question for `some` of them behind the

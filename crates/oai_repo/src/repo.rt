@@ -1,7 +1,9 @@
-ghost use Rattle.std.specs.Prelude.{◌≡◌, ◌≤◌, ◌≤ℤ◌, true, IfOk, IsTrue, OnErr, OnOk};
+ghost use Rattle.std.specs.Prelude.{◌≡◌, ◌≤◌, ◌≤ℤ◌, true, length, IfOk, IsTrue, OnErr, OnOk};
 ghost use Rattle.oai_time.specs.Stamp.{IsWritable};
-ghost use Rattle.oai_catalogue.specs.Store.{IsCounted, IsHonest};
-ghost use Rattle.oai_repo.specs.Calls.{IsAsked, IsChanged, IsLeft, OnRefused, fault_in};
+ghost use Rattle.oai_args.specs.Pairs.{decoded_pairs};
+ghost use Rattle.oai_args.specs.Requests.{request_of};
+ghost use Rattle.oai_catalogue.specs.Store.{IsCounted, IsHonest, NeedsRoom};
+ghost use Rattle.oai_repo.specs.Calls.{IsAsked, IsChanged, IsLeft, OnRefused, fault_in, room_to_ask, room_to_change};
 ghost use Rattle.oai_settings.specs.Config.{is_in_years};
 ghost use Rattle.oai_repo.specs.Held.{HoldsOpenLists, IsHeld, IsNew, KeepsOthers, StandsIn, holdings_of, numbers_of, state_of};
 ghost use Rattle.oai_repo.specs.State.{at_clock, moved};
@@ -64,6 +66,7 @@ impl Repo {
         ensures new { IfOk result (λ repo. IsNew config (V.lists store.old) repo
             (V.lists store.new)) }
         ensures err { OnErr result (V.lists store.new ≡ V.lists store.old) }
+        ensures room { NeedsRoom 1 result (V.room store.old) (V.room store.new) }
         ensures device { IsCounted result (V.failures store.old) (V.failures store.new) }
         ensures honesty { IsHonest result (V.honest store.old) (V.honest store.new) }
     {
@@ -82,7 +85,8 @@ impl Repo {
 
     /// Performs a request of OAI-PMH, by the bytes of its query, at the moment, in seconds from 1970
     /// on: it moves the clock and answers a document, or says how long to wait. After a fault everything
-    /// is as it was, the clock and the store's lists included. Any fault may come.
+    /// is as it was, the clock and the store's lists included. Any fault may come, and `TooManyPages`
+    /// only where the request may begin a list.
     ///
     /// A request for one item costs one search of the store. The first part of a list costs what the
     /// store needs to count what is selected, to read the part and to freeze a version; each further part
@@ -107,6 +111,9 @@ impl Repo {
         ensures held { IsTrue (V.honest store.old) → IsHeld self.new (V.lists store.new) }
         ensures others { KeepsOthers (numbers_of self.old) (V.lists store.old) (numbers_of self.new)
             (V.lists store.new) }
+        ensures room { NeedsRoom (room_to_ask
+            (request_of self.old.config.granularity (decoded_pairs query.now))) result
+            (V.room store.old) (V.room store.new) }
         ensures device { IsCounted result (V.failures store.old) (V.failures store.new) }
         ensures honesty { IsHonest result (V.honest store.old) (V.honest store.new) }
     {
@@ -125,7 +132,8 @@ impl Repo {
 
     /// Makes a change at the moment, in seconds from 1970 on, and answers its datestamp. A change that
     /// is refused has moved the clock and nothing else. After a fault everything is as it was, the clock
-    /// and the store's lists included. Any fault may come.
+    /// and the store's lists included. Any fault may come, and `TooManyPages` only where the store may
+    /// lack room for a few calls, or for a purge for one call more than there are items.
     ///
     /// It looks at no item but the one that it is about. A new item, or a new state at the same
     /// datestamp, is put into the version that stands; any other new state is made in a frozen version,
@@ -151,6 +159,8 @@ impl Repo {
         ensures held { IsTrue (V.honest store.old) → IsHeld self.new (V.lists store.new) }
         ensures others { KeepsOthers (numbers_of self.old) (V.lists store.old) (numbers_of self.new)
             (V.lists store.new) }
+        ensures room { NeedsRoom (room_to_change (length self.old.shelf.notes) change.now)
+            (fault_in result) (V.room store.old) (V.room store.new) }
         ensures device { IsCounted (fault_in result) (V.failures store.old) (V.failures store.new) }
         ensures honesty { IsHonest (fault_in result) (V.honest store.old) (V.honest store.new) }
     {
@@ -192,6 +202,7 @@ impl Repo {
         ensures held { IsTrue (V.honest store.old) → IsHeld self.new (V.lists store.new) }
         ensures others { KeepsOthers (numbers_of self.old) (V.lists store.old) (numbers_of self.new)
             (V.lists store.new) }
+        ensures room { V.room store.old ≤ V.room store.new }
         ensures count { V.failures store.old ≤ V.failures store.new }
         ensures honesty { V.honest store.new ≡ V.honest store.old }
     {
@@ -215,6 +226,7 @@ impl Repo {
         ensures held { IsTrue (V.honest store.old) → IsHeld self.new (V.lists store.new) }
         ensures others { KeepsOthers (numbers_of self.old) (V.lists store.old) (numbers_of self.new)
             (V.lists store.new) }
+        ensures room { V.room store.old ≤ V.room store.new }
         ensures count { V.failures store.old ≤ V.failures store.new }
         ensures honesty { V.honest store.new ≡ V.honest store.old }
     {

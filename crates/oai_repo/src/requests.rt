@@ -1,11 +1,13 @@
 //! Requests of OAI-PMH: what each is replied, and the lists that it leaves open.
 ghost use Rattle.std.specs.Prelude.{◌≡◌, ◌≤◌, true, IfOk, IsSome, IsTrue, OnErr};
 ghost use Rattle.oai_time.specs.Stamp.{IsWritable};
+ghost use Rattle.oai_args.specs.Asks.{asks};
 ghost use Rattle.oai_args.specs.Pairs.{decoded_pairs};
 ghost use Rattle.oai_args.specs.Requests.{request_of};
-ghost use Rattle.oai_catalogue.specs.Store.{IsCounted, IsHonest};
+ghost use Rattle.oai_catalogue.specs.Store.{IsCounted, IsHonest, NeedsRoom};
 ghost use Rattle.oai_answers.specs.Borrowed.{attributes_of};
 ghost use Rattle.oai_repo.specs.Answers.{arguments_of_ask, arguments_of_request, item_formats_answer, record_answer};
+ghost use Rattle.oai_repo.specs.Calls.{room_to_ask};
 ghost use Rattle.oai_settings.specs.Config.{is_in_years};
 ghost use Rattle.oai_repo.specs.Found.{IsFound, IsLeftFound, IsTold, item_in, numbers_in, page_said, said_to_ask, said_to_request};
 ghost use Rattle.oai_repo.specs.Held.{AreInUse, are_counted};
@@ -51,6 +53,9 @@ pub(crate) fn reply_at<V: Versions>(
         ≡ true }
     ensures err { OnErr result (lists.new ≡ lists.old) }
     ensures err_lists { OnErr result (V.lists store.new ≡ V.lists store.old) }
+    ensures room { NeedsRoom (room_to_ask
+        (request_of found.now.config.now.granularity (decoded_pairs query.now))) result
+        (V.room store.old) (V.room store.new) }
     ensures device { IsCounted result (V.failures store.old) (V.failures store.new) }
     ensures honesty { IsHonest result (V.honest store.old) (V.honest store.new) }
 {
@@ -91,6 +96,8 @@ fn reply_to<V: Versions>(
         ≡ true }
     ensures err { OnErr result (lists.new ≡ lists.old) }
     ensures err_lists { OnErr result (V.lists store.new ≡ V.lists store.old) }
+    ensures room { NeedsRoom (room_to_ask (asks ask.now)) result (V.room store.old)
+        (V.room store.new) }
     ensures device { IsCounted result (V.failures store.old) (V.failures store.new) }
     ensures honesty { IsHonest result (V.honest store.old) (V.honest store.new) }
 {
@@ -150,6 +157,7 @@ fn formats_reply<V: Versions>(
         (item_formats_answer found.now.config.now
         (item_in found.now (V.lists store.old) identifier.now))) }
     ensures same { V.lists store.new ≡ V.lists store.old }
+    ensures room { NeedsRoom 0 result (V.room store.old) (V.room store.new) }
     ensures device { IsCounted result (V.failures store.old) (V.failures store.new) }
     ensures honesty { IsHonest result (V.honest store.old) (V.honest store.new) }
 {
@@ -179,6 +187,7 @@ fn record_reply<V: Versions>(
         (record_answer found.now.config.now (item_in found.now (V.lists store.old)
         identifier.now) prefix.now)) }
     ensures same { V.lists store.new ≡ V.lists store.old }
+    ensures room { NeedsRoom 0 result (V.room store.old) (V.room store.new) }
     ensures device { IsCounted result (V.failures store.old) (V.failures store.new) }
     ensures honesty { IsHonest result (V.honest store.old) (V.honest store.new) }
 {

@@ -3,7 +3,7 @@ ghost use Rattle.std.specs.Prelude.{◌≡◌, ◌≤◌, ◌<◌, true, IfOk, I
 ghost use Rattle.std.specs.Option.{option_map};
 ghost use Rattle.oai_time.specs.Stamp.{IsWritable};
 ghost use Rattle.oai_answers.specs.Borrowed.{attributes_of};
-ghost use Rattle.oai_catalogue.specs.Store.{IsCounted, IsHonest};
+ghost use Rattle.oai_catalogue.specs.Store.{IsCounted, IsHonest, NeedsRoom};
 ghost use Rattle.oai_lists.specs.Tokens.{token_of};
 ghost use Rattle.oai_settings.specs.Config.{is_in_years};
 ghost use Rattle.oai_repo.specs.Found.{IsLeftFound, IsTold, numbers_in, page_said, said_to_token};
@@ -49,6 +49,7 @@ pub(crate) fn resume_reply<V: Versions>(
         ≡ true }
     ensures err { OnErr result (lists.new ≡ lists.old) }
     ensures err_lists { OnErr result (V.lists store.new ≡ V.lists store.old) }
+    ensures room { NeedsRoom 0 result (V.room store.old) (V.room store.new) }
     ensures device { IsCounted result (V.failures store.old) (V.failures store.new) }
     ensures honesty { IsHonest result (V.honest store.old) (V.honest store.new) }
 {
@@ -116,6 +117,7 @@ fn next_part<V: Versions>(
         (spec.part_from found.now.config.now (spec.prolonged found.now.config.now found.now.clock
         (frozen_in (V.lists store.old) list.now)) cursor))) }
     ensures same { V.lists store.new ≡ V.lists store.old }
+    ensures room { NeedsRoom 0 result (V.room store.old) (V.room store.new) }
     ensures device { IsCounted result (V.failures store.old) (V.failures store.new) }
     ensures honesty { IsHonest result (V.honest store.old) (V.honest store.new) }
 {

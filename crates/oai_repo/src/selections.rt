@@ -1,7 +1,7 @@
 //! Selective harvesting (OAI-PMH 2.0, section 2.7): the items that a list request selects.
 ghost use Rattle.std.specs.Prelude.{◌≡◌, ◌≤◌, ◌&&◌, is_some, IfOk, IsSome, IsTrue};
 ghost use Rattle.oai_args.specs.Bounds.{given_bound};
-ghost use Rattle.oai_catalogue.specs.Store.{IsCounted, IsHonest};
+ghost use Rattle.oai_catalogue.specs.Store.{IsCounted, IsHonest, NeedsRoom};
 ghost use Rattle.oai_repo.specs.Answers as spec;
 ghost use Rattle.oai_repo.specs.Listing.{has_no_sets};
 ghost use Rattle.oai_repo.specs.Found.{IsCut, IsFilter, IsFound, IsSelection, selected_on};
@@ -36,6 +36,7 @@ pub(crate) fn select<'a, V: Versions>(
     ensures selected { IfOk result (λ selected. IsTrue (V.honest store.old)
         → IsSelection found.now (V.lists store.old) request.now selected) }
     ensures same { V.lists store.new ≡ V.lists store.old }
+    ensures room { NeedsRoom 0 result (V.room store.old) (V.room store.new) }
     ensures device { IsCounted result (V.failures store.old) (V.failures store.new) }
     ensures honesty { IsHonest result (V.honest store.old) (V.honest store.new) }
 {
@@ -92,6 +93,7 @@ fn select_filtered<'a, V: Versions>(
         → IsCut found.now (V.lists store.old) format.now
         (selected_on found.now (V.lists store.old) filter) selected) }
     ensures same { V.lists store.new ≡ V.lists store.old }
+    ensures room { NeedsRoom 0 result (V.room store.old) (V.room store.new) }
     ensures device { IsCounted result (V.failures store.old) (V.failures store.new) }
     ensures honesty { IsHonest result (V.honest store.old) (V.honest store.new) }
 {

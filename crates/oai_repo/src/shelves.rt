@@ -9,7 +9,7 @@ ghost use Rattle.oai_item.specs.Encoding.{encoded};
 ghost use Rattle.oai_item.specs.Items.{item_named, without};
 ghost use Rattle.oai_item.specs.declared.faults.Fault.TheVariants as fault;
 ghost use Rattle.oai_item.specs.declared.sizes.TheConstants.{MOST_ITEM_BYTES};
-ghost use Rattle.oai_catalogue.specs.Store.{IsCounted, IsHonest, without_each};
+ghost use Rattle.oai_catalogue.specs.Store.{IsCounted, IsHonest, NeedsRoom, without_each};
 ghost use Rattle.oai_repo.specs.Changes.{purged, with_new};
 ghost use Rattle.oai_repo.specs.Held.{AreNoted, is_dated, items_on};
 ghost use Rattle.oai_repo.specs.Purges.{AreTaken, is_in_core};
@@ -101,6 +101,7 @@ impl Shelf {
         ensures there { IfOk result (λ item. IsSome (noted identifier.now self.now.notes)
             → IsSome item) }
         ensures same { V.lists store.new ≡ V.lists store.old }
+        ensures room { NeedsRoom 0 result (V.room store.old) (V.room store.new) }
         ensures device { IsCounted result (V.failures store.old) (V.failures store.new) }
         ensures honesty { IsHonest result (V.honest store.old) (V.honest store.new) }
     {
@@ -138,6 +139,7 @@ impl Shelf {
             (V.lists store.new) }
         ensures err { OnErr result (self.new ≡ self.old) }
         ensures err_lists { OnErr result (V.lists store.new ≡ V.lists store.old) }
+        ensures room { NeedsRoom 3 result (V.room store.old) (V.room store.new) }
         ensures device { IsCounted result (V.failures store.old) (V.failures store.new) }
         ensures honesty { IsHonest result (V.honest store.old) (V.honest store.new) }
     {
@@ -169,6 +171,7 @@ impl Shelf {
             (V.lists store.new) }
         ensures err { OnErr result (self.new ≡ self.old) }
         ensures err_lists { OnErr result (V.lists store.new ≡ V.lists store.old) }
+        ensures room { NeedsRoom 1 result (V.room store.old) (V.room store.new) }
         ensures device { IsCounted result (V.failures store.old) (V.failures store.new) }
         ensures honesty { IsHonest result (V.honest store.old) (V.honest store.new) }
     {
@@ -199,6 +202,7 @@ impl Shelf {
         ensures moved { IsMoved self.now.version (V.lists store.old) self.now.version
             (V.lists store.new) }
         ensures err_lists { OnErr result (V.lists store.new ≡ V.lists store.old) }
+        ensures room { NeedsRoom 1 result (V.room store.old) (V.room store.new) }
         ensures device { IsCounted result (V.failures store.old) (V.failures store.new) }
         ensures honesty { IsHonest result (V.honest store.old) (V.honest store.new) }
     {
@@ -229,6 +233,7 @@ impl Shelf {
             (V.lists store.new) }
         ensures err { OnErr result (self.new ≡ self.old) }
         ensures err_lists { OnErr result (V.lists store.new ≡ V.lists store.old) }
+        ensures room { NeedsRoom 3 result (V.room store.old) (V.room store.new) }
         ensures device { IsCounted result (V.failures store.old) (V.failures store.new) }
         ensures honesty { IsHonest result (V.honest store.old) (V.honest store.new) }
     {
@@ -264,6 +269,7 @@ impl Shelf {
             (V.lists store.new) }
         ensures err { OnErr result (self.new ≡ self.old) }
         ensures err_lists { OnErr result (V.lists store.new ≡ V.lists store.old) }
+        ensures room { NeedsRoom 1 result (V.room store.old) (V.room store.new) }
         ensures device { IsCounted result (V.failures store.old) (V.failures store.new) }
         ensures honesty { IsHonest result (V.honest store.old) (V.honest store.new) }
     {
@@ -298,6 +304,7 @@ impl Shelf {
             (V.lists store.new) }
         ensures err { OnErr result (self.new ≡ self.old) }
         ensures err_lists { OnErr result (V.lists store.new ≡ V.lists store.old) }
+        ensures room { NeedsRoom (length self.old.notes + 1) result (V.room store.old) (V.room store.new) }
         ensures device { IsCounted result (V.failures store.old) (V.failures store.new) }
         ensures honesty { IsHonest result (V.honest store.old) (V.honest store.new) }
     {

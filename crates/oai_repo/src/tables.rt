@@ -18,6 +18,7 @@ pub(crate) fn drop_ended<V: Versions>(lists: &mut Lists, store: &mut V, now: i64
     ensures table { lists.new ≡ record lists.old { lists = open_ones now lists.old.lists } }
     ensures released { V.lists store.new
         ≡ without_lists (versions_ended now lists.old) (V.lists store.old) }
+    ensures room { V.room store.old ≤ V.room store.new }
     ensures count { V.failures store.old ≤ V.failures store.new }
     ensures honesty { V.honest store.new ≡ V.honest store.old }
 {
@@ -37,6 +38,7 @@ pub(crate) fn seconds_to_end<V: Versions>(lists: &mut Lists, store: &mut V, now:
     ensures table { lists.new ≡ record lists.old { lists = open_ones now lists.old.lists } }
     ensures released { V.lists store.new
         ≡ without_lists (versions_ended now lists.old) (V.lists store.old) }
+    ensures room { V.room store.old ≤ V.room store.new }
     ensures count { V.failures store.old ≤ V.failures store.new }
     ensures honesty { V.honest store.new ≡ V.honest store.old }
 {

@@ -23,7 +23,7 @@ impl<V: Versions + Drop> Versions for LyingVersions<V> {
 
     ghost honest = { λ s. false };
 
-    ghost is_full = { λ s. V.is_full s.inner };
+    ghost room = { λ s. V.room s.inner };
 
     fn fresh(&mut self) -> Result<u64, Fault> {
         self.inner.fresh()

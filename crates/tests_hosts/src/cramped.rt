@@ -30,7 +30,7 @@ impl<V: Versions + Drop> Versions for CrampedVersions<V> {
 
     ghost honest = { λ s. V.honest s.inner };
 
-    ghost is_full = { λ s. Unit {0} };
+    ghost room = { λ s. 0 };
 
     fn fresh(&mut self) -> Result<u64, Fault> {
         self.turn()?;

@@ -6,7 +6,7 @@ use Rattle.oai_item.specs.Item.{ItemState}
 use Rattle.oai_item.specs.Selection.{Filter, selected}
 use Rattle.oai_catalogue.specs.Store.{list_at}
 use Rattle.oai_repo.specs.Purges.{below, is_deleted}
-use Rattle.oai_repo.proofs.PurgeLemmas.{read_on}
+use Rattle.oai_repo.proofs.PurgeLemmas.{few_more, read_on}
 use Rattle.oai_repo.proofs.purges.deleted_below.Goals as goal
 
 pub loop-start-preserved : goal.loop-start-preserved
@@ -34,8 +34,11 @@ loop-start-preserved g c = record {
       ∙ ap (λ (xs : List ItemState). filter is_deleted (take at.start (selected (below c.args.limit) items)) ++ filter is_deleted xs) part
       ∙ read_on at.start some c.args.most (selected (below c.args.limit) items) within
       ∙ ap (λ (n : ℕ). filter is_deleted (take n (selected (below c.args.limit) items))) (sym next));
+  few = rw c.in_ok-add_deleted.ensures
+      (few_more c.loop-start.gone.items c.in_ok-part.part c.loop-start.start c.min-some.result c.after_part-next.result c.loop-start.invariant.few c.in_ok-part.ensures.few c.after_part-next.ensures.further);
   within = c.after_part-next.ensures.within;
   same = c.in_ok-part.ensures.same ∙ c.loop-start.invariant.same;
+  room = let used = c.in_ok-part.ensures.room.used in omega (arith, used, c.loop-start.invariant.room);
   count = let more = c.in_ok-part.ensures.device.count in omega (arith, c.loop-start.invariant.count);
   honesty = c.in_ok-part.ensures.honesty.same ∙ c.loop-start.invariant.honesty;
 }

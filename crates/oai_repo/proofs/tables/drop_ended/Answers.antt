@@ -25,6 +25,7 @@ loop-version-preserved g c =
     record {
       dropping = rw (c.expire.ensures.left, c.release.ensures.ok)
           (simp to_z-of_z (turn_next c.args.now c.args.lists.now c.loop-version.lists (V.lists c.args.store.now) (V.lists c.loop-version.store) c.in-Some.version so_far first));
+      room = omega (arith, c.loop-version.invariant.room, c.release.ensures.room);
       count = omega (arith, c.loop-version.invariant.count, c.release.ensures.count);
       honesty = c.release.ensures.honesty ∙ c.loop-version.invariant.honesty;
     }

@@ -8,6 +8,7 @@ invariant-loop-version g l =
     let V = g.V.Versions in
     record {
       dropping : IsDropping l.now l.initial.lists (V.lists l.initial.store) l.lists (V.lists l.store);
+      room : V.room l.initial.store ≤ V.room l.store;
       count : V.failures l.initial.store ≤ V.failures l.store;
       honesty : V.honest l.store ≡ V.honest l.initial.store;
     }
