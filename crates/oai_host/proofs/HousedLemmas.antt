@@ -112,7 +112,7 @@ held_at [] i one lists there held = nothing_there one there
 held_at (x ∷ housed) zero one lists there held = subst (λ (y : Housed). IsHeld y.repo lists) (same_one x one there) held.0
 held_at (x ∷ housed) (suc i) one lists there held = held_at housed i one lists there held.1
 
-unused_at : (name : List ℕ) (housed : List Housed) (i : ℕ) (one : Housed) → slice_get housed i ≡ Some one → list_any (bytes_eq name) (housed_names housed) ≡ false → bytes_eq name one.name ≡ false
+pub unused_at : (name : List ℕ) (housed : List Housed) (i : ℕ) (one : Housed) → slice_get housed i ≡ Some one → list_any (bytes_eq name) (housed_names housed) ≡ false → bytes_eq name one.name ≡ false
 unused_at name [] i one there unused = nothing_there one there
 unused_at name (x ∷ housed) zero one there unused =
     subst (λ (y : Housed). bytes_eq name y.name ≡ false) (same_one x one there) (or_parts (bytes_eq name x.name) (list_any (bytes_eq name) (housed_names housed)) unused).0

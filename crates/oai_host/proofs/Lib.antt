@@ -16,3 +16,4 @@ pub mod HostLemmas
 pub mod RunLemmas
 pub mod DepositLemmas
 pub mod LineLemmas
+pub mod RoomLemmas

@@ -21,11 +21,13 @@ pub record Repository : Type 0 where
 abbrev pub begun : Hosted → Repository
 begun hosted = record { name = hosted.name; config = hosted.config; state = empty_state hosted.config }
 
--- a host: its repositories, whether the device of its store gives back what was written to it, and how often that has failed
+-- a host: its repositories, whether the device of its store gives back what was written to it, how often that has failed, and how many calls
+-- of the store are sure to find room
 pub record Hosting : Type 0 where
   pub repositories : List Repository
   pub honest : Bool
   pub failures : ℕ
+  pub room : ℕ
 
 -- ---- one exchange
 

@@ -15,6 +15,7 @@ pub mod Faults
 pub mod Tasks
 pub mod Alone
 pub mod Hosts
+pub mod Room
 pub mod Rows
 pub mod Housed
 pub mod Props

@@ -3,13 +3,14 @@ ghost use Rattle.std.specs.Prelude.{◌≡◌, ◌≤◌, ◌+◌, ◌++◌, [],
 ghost use Rattle.oai_time.specs.Stamp.{IsWritable};
 ghost use Rattle.oai_time.specs.TimeTexts.{datestamp_text};
 ghost use Rattle.oai_deposit.specs.Lines.{line_of};
-ghost use Rattle.oai_catalogue.specs.Store.{IsCounted, IsHonest};
+ghost use Rattle.oai_catalogue.specs.Store.{IsCounted, IsHonest, NeedsRoom};
 ghost use Rattle.oai_repo.specs.Held.{IsHeld, StandsIn, state_of};
 ghost use Rattle.oai_repo.specs.Machine.{line};
 ghost use Rattle.oai_host.specs.Alone.{IsTried};
 ghost use Rattle.oai_host.specs.Answers.{AnswersLines, OnFailed, failure_in};
 ghost use Rattle.oai_host.specs.Bodies.{lines_in};
 ghost use Rattle.oai_host.specs.Housed.{IsKept};
+ghost use Rattle.oai_host.specs.Room.{room_for_line, room_for_task};
 ghost use Rattle.oai_host.specs.Tasks.{depositing};
 ghost use Rattle.oai_host.specs.Workings.{HasMoreLines, IsLineDone};
 
@@ -46,6 +47,8 @@ pub(crate) fn perform_lines<V: Versions>(
         × (V.lists store.new ≡ V.lists store.old)) }
     ensures kept { IsKept (V.honest store.old) repo.old (V.lists store.old) repo.new
         (V.lists store.new) }
+    ensures room { IsTrue (V.honest store.old) → NeedsRoom (room_for_task repo.old.config
+        (depositing (lines_in body.now))) (failure_in result) (V.room store.old) (V.room store.new) }
     ensures device { IsCounted (failure_in result) (V.failures store.old) (V.failures store.new) }
     ensures honesty { IsHonest (failure_in result) (V.honest store.old) (V.honest store.new) }
 {
@@ -81,6 +84,8 @@ fn perform_line<V: Versions>(
     ensures err_lists { OnErr result (V.lists store.new ≡ V.lists store.old) }
     ensures kept { IsKept (V.honest store.old) repo.old (V.lists store.old) repo.new
         (V.lists store.new) }
+    ensures room { IsTrue (V.honest store.old) → NeedsRoom (room_for_line repo.old.config)
+        result (V.room store.old) (V.room store.new) }
     ensures device { IsCounted result (V.failures store.old) (V.failures store.new) }
     ensures honesty { IsHonest result (V.honest store.old) (V.honest store.new) }
 {
@@ -115,6 +120,8 @@ fn perform_change<V: Versions>(
     ensures err_lists { OnErr result (V.lists store.new ≡ V.lists store.old) }
     ensures kept { IsKept (V.honest store.old) repo.old (V.lists store.old) repo.new
         (V.lists store.new) }
+    ensures room { IsTrue (V.honest store.old) → NeedsRoom (room_for_line repo.old.config)
+        result (V.room store.old) (V.room store.new) }
     ensures device { IsCounted result (V.failures store.old) (V.failures store.new) }
     ensures honesty { IsHonest result (V.honest store.old) (V.honest store.new) }
 {
@@ -144,6 +151,7 @@ fn refuse_line<V: Versions>(
     ensures line { HasMoreLines told.old.items told.new.items }
     ensures kept { IsKept (V.honest store.old) repo.old (V.lists store.old) repo.new
         (V.lists store.new) }
+    ensures room { V.room store.old ≤ V.room store.new }
     ensures count { V.failures store.old ≤ V.failures store.new }
     ensures honesty { V.honest store.new ≡ V.honest store.old }
 {

@@ -9,6 +9,7 @@ ghost use Rattle.oai_host.specs.Faults.{HasCause};
 ghost use Rattle.oai_host.specs.Hosts.{AreAnswered, AreAsAlone, IsAnswered, LeavesOthers, begun, is_of_none, none_failed, refused};
 ghost use Rattle.oai_host.specs.Housed.{AreHoused, housed_names};
 ghost use Rattle.oai_host.specs.Props.{housed_props};
+ghost use Rattle.oai_host.specs.Room.{FindsRoom};
 ghost use Rattle.oai_host.specs.Targets as spec;
 ghost use Rattle.oai_host.specs.Tasks.{call_of, task_of};
 ghost use Rattle.oai_host.specs.declared.statuses.Status.TheVariants as status;
@@ -49,6 +50,7 @@ impl<V: Versions + Drop> Model for Host<V> {
       repositories = repositories_of h.repositories (V.lists h.store);
       honest = V.honest h.store;
       failures = V.failures h.store;
+      room = V.room h.store;
     } };
 }
 
@@ -89,6 +91,8 @@ impl<V: Versions + Drop> Host<V> {
             → result ≡ refused (call_of moment exchange.now) }
         ensures lines { AnswersLines (task_of (call_of moment exchange.now)) result }
         ensures left { OnFailed result (self.new.repositories ≡ self.old.repositories) }
+        ensures room { IsTrue self.old.honest → FindsRoom (call_of moment exchange.now) result
+            self.old.repositories self.old.room self.new.room }
         ensures device { IsCounted (failure_in result) self.old.failures self.new.failures }
         ensures honesty { IsHonest (failure_in result) self.old.honest self.new.honest }
     {

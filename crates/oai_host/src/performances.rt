@@ -1,10 +1,11 @@
 //! What exchanges ask of a repository, performed.
 ghost use Rattle.std.specs.Prelude.{◌≡◌, IsTrue};
-ghost use Rattle.oai_catalogue.specs.Store.{IsCounted, IsHonest};
+ghost use Rattle.oai_catalogue.specs.Store.{IsCounted, IsHonest, NeedsRoom};
 ghost use Rattle.oai_repo.specs.Held.{IsHeld, StandsIn, state_of};
 ghost use Rattle.oai_host.specs.Alone.{IsTried};
 ghost use Rattle.oai_host.specs.Answers.{AnswersLines, OnFailed, failure_in};
 ghost use Rattle.oai_host.specs.Housed.{IsKept};
+ghost use Rattle.oai_host.specs.Room.{room_for_task};
 ghost use Rattle.oai_host.specs.Tasks.{call_of, task_in};
 
 use crate::deposits::perform_lines;
@@ -35,6 +36,9 @@ pub(crate) fn perform<V: Versions>(
         × (V.lists store.new ≡ V.lists store.old)) }
     ensures kept { IsKept (V.honest store.old) repo.old (V.lists store.old) repo.new
         (V.lists store.new) }
+    ensures room { IsTrue (V.honest store.old) → NeedsRoom (room_for_task repo.old.config
+        (task_in kind (call_of moment exchange.now))) (failure_in result) (V.room store.old)
+        (V.room store.new) }
     ensures device { IsCounted (failure_in result) (V.failures store.old) (V.failures store.new) }
     ensures honesty { IsHonest (failure_in result) (V.honest store.old) (V.honest store.new) }
 {

@@ -6,6 +6,7 @@ ghost use Rattle.oai_catalogue.specs.Store.{IsCounted, IsHonest};
 ghost use Rattle.oai_host.specs.Answers.{AnswersLines, OnFailed, failure_in};
 ghost use Rattle.oai_host.specs.Hosts.{IsStep, LeavesOthers, begun};
 ghost use Rattle.oai_host.specs.Housed.{AreHoused, housed_names, place_in, repositories_of};
+ghost use Rattle.oai_host.specs.Room.{FindsRoom};
 ghost use Rattle.oai_settings.specs.Config.{is_repository_name};
 ghost use Rattle.oai_host.specs.Targets.{front_of, path_of};
 ghost use Rattle.oai_host.specs.Tasks.{call_of, task_in};
@@ -119,6 +120,8 @@ impl Repositories {
         ensures left { OnFailed result ((self.new ≡ self.old)
             × (V.lists store.new ≡ V.lists store.old)) }
         ensures housed { AreHoused (V.honest store.new) self.new (V.lists store.new) }
+        ensures room { IsTrue (V.honest store.old) → FindsRoom (call_of moment exchange.now) result
+            (repositories_of self.old (V.lists store.old)) (V.room store.old) (V.room store.new) }
         ensures device { IsCounted (failure_in result) (V.failures store.old) (V.failures store.new) }
         ensures honesty { IsHonest (failure_in result) (V.honest store.old) (V.honest store.new) }
     {

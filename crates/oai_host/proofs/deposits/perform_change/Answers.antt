@@ -7,6 +7,7 @@ use Rattle.oai_settings.specs.Config.{Config}
 use Rattle.oai_repo.specs.Machine.{accepted, refused, written}
 use Rattle.oai_repo.specs.declared.refusals.Refusal.TheVariants as refusal
 use Rattle.oai_host.proofs.DepositLemmas.{line_more, told_line}
+use Rattle.oai_host.proofs.RoomLemmas.{room_less, room_of_change}
 use Rattle.oai_host.proofs.deposits.perform_change.Goals as goal
 
 pub returns-in-Ok-clause-ok : goal.returns-in-Ok-clause-ok
@@ -40,3 +41,20 @@ returns-in-Ok-clause-line g c =
 
 pub returns-in-Err-Refused-clause-line : goal.returns-in-Err-Refused-clause-line
 returns-in-Err-Refused-clause-line g c = line_more c.args.told.now.items c.answer.result.now c.put_line.new.out.items c.put_line.ensures
+
+pub returns-in-Ok-clause-room : goal.returns-in-Ok-clause-room
+returns-in-Ok-clause-room g c = λ honest.
+    let need = rw c.in-Ok.is at c.change.ensures.room in
+    room_less _ _ _ _ _ (room_of_change c.args.repo.now (g.V.Versions.lists c.args.store.now) c.args.change.now (c.requires.held honest)) need
+
+pub returns-in-Err-Refused-clause-room : goal.returns-in-Err-Refused-clause-room
+returns-in-Err-Refused-clause-room g c = λ honest.
+    let cause : c.change.result ≡ Err (refusal.Refused c.in-Err-Refused.cause) = c.in-Err-Refused.is ∙ ap (λ r. Err r) c.in-Err-Refused.field-0-is in
+    let need = rw cause at c.change.ensures.room in
+    room_less _ _ _ _ _ (room_of_change c.args.repo.now (g.V.Versions.lists c.args.store.now) c.args.change.now (c.requires.held honest)) need
+
+pub returns-in-Err-Fault-clause-room : goal.returns-in-Err-Fault-clause-room
+returns-in-Err-Fault-clause-room g c = λ honest.
+    let cause : c.change.result ≡ Err (refusal.Fault c.in-Err-Fault.fault) = c.in-Err-Fault.is ∙ ap (λ r. Err r) c.in-Err-Fault.field-0-is in
+    let need = rw cause at c.change.ensures.room in
+    room_less _ _ _ _ _ (room_of_change c.args.repo.now (g.V.Versions.lists c.args.store.now) c.args.change.now (c.requires.held honest)) need

@@ -1,6 +1,7 @@
-use Rattle.std.proofs.Common.{◌≡◌, ◌≤◌, ◌+◌, length}
+use Rattle.std.proofs.Common.{◌≡◌, ◌≤◌, ◌+◌, length, ◌*◌, IsTrue}
 use Rattle.std.specs.List.{count_by}
 use Rattle.oai_host.specs.Bodies.{is_line_end, lines_in}
+use Rattle.oai_host.specs.Room.{room_for_line}
 use Rattle.oai_host.proofs.DepositLemmas.{AreDone}
 use Rattle.oai_host.proofs.deposits.perform_lines.Given as goal
 
@@ -11,6 +12,7 @@ invariant-loop-text g l =
     record {
       lines : AreDone (V.honest l.initial.store) l.initial.repo (V.lists l.initial.store) l.moment (lines_in l.body) l.lines l.told.items l.done l.repo (V.lists l.store);
       each : length (lines_in l.body) ≤ length l.lines + count_by is_line_end l.told.items;
+      room : IsTrue (V.honest l.initial.store) → V.room l.initial.store ≤ V.room l.store + l.done * room_for_line l.initial.repo.config;
       count : V.failures l.initial.store ≤ V.failures l.store;
       honesty : V.honest l.store ≡ V.honest l.initial.store;
     }

@@ -6,6 +6,7 @@ use Rattle.oai_host.specs.Housed.{AreHoused, repositories_of}
 use Rattle.oai_host.specs.Props.{housed_props}
 use Rattle.oai_host.specs.Answers.{AnswersLines}
 use Rattle.oai_host.specs.Tasks.{call_of, task_in, task_of}
+use Rattle.oai_host.specs.Room.{FindsRoom}
 use Rattle.oai_host.specs.declared.housed.Housed.{Housed}
 use Rattle.oai_host.specs.declared.routes.Kind.{Kind}
 use Rattle.oai_catalogue.specs.Store.{Lists}
@@ -14,6 +15,7 @@ use Rattle.oai_host.proofs.FaultLemmas.{left_then}
 use Rattle.oai_host.proofs.HostLemmas.{answered_nowhere, answered_there, none_there}
 use Rattle.oai_host.proofs.HousedLemmas.{others_same}
 use Rattle.oai_host.proofs.PlaceLemmas.{kind_is}
+use Rattle.oai_host.proofs.RoomLemmas.{room_nowhere}
 use Rattle.oai_host.proofs.hosts.Host.exchange.Goals as goal
 
 -- that repositories stand apart is one fact, so a host that has not changed is the one that it was
@@ -46,6 +48,23 @@ returns-in-None-clause-answered g c = λ honest.
     let answer = rw c.status_of.ensures at c.of_status.ensures in
     subst (λ (rs : List Repository). IsAnswered (call_of c.args.moment c.args.exchange.now) c.of_status.result rs rs) before
     (answered_nowhere host.repositories (V.lists host.store) (call_of c.args.moment c.args.exchange.now) c.of_status.result c.in-None.ensures.nowhere answer)
+
+pub returns-in-Some-clause-room : goal.returns-in-Some-clause-room
+returns-in-Some-clause-room g c = λ honest.
+    let V = g.V.Versions in
+    let fits : FitsSigned w64 c.args.moment = c.ranges.moment in
+    let host = c.self.inside in
+    let call = call_of c.args.moment c.args.exchange.now in
+    let then_so : IsTrue (V.honest host.store) = subst (λ (b : Bool). IsTrue b) (sym (ap (λ (h : Hosting). h.honest) c.self.view_is)) honest in
+    subst (λ (h : Hosting). FindsRoom call c.perform.result h.repositories h.room (V.room c.perform.new.store)) c.self.view_is (simp to_z-of_z at (c.perform.ensures.room then_so))
+
+pub returns-in-None-clause-room : goal.returns-in-None-clause-room
+returns-in-None-clause-room g c = λ honest.
+    let V = g.V.Versions in
+    let host = c.self.inside in
+    let call = call_of c.args.moment c.args.exchange.now in
+    subst (λ (h : Hosting). FindsRoom call c.of_status.result h.repositories h.room h.room) c.self.view_is
+    (room_nowhere call c.of_status.result (V.lists host.store) (V.room host.store) (V.room host.store) host.repositories c.in-None.ensures.nowhere)
 
 -- ---- over every store
 

@@ -5,6 +5,7 @@ use Rattle.std.proofs.lemmas.Option.{get_or_from_slice_get}
 use Rattle.oai_host.specs.Tasks.{call_of}
 use Rattle.oai_host.proofs.HousedLemmas.{held_at, housed_set, left_set, others_set, stands_at, steps_set}
 use Rattle.oai_host.proofs.PlaceLemmas.{names_set}
+use Rattle.oai_host.proofs.RoomLemmas.{room_set}
 use Rattle.oai_host.proofs.repositories.Repositories.perform.Goals as goal
 
 pub perform-requires-clause-stands : goal.perform-requires-clause-stands
@@ -75,3 +76,16 @@ returns-clause-left g c =
     let one : c.index_mut.result.now ≡ p.one = c.index_mut.ensures.value ∙ get_or_from_slice_get inside c.args.place p.one c.index_mut.result.now there in
     let left = rw one at c.perform.ensures.left in
     rw (← c.self.view_is, one) (left_set c.perform.result inside c.args.place p.one c.perform.new.repo (V.lists c.args.store.now) (V.lists c.perform.new.store) there left)
+
+pub returns-clause-room : goal.returns-clause-room
+returns-clause-room g c = λ honest.
+    let V = g.V.Versions in
+    let fits : FitsSigned w64 c.args.moment = c.ranges.moment in
+    let p = c.requires.place in
+    let inside = c.self.inside.housed.items in
+    let there = rw (← c.self.view_is) at p.there in
+    let one : c.index_mut.result.now ≡ p.one = c.index_mut.ensures.value ∙ get_or_from_slice_get inside c.args.place p.one c.index_mut.result.now there in
+    let housed = rw (← c.self.view_is) at c.requires.housed in
+    let need = rw one at (simp to_z-of_z at (c.perform.ensures.room honest)) in
+    rw (← c.self.view_is)
+    (room_set (call_of c.args.moment c.args.exchange.now) c.perform.result (V.lists c.args.store.now) (V.room c.args.store.now) (V.room c.perform.new.store) c.args.kind inside c.args.place p.one there housed.named.distinct p.path need)

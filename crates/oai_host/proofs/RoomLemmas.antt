@@ -1,0 +1,125 @@
+-- Room: what a line, the lines of a deposit and an exchange with one of many repositories need.
+use Rattle.std.proofs.Common.{◌≡◌, ◌+◌, ◌-◌, ◌*◌, ◌≤◌, ◌++◌, ℕ, zero, suc, false, List, [], ◌∷◌, length, Option, Some, Result, Ok, Err, refl, sym, ap, subst, arith}
+use Rattle.std.specs.List.{list_any, slice_get}
+use Rattle.std.specs.Str.{bytes_eq}
+use Rattle.std.proofs.Math.Nat.{add-mul}
+use Rattle.std.proofs.lemmas.Bool.{or_parts}
+use Rattle.std.proofs.lemmas.List.{length-append}
+use Rattle.oai_item.specs.Rules.{has_repeat}
+use Rattle.oai_item.specs.declared.changes.Change.{Change}
+use Rattle.oai_item.specs.declared.changes.Change.TheVariants as change
+use Rattle.oai_item.specs.declared.faults.Fault.{Fault}
+use Rattle.oai_item.specs.declared.faults.Fault.TheVariants.{Damaged, Device, NoMemory, TooManyPages}
+use Rattle.oai_catalogue.specs.Store.{Lists, NeedsRoom}
+use Rattle.oai_repo.specs.Calls.{room_to_change}
+use Rattle.oai_repo.specs.Held.{Held, IsHeld, items_on}
+use Rattle.oai_host.specs.Answers.{failed, failure_in}
+use Rattle.oai_host.specs.Housed.{housed_names, repositories_of}
+use Rattle.oai_host.specs.Room.{FindsRoom, room_for_line, room_for_task}
+use Rattle.oai_host.specs.Targets.{front_of, leads_to_repository, path_of}
+use Rattle.oai_host.specs.Tasks.{task_in, task_of}
+use Rattle.oai_host.specs.Workings.{LeadsNowhere}
+use Rattle.oai_host.specs.declared.exchanges.Answer.{Answer}
+use Rattle.oai_host.specs.declared.exchanges.Call.{Call}
+use Rattle.oai_host.specs.declared.housed.Housed.{Housed}
+use Rattle.oai_host.specs.declared.routes.Kind.{Kind}
+use Rattle.oai_host.proofs.DepositLemmas.{AreDone, below}
+use Rattle.oai_host.proofs.HousedLemmas.{unused_at}
+use Rattle.oai_host.proofs.PlaceLemmas.{bytes_turned, clash, kind_is, leads_not, nothing_there, same_one}
+
+-- ---- one line
+
+-- what is enough for some calls is enough for more
+pub room_less : {A : Type 0} (n m : ℕ) (result : Result A Fault) (old new : ℕ) → n ≤ m → NeedsRoom n result old new → NeedsRoom m result old new
+room_less n m (Ok value) old new more need = let used = need.used in record { enough = tt; used = omega (arith, more, used) }
+room_less n m (Err fault) old new more need =
+    let used = need.used in record { enough = λ is. let few = need.enough is in omega (arith, more, few); used = omega (arith, more, used) }
+
+-- a change of a repository of which an honest store holds what it has to
+pub room_of_change : (old : Held) (lists : Lists) (made : Change) → IsHeld old lists → room_to_change (length old.shelf.notes) made ≤ room_for_line old.config
+room_of_change old lists (change.Deposit identifier sets records) held = omega arith
+room_of_change old lists (change.Delete identifier) held = omega arith
+room_of_change old lists (change.Purge before) held =
+    let many : length old.shelf.notes ≡ length (items_on old.shelf lists) = held.shelved.agrees.many in
+    let few : length (items_on old.shelf lists) ≤ old.config.items = held.shelved.kept.few in
+    omega (arith, many, few)
+room_of_change old lists (change.AddSet spec name) held = omega arith
+
+-- ---- lines
+
+pub room_on : (k old mid new done : ℕ) → old ≤ mid + done * k → mid ≤ new + k → old ≤ new + (done + 1) * k
+room_on k old mid new done so_far used = let more = add-mul done 1 k in omega (arith, so_far, used, more)
+
+fewer : (done all k : ℕ) → done ≤ all → done * k ≤ all * k
+fewer done all k within =
+    let rest : all ≡ done + (all - done) = omega (arith, within) in
+    let whole : all * k ≡ (done + (all - done)) * k = ap (λ (n : ℕ). n * k) rest in
+    let parts = add-mul done (all - done) k in
+    omega (arith, whole, parts)
+
+-- all lines were done
+pub room_done : (honest : _) (old new : Held) (before after : Lists) (moment : _) (all left : List (List ℕ)) (told : List ℕ) (done k was is : ℕ)
+    → AreDone honest old before moment all left told done new after → was ≤ is + done * k → NeedsRoom {A = Unit {0}} (length all * k) (Ok tt) was is
+room_done honest old new before after moment all left told done k was is so_far used =
+    let many = so_far.many in
+    let sum = length-append so_far.front left in
+    let whole : length all ≡ length (so_far.front ++ left) = ap (λ (lines : List (List ℕ)). length lines) so_far.whole in
+    let less = fewer done (length all) k (omega (arith, many, sum, whole)) in
+    record { enough = tt; used = omega (arith, used, less) }
+
+fault_told : (fault : Fault) (lines : Option ℕ) → failure_in (failed fault lines) ≡ Err fault
+fault_told NoMemory lines = refl
+fault_told TooManyPages lines = refl
+fault_told Device lines = refl
+fault_told Damaged lines = refl
+
+-- a line failed
+pub room_failed : (honest : _) (old new : Held) (before after : Lists) (moment : _) (all left : List (List ℕ)) (text told : List ℕ) (done k was mid is : ℕ) (fault : Fault)
+    → AreDone honest old before moment all (text ∷ left) told done new after → was ≤ mid + done * k → NeedsRoom {A = Unit {0}} k (Err fault) mid is
+    → NeedsRoom (length all * k) (failure_in (failed fault (Some done))) was is
+room_failed honest old new before after moment all left text told done k was mid is fault so_far used need =
+    let within = below honest old new before after moment all left text told done so_far in
+    let less = fewer (done + 1) (length all) k (omega (arith, within)) in
+    let more = add-mul done 1 k in
+    let last = need.used in
+    let whole : NeedsRoom {A = Unit {0}} (length all * k) (Err fault) was is = record {
+      enough = λ wants. let few = need.enough wants in omega (arith, used, few, less, more);
+      used = omega (arith, used, last, less, more);
+    } in
+    subst (λ (result : Result (Unit {0}) Fault). NeedsRoom (length all * k) result was is) (sym (fault_told fault (Some done))) whole
+
+-- ---- one of many repositories
+
+module _ (call : Call) (answer : Answer) (lists : Lists) (old new : ℕ) where
+  elsewhere : (kind : Kind) (name : List ℕ) (others : List Housed) → path_of call.target ≡ front_of kind ++ name → list_any (bytes_eq name) (housed_names others) ≡ false
+      → FindsRoom call answer (repositories_of others lists) old new
+  elsewhere kind name [] path unused = tt
+  elsewhere kind name (x ∷ others) path unused =
+      let parts = or_parts (bytes_eq name x.name) (list_any (bytes_eq name) (housed_names others)) unused in
+      (λ leads. clash (leads_to_repository x.name call.target) leads (leads_not kind name x.name call.target path parts.0), elsewhere kind name others path parts.1)
+
+  pub room_nowhere : (housed : List Housed) → LeadsNowhere housed call.target → FindsRoom call answer (repositories_of housed lists) old new
+  room_nowhere [] nowhere = tt
+  room_nowhere (x ∷ housed) nowhere = (λ leads. clash (leads_to_repository x.name call.target) leads nowhere.0, room_nowhere housed nowhere.1)
+
+  at_place : (kind : Kind) (housed : List Housed) (i : ℕ) (one : Housed) → slice_get housed i ≡ Some one → has_repeat (housed_names housed) ≡ false
+      → path_of call.target ≡ front_of kind ++ one.name → NeedsRoom (room_for_task one.repo.config (task_of call)) (failure_in answer) old new
+      → FindsRoom call answer (repositories_of housed lists) old new
+  at_place kind [] i one there distinct path need = nothing_there one there
+  at_place kind (x ∷ housed) zero one there distinct path need =
+      let parts = or_parts (list_any (bytes_eq x.name) (housed_names housed)) (has_repeat (housed_names housed)) distinct in
+      let same = same_one x one there in (
+        λ _. subst (λ (y : Housed). NeedsRoom (room_for_task y.repo.config (task_of call)) (failure_in answer) old new) (sym same) need,
+        elsewhere kind one.name housed path (subst (λ (y : Housed). list_any (bytes_eq y.name) (housed_names housed) ≡ false) same parts.0),
+      )
+  at_place kind (x ∷ housed) (suc i) one there distinct path need =
+      let parts = or_parts (list_any (bytes_eq x.name) (housed_names housed)) (has_repeat (housed_names housed)) distinct in
+      let apart = bytes_turned x.name one.name (unused_at x.name housed i one there parts.0) in
+      (λ leads. clash (leads_to_repository x.name call.target) leads (leads_not kind one.name x.name call.target path apart), at_place kind housed i one there parts.1 path need)
+
+  pub room_set : (kind : Kind) (housed : List Housed) (i : ℕ) (one : Housed) → slice_get housed i ≡ Some one → has_repeat (housed_names housed) ≡ false
+      → path_of call.target ≡ front_of kind ++ one.name → NeedsRoom (room_for_task one.repo.config (task_in kind call)) (failure_in answer) old new
+      → FindsRoom call answer (repositories_of housed lists) old new
+  room_set kind housed i one there distinct path need =
+      at_place kind housed i one there distinct path
+      (subst (λ (k : Kind). NeedsRoom (room_for_task one.repo.config (task_in k call)) (failure_in answer) old new) (sym (kind_is kind one.name call.target path)) need)
