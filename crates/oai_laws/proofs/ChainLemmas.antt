@@ -1,5 +1,5 @@
 -- A chain from its first request on, among all that is asked of a repository.
-use Rattle.std.proofs.Common.{◌≡◌, ◌∙◌, inl, inr, ℕ, ℤ, pos, ◌+ℤ◌, ◌<◌, ◌≤◌, ◌^◌, Bool, true, false, ◌&&◌, cond, List, [], ◌∷◌, ◌++◌, length, append-nil, Option, None, Some, is_some, refl, sym, ap, subst, arith}
+use Rattle.std.proofs.Common.{◌≡◌, ◌≢◌, ◌∙◌, inl, inr, ℕ, ℤ, pos, ◌+ℤ◌, ◌<◌, ◌≤◌, ◌^◌, Bool, true, false, ◌&&◌, cond, List, [], ◌∷◌, ◌++◌, length, append-nil, Option, None, Some, is_some, refl, sym, ap, subst, arith}
 use Rattle.std.specs.Prelude.{find, nat_le}
 use Rattle.std.specs.List.{list_all}
 use Rattle.std.specs.Str.{bytes_eq}
@@ -37,28 +37,27 @@ use Rattle.oai_laws.proofs.StandLemmas.{Stands, stands_opened}
 
 -- ---- what is selected
 
--- a test that many pass was passed by some
+-- where many are selected, some are
 empty_few : (items : List ItemState) (chunk : ℕ) → chunk < length items → items ≡ [] → ⊥
 empty_few items chunk many none = absurd (omega (arith, many, ap length none))
 
 -- where records are selected in a set, there are sets
-sets_there : (config : Config) (holdings : Holdings) (prefix : List ℕ) (from until set : Option (List ℕ)) (sets : List NamedSet) → holdings.sets ≡ sets → AreKept config holdings
-    → config.chunk < length (selected (filter_of prefix from until set) holdings.items) → (is_some set && has_no_sets sets) ≡ false
-sets_there config holdings prefix from until None sets is kept many = refl
-sets_there config holdings prefix from until (Some set) (x ∷ sets) is kept many = refl
-sets_there config holdings prefix from until (Some set) [] is kept many =
+pub sets_there : (config : Config) (holdings : Holdings) (prefix : List ℕ) (from until set : Option (List ℕ)) (sets : List NamedSet) → holdings.sets ≡ sets → AreKept config holdings
+    → selected (filter_of prefix from until set) holdings.items ≢ [] → (is_some set && has_no_sets sets) ≡ false
+sets_there config holdings prefix from until None sets is kept some = refl
+sets_there config holdings prefix from until (Some set) (x ∷ sets) is kept some = refl
+sets_there config holdings prefix from until (Some set) [] is kept some =
     let none = unknown_set config holdings prefix from until set kept above (ap (λ (sets : List NamedSet). has_set sets set) is) in
-    absurd (empty_few (selected (filter_of prefix from until (Some set)) holdings.items) config.chunk many none)
+    absurd (some none)
   where
     above : HasSetsAbove holdings.sets
     above a spec there lies = absurd (false≢true (sym (ap (λ (sets : List NamedSet). has_set sets spec) is) ∙ there))
 
 -- where records are selected in a format, the repository has it
-format_there : (config : Config) (holdings : Holdings) (prefix : List ℕ) (from until set : Option (List ℕ)) (format : Option Format) → format_named prefix config.formats ≡ format → AreKept config holdings
-    → config.chunk < length (selected (filter_of prefix from until set) holdings.items) → (f : Format) × (format_named prefix config.formats ≡ Some f)
-format_there config holdings prefix from until set (Some format) is kept many = (format, is)
-format_there config holdings prefix from until set None is kept many =
-    absurd (empty_few (selected (filter_of prefix from until set) holdings.items) config.chunk many (unknown_format config holdings prefix from until set kept is))
+pub format_there : (config : Config) (holdings : Holdings) (prefix : List ℕ) (from until set : Option (List ℕ)) (format : Option Format) → format_named prefix config.formats ≡ format → AreKept config holdings
+    → selected (filter_of prefix from until set) holdings.items ≢ [] → (f : Format) × (format_named prefix config.formats ≡ Some f)
+format_there config holdings prefix from until set (Some format) is kept some = (format, is)
+format_there config holdings prefix from until set None is kept some = absurd (some (unknown_format config holdings prefix from until set kept is))
 
 -- the format that is found has the prefix
 pub named : (prefix : List ℕ) (formats : List Format) (format : Format) → format_named prefix formats ≡ Some format → format.prefix ≡ prefix
@@ -133,12 +132,13 @@ first_turn : (config : Config) (state : State) (command : Command) (wish : Wish)
     → config.chunk < length (selection_in state wish) → is_later (act config state command).0 ≡ false → IsFirst config state command wish
 first_turn config state command wish good sound verb is many answered =
     let items : List ItemState = selection_in state wish in
-    let format = format_there config state.holdings wish.prefix wish.from wish.until wish.set (format_named wish.prefix config.formats) refl sound.kept many in
+    let some : items ≢ [] = λ none. empty_few items config.chunk many none in
+    let format = format_there config state.holdings wish.prefix wish.from wish.until wish.set (format_named wish.prefix config.formats) refl sound.kept some in
     by_wait config state command wish format.0 (wait_at config state.clock state.begun) refl good sound verb format.1 is answered
     (
     cond-false (is_some wish.set && has_no_sets state.holdings.sets) (says (fails NoSetHierarchy), state.begun)
     (told_in config state.clock state.begun wish.verb (format_named wish.prefix config.formats) items)
-    (sets_there config state.holdings wish.prefix wish.from wish.until wish.set state.holdings.sets refl sound.kept many)
+    (sets_there config state.holdings wish.prefix wish.from wish.until wish.set state.holdings.sets refl sound.kept some)
     ∙ ap (λ (f : Option Format). told_in config state.clock state.begun wish.verb f items) format.1
     ∙ told_long config state.clock state.begun wish.verb format.0 items many
     )

@@ -1,5 +1,5 @@
 -- What a change makes of what is held, where nothing refuses it; and that nothing is made of it where something does.
-use Rattle.std.proofs.Common.{◌≡◌, ◌≢◌, ◌∙◌, ◌↔◌, ◌⊎◌, inl, inr, ℕ, ℤ, ◌≤ℤ◌, Bool, true, false, not, ◌&&◌, cond, List, [], ◌∷◌, Option, None, Some, is_none, refl, sym, ap, subst, arith}
+use Rattle.std.proofs.Common.{◌≡◌, ◌≢◌, ◌∙◌, ◌↔◌, ◌⊎◌, inl, inr, ℕ, ℤ, ◌≤ℤ◌, Bool, true, false, not, ◌&&◌, cond, List, Option, None, Some, is_none, refl, sym, ap, subst, arith}
 use Rattle.std.specs.Prelude.{filter, int_lt, option_and_then}
 use Rattle.std.specs.List.{Contains}
 use Rattle.std.specs.Str.{bytes_eq}
@@ -17,10 +17,9 @@ use Rattle.oai_item.specs.Refusals.{Cause}
 use Rattle.oai_item.specs.declared.changes.Change.{Change}
 use Rattle.oai_item.specs.declared.changes.Change.TheVariants as change
 use Rattle.oai_item.specs.declared.refusals.ChangeRefusal.{ChangeRefusal}
-use Rattle.oai_item.specs.declared.refusals.ChangeRefusal.TheVariants.{AlreadyDeleted, BadDate, NoSuchItem, NotTransient}
+use Rattle.oai_item.specs.declared.refusals.ChangeRefusal.TheVariants.{AlreadyDeleted, BadDate, NotTransient}
 use Rattle.oai_item.proofs.Members.{Member-filter, contains_from, member_from}
 use Rattle.oai_item.proofs.Named.{found_name, item_named-new, item_named-without}
-use Rattle.oai_args.specs.Asks.{AskOrError}
 use Rattle.oai_answers.specs.Answers.{Attributes}
 use Rattle.oai_answers.specs.declared.identify.DeletedRecord.{DeletedRecord}
 use Rattle.oai_answers.specs.declared.identify.DeletedRecord.TheVariants.{No, Transient, Persistent}
@@ -28,11 +27,11 @@ use Rattle.oai_settings.specs.Config.{Config}
 use Rattle.oai_repo.specs.Answers.{arguments_of_request}
 use Rattle.oai_repo.specs.Changes.{after_deletion, after_purge, changed, dead_refusal, is_transient, limit_in, limit_of, missing_refusal, purge_refusal, purged, refusal_of, stamp_at, with_new, with_tombstone}
 use Rattle.oai_repo.specs.Listing.{Said, answer_to, says, waits}
-use Rattle.oai_repo.specs.Machine.{Command, Outcome, accepted, act, act_on_change, asking, changing, outcome_of, refused, refusing}
-use Rattle.oai_repo.specs.State.{Holdings, OpenLists, State}
+use Rattle.oai_repo.specs.Machine.{Command, accepted, act, act_on_change, asking, changing, outcome_of, refused, refusing}
+use Rattle.oai_repo.specs.State.{Holdings, State}
 use Rattle.oai_laws.specs.Changing.{IsAccepted, IsDeleted, IsPurged, IsReplaced, Makes, left_over}
 use Rattle.oai_repo.proofs.KeptLemmas.{no_cause}
-use Rattle.oai_laws.proofs.EffectLemmas.{asked_to, not_not, of_transient, passed, was_live}
+use Rattle.oai_laws.proofs.EffectLemmas.{not_not, of_transient, passed, was_live}
 
 -- what is held, with other items
 abbrev with_items : Holdings → List ItemState → Holdings

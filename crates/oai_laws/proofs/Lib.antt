@@ -5,6 +5,7 @@ pub mod WaitingLemmas
 pub mod StandLemmas
 pub mod FollowLemmas
 pub mod ChainLemmas
+pub mod WholeLemmas
 pub mod GivenLemmas
 pub mod SelectingLemmas
 pub mod WorkedLemmas

@@ -1,7 +1,7 @@
 -- Every datestamp lies between earliestDatestamp and the clock, and a list request selects just what it asks for.
-use Rattle.std.proofs.Common.{◌≡◌, ◌∙◌, ◌↔◌, ℕ, ℤ, pos, neg_ℤ, ◌≤ℤ◌, Bool, true, not, ◌&&◌, List, [], ◌∷◌, Option, None, Some, IfSome, refl, sym, subst, arith}
+use Rattle.std.proofs.Common.{◌≡◌, ℕ, ℤ, pos, neg_ℤ, ◌≤ℤ◌, true, not, ◌&&◌, List, [], ◌∷◌, Option, None, Some, IfSome, refl, sym, subst, arith}
 use Rattle.std.specs.Prelude.{int_le}
-use Rattle.std.specs.List.{Contains, list_all, list_any}
+use Rattle.std.specs.List.{Contains, list_all}
 use Rattle.std.specs.Ordering.{int_eq}
 use Rattle.std.proofs.lemmas.Bool.{and_from, and_parts}
 use Rattle.std.proofs.lemmas.Bool.Decides.{Decides-int_eq}
@@ -11,7 +11,7 @@ use Rattle.std.proofs.lemmas.List.Folds.{Any-from_list_any, list_any-from_Any}
 use Rattle.std.proofs.lemmas.List.Sums.{AllPass-from_list_all}
 use Rattle.oai_names.specs.Sets.{covers}
 use Rattle.oai_names.proofs.Covering.{covers-Decides}
-use Rattle.oai_time.specs.Bound.{IsBound, bound_of, lower_of, upper_of}
+use Rattle.oai_time.specs.Bound.{bound_of}
 use Rattle.oai_time.specs.Clock.{tick}
 use Rattle.oai_time.specs.Stamp.{IsWritable, stamp_of}
 use Rattle.oai_time.specs.declared.bound.Bound.{Bound}
@@ -23,7 +23,7 @@ use Rattle.oai_time.proofs.StampLemmas.{stamp_of-in_order, stamp_of-not_after}
 use Rattle.oai_item.specs.Item.{ItemState}
 use Rattle.oai_item.specs.Items.{without}
 use Rattle.oai_item.specs.Membership.{is_in}
-use Rattle.oai_item.specs.Selection.{Filter, IsSelected, selected}
+use Rattle.oai_item.specs.Selection.{Filter, IsSelected}
 use Rattle.oai_item.proofs.OrderLemmas.{all-placed, all-weaker}
 use Rattle.oai_item.proofs.Selecting.{contains_selected, in_order-selected}
 use Rattle.oai_args.specs.Bounds.{given_bound}

@@ -12,11 +12,12 @@ use Rattle.oai_item.specs.declared.formats.Format.{Format}
 use Rattle.oai_args.specs.Asks.{asks}
 use Rattle.oai_args.specs.declared.requests.Ask.TheVariants as ask
 use Rattle.oai_answers.specs.Answers.{Answer, Continuation, Page, completes, fails, gives_record, identifies, lists_formats, lists_headers, lists_records, lists_sets, remains, whole}
+use Rattle.oai_answers.specs.declared.errors.ErrorCode.{ErrorCode}
 use Rattle.oai_answers.specs.declared.tokens.Extent.{Extent}
 use Rattle.oai_repo.specs.Answers.{filter_of}
 use Rattle.oai_settings.specs.Config.{Config}
 use Rattle.oai_repo.specs.Listing.{told_by}
-use Rattle.oai_repo.specs.Machine.{Command, Outcome, accepted, asking, documented, later, refused}
+use Rattle.oai_repo.specs.Machine.{Command, Outcome, accepted, act, asking, documented, later, refused}
 use Rattle.oai_laws.specs.Runs.{Exchange, IsPart}
 use Rattle.oai_repo.specs.State.{State}
 
@@ -156,8 +157,8 @@ abbrev pub Begins : List ItemState → List ItemState → Type 0
 Begins front all = (others : List ItemState) × (front ++ others ≡ all)
 
 -- the exchanges are answered with these pages of the selection: each by the verb, and in the format, that was asked for; each page says
--- where it stands, and its token lasts for the lifetime of a list; their records, joined, begin the selection, and are all of it once a page has the empty token; each record
--- once, in order
+-- where it stands, and its token lasts for the lifetime of a list; their records, joined, begin the selection, and are all of it once a
+-- page has the empty token; each record once, in order
 pub record IsFollowed (config : Config) (wish : Wish) (selection : List ItemState) (exchanges : List Exchange) (pages : List Page) : Type 0 where
   pub format : Format
   pub known : format_named wish.prefix config.formats ≡ Some format
@@ -168,3 +169,23 @@ pub record IsFollowed (config : Config) (wish : Wish) (selection : List ItemStat
   pub complete : are_complete pages ≡ true → joined pages ≡ selection
   pub ordered : are_in_order (joined pages) ≡ true
   pub apart : are_apart (joined pages) ≡ true
+
+-- ---- a list that is no longer than a page
+
+-- a list request is answered with its whole selection: by the verb and in the format that was asked for, in one page without a token, and the
+-- state is left as it was
+pub record IsToldWhole (config : Config) (state : State) (wish : Wish) : Type 0 where
+  pub format : Format
+  pub known : format_named wish.prefix config.formats ≡ Some format
+  pub page : Page
+  pub items : page.items ≡ selection_in state wish
+  pub dated : page.granularity ≡ config.granularity
+  pub tokenless : page.continuation ≡ whole
+  pub told : answer_told (act config state (first_request wish)).0 ≡ Some (told_by wish.verb format page)
+  pub left : (act config state (first_request wish)).1 ≡ state
+
+-- it is answered with an error, and the state is left as it was
+pub record IsToldNone (config : Config) (state : State) (wish : Wish) : Type 0 where
+  pub code : ErrorCode
+  pub told : answer_told (act config state (first_request wish)).0 ≡ Some (fails code)
+  pub left : (act config state (first_request wish)).1 ≡ state

@@ -1,7 +1,7 @@
 //! What is true of a repository in the course of time, whatever is asked of it and deposited. These
 //! laws are of the machine by whose definitions the calls of [`Repo`](oai_repo::Repo) are specified.
 
-ghost use Rattle.std.specs.Prelude.{◌≡◌, ℕ, ℤ, List, ◌∷◌, Some, true};
+ghost use Rattle.std.specs.Prelude.{◌≡◌, ◌≢◌, ◌≤◌, ℕ, ℤ, List, [], ◌∷◌, length, Some, true};
 ghost use Rattle.std.specs.List.{list_all};
 ghost use Rattle.oai_names.specs.declared.list_verbs.ListVerb.{ListVerb};
 ghost use Rattle.oai_item.specs.Refusals.{Cause};
@@ -15,7 +15,16 @@ ghost use Rattle.oai_answers.specs.Seen.{document_seen};
 ghost use Rattle.oai_settings.specs.Config.{Config, IsConfig};
 ghost use Rattle.oai_laws.specs.Changing.{IsAccepted};
 ghost use Rattle.oai_laws.specs.Effects.{Effect, IsEffected, IsPossible, IsSound, effected, is_of_no_list};
-ghost use Rattle.oai_laws.specs.Following.{IsChain, IsFollowed, Wish, answer_told, selection_in};
+ghost use Rattle.oai_laws.specs.Following.{
+  IsChain,
+  IsFollowed,
+  IsToldNone,
+  IsToldWhole,
+  Wish,
+  answer_told,
+  is_of_records,
+  selection_in,
+};
 ghost use Rattle.oai_repo.specs.Machine.{Command, accepted, act, asking, changing, refused};
 ghost use Rattle.oai_laws.specs.Runs.{
   Exchange,
@@ -119,13 +128,21 @@ pub fn selected_law()
 /// token of the page before and before this expires, are answered with pages. Each page tells how many
 /// records were selected and how many stand before it, and its token expires a lifetime after the request.
 /// The records of the pages, joined, begin the selection at the first request, and are all of it once a
-/// page has the empty token; each record once, in order.
+/// page has the empty token; each record once, in order. A list request that selects some records, and no
+/// more than a page has, is answered with all of them, and opens no list; one that selects none, with an
+/// error.
 pub fn following_law()
     ensures followed { (config : Config) (commands : List Timed) (wish : Wish)
         (first : Exchange) (others : List Exchange) → IsConfig config
         → IsChain config (run config (empty_state config) commands) wish first others
         → (pages : List Page)
         × IsFollowed config wish (selection_in first.found wish) (first ∷ others) pages }
+    ensures short { (config : Config) (state : State) (wish : Wish) → IsSound config state
+        → is_of_records wish.verb ≡ true → selection_in state wish ≢ []
+        → length (selection_in state wish) ≤ config.chunk
+        → IsToldWhole config state wish }
+    ensures none { (config : Config) (state : State) (wish : Wish)
+        → selection_in state wish ≡ [] → IsToldNone config state wish }
 {}
 
 /// What the law of following asks for can be met: a run of fifteen commands, computed, in which a list
