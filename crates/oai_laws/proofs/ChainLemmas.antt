@@ -1,12 +1,10 @@
 -- A chain from its first request on, among all that is asked of a repository.
-use Rattle.std.proofs.Common.{◌≡◌, ◌≢◌, ◌∙◌, inl, inr, ℕ, ℤ, pos, ◌+ℤ◌, ◌<◌, ◌≤◌, ◌^◌, Bool, true, false, ◌&&◌, cond, List, [], ◌∷◌, ◌++◌, length, append-nil, Option, None, Some, is_some, refl, sym, ap, subst, arith}
-use Rattle.std.specs.Prelude.{find, nat_le}
+use Rattle.std.proofs.Common.{◌≡◌, ◌≢◌, ◌∙◌, inl, inr, ℕ, ℤ, pos, ◌+ℤ◌, ◌<◌, ◌≤◌, ◌^◌, Bool, true, false, ◌&&◌, List, [], ◌∷◌, ◌++◌, length, append-nil, Option, None, Some, is_some, refl, sym, ap, subst, arith}
+use Rattle.std.specs.Prelude.{nat_le}
 use Rattle.std.specs.List.{list_all}
-use Rattle.std.specs.Str.{bytes_eq}
 use Rattle.std.proofs.lemmas.Bool.{and_from, and_parts, cond-false, false≢true, lt-leb, true≢false}
 use Rattle.std.proofs.lemmas.Bool.Decides.{nat_tests}
 use Rattle.std.proofs.lemmas.List.Folds.{list_all-append}
-use Rattle.std.proofs.lemmas.Slice.Eq.{bytes_eq-Decides}
 use Rattle.oai_names.specs.Sets.{HasSetsAbove, has_set}
 use Rattle.oai_names.specs.declared.list_verbs.ListVerb.{ListVerb}
 use Rattle.oai_item.specs.Formats.{format_named}
@@ -29,7 +27,7 @@ use Rattle.oai_repo.specs.Listing.{told_by, answer_to, begins, has_no_sets, list
 use Rattle.oai_repo.specs.Machine.{Command, act}
 use Rattle.oai_laws.specs.Runs.{Exchange, IsPart, Timed, performed, run}
 use Rattle.oai_repo.specs.State.{FrozenList, Holdings, NamedSet, OpenLists, State, empty_state, moved}
-use Rattle.oai_laws.proofs.EffectLemmas.{sound_act, sound_empty, sound_moved}
+use Rattle.oai_laws.proofs.EffectLemmas.{named, sound_act, sound_empty, sound_moved}
 use Rattle.oai_laws.proofs.FollowLemmas.{Followed, IsGood, asked_page, follow, asked_later}
 use Rattle.oai_repo.proofs.KeptLemmas.{at_most}
 use Rattle.oai_repo.proofs.SelectionLemmas.{unknown_format, unknown_set}
@@ -58,17 +56,6 @@ pub format_there : (config : Config) (holdings : Holdings) (prefix : List ℕ) (
     → selected (filter_of prefix from until set) holdings.items ≢ [] → (f : Format) × (format_named prefix config.formats ≡ Some f)
 format_there config holdings prefix from until set (Some format) is kept some = (format, is)
 format_there config holdings prefix from until set None is kept some = absurd (some (unknown_format config holdings prefix from until set kept is))
-
--- the format that is found has the prefix
-pub named : (prefix : List ℕ) (formats : List Format) (format : Format) → format_named prefix formats ≡ Some format → format.prefix ≡ prefix
-unfolding format_named
-named prefix [] format h = cc
-named prefix (x ∷ formats) format h = by_test (bytes_eq x.prefix prefix) ((bytes_eq-Decides x.prefix prefix).0) h (named prefix formats format)
-  where
-    by_test : (b : Bool) → (b ≡ true → x.prefix ≡ prefix) → cond b (Some x) (find (λ (f : Format). bytes_eq f.prefix prefix) formats) ≡ Some format
-        → (find (λ (f : Format). bytes_eq f.prefix prefix) formats ≡ Some format → format.prefix ≡ prefix) → format.prefix ≡ prefix
-    by_test true same found later = let e : x ≡ format = cc in ap (λ (f : Format). f.prefix) (sym e) ∙ same refl
-    by_test false same found later = later found
 
 -- no more are selected than a repository may hold
 few_selected : (config : Config) (holdings : Holdings) (asked : Filter) → IsConfig config → AreKept config holdings → length (selected asked holdings.items) < 2 ^ 64

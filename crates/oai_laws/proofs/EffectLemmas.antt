@@ -34,7 +34,7 @@ use Rattle.oai_answers.specs.declared.identify.DeletedRecord.TheVariants.{No, Tr
 use Rattle.oai_repo.specs.Answers.{filter_of}
 use Rattle.oai_repo.specs.Changes.{after_deletion, after_purge, changed, dead_refusal, deposit_refusal, drops_format, is_one_too_many, is_transient, item_refusal, limit_of, missing_refusal, purge_refusal, purged, refusal_of, stamp_at, with_new, with_tombstone}
 use Rattle.oai_settings.specs.Config.{Config}
-use Rattle.oai_laws.specs.Effects.{Effect, is_formed, has_known_records, is_live, IsEffected, IsLeftOver, IsPossible, IsPut, IsSound, effected, goes_below, holding, is_given, item_put, item_taken, items_purged, list_opened, list_renewed, set_added, unchanged}
+use Rattle.oai_laws.specs.Effects.{Effect, is_formed, is_of_format, has_known_records, is_live, IsEffected, IsLeftOver, IsPossible, IsPut, IsSound, effected, goes_below, holding, is_given, item_put, item_taken, items_purged, list_opened, list_renewed, set_added, unchanged}
 use Rattle.oai_repo.specs.Kept.{AreKept, is_too_large, is_well_kept}
 use Rattle.oai_repo.specs.Listing.{Said, answer_to, begins, continues, has_no_sets, list_answer, list_begun, list_continued, prolonged_at, told_in, told_items, token_answer, wait_at}
 use Rattle.oai_repo.specs.Machine.{Command, act, act_on_change, asking, changing, refusing}
@@ -45,7 +45,7 @@ use Rattle.oai_repo.proofs.KeptLemmas.{emptied-record, few-new, fits, kept-none,
 
 -- a repository that begins
 pub sound_empty : (config : Config) → IsSound config (empty_state config)
-sound_empty config = record { kept = kept-none config; live = λ _. refl; given = refl; formed = refl; few = omega arith }
+sound_empty config = record { kept = kept-none config; live = λ _. refl; given = refl; formed = refl; known = refl; few = omega arith }
 
 -- what is true of all is true of those that a test keeps
 pub all_kept : {A : Type 0} (p q : A → Bool) (xs : List A) → list_all p xs ≡ true → list_all p (filter q xs) ≡ true
@@ -58,6 +58,7 @@ sound_moved config moment state sound = record {
   live = sound.live;
   given = all_kept (is_given state.begun.next) (is_open_at (moved moment state).clock) state.begun.lists sound.given;
   formed = all_kept (is_formed config) (is_open_at (moved moment state).clock) state.begun.lists sound.formed;
+  known = all_kept (is_of_format config) (is_open_at (moved moment state).clock) state.begun.lists sound.known;
   few = sound.few;
 }
 
@@ -117,6 +118,23 @@ renewed_formed config clock number (x ∷ lists) h =
     (ap (λ (items : List ItemState). list_all (has_known_records config) items) (same_items config clock number x) ∙ parts.0)
     (renewed_formed config clock number lists parts.1)
 
+-- and the prefix that it had
+same_prefix : (config : Config) (clock : ℤ) (number : ℕ) (list : FrozenList) → (prolonged_at config clock number list).prefix ≡ list.prefix
+same_prefix config clock number list = by_test (eqb list.number number)
+  where
+    by_test : (b : Bool) → (cond b (record list { end = clock +ℤ pos config.lifetime }) list).prefix ≡ list.prefix
+    by_test true = refl
+    by_test false = refl
+
+renewed_known : (config : Config) (clock : ℤ) (number : ℕ) (lists : List FrozenList) → list_all (is_of_format config) lists ≡ true
+    → list_all (is_of_format config) (map (prolonged_at config clock number) lists) ≡ true
+renewed_known config clock number [] h = refl
+renewed_known config clock number (x ∷ lists) h =
+    let parts = and_parts (is_of_format config x) (list_all (is_of_format config) lists) h in
+    and_from (is_of_format config (prolonged_at config clock number x)) (list_all (is_of_format config) (map (prolonged_at config clock number) lists))
+    (ap (λ (prefix : List ℕ). is_some (format_named prefix config.formats)) (same_prefix config clock number x) ∙ parts.0)
+    (renewed_known config clock number lists parts.1)
+
 -- numbers that were given were given before the next one too
 given_more : (next : ℕ) (lists : List FrozenList) → list_all (is_given next) lists ≡ true → list_all (is_given (next + 1)) lists ≡ true
 given_more next [] h = refl
@@ -158,6 +176,7 @@ sound_effected config state (item_put item) possible sound = record {
       (well-without is_live item.identifier state.holdings.items (sound.live none));
   given = sound.given;
   formed = sound.formed;
+  known = sound.known;
   few = sound.few;
 }
 sound_effected config state (item_taken identifier) possible sound = record {
@@ -165,6 +184,7 @@ sound_effected config state (item_taken identifier) possible sound = record {
   live = λ none. well-without is_live identifier state.holdings.items (sound.live none);
   given = sound.given;
   formed = sound.formed;
+  known = sound.known;
   few = sound.few;
 }
 sound_effected config state (items_purged limit) possible sound = record {
@@ -172,14 +192,16 @@ sound_effected config state (items_purged limit) possible sound = record {
   live = λ none. all_kept is_live (λ item. not (goes_below limit item)) state.holdings.items (sound.live none);
   given = sound.given;
   formed = sound.formed;
+  known = sound.known;
   few = sound.few;
 }
-sound_effected config state (set_added set) possible sound = record { kept = set_kept config state.holdings set sound.kept; live = sound.live; given = sound.given; formed = sound.formed; few = sound.few }
+sound_effected config state (set_added set) possible sound = record { kept = set_kept config state.holdings set sound.kept; live = sound.live; given = sound.given; formed = sound.formed; known = sound.known; few = sound.few }
 sound_effected config state (list_renewed number) possible sound = record {
   kept = sound.kept;
   live = sound.live;
   given = renewed_given config state.clock number state.begun.next state.begun.lists sound.given;
   formed = renewed_formed config state.clock number state.begun.lists sound.formed;
+  known = renewed_known config state.clock number state.begun.lists sound.known;
   few = sound.few;
 }
 sound_effected config state (list_opened list) possible sound = record {
@@ -187,6 +209,7 @@ sound_effected config state (list_opened list) possible sound = record {
   live = sound.live;
   given = opened_given state.begun.next list state.begun.lists possible.number sound.given;
   formed = list_all-append (is_formed config) state.begun.lists (list ∷ []) ∙ and_from (list_all (is_formed config) state.begun.lists) (is_formed config list && true) sound.formed (and_from (is_formed config list) true possible.formed refl);
+  known = list_all-append (is_of_format config) state.begun.lists (list ∷ []) ∙ and_from (list_all (is_of_format config) state.begun.lists) (is_of_format config list && true) sound.known (and_from (is_of_format config list) true possible.known refl);
   few = let less = number_left config state.clock state.begun possible.admitted sound.few in omega (arith, less);
 }
 
@@ -218,34 +241,50 @@ selected_formed config holdings asked kept =
     all_kept (has_known_records config) (passes asked) holdings.items
     (all-weaker (is_well_kept config holdings.sets) (has_known_records config) (kept_formed config holdings.sets) holdings.items kept.well)
 
-begun_by : (config : Config) (state : State) (verb : ListVerb) (format : Format) (items : List ItemState) (wait : Option ℤ) → list_all (has_known_records config) items ≡ true → wait_at config state.clock state.begun ≡ wait
+-- the format that is found has the prefix
+pub named : (prefix : List ℕ) (formats : List Format) (format : Format) → format_named prefix formats ≡ Some format → format.prefix ≡ prefix
+unfolding format_named
+named prefix [] format h = cc
+named prefix (x ∷ formats) format h = by_test (bytes_eq x.prefix prefix) ((bytes_eq-Decides x.prefix prefix).0) h (named prefix formats format)
+  where
+    by_test : (b : Bool) → (b ≡ true → x.prefix ≡ prefix) → cond b (Some x) (find (λ (f : Format). bytes_eq f.prefix prefix) formats) ≡ Some format
+        → (find (λ (f : Format). bytes_eq f.prefix prefix) formats ≡ Some format → format.prefix ≡ prefix) → format.prefix ≡ prefix
+    by_test true same found later = let e : x ≡ format = cc in ap (λ (f : Format). f.prefix) (sym e) ∙ same refl
+    by_test false same found later = later found
+
+-- and is found by its own
+found_again : (prefix : List ℕ) (formats : List Format) (format : Format) → format_named prefix formats ≡ Some format → is_some (format_named format.prefix formats) ≡ true
+found_again prefix formats format is = ap (λ (p : List ℕ). is_some (format_named p formats)) (named prefix formats format is) ∙ ap is_some is
+
+begun_by : (config : Config) (state : State) (verb : ListVerb) (format : Format) (items : List ItemState) (wait : Option ℤ) → list_all (has_known_records config) items ≡ true
+    → is_some (format_named format.prefix config.formats) ≡ true → wait_at config state.clock state.begun ≡ wait
     → IsBegunBy config state (begins config state.begun format (list_begun config state.clock state.begun verb format.prefix items) wait)
-begun_by config state verb format items (Some seconds) formed is = nothing config state
-begun_by config state verb format items None formed is = record {
+begun_by config state verb format items (Some seconds) formed known is = nothing config state
+begun_by config state verb format items None formed known is = record {
   effect = list_opened (list_begun config state.clock state.begun verb format.prefix items);
-  possible = record { admitted = is; number = refl; lasting = refl; formed = formed };
+  possible = record { admitted = is; number = refl; lasting = refl; formed = formed; known = known };
   done = refl;
 }
 
 told_by_items : (config : Config) (state : State) (verb : ListVerb) (format : Format) (items : List ItemState) → list_all (has_known_records config) items ≡ true
-    → IsBegunBy config state (told_items config state.clock state.begun verb format items)
+    → is_some (format_named format.prefix config.formats) ≡ true → IsBegunBy config state (told_items config state.clock state.begun verb format items)
 unfolding told_items
-told_by_items config state verb format items formed =
+told_by_items config state verb format items formed known =
     cond_both (nat_le (length items) config.chunk) _ _ (λ (done : Said × OpenLists). IsBegunBy config state done)
     (λ _. nothing config state)
-    (λ _. begun_by config state verb format items (wait_at config state.clock state.begun) formed refl)
+    (λ _. begun_by config state verb format items (wait_at config state.clock state.begun) formed known refl)
 
-told_by_format : (config : Config) (state : State) (verb : ListVerb) (format : Option Format) (items : List ItemState) → list_all (has_known_records config) items ≡ true
+told_by_format : (config : Config) (state : State) (verb : ListVerb) (prefix : List ℕ) (format : Option Format) (items : List ItemState) → format_named prefix config.formats ≡ format → list_all (has_known_records config) items ≡ true
     → IsBegunBy config state (told_in config state.clock state.begun verb format items)
-told_by_format config state verb None items formed = nothing config state
-told_by_format config state verb (Some format) items formed = told_by_items config state verb format items formed
+told_by_format config state verb prefix None items is formed = nothing config state
+told_by_format config state verb prefix (Some format) items is formed = told_by_items config state verb format items formed (found_again prefix config.formats format is)
 
 listed : (config : Config) (state : State) (verb : ListVerb) (prefix : List ℕ) (set : Option (List ℕ)) (items : List ItemState) → list_all (has_known_records config) items ≡ true
     → IsBegunBy config state (list_answer config state.clock state.begun state.holdings.sets verb prefix set items)
 listed config state verb prefix set items formed =
     cond_both (is_some set && has_no_sets state.holdings.sets) _ _ (λ (done : Said × OpenLists). IsBegunBy config state done)
     (λ _. nothing config state)
-    (λ _. told_by_format config state verb (format_named prefix config.formats) items formed)
+    (λ _. told_by_format config state verb prefix (format_named prefix config.formats) items refl formed)
 
 continued : (config : Config) (state : State) (verb : ListVerb) (cursor : ℕ) (found : Option FrozenList)
     → IsBegunBy config state (continues config state.clock state.begun verb cursor found)

@@ -6,6 +6,7 @@ pub mod StandLemmas
 pub mod FollowLemmas
 pub mod ChainLemmas
 pub mod WholeLemmas
+pub mod TokenLemmas
 pub mod GivenLemmas
 pub mod SelectingLemmas
 pub mod WorkedLemmas

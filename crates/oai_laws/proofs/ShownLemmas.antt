@@ -33,8 +33,7 @@ use Rattle.oai_laws.specs.Shown.{IsRegularOutcome}
 use Rattle.oai_repo.specs.State.{FrozenList, NamedSet, OpenLists, State}
 use Rattle.oai_item.specs.declared.changes.Change.{Change}
 use Rattle.oai_item.specs.declared.refusals.ChangeRefusal.{ChangeRefusal}
-use Rattle.oai_laws.proofs.ChainLemmas.{named}
-use Rattle.oai_laws.proofs.EffectLemmas.{kept_formed, selected_formed}
+use Rattle.oai_laws.proofs.EffectLemmas.{named, kept_formed, selected_formed}
 use Rattle.oai_laws.proofs.FollowLemmas.{part_items}
 use Rattle.oai_laws.proofs.StandLemmas.{of_found}
 use Rattle.oai_item.proofs.Named.{of_found as of_named}

@@ -1,7 +1,8 @@
 -- What a command can do to a state, and what is true of every state that commands lead to. This repository's own.
-use Rattle.std.specs.Prelude.{◌≡◌, ◌≢◌, ◌≤◌, ℕ, ℤ, pos, ◌+ℤ◌, int_lt, Bool, true, false, ◌&&◌, not, List, [], ◌∷◌, ◌++◌, length, filter, None, Some, nat_lt}
+use Rattle.std.specs.Prelude.{◌≡◌, ◌≢◌, ◌≤◌, ℕ, ℤ, pos, ◌+ℤ◌, int_lt, Bool, true, false, ◌&&◌, not, List, [], ◌∷◌, ◌++◌, length, filter, None, Some, is_some, nat_lt}
 use Rattle.std.specs.List.{list_all}
 use Rattle.oai_lists.specs.declared.lists.TheConstants.{LAST_NUMBER}
+use Rattle.oai_item.specs.Formats.{format_named}
 use Rattle.oai_item.specs.Item.{ItemState, tombstone_of}
 use Rattle.oai_item.specs.Items.{item_named, without}
 use Rattle.oai_item.specs.Known.{has_format, has_known_fields}
@@ -73,12 +74,17 @@ has_known_records config item = list_all (has_format config.formats) item.format
 abbrev pub is_formed : Config → FrozenList → Bool
 is_formed config list = list_all (has_known_records config) list.items
 
--- a list is opened: nothing keeps it waiting, it gets the next number, it is open for its lifetime, and its items are such
+-- and the list is of a format of the repository
+abbrev pub is_of_format : Config → FrozenList → Bool
+is_of_format config list = is_some (format_named list.prefix config.formats)
+
+-- a list is opened: nothing keeps it waiting, it gets the next number, it is open for its lifetime, and it is such a list
 pub record IsOpened (config : Config) (state : State) (list : FrozenList) : Type 0 where
   pub admitted : wait_at config state.clock state.begun ≡ None
   pub number : list.number ≡ state.begun.next
   pub lasting : list.end ≡ state.clock +ℤ pos config.lifetime
   pub formed : is_formed config list ≡ true
+  pub known : is_of_format config list ≡ true
 
 -- it can be done. Nothing of an item is forgotten but where the repository keeps nothing of deleted records (section 2.5.1)
 abbrev pub IsPossible : Config → State → Effect → Type 0
@@ -115,10 +121,12 @@ abbrev pub is_live : ItemState → Bool
 is_live item = item.live
 
 -- what is held is as a repository keeps it, and where nothing is kept of deleted records no item is a deleted one (section 2.5.1); each open
--- list has a number that was given, and items that the repository tells; and the last number of 64 bits was not given
+-- list has a number that was given, items that the repository tells, and a format of the repository; and the last number of 64 bits was not
+-- given
 pub record IsSound (config : Config) (state : State) : Type 0 where
   pub kept : AreKept config state.holdings
   pub live : config.deleted ≡ No → list_all is_live state.holdings.items ≡ true
   pub given : list_all (is_given state.begun.next) state.begun.lists ≡ true
   pub formed : list_all (is_formed config) state.begun.lists ≡ true
+  pub known : list_all (is_of_format config) state.begun.lists ≡ true
   pub few : state.begun.next ≤ LAST_NUMBER

@@ -1,5 +1,5 @@
 -- A list that is followed from part to part by its resumption tokens. OAI-PMH 2.0, section 3.5.
-use Rattle.std.specs.Prelude.{◌≡◌, ◌<◌, ◌+◌, ◌+ℤ◌, ℕ, ℤ, pos, int_lt, Bool, true, false, List, [], ◌∷◌, ◌++◌, length, map, Option, Some, None, is_none, option_and_then}
+use Rattle.std.specs.Prelude.{◌≡◌, ◌⊎◌, ◌<◌, ◌+◌, ◌+ℤ◌, ℕ, ℤ, pos, int_lt, Bool, true, false, List, [], ◌∷◌, ◌++◌, length, map, Option, Some, None, is_none, option_and_then}
 use Rattle.std.specs.List.{flat_map, list_any}
 use Rattle.oai_names.specs.declared.list_verbs.ListVerb.{ListVerb}
 use Rattle.oai_names.specs.declared.list_verbs.ListVerb.TheVariants as list
@@ -13,6 +13,7 @@ use Rattle.oai_args.specs.Asks.{asks}
 use Rattle.oai_args.specs.declared.requests.Ask.TheVariants as ask
 use Rattle.oai_answers.specs.Answers.{Answer, Continuation, Page, completes, fails, gives_record, identifies, lists_formats, lists_headers, lists_records, lists_sets, remains, whole}
 use Rattle.oai_answers.specs.declared.errors.ErrorCode.{ErrorCode}
+use Rattle.oai_answers.specs.declared.errors.ErrorCode.TheVariants.{BadResumptionToken}
 use Rattle.oai_answers.specs.declared.tokens.Extent.{Extent}
 use Rattle.oai_repo.specs.Answers.{filter_of}
 use Rattle.oai_settings.specs.Config.{Config}
@@ -169,6 +170,10 @@ pub record IsFollowed (config : Config) (wish : Wish) (selection : List ItemStat
   pub complete : are_complete pages ≡ true → joined pages ≡ selection
   pub ordered : are_in_order (joined pages) ≡ true
   pub apart : are_apart (joined pages) ≡ true
+
+-- what a request with a token is answered: a page; or that no list is open which the token continues by the verb
+abbrev pub IsContinued : Outcome → Type 0
+IsContinued outcome = (answer_told outcome ≡ Some (fails BadResumptionToken)) ⊎ ((page : Page) × (page_told outcome ≡ Some page))
 
 -- ---- a list that is no longer than a page
 

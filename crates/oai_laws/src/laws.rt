@@ -17,6 +17,7 @@ ghost use Rattle.oai_laws.specs.Changing.{IsAccepted};
 ghost use Rattle.oai_laws.specs.Effects.{Effect, IsEffected, IsPossible, IsSound, effected, is_of_no_list};
 ghost use Rattle.oai_laws.specs.Following.{
   IsChain,
+  IsContinued,
   IsFollowed,
   IsToldNone,
   IsToldWhole,
@@ -54,8 +55,9 @@ ghost use Rattle.oai_laws.specs.Worked.{IsWorked, worked_config};
 /// item where nothing is kept of deleted records, and where each open list has a number that was given,
 /// which the last one of 64 bits never is. A repository begins so, and stays so. A request changes
 /// nothing that is held, and leaves the state where it neither begins a list nor continues one, or where
-/// its token is refused; a change leaves the open lists. And a request that is told to wait is told to
-/// wait for a second or more; where the table was full, a list has ended by then.
+/// its token is refused; a change leaves the open lists. A request with a token is answered with a page,
+/// or is told badResumptionToken. And a request that is told to wait is told to wait for a second or more;
+/// where the table was full, a list has ended by then.
 pub fn effect_law()
     ensures does { (config : Config) (state : State) (command : Command) → IsSound config state
         → IsEffected config state (act config state command).1 }
@@ -74,6 +76,9 @@ pub fn effect_law()
     ensures tokens { (config : Config) (state : State) (verb : ListVerb) (token : List ℕ)
         → (let done = act config state (asking (asks (ask.Resume verb token))) in
         answer_told done.0 ≡ Some (fails BadResumptionToken) → done.1 ≡ state) }
+    ensures continued { (config : Config) (state : State) (verb : ListVerb) (token : List ℕ)
+        → IsSound config state
+        → IsContinued (act config state (asking (asks (ask.Resume verb token)))).0 }
     ensures waits { (config : Config) (clock seconds : ℤ) (begun : OpenLists) → IsConfig config
         → wait_at config clock (still_open clock begun) ≡ Some seconds
         → IsWait config clock (still_open clock begun) seconds }
