@@ -13,14 +13,14 @@ use Rattle.std.proofs.lemmas.List.{append-nil, map-append, reverse-append}
 use Rattle.std.proofs.lemmas.List.Concat.{flat_map-append}
 use Rattle.std.proofs.lemmas.List.Elements.{All-append, All-cons, All-nil, filter-append}
 use Rattle.std.proofs.lemmas.List.Folds.{list_all-append}
-use Rattle.httparse.specs.Grammar.{Field, IsField, IsResponseHead, ResponseHead, crlf, is_ows, is_token_byte, is_value_byte, print_field, print_response, print_section, skip_ows, status_code, trim_ows}
+use Rattle.httparse.specs.Grammar.{Field, IsField, IsResponseHead, ResponseHead, crlf, is_ows, is_token_byte, is_value_byte, print_field, print_response, skip_ows, trim_ows}
 use Rattle.httparse.specs.Spans.{name_and_value}
 use Rattle.httparse.proofs.TrimLemmas.{trim_ows_space}
 use Rattle.oai_host.specs.Statuses.{number_of, phrase_of}
 use Rattle.oai_host.specs.declared.exchanges.Answer.{Answer}
 use Rattle.oai_host.specs.declared.statuses.Status.{Status}
 use Rattle.oai_host.specs.declared.statuses.Status.TheVariants as status
-use Rattle.oai_front.specs.Clients.{IsReadBack, fields_in}
+use Rattle.oai_front.specs.Clients.{IsReadBack}
 use Rattle.oai_front.specs.Fields.{any_close, is_alike, is_named, lists_close, values_named}
 use Rattle.oai_front.specs.Heads.{allow_field, answer_bytes, answer_head, close_field, done_field, fault_bytes, field, head_told, length_field, plain, retry_field, status_fields, status_line, type_field}
 use Rattle.oai_front.specs.declared.heads.AnswerHead.{AnswerHead}

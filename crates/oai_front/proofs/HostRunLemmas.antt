@@ -1,5 +1,5 @@
--- Pieces on connections with a host: what its repositories answer to the messages that are performed.
-use Rattle.std.proofs.Common.{◌≡◌, ◌∙◌, ◌≤◌, Bool, IsTrue, List, [], ◌∷◌, ◌++◌, append_assoc, arith, refl, sym, ap, subst}
+-- Calls of a front with a host: what its repositories answer to the messages that are performed.
+use Rattle.std.proofs.Common.{◌≡◌, ◌∙◌, ◌≤◌, Bool, IsTrue, List, [], ◌∷◌, ◌++◌, append_assoc, arith, sym, ap, subst}
 use Rattle.std.proofs.lemmas.List.{append-nil}
 use Rattle.oai_host.proofs.FaultLemmas.{all_counted_since, all_honest_since, counted_on, honest_on}
 use Rattle.oai_host.proofs.RunLemmas.{all_alone, answered_last, answered_none}
@@ -9,8 +9,8 @@ use Rattle.oai_host.specs.declared.exchanges.Answer.{Answer}
 use Rattle.oai_host.specs.declared.exchanges.Call.{Call}
 use Rattle.oai_front.proofs.RunLemmas.{come_served}
 use Rattle.oai_front.specs.Fronts.{State}
-use Rattle.oai_front.specs.HostRuns.{AreHosted, IsExchanged, answers_in, call_in, calls_in}
-use Rattle.oai_front.specs.Runs.{Comes, Piece, Served, Serves, all_served}
+use Rattle.oai_front.specs.HostRuns.{AreServedByHost, IsExchanged, answers_in, call_in, calls_in}
+use Rattle.oai_front.specs.Runs.{Comes, Coming, Served, Serves, all_served}
 
 -- the calls and the answers of a run, written otherwise
 same_run : (calls others : List Call) (answers more : List Answer) (before after : List Repository) → calls ≡ others → answers ≡ more → AreAnswered calls answers before after
@@ -57,21 +57,15 @@ all_honest old new (s ∷ served) run = (
   all_honest_since (answers_in served) old.honest run.0.honest new.honest run.1.honesty.same (all_honest run.0 new served run.2),
 )
 
-pub all_hosted : (old new : State Hosting) (pieces : List Piece) → Comes IsExchanged old pieces new → IsTrue old.handler.honest → AreHosted old new pieces
-all_hosted old new pieces comes honest =
-    let all = come_served IsExchanged old new pieces comes in
-    let served = all_served pieces all.each in
+pub served_by_host : (old new : State Hosting) (calls : List Coming) → Comes IsExchanged old calls new → IsTrue old.handler.honest → AreServedByHost old new calls
+served_by_host old new calls comes honest =
+    let all = come_served IsExchanged old new calls comes in
+    let served = all_served all.each in
     let answered = answered_more old.handler old.handler new.handler [] [] served (answered_none old.handler.repositories) honest all.run in
     record {
-      each = all.each;
-      calls = calls_in served;
-      calls_are = refl;
-      answers = answers_in served;
-      answers_are = refl;
+      served = all;
       answered = answered;
       alone = all_alone (calls_in served) (answers_in served) old.handler.repositories new.handler.repositories answered;
-      own = all.own;
-      prompt = all.prompt;
       device = all_counted old.handler new.handler served all.run;
       damaged = all_honest old.handler new.handler served all.run;
       honesty = honesty_stays old.handler new.handler served all.run;

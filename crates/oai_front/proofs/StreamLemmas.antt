@@ -98,11 +98,11 @@ fault_waits bytes s u (inr refused) = absurd (u.fault s refused)
 
 -- ---- lists of messages
 
-splits_more : (bytes more rest : List ℕ) (messages : List Message) → Splits bytes messages rest → Splits (bytes ++ more) messages (rest ++ more)
+pub splits_more : (bytes more rest : List ℕ) (messages : List Message) → Splits bytes messages rest → Splits (bytes ++ more) messages (rest ++ more)
 splits_more bytes more rest [] s = ap (λ (xs : List ℕ). xs ++ more) s
 splits_more bytes more rest (m ∷ messages) s = (s.0 ++ more, reads_more bytes more m s.0 s.1, s.2, splits_more s.0 more rest messages s.3)
 
-splits_join : (bytes rest other : List ℕ) (ms ns : List Message) → Splits bytes ms rest → Splits rest ns other → Splits bytes (ms ++ ns) other
+pub splits_join : (bytes rest other : List ℕ) (ms ns : List Message) → Splits bytes ms rest → Splits rest ns other → Splits bytes (ms ++ ns) other
 splits_join bytes rest other [] ns s t = subst (λ (xs : List ℕ). Splits xs ns other) (sym s) t
 splits_join bytes rest other (m ∷ ms) ns s t = (s.0, s.1, s.2, splits_join s.0 rest other ms ns s.3 t)
 

@@ -1,15 +1,13 @@
--- What comes of pieces, on any number of connections, where a host performs the messages. This repository's own.
-use Rattle.std.specs.Prelude.{◌≡◌, ◌≤◌, ℕ, ℤ, true, IsTrue, List, map, take}
+-- What comes of the calls of a front, on any number of connections, where a host performs the messages. This repository's own.
+use Rattle.std.specs.Prelude.{◌≡◌, ◌≤◌, ℤ, true, IsTrue, List, map}
 use Rattle.oai_catalogue.specs.Store.{IsCounted, IsHonest}
 use Rattle.oai_host.specs.Answers.{AreCounted, AreHonest, failure_in}
 use Rattle.oai_host.specs.Hosts.{AreAnswered, AreAsAlone, Hosting, IsAnswered, none_failed}
 use Rattle.oai_host.specs.declared.exchanges.Answer.{Answer}
 use Rattle.oai_host.specs.declared.exchanges.Call.{Call}
-use Rattle.oai_front.specs.Connections.{Connection}
 use Rattle.oai_front.specs.Fronts.{State}
 use Rattle.oai_front.specs.Messages.{Asked}
-use Rattle.oai_front.specs.Performing.{Done}
-use Rattle.oai_front.specs.Runs.{AreMessages, IsOwn, IsReading, Piece, Served, all_served, bytes_on, done_on}
+use Rattle.oai_front.specs.Runs.{AreServed, Coming, Served, all_served}
 
 -- ---- one message
 
@@ -42,23 +40,15 @@ calls_in served = map call_in served
 abbrev pub answers_in : List Served → List Answer
 answers_in served = map (λ s. s.done.answer) served
 
--- pieces came, and messages were performed: `each` says with which piece which. `calls` are all of them, one after the other, as calls of the
--- host, and `answers` are theirs. At each repository what is answered is a run of its own exchanges, whatever came between them, on the same
--- connection or on others; where none failed, it is what that repository alone answers. A fault is told only where it has its cause. On each connection just the messages of its own
--- bytes were performed, each with the piece that brought its last byte, and just their answers, in order, and that to a fault, were put
--- behind its output
-pub record AreHosted (old new : State Hosting) (pieces : List Piece) : Type 0 where
-  pub each : List (List Done)
-  pub calls : List Call
-  pub calls_are : calls ≡ calls_in (all_served pieces each)
-  pub answers : List Answer
-  pub answers_are : answers ≡ answers_in (all_served pieces each)
-  pub answered : AreAnswered calls answers old.handler.repositories new.handler.repositories
-  pub alone : none_failed answers ≡ true → AreAsAlone calls answers old.handler.repositories
-  pub own : (number : ℕ) (c : Connection) → IsReading number old c → IsOwn number new c (bytes_on number pieces) (done_on number (all_served pieces each))
-  pub prompt : (count number : ℕ) (c : Connection) → IsReading number old c
-      → AreMessages c (bytes_on number (take count pieces)) (done_on number (all_served (take count pieces) each))
-  pub device : AreCounted answers old.handler.failures new.handler.failures
-  pub damaged : AreHonest answers old.handler.honest new.handler.honest
+-- calls came, and messages were performed as `AreServed` says. At each repository what is answered is a run of its own exchanges, whatever came
+-- between them, on the same connection or on others; where none failed, it is what that repository alone answers. A fault is told only where it
+-- has its cause
+pub record AreServedByHost (old new : State Hosting) (calls : List Coming) : Type 0 where
+  pub served : AreServed IsExchanged old new calls
+  pub answered : AreAnswered (calls_in (all_served served.each)) (answers_in (all_served served.each)) old.handler.repositories new.handler.repositories
+  pub alone : none_failed (answers_in (all_served served.each)) ≡ true
+      → AreAsAlone (calls_in (all_served served.each)) (answers_in (all_served served.each)) old.handler.repositories
+  pub device : AreCounted (answers_in (all_served served.each)) old.handler.failures new.handler.failures
+  pub damaged : AreHonest (answers_in (all_served served.each)) old.handler.honest new.handler.honest
   pub honesty : new.handler.honest ≡ old.handler.honest
   pub count : old.handler.failures ≤ new.handler.failures

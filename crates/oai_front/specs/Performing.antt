@@ -36,10 +36,14 @@ done_bytes d = answer_bytes d.message.asked.target d.message.last d.answer
 unfoldable pub answers_of : List Done → List ℕ
 answers_of done = flat_map done_bytes done
 
+-- a step for each of a list, one after the other
+abbrev pub Chain : {A S : Type 0} → (A → S → S → Type 0) → List A → S → S → Type 0
+Chain Step [] old new = new ≡ old
+Chain {A} {S} Step (x ∷ xs) old new = (mid : S) × Step x old mid × Chain Step xs mid new
+
 -- the messages are performed in order, at one moment, and answered so
 abbrev pub Run : {H : Type 0} → Steps H → ℤ → H → List Done → H → Type 0
-Run step moment old [] new = new ≡ old
-Run {H} step moment old (d ∷ done) new = (mid : H) × step old moment d.message.asked d.answer mid × Run step moment mid done new
+Run step moment old done new = Chain (λ d before after. step before moment d.message.asked d.answer after) done old new
 
 -- what is answered at the end of the messages: nothing, or the connection fault
 abbrev pub end_bytes : End → List ℕ

@@ -1,17 +1,50 @@
--- What comes of pieces on any number of connections, in the order in which they come. This repository's own.
-use Rattle.std.specs.Prelude.{◌≡◌, ℕ, ℤ, Bool, ◌==◌, List, [], ◌∷◌, ◌++◌, map, filter, take, Some, Ok}
-use Rattle.std.specs.List.{flat_map}
-use Rattle.oai_front.specs.Connections.{Connection, connection_at}
-use Rattle.oai_front.specs.Fronts.{IsPiece, State, connection_numbered}
-use Rattle.oai_front.specs.Messages.{End, IsUnfinished, Stream}
-use Rattle.oai_front.specs.Performing.{Done, Steps, answers_of, end_bytes, messages_of}
-use Rattle.oai_front.specs.declared.stages.Stage.TheVariants.{Reading}
+-- What comes of the calls of a front, on any number of connections, in the order in which they come. This repository's own.
+use Rattle.std.specs.Prelude.{◌≡◌, ◌⊎◌, ◌<◌, ◌≤◌, ℕ, ℤ, Bool, true, false, ◌==◌, if◌then◌else◌, List, [], ◌++◌, drop, filter, find, map, reverse, take, Option, None, Some, Result, Ok, Err}
+use Rattle.std.specs.List.{before_first, flat_map, list_any, sum_by}
+use Rattle.oai_front.specs.Connections.{Connection, fresh, rest_at, stage_at}
+use Rattle.oai_front.specs.Fronts.{HasOutput, IsChange, IsEnding, IsForgetting, IsOpening, IsPiece, IsTaking, State, connection_numbered}
+use Rattle.oai_front.specs.Messages.{End, HasWhole, IsUnfinished, Message, Splits, Stream, waits}
+use Rattle.oai_front.specs.Performing.{Chain, Done, Steps, answers_of, end_bytes, messages_of}
+use Rattle.oai_front.specs.declared.faults.PieceFault.{PieceFault}
+use Rattle.oai_front.specs.declared.faults.PieceFault.TheVariants as refusal
+use Rattle.oai_front.specs.declared.numbers.ConnId.{ConnId}
+use Rattle.oai_front.specs.declared.stages.Stage.{Stage}
+use Rattle.oai_front.specs.declared.stages.Stage.TheVariants as phase
 
--- a piece that comes on a connection at a moment
+-- ---- the calls
+
+-- a piece that comes on a connection at a moment, and whether all messages that are whole with it were performed, or the first of them
 pub record Piece : Type 0 where
   pub number : ℕ
   pub moment : ℤ
   pub bytes : List ℕ
+  pub whole : Bool
+
+-- a call that changes a front: a piece comes on a connection; so many bytes that are to be written on it are taken; no more come on it; it is
+-- forgotten; one is opened. A call that is refused changes nothing, and is none of them
+pub data Coming : Type 0 where
+  Came : (piece : Piece) → Coming
+  Taken : (number count : ℕ) → Coming
+  Over : (number : ℕ) → Coming
+  Forgotten : (number : ℕ) → Coming
+  Opened : Coming
+
+abbrev pub answer_of : Bool → Result Unit PieceFault
+answer_of true = Ok tt
+answer_of false = Err refusal.Unfinished
+
+abbrev pub IsCall : {H : Type 0} → Steps H → Coming → State H → State H → Type 0
+IsCall step (Came p) old new = IsPiece step p.number p.moment p.bytes old (answer_of p.whole) new
+IsCall step (Taken number count) old new = HasOutput number count old.connections × IsChange number old new (IsTaking count) × (new.handler ≡ old.handler)
+IsCall step (Over number) old new = IsEnding number old (Ok tt) new
+IsCall step (Forgotten number) old new = IsForgetting number old (Ok tt) new
+IsCall step Opened old new = (conn : ConnId) × IsOpening old (Ok conn) new
+
+-- the calls come one after the other
+abbrev pub Comes : {H : Type 0} → Steps H → State H → List Coming → State H → Type 0
+Comes step old calls new = Chain (IsCall step) calls old new
+
+-- ---- what was performed
 
 -- a message that was performed on a connection at a moment, with its answer
 pub record Served : Type 0 where
@@ -19,65 +52,138 @@ pub record Served : Type 0 where
   pub moment : ℤ
   pub done : Done
 
--- the pieces come one after the other, and each is taken in with all messages that it completes
-abbrev pub Comes : {H : Type 0} → Steps H → State H → List Piece → State H → Type 0
-Comes step old [] new = new ≡ old
-Comes {H} step old (p ∷ pieces) new =
-    (mid : State H) × IsPiece step p.number p.moment p.bytes old (Ok tt) mid × Comes step mid pieces new
-
 -- the handler performs messages one after the other, whichever connections they came on
 abbrev pub Serves : {H : Type 0} → Steps H → H → List Served → H → Type 0
-Serves step old [] new = new ≡ old
-Serves {H} step old (s ∷ served) new =
-    (mid : H) × step old s.moment s.done.message.asked s.done.answer mid × Serves step mid served new
+Serves step old served new = Chain (λ s before after. step before s.moment s.done.message.asked s.done.answer after) served old new
 
--- the bytes that came on a connection
-abbrev pub comes_on : ℕ → Piece → Bool
-comes_on number p = p.number == number
+-- a call, and the messages that were performed with it
+pub record Deed : Type 0 where
+  pub call : Coming
+  pub done : List Done
 
-unfoldable pub bytes_on : ℕ → List Piece → List ℕ
-bytes_on number pieces = flat_map (λ p. p.bytes) (filter (comes_on number) pieces)
+abbrev pub calls_of : List Deed → List Coming
+calls_of deeds = map (λ d. d.call) deeds
 
--- what was performed on a connection
+-- with a piece they were: on its connection, at its moment
+abbrev pub served_with : Piece → Done → Served
+served_with p done = record { number = p.number; moment = p.moment; done = done }
+
+abbrev pub served_by : Coming → List Done → List Served
+served_by (Came p) done = map (served_with p) done
+served_by call done = []
+
+unfoldable pub all_served : List Deed → List Served
+all_served deeds = flat_map (λ d. served_by d.call d.done) deeds
+
+-- ---- one connection
+
+-- what was performed on it
 abbrev pub served_on : ℕ → Served → Bool
 served_on number s = s.number == number
 
 unfoldable pub done_on : ℕ → List Served → List Done
 done_on number served = map (λ s. s.done) (filter (served_on number) served)
 
+-- the bytes that came on it before no more did
+abbrev pub is_over : ℕ → Coming → Bool
+is_over number (Over other) = other == number
+is_over number call = false
+
+abbrev pub bytes_of : ℕ → Coming → List ℕ
+bytes_of number (Came p) = if p.number == number then p.bytes else []
+bytes_of number call = []
+
+unfoldable pub bytes_on : ℕ → List Coming → List ℕ
+bytes_on number calls = flat_map (bytes_of number) (before_first (is_over number) calls)
+
+-- how many bytes of its output were taken
+abbrev pub count_of : ℕ → Coming → ℕ
+count_of number (Taken other count) = if other == number then count else 0
+count_of number call = 0
+
+-- it was forgotten
+abbrev pub is_forgotten : ℕ → Coming → Bool
+is_forgotten number (Forgotten other) = other == number
+is_forgotten number call = false
+
+-- all that was whole with the last piece that came on it was performed; so it is where none came
+abbrev pub comes_on : ℕ → Coming → Bool
+comes_on number (Came p) = p.number == number
+comes_on number call = false
+
+abbrev pub is_whole : Option Coming → Bool
+is_whole (Some (Came p)) = p.whole
+is_whole call = true
+
+-- what some calls were to a connection
+pub record Seen : Type 0 where
+  pub bytes : List ℕ
+  pub done : List Done
+  pub taken : ℕ
+  pub whole : Bool
+  pub over : Bool
+  pub forgotten : Bool
+
+unfoldable pub seen : ℕ → List Deed → Seen
+seen number deeds = record {
+  bytes = bytes_on number (calls_of deeds);
+  done = done_on number (all_served deeds);
+  taken = sum_by (count_of number) (calls_of deeds);
+  whole = is_whole (find (comes_on number) (reverse (calls_of deeds)));
+  over = list_any (is_over number) (calls_of deeds);
+  forgotten = list_any (is_forgotten number) (calls_of deeds);
+}
+
+-- the messages of the bytes, up to that end: all of them; or the first of them, and something whole waits
+abbrev pub ArePerformed : Bool → List ℕ → List Message → End → Type 0
+ArePerformed true bytes messages end = Stream bytes messages end
+ArePerformed false bytes messages (waits rest) = Splits bytes messages rest × HasWhole rest
+ArePerformed false bytes messages end = ⊥
+
+-- on the connection just the messages of the bytes that came on it were performed, in order
+pub record AreMessages (c : Connection) (s : Seen) : Type 0 where
+  pub end : End
+  pub performed : ArePerformed s.whole (c.rest ++ s.bytes) (messages_of s.done) end
+
+-- how far it has come where no more bytes may have come
+abbrev pub stage_where : Bool → Stage
+stage_where true = phase.Ended
+stage_where false = phase.Reading
+
+-- so it is left: what was to be written, the answers, and that to a fault are to be written, without what was taken
+pub record IsWhatIsLeft (c : Connection) (s : Seen) (end : End) (d : Connection) : Type 0 where
+  pub same : d.number ≡ c.number
+  pub output : d.output ≡ drop s.taken (c.output ++ (answers_of s.done ++ end_bytes end))
+  pub stage : d.stage ≡ stage_at (stage_where s.over) end
+  pub rest : s.over ≡ false → d.rest ≡ rest_at end
+
+-- what comes of it: just its own messages are performed, and where it is not forgotten just their answers are put behind its output
+pub record IsOwn (c : Connection) (s : Seen) (now : Option Connection) : Type 0 where
+  pub messages : AreMessages c s
+  pub forgotten : s.forgotten ≡ true → now ≡ None
+  pub left : s.forgotten ≡ false → (d : Connection) × (now ≡ Some d) × IsWhatIsLeft c s messages.end d
+
+-- ---- all connections
+
 -- a connection that reads, and on which nothing whole waits
 pub record IsReading {H : Type 0} (number : ℕ) (state : State H) (c : Connection) : Type 0 where
   pub stands : connection_numbered number state.connections ≡ Some c
-  pub reads : c.stage ≡ Reading
+  pub reads : c.stage ≡ phase.Reading
   pub waits : IsUnfinished c.rest
+  pub given : number ≤ state.last
 
--- on the connection just the messages of its own bytes were performed, in order, and just their answers, and that to a fault, were put behind
--- its output
-pub record IsOwn {H : Type 0} (number : ℕ) (new : State H) (c : Connection) (bytes : List ℕ) (done : List Done) : Type 0 where
-  pub end : End
-  pub stream : Stream (c.rest ++ bytes) (messages_of done) end
-  pub left : connection_numbered number new.connections ≡ Some (connection_at c end (answers_of done ++ end_bytes end))
+-- a connection that is opened later, as it then is
+pub record IsToCome {H : Type 0} (number : ℕ) (old new : State H) (c : Connection) : Type 0 where
+  pub none : connection_numbered number old.connections ≡ None
+  pub later : old.last < number
+  pub given : number ≤ new.last
+  pub opened : c ≡ fresh number
 
--- a message that was performed with a piece: on its connection, at its moment
-abbrev pub served_with : Piece → Done → Served
-served_with p done = record { number = p.number; moment = p.moment; done = done }
-
--- all that was performed, where with each of the pieces those messages were
-abbrev pub all_served : List Piece → List (List Done) → List Served
-all_served [] each = []
-all_served (p ∷ pieces) [] = []
-all_served (p ∷ pieces) (done ∷ each) = map (served_with p) done ++ all_served pieces each
-
--- what was performed on the connection with some pieces: just the messages of the bytes that came on it with them, in order
-pub record AreMessages (c : Connection) (bytes : List ℕ) (done : List Done) : Type 0 where
-  pub end : End
-  pub stream : Stream (c.rest ++ bytes) (messages_of done) end
-
--- all that was performed, piece by piece, and what of it belongs to each connection. `prompt`: so it is after each of the pieces, so a message
--- is performed with the piece that brings its last byte
-pub record AreServed {H : Type 0} (step : Steps H) (old new : State H) (pieces : List Piece) : Type 0 where
-  pub each : List (List Done)
-  pub run : Serves step old.handler (all_served pieces each) new.handler
-  pub own : (number : ℕ) (c : Connection) → IsReading number old c → IsOwn number new c (bytes_on number pieces) (done_on number (all_served pieces each))
-  pub prompt : (count number : ℕ) (c : Connection) → IsReading number old c
-      → AreMessages c (bytes_on number (take count pieces)) (done_on number (all_served (take count pieces) each))
+-- all that was performed, call by call, and what of it belongs to each connection, one that is opened among the calls as well. `prompt`: so it
+-- is after each of the calls, so a message is performed with the piece that brings its last byte, or, where memory was refused, with a later one
+pub record AreServed {H : Type 0} (step : Steps H) (old new : State H) (calls : List Coming) : Type 0 where
+  pub each : List Deed
+  pub calls_are : calls_of each ≡ calls
+  pub run : Serves step old.handler (all_served each) new.handler
+  pub own : (number : ℕ) (c : Connection) → IsReading number old c ⊎ IsToCome number old new c → IsOwn c (seen number each) (connection_numbered number new.connections)
+  pub prompt : (count number : ℕ) (c : Connection) → IsReading number old c ⊎ IsToCome number old new c → AreMessages c (seen number (take count each))

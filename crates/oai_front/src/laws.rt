@@ -6,8 +6,8 @@ ghost use Rattle.oai_front.specs.Clients.{IsReadBack};
 ghost use Rattle.oai_front.specs.Fronts.{State};
 ghost use Rattle.oai_front.specs.Heads.{answer_bytes, fault_bytes};
 ghost use Rattle.oai_front.specs.Messages.{AreAlike, End, IsClosing, IsUnfinished, Message, Splits, Stream, waits};
-ghost use Rattle.oai_front.specs.HostRuns.{AreHosted};
-ghost use Rattle.oai_front.specs.Runs.{AreServed, Comes, Piece};
+ghost use Rattle.oai_front.specs.HostRuns.{AreServedByHost};
+ghost use Rattle.oai_front.specs.Runs.{AreServed, Comes, Coming};
 
 use crate::beginnings::{MOST_HEAD_BYTES, MOST_HEAD_FIELDS};
 use crate::handlers::Handler;
@@ -39,14 +39,16 @@ pub fn cut_law()
         → Stream bytes (messages ++ others) end }
 {}
 
-/// Pieces come on any number of connections, mixed in any way, and each is taken in whole. The handler
-/// performs one message after the other; those of each connection are the messages of the bytes that came
-/// on it, in order, each performed with the piece that brings its last byte, and their answers, and the
-/// answer to a fault, are what is put behind its output. It is said of each connection that reads and on
-/// which nothing whole waits, and so of one that was opened just now. It does nothing.
+/// The calls of a front come one after the other, on any number of connections, mixed in any way; those that
+/// are refused change nothing, and are left out. The handler performs one message after the other; those of
+/// each connection are the messages of the bytes that came on it before its end, in order, each performed
+/// with the piece that brings its last byte, or, where memory was refused, with a later one; their answers,
+/// and the answer to a fault, are what is put behind its output, and what is taken is taken from the front.
+/// It is said of each connection that reads and on which nothing whole waits, and of each that is opened
+/// among the calls. It does nothing.
 pub fn run_law<H: Handler>()
-    ensures served { (old new : State H) (pieces : List Piece)
-        → Comes H.step old pieces new → AreServed H.step old new pieces }
+    ensures served { (old new : State H) (calls : List Coming)
+        → Comes H.step old calls new → AreServed H.step old new calls }
     ensures begun { IsUnfinished [] }
 {}
 
@@ -54,9 +56,9 @@ pub fn run_law<H: Handler>()
 /// each of its repositories the answers are a run of its own exchanges, and where none failed, those that
 /// it alone gives. It does nothing.
 pub fn host_law<V: Versions + Drop>()
-    ensures hosted { (old new : State Hosting) (pieces : List Piece)
-        → Comes ⟦<Host<V> as Handler>⟧.step old pieces new → IsTrue old.handler.honest
-        → AreHosted old new pieces }
+    ensures hosted { (old new : State Hosting) (calls : List Coming)
+        → Comes ⟦<Host<V> as Handler>⟧.step old calls new → IsTrue old.handler.honest
+        → AreServedByHost old new calls }
 {}
 
 /// What a client reads of an answer, by the grammar of `httparse` and whatever comes behind it: the status,
