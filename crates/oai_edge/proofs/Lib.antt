@@ -2,5 +2,8 @@ pub mod Apart
 mod AskedLemmas
 mod InputLemmas
 mod KnownLemmas
+mod LineLemmas
+mod NumeralLemmas
 pub mod Performed
 mod Traced
+mod WrittenLines

@@ -1,14 +1,18 @@
 -- The lines of a trace, and what is written for each. This repository's own.
-use Rattle.std.specs.Prelude.{◌≡◌, ◌⊎◌, ℕ, ℤ, Bool, true, ◌==◌, ◌&&◌, nat_lt, List, [], ◌∷◌, ◌++◌, length, codes, decimal, Option, Some, None, is_none, Result, Ok, Err, if◌then◌else◌}
+use Rattle.std.specs.Prelude.{◌≡◌, ◌⊎◌, ℕ, ℤ, ◌^◌, ◌<◌, Bool, ◌==◌, List, [], ◌∷◌, ◌++◌, codes, decimal, Option, Some, None, IfSome, Result, Ok, Err, FitsSigned, if◌then◌else◌}
+use Rattle.std.specs.Fmt.{signed_decimal}
+use Rattle.std.specs.Int.{w64}
 use Rattle.std.specs.List.{count_by}
 use Rattle.std.specs.Option.{option_map}
 use Rattle.std.specs.Result.{result_ok}
 use Rattle.std.specs.Str.{bytes_eq}
 use Rattle.hex.specs.declared.error.FromHexError.{FromHexError}
 use Rattle.hex.specs.declared.error.FromHexError.TheVariants.{InvalidHexCharacter, InvalidStringLength, OddLength, OutOfMemory}
-use Rattle.hex.specs.Hex.{decode_of, encode_lower}
-use Rattle.oai_edge.specs.Lines.{is_space, moment_of, part, rest}
-use Rattle.oai_edge.specs.Numbers.{number_in}
+use Rattle.hex.specs.Hex.{IsBytes, decode_of, encode_lower}
+use Rattle.oai_host.specs.Readings.{◌>>=◌, tested}
+use Rattle.oai_edge.specs.Asked.{lines_of}
+use Rattle.oai_edge.specs.Lines.{is_space, part, rest}
+use Rattle.oai_edge.specs.Numbers.{moment_of, number_in}
 use Rattle.oai_edge.specs.declared.events.Event.{Event}
 use Rattle.oai_edge.specs.declared.stop.Stop.{Stop}
 use Rattle.oai_edge.specs.declared.stop.Stop.TheVariants.{BadPiece, NoMemory}
@@ -31,15 +35,29 @@ stop_at number OddLength = BadPiece number
 stop_at number InvalidStringLength = BadPiece number
 stop_at number (InvalidHexCharacter c index) = BadPiece number
 
--- what a moment, a label and what comes tell together
-abbrev pub event_of : Option ℤ → Option ℕ → Option (Option (List ℕ)) → Option Event
-event_of (Some moment) (Some label) (Some piece) = Some (record { moment = moment; label = label; piece = piece })
-event_of _ _ _ = None
-
--- a line has just three parts
+-- a line has just three parts: a moment, a label, and what comes
 unfoldable pub told : List ℕ → Option Event
-told line =
-    if count_by is_space line == 2 then event_of (moment_of (part line)) (number_in (part (rest line))) (coming (rest (rest line))) else None
+told line = do
+  line ← tested (λ (text : List ℕ). count_by is_space text == 2) line
+  moment ← moment_of (part line)
+  label ← number_in (part (rest line))
+  piece ← coming (rest (rest line))
+  Some (record { moment = moment; label = label; piece = piece })
+
+-- what comes, as text
+abbrev pub coming_text : Option (List ℕ) → List ℕ
+coming_text None = codes "end"
+coming_text (Some bytes) = encode_lower bytes
+
+-- an event, as such a line
+abbrev pub event_line : Event → List ℕ
+event_line event = signed_decimal event.moment ++ codes " " ++ decimal event.label ++ codes " " ++ coming_text event.piece
+
+-- an event that a line can tell: a moment and a label of 64 bits, and bytes
+pub record IsTellable (event : Event) : Type 0 where
+  pub moment : FitsSigned w64 event.moment
+  pub label : event.label < 2 ^ 64
+  pub piece : IfSome event.piece IsBytes
 
 -- a line was read; it tells nothing, and is the line of that number; or memory was refused
 abbrev pub IsTold : List ℕ → ℕ → Result Event Stop → Type 0
@@ -57,3 +75,9 @@ shown_output label (b ∷ bytes) = decimal label ++ codes " " ++ encode_lower (b
 -- that a connection is closed, as a line `<label> close`
 abbrev pub shown_close : ℕ → Bool → List ℕ
 shown_close label closing = if closing then decimal label ++ codes " close\n" else []
+
+-- what is written of the bytes can be traced again: behind a moment it is one line, which tells that these bytes come on that label
+pub record IsReadBack (at : ℤ) (number : ℕ) (bytes : List ℕ) : Type 0 where
+  pub line : List ℕ
+  pub alone : lines_of (signed_decimal at ++ codes " " ++ shown_output number bytes) ≡ line ∷ [] ∷ []
+  pub tells : told line ≡ Some (record { moment = at; label = number; piece = Some bytes })

@@ -1,36 +1,17 @@
--- The lines that the program performs, what it writes for each, and what it says where it stops. This repository's own.
-use Rattle.std.specs.Prelude.{◌≡◌, ℕ, ◌^◌, ◌==◌, ℤ, pos, neg_ℤ, Bool, ◌&&◌, nat_lt, nat_le, List, [], ◌++◌, length, drop, slice_index, codes, decimal, Option, Some, None, is_none, IsTrue, if◌then◌else◌}
-use Rattle.std.specs.List.{before_first, after_first, count_by}
-use Rattle.std.specs.Option.{option_map}
-use Rattle.std.specs.Str.{all_ascii_digits, bytes_eq}
+-- The lines that spell exchanges, and what is written for each. This repository's own.
+use Rattle.std.specs.Prelude.{◌≡◌, ℕ, ◌==◌, ℤ, Bool, false, ◌&&◌, nat_lt, nat_le, List, [], ◌++◌, length, codes, decimal, Option, Some, None, is_none, IsTrue, FitsSigned, if◌then◌else◌}
+use Rattle.std.specs.List.{before_first, after_first, count_by, list_any}
+use Rattle.std.specs.Str.{bytes_eq}
 use Rattle.std.specs.Fmt.{signed_decimal}
-use Rattle.std.specs.Str.Parse.{digits_value}
+use Rattle.std.specs.Int.{w64}
 use Rattle.oai_host.specs.Hosts.{Hosting, IsAnswered}
+use Rattle.oai_host.specs.Readings.{◌>>=◌, tested}
 use Rattle.oai_host.specs.Statuses.{number_of}
 use Rattle.oai_host.specs.Tasks.{call_of}
 use Rattle.oai_host.specs.declared.exchanges.Answer.{Answer}
 use Rattle.oai_host.specs.declared.exchanges.Call.{Call}
 use Rattle.oai_host.specs.declared.exchanges.Exchange.{Exchange}
-
--- ---- a moment, `-?[0-9]+`: in seconds from 1970 on, in 64 bits
-
--- decimal digits, one or more
-abbrev pub is_numeral : List ℕ → Bool
-is_numeral text = all_ascii_digits text && nat_lt 0 (length text)
-
--- digits alone, of a number below 2^63
-abbrev pub moment_from_1970 : List ℕ → Option ℤ
-moment_from_1970 digits =
-    if is_numeral digits && nat_lt (digits_value 10 digits) (2 ^ 63) then Some (pos (digits_value 10 digits)) else None
-
--- the digits after a minus, of a number up to 2^63
-abbrev pub moment_before_1970 : List ℕ → Option ℤ
-moment_before_1970 digits =
-    if is_numeral digits && nat_le (digits_value 10 digits) (2 ^ 63) then Some (neg_ℤ (pos (digits_value 10 digits))) else None
-
--- a minus is byte 45
-unfoldable pub moment_of : List ℕ → Option ℤ
-moment_of text = if slice_index text 0 == 45 then moment_before_1970 (drop 1 text) else moment_from_1970 text
+use Rattle.oai_edge.specs.Numbers.{moment_of}
 
 -- ---- a line: `<moment> <METHOD> <target>`, and then for a body one space and the body to the end of the line
 
@@ -52,19 +33,29 @@ type_of method = if bytes_eq method (codes "POST") then Some (codes "application
 abbrev pub spelled_by : ℤ × Exchange → Call
 spelled_by (moment, exchange) = call_of moment exchange
 
--- what a line with these parts spells
-abbrev pub spelled_with : List ℕ → ℤ → Call
-spelled_with line moment = record {
-  moment = moment;
-  method = part (rest line);
-  target = part (rest (rest line));
-  content_type = type_of (part (rest line));
-  body = rest (rest (rest line));
-}
-
--- a line has two spaces or more, and begins with a moment
+-- a line has two spaces or more: a moment, a method, a target, and a body to the end of the line
 unfoldable pub spelled : List ℕ → Option Call
-spelled line = if nat_lt (count_by is_space line) 2 then None else option_map (spelled_with line) (moment_of (part line))
+spelled line = do
+  line ← tested (λ (text : List ℕ). nat_le 2 (count_by is_space text)) line
+  moment ← moment_of (part line)
+  Some (record {
+    moment = moment;
+    method = part (rest line);
+    target = part (rest (rest line));
+    content_type = type_of (part (rest line));
+    body = rest (rest (rest line));
+  })
+
+-- a call, as such a line
+abbrev pub call_line : Call → List ℕ
+call_line call = signed_decimal call.moment ++ codes " " ++ call.method ++ codes " " ++ call.target ++ codes " " ++ call.body
+
+-- a call that a line can spell: a moment of 64 bits, a method and a target without a space, and the type that goes with the method
+pub record IsSpellable (call : Call) : Type 0 where
+  pub moment : FitsSigned w64 call.moment
+  pub method : list_any is_space call.method ≡ false
+  pub target : list_any is_space call.target ≡ false
+  pub content_type : call.content_type ≡ type_of call.method
 
 -- an empty line counts, and is passed over
 abbrev pub is_filled : List ℕ → Bool

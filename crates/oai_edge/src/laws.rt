@@ -1,7 +1,28 @@
-ghost use Rattle.std.specs.Prelude.{◌≡◌};
+//! What is true of the definitions: functions that do nothing.
+ghost use Rattle.std.specs.Prelude.{◌≡◌, ◌≢◌, ◌^◌, ◌<◌, ℕ, ℤ, List, [], Some, decimal, FitsSigned};
+ghost use Rattle.std.specs.Fmt.{signed_decimal};
+ghost use Rattle.std.specs.Int.{w64};
+ghost use Rattle.hex.specs.Hex.{IsBytes};
+ghost use Rattle.oai_host.specs.declared.exchanges.Call.{Call};
+ghost use Rattle.oai_edge.specs.Events.{IsReadBack, IsTellable, event_line, told};
+ghost use Rattle.oai_edge.specs.Lines.{IsSpellable, call_line, spelled};
+ghost use Rattle.oai_edge.specs.Numbers.{moment_of, number_in};
+ghost use Rattle.oai_edge.specs.declared.events.Event.{Event};
 
 use crate::limits::{MOST_READS, READ_BYTES};
 use crate::trace::MOST_CONNECTIONS;
+
+/// What is written of a moment, a number, a call and an event is read as that again, and what a trace writes
+/// of a connection can stand in a trace. It does nothing.
+pub fn line_law()
+    ensures moments { (moment : ℤ) → FitsSigned w64 moment
+        → moment_of (signed_decimal moment) ≡ Some moment }
+    ensures numbers { (number : ℕ) → number < 2 ^ 64 → number_in (decimal number) ≡ Some number }
+    ensures calls { (call : Call) → IsSpellable call → spelled (call_line call) ≡ Some call }
+    ensures events { (event : Event) → IsTellable event → told (event_line event) ≡ Some event }
+    ensures outputs { (moment : ℤ) (label : ℕ) (bytes : List ℕ) → FitsSigned w64 moment
+        → label < 2 ^ 64 → IsBytes bytes → bytes ≢ [] → IsReadBack moment label bytes }
+{}
 
 /// The limits in numbers, since no other clause tells them. It does nothing.
 pub fn limit_law()

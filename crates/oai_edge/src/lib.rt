@@ -21,7 +21,7 @@ mod trace;
 pub use answers::write_answer;
 pub use ask::ask_lines;
 pub use configurations::{config_in, host_of, read_config};
-pub use laws::limit_law;
+pub use laws::{limit_law, line_law};
 pub use parts::read_number;
 pub use server::serve;
 pub use serving::{StreamFault, serve_stream};

@@ -2,7 +2,7 @@
 ghost use Rattle.std.specs.Prelude.{◌≡◌, ◌≤◌, length};
 ghost use Rattle.std.specs.List.{count_by, position, position_or_len};
 ghost use Rattle.oai_edge.specs.Lines as spec;
-ghost use Rattle.oai_edge.specs.Numbers.{number_in};
+ghost use Rattle.oai_edge.specs.Numbers.{moment_of, number_in};
 
 /// What begins no number here, though `parse` takes it.
 const PLUS: &[u8] = b"+";
@@ -47,7 +47,7 @@ fn first_space(text: &[u8]) -> Option<usize>
 
 /// Reads a moment: decimal digits, after a minus where it is negative.
 pub(crate) fn read_moment(text: &[u8]) -> Option<i64>
-    ensures { result ≡ spec.moment_of text.now }
+    ensures { result ≡ moment_of text.now }
 {
     if text.starts_with(PLUS) {
         return None;

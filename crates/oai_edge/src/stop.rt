@@ -1,3 +1,4 @@
+//! Why the program stops, what it says then, and its exit status.
 ghost use Rattle.std.specs.Prelude.{◌≡◌};
 ghost use Rattle.oai_edge.specs.Stops as spec;
 

@@ -1,19 +1,14 @@
 -- What the three parts tell is what the line tells.
-use Rattle.std.proofs.Common.{◌≡◌, ◌∙◌, ◌⊎◌, inl, inr, ℕ, ℤ, ◌==◌, Bool, true, false, List, Option, Some, None, Result, Ok, Err, cond, refl, sym, ap, w64, rules, tests, FitsSigned, to_z-of_z}
+use Rattle.std.proofs.Common.{◌≡◌, ◌∙◌, ◌⊎◌, inl, inr, ℕ, ℤ, ◌==◌, true, List, Option, Some, None, Result, Err, refl, sym, ap, w64, FitsSigned, to_z-of_z}
 use Rattle.std.proofs.lemmas.Bool.{eq-eqb}
 use Rattle.std.specs.List.{count_by}
 use Rattle.hex.specs.declared.error.FromHexError.{FromHexError}
 use Rattle.hex.specs.declared.error.FromHexError.TheVariants.{InvalidHexCharacter, InvalidStringLength, OddLength, OutOfMemory}
-use Rattle.oai_edge.specs.Events.{IsTold, coming, event_of, stop_at, told}
-use Rattle.oai_edge.specs.Lines.{is_space, moment_of, part, rest}
-use Rattle.oai_edge.specs.Numbers.{number_in}
+use Rattle.oai_edge.specs.Events.{IsTold, coming, stop_at, told}
+use Rattle.oai_edge.specs.Lines.{is_space, part, rest}
+use Rattle.oai_edge.specs.Numbers.{moment_of, number_in}
+use Rattle.oai_edge.proofs.LineLemmas.{told_all, told_no_piece}
 use Rattle.oai_edge.proofs.events.read_event.Goals as goal
-
-told_parts : (line : List ℕ) (moment : Option ℤ) (label : Option ℕ) (piece : Option (Option (List ℕ))) → (count_by is_space line == 2) ≡ true
-    → moment ≡ moment_of (part line) → label ≡ number_in (part (rest line)) → coming (rest (rest line)) ≡ piece
-    → told line ≡ event_of moment label piece
-unfolding told
-told_parts line moment label piece two m l p = rw (two, ← m, ← l, p) refl
 
 -- an error of the digits is the line's, but for want of memory
 tells_nothing : (line : List ℕ) (number : ℕ) (error : FromHexError) → (error ≡ OutOfMemory) ⊎ (told line ≡ None)
@@ -30,7 +25,7 @@ why : (line text : List ℕ) (moment : ℤ) (label : ℕ) (error : FromHexError)
     → Some moment ≡ moment_of (part line) → Some label ≡ number_in (part (rest line)) → text ≡ rest (rest line)
     → (error ≡ OutOfMemory) ⊎ (coming text ≡ None) → (error ≡ OutOfMemory) ⊎ (told line ≡ None)
 why line text moment label error two m l back (inl e) = inl e
-why line text moment label error two m l back (inr t) = inr (told_parts line (Some moment) (Some label) None two m l (ap coming (sym back) ∙ t))
+why line text moment label error two m l back (inr t) = inr (told_no_piece line moment label two (sym m) (sym l) (ap coming (sym back) ∙ t))
 
 pub returns-in-Ok : goal.returns-in-Ok
 returns-in-Ok c =
@@ -41,7 +36,7 @@ returns-in-Ok c =
     let label : Some c.in-Some-Some.label ≡ number_in (part (rest line)) =
     c.in-Some-Some.ensures' ∙ ap number_in (c.cut-2.ensures.front ∙ ap part c.cut.ensures.back) in
     let piece : coming (rest (rest line)) ≡ Some c.in-Ok.piece = ap coming (sym (c.cut-2.ensures.back ∙ ap rest c.cut.ensures.back)) ∙ c.in-Ok.ensures in
-    simp to_z-of_z (told_parts line (Some c.in-Some-Some.moment) (Some c.in-Some-Some.label) (Some c.in-Ok.piece) two moment label piece)
+    simp to_z-of_z (told_all line c.in-Some-Some.moment c.in-Some-Some.label c.in-Ok.piece two (sym moment) (sym label) piece)
 
 pub returns-in-Err : goal.returns-in-Err
 returns-in-Err c =

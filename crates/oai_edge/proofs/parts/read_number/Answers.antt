@@ -1,68 +1,24 @@
 -- What is read is the number of the digits; a text that is not all digits is no number.
-use Rattle.std.proofs.Common.{◌≡◌, ℕ, zero, suc, ◌<◌, ◌^◌, Bool, true, false, ◌&&◌, nat_lt, nat_eq, List, [], ◌∷◌, length, slice_index, Option, Some, None, cond, Result, Ok, Err, refl, sym, ap, subst, ◌∙◌, ◌≢◌, arith, lit<, codes}
-use Rattle.std.specs.Result.{OkIff, result_ok}
-use Rattle.std.specs.List.{starts_with}
-use Rattle.std.specs.Str.{all_ascii_digits, IsUtf8, IsAscii}
-use Rattle.std.specs.Str.Parse.{digits_value, ParsesUnsigned}
+use Rattle.std.proofs.Common.{◌≡◌, ◌∙◌, ℕ, ◌^◌, List, None, Result, ◌≢◌}
+use Rattle.std.specs.Result.{result_ok}
+use Rattle.std.specs.Str.Parse.{ParsesUnsigned}
 use Rattle.std.proofs.lemmas.Str.{IsUtf8-from_ascii}
-use Rattle.std.proofs.lemmas.Str.Parse.{IsNumeralModel, numerals_by_value, tells_all_ascii_digits, parse_plain}
-use Rattle.std.proofs.lemmas.Bool.{and_from, and_parts, false≢true, lt-ltb, ltb-true, eq-eqb, eqb-true, cond_both}
-use Rattle.oai_edge.specs.Lines.{is_numeral}
-use Rattle.oai_edge.specs.Numbers.{number_in}
+use Rattle.std.proofs.lemmas.Str.Parse.{parse_plain}
+use Rattle.std.specs.Prelude.{slice_index}
+use Rattle.oai_edge.specs.Numbers.{number_in, numeral_below}
+use Rattle.oai_edge.proofs.NumeralLemmas.{begins_otherwise, begins_so, digits_ascii, map_same, none_below, none_of_plus, numerals, parsed_below}
 use Rattle.oai_edge.proofs.parts.read_number.Goals as goal
 
--- ---- digits are ASCII
-
-all_ascii : (text : List ℕ) → all_ascii_digits text ≡ true → IsAscii text
-all_ascii [] h i = lit< tt
-all_ascii (b ∷ bs) h zero = let p = tells_all_ascii_digits.parts b bs h in omega (arith, p.0)
-all_ascii (b ∷ bs) h (suc i) = all_ascii bs (tells_all_ascii_digits.parts b bs h).1 i
-
--- what is no text is no number
-no_text : (text : List ℕ) → (IsUtf8 text → ⊥) → None ≡ number_in text
-unfolding number_in
-no_text text not =
-    cond_both (is_numeral text && nat_lt (digits_value 10 text) (2 ^ 64)) _ None (λ m. None ≡ m)
-    (λ t. absurd (not (IsUtf8-from_ascii text (all_ascii text (and_parts _ _ (and_parts _ _ t).0).0)))) (λ _. refl)
-
--- ---- a plus is no number
-
-plus : (text : List ℕ) → slice_index text 0 ≡ 43 → None ≡ number_in text
-unfolding number_in
-plus [] h = refl
-plus (b ∷ bs) h = let P : ℕ → Type 0 = λ x. None ≡ number_in (x ∷ bs) in subst P (sym h) refl
-
-begins_so : (text : List ℕ) → true ≡ starts_with nat_eq text (codes "+") → slice_index text 0 ≡ 43
-begins_so [] h = cc
-begins_so (b ∷ bs) h = sym (eqb-true _ _ (and_parts _ _ (sym h)).0)
-
-begins_otherwise : (text : List ℕ) → false ≡ starts_with nat_eq text (codes "+") → slice_index text 0 ≢ 43
-begins_otherwise [] h e = omega (arith, e)
-begins_otherwise (b ∷ bs) h e = false≢true (h ∙ and_from _ _ (eq-eqb _ _ (sym e)) refl)
-
--- ---- what is read
-
-numerals : IsNumeralModel (λ ds. all_ascii_digits ds ≡ true) (digits_value 10)
-numerals = numerals_by_value _ tells_all_ascii_digits
-
-as_tested : {E : Type 0} (r : Result ℕ E) (P : Type 0) (x : ℕ) (test : Bool) → OkIff r P x → (P → test ≡ true) → (test ≡ true → P) → result_ok r ≡ cond test (Some x) None
-as_tested (Ok y) P x true h to from = ap Some h.1
-as_tested (Ok y) P x false h to from = absurd (false≢true (to h.0))
-as_tested (Err e) P x true h to from = absurd (h (from refl))
-as_tested (Err e) P x false h to from = refl
-
 parsed : {E : Type 0} (text : List ℕ) (r : Result ℕ E) → slice_index text 0 ≢ 43 → ParsesUnsigned 64 10 text r → result_ok r ≡ number_in text
-unfolding number_in
-parsed text r no_plus h =
-    as_tested r _ _ _ (parse_plain numerals 64 text r h no_plus)
-    (λ p. and_from _ _ (and_from _ _ p.0 (lt-ltb _ _ p.1)) (lt-ltb _ _ p.2))
-    (λ t. let l = and_parts _ _ t in let d = and_parts _ _ l.0 in (d.0, ltb-true _ _ d.1, ltb-true _ _ l.1))
+parsed text r no_plus h = parsed_below (2 ^ 64) text (λ n. n) r (parse_plain numerals 64 text r h no_plus) ∙ map_same (numeral_below (2 ^ 64) text)
 
 pub returns-then-starts_with : goal.returns-then-starts_with
-returns-then-starts_with c = let text = c.args.text.now in plus text (begins_so text c.if-starts_with.ensures.value)
+returns-then-starts_with c = let text = c.args.text.now in none_of_plus (2 ^ 64) text (begins_so text c.if-starts_with.ensures.value)
 
 pub returns-in_default : goal.returns-in_default
-returns-in_default c = no_text c.args.text.now c.in_default.ensures.cases.0
+returns-in_default c =
+    let text = c.args.text.now in
+    none_below (2 ^ 64) text (λ all. c.in_default.ensures.cases.0 (IsUtf8-from_ascii text (digits_ascii text all)))
 
 pub returns : goal.returns
 returns c =
