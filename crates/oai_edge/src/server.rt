@@ -1,4 +1,8 @@
 //! A server of HTTP on this machine.
+ghost use Rattle.std.specs.Prelude.{◌≡◌, [], ◌∷◌};
+ghost use Rattle.std.specs.Net.Addr.{ipv4_octets};
+ghost use Rattle.std.specs.Net.Socket.{v4_ip, v4_port};
+
 use crate::serving::serve_stream;
 use crate::stop::Stop;
 use oai_front::{Front, Handler};
@@ -21,7 +25,7 @@ pub fn serve<R: Net + Clock + Print + AllocGlobal, H: Handler>(
     connections: u64,
 ) -> Result<(), Stop> {
     let alloc = rt.alloc();
-    let Ok(listener) = rt.bind(SocketAddr::V4(SocketAddrV4::new(Ipv4Addr::LOCALHOST, port))) else {
+    let Ok(listener) = rt.bind(SocketAddr::V4(local(port))) else {
         return Err(Stop::SocketFault);
     };
     let Ok(address) = listener.local_addr() else {
@@ -37,6 +41,14 @@ pub fn serve<R: Net + Clock + Print + AllocGlobal, H: Handler>(
         serve_accepted(alloc, front, stream, rt);
     }
     Ok(())
+}
+
+/// The address of the port on this machine alone.
+fn local(port: u16) -> SocketAddrV4
+    ensures address { ipv4_octets (v4_ip result) ≡ 127 ∷ 0 ∷ 0 ∷ 1 ∷ [] }
+    ensures port { v4_port result ≡ port }
+{
+    SocketAddrV4::new(Ipv4Addr::LOCALHOST, port)
 }
 
 /// Serves a connection to its end, with limits of time; at a fault it ends.
