@@ -1,5 +1,5 @@
 -- Decimal digits: what `parse` reads of them, and what is read of a number that was written.
-use Rattle.std.proofs.Common.{◌≡◌, ℕ, zero, suc, ◌+◌, ◌<◌, ◌≤◌, ℤ, pos, neg_ℤ, negsuc, ◌^◌, ◌==◌, Bool, true, false, ◌&&◌, nat_lt, nat_eq, List, [], ◌∷◌, length, drop, slice_index, Option, Some, None, cond, Result, Ok, Err, FitsSigned, w64, decimal, refl, sym, ap, subst, ◌∙◌, ◌≢◌, arith, lit<, codes}
+use Rattle.std.proofs.Common.{◌≡◌, ℕ, zero, suc, ◌+◌, ◌<◌, ◌≤◌, ℤ, pos, neg_ℤ, negsuc, ◌^◌, ◌==◌, Bool, true, false, ◌&&◌, nat_lt, nat_eq, List, [], ◌∷◌, length, slice_index, Option, Some, None, cond, Result, Ok, Err, FitsSigned, w64, decimal, refl, sym, ap, subst, ◌∙◌, ◌≢◌, arith, lit<, codes}
 use Rattle.std.specs.Fmt.{signed_decimal}
 use Rattle.std.specs.Int.{IsInRange}
 use Rattle.std.specs.List.{All, starts_with}

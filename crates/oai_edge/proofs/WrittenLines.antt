@@ -1,5 +1,5 @@
 -- A line that was written is read as what it was written for.
-use Rattle.std.proofs.Common.{◌≡◌, ◌≢◌, ◌∙◌, ℕ, zero, suc, ◌+◌, ◌<◌, ◌≤◌, ◌^◌, ◌==◌, ℤ, Bool, true, false, nat_le, List, [], ◌∷◌, ◌++◌, length, slice_index_or, take, drop, Option, Some, None, IfSome, FitsSigned, w64, codes, decimal, refl, sym, ap, subst, arith, append_assoc}
+use Rattle.std.proofs.Common.{◌≡◌, ◌≢◌, ◌∙◌, ℕ, suc, ◌+◌, ◌<◌, ◌^◌, ◌==◌, ℤ, Bool, true, false, nat_le, List, [], ◌∷◌, ◌++◌, length, slice_index_or, take, drop, Option, Some, None, IfSome, FitsSigned, w64, codes, decimal, refl, sym, ap, arith, append_assoc}
 use Rattle.std.specs.Fmt.{signed_decimal}
 use Rattle.std.specs.Int.{IsInRange}
 use Rattle.std.specs.List.{All, AllPass, count_by, list_any, position_or_len, slice_split}
@@ -17,7 +17,7 @@ use Rattle.hex.specs.Hex.{IsBytes, encode_lower, is_hex_digit, lower_digits}
 use Rattle.oai_host.specs.Bodies.{is_line_end}
 use Rattle.oai_host.specs.declared.exchanges.Call.{Call}
 use Rattle.oai_edge.specs.Asked.{lines_of}
-use Rattle.oai_edge.specs.Events.{IsReadBack, IsTellable, coming, coming_text, event_line, shown_output, told}
+use Rattle.oai_edge.specs.Events.{IsReadBack, IsTellable, coming, coming_text, event_line, told}
 use Rattle.oai_edge.specs.Lines.{IsSpellable, call_line, is_space, part, rest, spelled, type_of}
 use Rattle.oai_edge.specs.Numbers.{moment_of, number_in}
 use Rattle.oai_edge.specs.declared.events.Event.{Event}

@@ -1,5 +1,5 @@
 -- What the three parts tell is what the line tells.
-use Rattle.std.proofs.Common.{◌≡◌, ◌∙◌, ◌⊎◌, inl, inr, ℕ, ℤ, ◌==◌, true, List, Option, Some, None, Result, Err, refl, sym, ap, w64, FitsSigned, to_z-of_z}
+use Rattle.std.proofs.Common.{◌≡◌, ◌∙◌, ◌⊎◌, inl, inr, ℕ, ℤ, ◌==◌, true, List, Some, None, Err, refl, sym, ap, w64, FitsSigned, to_z-of_z}
 use Rattle.std.proofs.lemmas.Bool.{eq-eqb}
 use Rattle.std.specs.List.{count_by}
 use Rattle.hex.specs.declared.error.FromHexError.{FromHexError}
