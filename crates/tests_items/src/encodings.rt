@@ -1,5 +1,6 @@
 //! Items as bytes: the spelling of an item, and bytes that are none. The bytes are typed from the
 //! description of the spelling, and not taken from the program.
+use crate::told::{assert_title, assert_told};
 use oai_item::{DecodeFault, Item, MOST_ITEM_BYTES, encoding_law};
 use std::alloc::Global;
 use std::process::Abort;
@@ -31,13 +32,27 @@ fn encoded(rt: &impl Abort, alloc: Global, item: &Item) -> Result<Vec<u8>, Fail>
     Ok(bytes)
 }
 
+/// The item is spelled so.
+fn assert_spelled(
+    rt: &impl Abort,
+    alloc: Global,
+    item: &Item,
+    spelling: &[u8],
+) -> Result<(), Fail> {
+    let bytes = encoded(rt, alloc, item)?;
+    assert_eq!(rt; bytes.as_slice(), spelling);
+    Ok(())
+}
+
 /// The bytes are the spelling of an item, or Damaged.
 fn assert_no_second_spelling(rt: &impl Abort, alloc: Global, bytes: &[u8]) -> Result<(), Fail> {
     match Item::decode(alloc, bytes) {
-        Ok(item) => assert_eq!(rt; encoded(rt, alloc, &item)?.as_slice(), bytes),
-        Err(fault) => assert_eq!(rt; fault, DecodeFault::Damaged),
+        Ok(item) => assert_spelled(rt, alloc, &item, bytes),
+        Err(fault) => {
+            assert_eq!(rt; fault, DecodeFault::Damaged);
+            Ok(())
+        }
     }
-    Ok(())
 }
 
 /// Each front of the bytes is Damaged, and so are the bytes and one more.
@@ -61,33 +76,28 @@ fn assert_no_other_length(rt: &impl Abort, alloc: Global, bytes: &[u8]) -> Resul
 fn item_as_bytes(rt: HostRuntime) -> Result<(), Fail> {
     let alloc = rt.alloc();
     let item = item(alloc, "oai:a:1", 0, &[], "T")?;
-    assert_eq!(rt;
-        encoded(&rt, alloc, &item)?.as_slice(),
-        spelling().as_slice()
-    );
-    assert_eq!(rt;
-        encoded(&rt, alloc, &item.copy(alloc)?)?.as_slice(),
-        spelling().as_slice()
-    );
+    assert_spelled(&rt, alloc, &item, spelling().as_slice())
+}
+
+#[test]
+fn copy_of_an_item_as_bytes(rt: HostRuntime) -> Result<(), Fail> {
+    let alloc = rt.alloc();
+    let item = item(alloc, "oai:a:1", 0, &[], "T")?;
+    let copy = item.copy(alloc)?;
+    assert_spelled(&rt, alloc, &copy, spelling().as_slice())
+}
+
+#[test]
+fn law_of_items_as_bytes() {
     encoding_law();
-    Ok(())
 }
 
 #[test]
 fn bytes_as_item(rt: HostRuntime) -> Result<(), Fail> {
     let alloc = rt.alloc();
     let item = Item::decode(alloc, spelling().as_slice())?;
-    assert_eq!(rt; item.identifier().as_str(), "oai:a:1");
-    assert_eq!(rt;
-        (item.stamp(), item.is_live(), item.sets().len()),
-        (1_704_067_200, true, 0)
-    );
-    match item.fields_in("oai_dc") {
-        Some([field]) => {
-            assert_eq!(rt; (field.name.as_str(), field.text.as_str()), ("title", "T"));
-        }
-        _ => panic!(rt; "not one field"),
-    }
+    assert_told(&rt, &item, "oai:a:1", (1_704_067_200, true, 0));
+    assert_title(&rt, &item);
     Ok(())
 }
 
@@ -95,14 +105,9 @@ fn bytes_as_item(rt: HostRuntime) -> Result<(), Fail> {
 fn bytes_as_deleted_item(rt: HostRuntime) -> Result<(), Fail> {
     let alloc = rt.alloc();
     let item = Item::decode(alloc, deleted_spelling())?;
-    assert_eq!(rt; item.identifier().as_str(), "a:b");
-    assert_eq!(rt;
-        (item.stamp(), item.is_live(), item.sets().len()),
-        (-62_167_219_200, false, 2)
-    );
+    assert_told(&rt, &item, "a:b", (-62_167_219_200, false, 2));
     assert!(rt; item.has_record("jnl") && item.has_record("oai_dc"));
-    assert_eq!(rt; encoded(&rt, alloc, &item)?.as_slice(), deleted_spelling());
-    Ok(())
+    assert_spelled(&rt, alloc, &item, deleted_spelling())
 }
 
 #[test]

@@ -67,6 +67,15 @@ fn with_fields(alloc: Global, fields: Vec<Text>) -> Result<Format, Fail> {
     Ok(format)
 }
 
+/// Beside oai_dc the format of that prefix stands, or, where the answer is a fault, none.
+fn assert_last(rt: &impl Abort, formats: &Formats, prefix: &str, answer: Result<(), FormatFault>) {
+    match formats.get(1) {
+        Some(last) => assert_eq!(rt; last.prefix.as_str(), prefix),
+        None => assert!(rt; answer.is_err()),
+    }
+    assert_eq!(rt; formats.len(), if answer.is_ok() { 2 } else { 1 });
+}
+
 /// Declares the format beside oai_dc. It stands at the end, or nothing changed.
 fn assert_declared(
     rt: &impl Abort,
@@ -77,11 +86,7 @@ fn assert_declared(
     let mut formats = Formats::dc(alloc)?;
     let prefix = format.prefix.copy(alloc)?;
     assert_eq!(rt; formats.declare(format), answer);
-    match formats.get(1) {
-        Some(last) => assert_eq!(rt; last.prefix.as_str(), prefix.as_str()),
-        None => assert!(rt; answer.is_err()),
-    }
-    assert_eq!(rt; formats.len(), if answer.is_ok() { 2 } else { 1 });
+    assert_last(rt, &formats, prefix.as_str(), answer);
     Ok(())
 }
 
@@ -149,6 +154,14 @@ fn assert_fields(
     assert_answer(rt, alloc, told, answer)
 }
 
+/// Of these formats one is found so, and it has so many fields.
+fn assert_found(rt: &impl Abort, formats: &Formats, prefix: &Prefix, fields: usize) {
+    match formats.find(prefix) {
+        Some(format) => assert_eq!(rt; format.fields.as_slice().len(), fields),
+        None => panic!(rt; "not found"),
+    }
+}
+
 #[test]
 fn dublin_core_stands_alone(rt: HostRuntime) -> Result<(), Fail> {
     let alloc = rt.alloc();
@@ -157,10 +170,7 @@ fn dublin_core_stands_alone(rt: HostRuntime) -> Result<(), Fail> {
     assert_eq!(rt; formats.len(), 1);
     assert!(rt; formats.get(1).is_none());
     assert!(rt; formats.find_named("jnl").is_none());
-    match formats.find(&prefix) {
-        Some(format) => assert_eq!(rt; format.fields.as_slice().len(), 15),
-        None => panic!(rt; "no oai_dc"),
-    }
+    assert_found(&rt, &formats, &prefix, 15);
     Ok(())
 }
 
@@ -181,6 +191,14 @@ fn assert_prefix(
     Ok(())
 }
 
+/// The journal stands beside oai_dc.
+fn assert_journal(rt: &impl Abort, formats: &Formats) {
+    match formats.get(1) {
+        Some(format) => assert_eq!(rt; format.root.as_str(), "article"),
+        None => panic!(rt; "no jnl"),
+    }
+}
+
 #[test]
 fn a_format_is_declared_once(rt: HostRuntime) -> Result<(), Fail> {
     let alloc = rt.alloc();
@@ -197,10 +215,7 @@ fn a_format_is_declared_once(rt: HostRuntime) -> Result<(), Fail> {
     }
     assert_eq!(rt; formats.len(), 2);
     assert_prefix(&rt, alloc, &mut formats, "oai_dC", Ok(()))?;
-    match formats.get(1) {
-        Some(format) => assert_eq!(rt; format.root.as_str(), "article"),
-        None => panic!(rt; "no jnl"),
-    }
+    assert_journal(&rt, &formats);
     Ok(())
 }
 

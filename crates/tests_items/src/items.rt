@@ -3,6 +3,7 @@
 ghost use Rattle.std.specs.Prelude.{◌≡◌, true};
 ghost use Rattle.oai_item.specs.Order.{are_in_order};
 
+use crate::told::{assert_title, assert_told};
 use oai_item::{Fault, Item, TooLarge, is_in, order_law, place_of, selection_law, set_law};
 use oai_names::SetSpec;
 use std::alloc::Global;
@@ -29,13 +30,18 @@ fn assert_length(
     Ok(())
 }
 
+/// The sets are those of these setSpecs.
+fn assert_sets(rt: &impl Abort, sets: &[SetSpec], specs: &[&str]) {
+    assert_eq!(rt; sets.len(), specs.len());
+    for (set, spec) in sets.iter().zip(specs) {
+        assert_eq!(rt; set.as_str(), *spec);
+    }
+}
+
 /// Of the given sets an item keeps those.
 fn assert_kept(rt: &impl Abort, alloc: Global, given: &[&str], kept: &[&str]) -> Result<(), Fail> {
     let item = titled(alloc, given, "T")?;
-    assert_eq!(rt; item.sets().len(), kept.len());
-    for (set, spec) in item.sets().iter().zip(kept) {
-        assert_eq!(rt; set.as_str(), *spec);
-    }
+    assert_sets(rt, item.sets(), kept);
     Ok(())
 }
 
@@ -43,10 +49,7 @@ fn assert_kept(rt: &impl Abort, alloc: Global, given: &[&str], kept: &[&str]) ->
 fn item_is_its_parts(rt: HostRuntime) -> Result<(), Fail> {
     let alloc = rt.alloc();
     let item = titled(alloc, &["x"], "T")?;
-    assert_eq!(rt; item.identifier().as_str(), "oai:a:1");
-    assert_eq!(rt; item.stamp(), 1_704_067_200);
-    assert!(rt; item.is_live());
-    assert_eq!(rt; item.sets().len(), 1);
+    assert_told(&rt, &item, "oai:a:1", (1_704_067_200, true, 1));
     assert_eq!(rt; item.formats().len(), 1);
     Ok(())
 }
@@ -66,9 +69,7 @@ fn sets_are_reduced(rt: HostRuntime) -> Result<(), Fail> {
     assert_kept(&rt, alloc, &["b", "a", "b"], &["b", "a"])?;
     assert_kept(&rt, alloc, &["x", "x:y"], &["x:y"])?;
     assert_kept(&rt, alloc, &["xy", "x"], &["xy", "x"])?;
-    assert_kept(&rt, alloc, &["a:b:c", "a", "a:b"], &["a:b:c"])?;
-    set_law();
-    Ok(())
+    assert_kept(&rt, alloc, &["a:b:c", "a", "a:b"], &["a:b:c"])
 }
 
 #[test]
@@ -84,36 +85,41 @@ fn bytes_of_an_item(rt: HostRuntime) -> Result<(), Fail> {
 
 /// The item is `oai:a:1`, live and in one set, with the title `T`.
 fn assert_copy(rt: &impl Abort, copy: &Item) {
-    assert_eq!(rt; copy.identifier().as_str(), "oai:a:1");
-    assert_eq!(rt; (copy.stamp(), copy.is_live()), (STAMP, true));
-    assert_eq!(rt; copy.sets().len(), 1);
+    assert_told(rt, copy, "oai:a:1", (STAMP, true, 1));
     assert_eq!(rt; copy.encoded_len(), Ok(63));
-    match copy.fields_in("oai_dc") {
-        Some([field]) => assert_eq!(rt; field.text.as_str(), "T"),
-        _ => panic!(rt; "not one field"),
-    }
+    assert_title(rt, copy);
 }
 
-/// The item is `oai:a:1`, deleted a second later and in one set, with nothing in oai_dc.
-fn assert_tombstone(rt: &impl Abort, deleted: &Item) {
-    assert_eq!(rt; deleted.identifier().as_str(), "oai:a:1");
-    assert_eq!(rt; (deleted.stamp(), deleted.is_live()), (STAMP + 1, false));
-    assert_eq!(rt; deleted.sets().len(), 1);
+/// The item has a record in oai_dc alone, and it is empty.
+fn assert_emptied(rt: &impl Abort, deleted: &Item) {
     assert_eq!(rt; deleted.formats().len(), 1);
     match deleted.fields_in("oai_dc") {
         Some(fields) => assert_eq!(rt; fields.len(), 0),
         None => panic!(rt; "no oai_dc"),
     }
     assert!(rt; deleted.fields_in("jnl").is_none());
+}
+
+/// The item is `oai:a:1`, deleted a second later and in one set, with nothing in oai_dc.
+fn assert_tombstone(rt: &impl Abort, deleted: &Item) {
+    assert_told(rt, deleted, "oai:a:1", (STAMP + 1, false, 1));
+    assert_emptied(rt, deleted);
     assert!(rt; deleted.has_record("oai_dc") && !deleted.has_record("jnl"));
 }
 
 #[test]
-fn copy_and_tombstone_of_an_item(rt: HostRuntime) -> Result<(), Fail> {
-    let alloc = rt.alloc();
-    let item = titled(alloc, &["x:y"], "T")?;
-    assert_copy(&rt, &item.copy(alloc)?);
-    assert_tombstone(&rt, &item.tombstone(alloc, STAMP + 1)?);
+fn copy_of_an_item(rt: HostRuntime) -> Result<(), Fail> {
+    let item = titled(rt.alloc(), &["x:y"], "T")?;
+    let copy = item.copy(rt.alloc())?;
+    assert_copy(&rt, &copy);
+    Ok(())
+}
+
+#[test]
+fn tombstone_of_an_item(rt: HostRuntime) -> Result<(), Fail> {
+    let item = titled(rt.alloc(), &["x:y"], "T")?;
+    let deleted = item.tombstone(rt.alloc(), STAMP + 1)?;
+    assert_tombstone(&rt, &deleted);
     Ok(())
 }
 
@@ -132,14 +138,25 @@ fn items_in_order(rt: HostRuntime) -> Result<(), Fail> {
     let item = titled(alloc, &["x:y"], "T")?;
     let later = item.tombstone(alloc, STAMP + 1)?;
     assert_eq!(rt; item.order(&later), Ordering::Less);
-    assert_eq!(rt; item.order_to(STAMP, "oai:a:0"), Ordering::Greater);
     let mut items = Vec::new(alloc);
     items.push(item)?;
     items.push(later)?;
     assert_places(&rt, items.as_slice());
+    Ok(())
+}
+
+#[test]
+fn item_in_order_to_a_place(rt: HostRuntime) -> Result<(), Fail> {
+    let item = titled(rt.alloc(), &["x:y"], "T")?;
+    assert_eq!(rt; item.order_to(STAMP, "oai:a:0"), Ordering::Greater);
+    Ok(())
+}
+
+#[test]
+fn laws_of_items() {
+    set_law();
     order_law();
     selection_law();
-    Ok(())
 }
 
 #[test]
@@ -170,6 +187,12 @@ fn texts_of_faults(rt: HostRuntime) -> Result<(), Fail> {
     ] {
         assert_eq!(rt; format!(in alloc; "{fault}")?.as_str(), text_of(fault));
     }
+    Ok(())
+}
+
+#[test]
+fn text_of_an_item_too_large(rt: HostRuntime) -> Result<(), Fail> {
+    let alloc = rt.alloc();
     let large = format!(in alloc; "{TooLarge}")?;
     assert_eq!(rt;
         large.as_str(),

@@ -7,3 +7,5 @@ mod encodings;
 mod formats;
 #[cfg(test)]
 mod items;
+#[cfg(test)]
+mod told;

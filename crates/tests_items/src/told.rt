@@ -1,0 +1,24 @@
+//! What tests say of an item that stands elsewhere.
+use oai_item::Item;
+use std::process::Abort;
+
+/// The item has that identifier and datestamp, is live or not, and is in so many sets.
+pub(crate) fn assert_told(
+    rt: &impl Abort,
+    item: &Item,
+    identifier: &str,
+    told: (i64, bool, usize),
+) {
+    assert_eq!(rt; item.identifier().as_str(), identifier);
+    assert_eq!(rt; (item.stamp(), item.is_live(), item.sets().len()), told);
+}
+
+/// The item has one field in oai_dc, the title `T`.
+pub(crate) fn assert_title(rt: &impl Abort, item: &Item) {
+    match item.fields_in("oai_dc") {
+        Some([field]) => {
+            assert_eq!(rt; (field.name.as_str(), field.text.as_str()), ("title", "T"));
+        }
+        _ => panic!(rt; "not one field"),
+    }
+}
