@@ -1,8 +1,8 @@
 //! Each document by its whole bytes.
 ghost use Rattle.std.specs.Prelude.{◌≡◌, ◌≢◌, IfOk, [], true};
 ghost use Rattle.oai_item.specs.Item.{IsStamp, are_rising};
-ghost use Rattle.oai_answers.specs.Answers.{HasWritableTimes, IsWritableDocument};
-ghost use Rattle.oai_answers.specs.Borrowed.{answer_of, document_of};
+ghost use Rattle.oai_answers.specs.Answers.{HasWritableEnd, HasWritableTimes, IsWritableDocument};
+ghost use Rattle.oai_answers.specs.Borrowed.{answer_of, continuation_of, document_of};
 
 mod expected;
 
@@ -120,13 +120,25 @@ fn fields(alloc: Global, named: &[(&str, &str)]) -> Result<Sequence<Field>, Fail
     Ok(Sequence::new(fields))
 }
 
-/// `oai:a:1`, in no sets, with these fields in oai_dc.
-fn dublin_core(alloc: Global, named: &[(&str, &str)]) -> Result<Item, Fail> {
+/// The record in oai_dc of these fields.
+fn one_record(
+    alloc: Global,
+    named: &[(&str, &str)],
+) -> Result<Sequence<(Prefix, Sequence<Field>)>, Fail>
+    ensures rising { IfOk result (λ formats. are_rising formats ≡ true) }
+    ensures carries { IfOk result (λ formats. formats ≢ []) }
+{
     let mut formats = Vec::new(alloc);
     formats.push((Prefix::read(alloc, "oai_dc")?, fields(alloc, named)?))?;
+    Ok(Sequence::new(formats))
+}
+
+/// `oai:a:1`, in no sets, with these fields in oai_dc.
+fn dublin_core(alloc: Global, named: &[(&str, &str)]) -> Result<Item, Fail> {
+    let formats = one_record(alloc, named)?;
     let identifier = Identifier::read(alloc, "oai:a:1")?;
-    let sets = set_specs(alloc, &[])?;
-    Ok(Item::live(alloc, identifier, DATE, sets, Sequence::new(formats))?)
+    let sets = Sequence::new(Vec::new(alloc));
+    Ok(Item::live(alloc, identifier, DATE, sets, formats)?)
 }
 
 /// Records in jnl, with that volume, and in oai_dc, with a title.
@@ -167,16 +179,21 @@ fn deleted(alloc: Global) -> Result<Item, Fail> {
     Ok(item.tombstone(alloc, DATE + 1)?)
 }
 
-/// A format of this prefix, with these texts.
-fn format(alloc: Global, prefix: &str, schema: &str, namespace: &str) -> Result<Format, Fail> {
+/// The field of a format, `volume`.
+fn volume(alloc: Global) -> Result<Sequence<Text>, Fail> {
     let mut fields = Vec::new(alloc);
     fields.push(Text::new(alloc, "volume")?)?;
+    Ok(Sequence::new(fields))
+}
+
+/// A format of this prefix, with these texts.
+fn format(alloc: Global, prefix: &str, schema: &str, namespace: &str) -> Result<Format, Fail> {
     Ok(Format {
         prefix: Prefix::read(alloc, prefix)?,
         schema: Text::new(alloc, schema)?,
         namespace: Text::new(alloc, namespace)?,
         root: Text::new(alloc, "article")?,
-        fields: Sequence::new(fields),
+        fields: volume(alloc)?,
     })
 }
 
@@ -290,119 +307,140 @@ fn errors(rt: HostRuntime) -> Result<(), Fail> {
     Ok(())
 }
 
-#[test]
-fn formats(rt: HostRuntime) -> Result<(), Fail> {
-    let alloc = rt.alloc();
+/// Of oai_dc and jnl, the formats that are listed, all or those of an item, are spelled so.
+fn assert_formats(
+    rt: &impl Abort,
+    alloc: Global,
+    asked: Asked<'_>,
+    of: Option<&Item>,
+    wanted: &str,
+) -> Result<(), Fail> {
     let mut formats = Formats::dc(alloc)?;
     formats.declare(journal(alloc)?)?;
-    let all = Offered {
+    let body = Body::ListMetadataFormats(Offered {
         formats: formats.as_slice(),
-        of: None,
-    };
-    let name = "ListMetadataFormats";
-    let body = Body::ListMetadataFormats(all);
-    assert_answer(&rt, alloc, verb(name), body, expected::all_formats())?;
+        of,
+    });
+    assert_answer(rt, alloc, asked, body, wanted)
+}
+
+#[test]
+fn formats(rt: HostRuntime) -> Result<(), Fail> {
+    let asked = verb("ListMetadataFormats");
+    assert_formats(&rt, rt.alloc(), asked, None, expected::all_formats())
+}
+
+#[test]
+fn formats_of_an_item(rt: HostRuntime) -> Result<(), Fail> {
+    let alloc = rt.alloc();
     let item = dublin_core(alloc, &[])?;
-    let some = Offered {
-        of: Some(&item),
-        ..all
-    };
     let asked = Asked {
         identifier: Some("oai:a:1"),
-        ..verb(name)
+        ..verb("ListMetadataFormats")
     };
-    let body = Body::ListMetadataFormats(some);
-    assert_answer(&rt, alloc, asked, body, expected::formats_of_an_item())
+    assert_formats(
+        &rt,
+        alloc,
+        asked,
+        Some(&item),
+        expected::formats_of_an_item(),
+    )
+}
+
+/// A set, its setSpec and its name.
+fn set(alloc: Global, spec: &str, name: &str) -> Result<(SetSpec, Text), Fail> {
+    Ok((SetSpec::read(alloc, spec)?, Text::new(alloc, name)?))
 }
 
 #[test]
 fn sets(rt: HostRuntime) -> Result<(), Fail> {
     let alloc = rt.alloc();
-    let sets = [
-        (SetSpec::read(alloc, "x")?, Text::new(alloc, "X & Y")?),
-        (SetSpec::read(alloc, "x:y")?, Text::new(alloc, "Y")?),
-    ];
+    let sets = [set(alloc, "x", "X & Y")?, set(alloc, "x:y", "Y")?];
     let body = Body::ListSets(&sets);
     assert_answer(&rt, alloc, verb("ListSets"), body, expected::sets())
 }
 
-#[test]
-fn first_record(rt: HostRuntime) -> Result<(), Fail> {
-    let alloc = rt.alloc();
+/// The record in oai_dc of the item `oai:a:1` is spelled so.
+fn assert_record(
+    rt: &impl Abort,
+    alloc: Global,
+    item: &Item,
+    granularity: Granularity,
+    wanted: &str,
+) -> Result<(), Fail> {
     let formats = Formats::dc(alloc)?;
     let Some(format) = formats.get(0) else {
         panic!(rt; "no format");
     };
-    let item = dublin_core(alloc, &[("title", "A & B < \"C\" é")])?;
     let body = Body::GetRecord(Record {
-        item: &item,
-        granularity: Granularity::Second,
+        item,
+        granularity,
         format,
     });
     let asked = in_format("GetRecord", Some("oai:a:1"), "oai_dc");
-    assert_answer(&rt, alloc, asked, body, expected::first_record())
+    assert_answer(rt, alloc, asked, body, wanted)
+}
+
+#[test]
+fn first_record(rt: HostRuntime) -> Result<(), Fail> {
+    let item = dublin_core(rt.alloc(), &[("title", "A & B < \"C\" é")])?;
+    let second = Granularity::Second;
+    assert_record(&rt, rt.alloc(), &item, second, expected::first_record())
+}
+
+#[test]
+fn record_without_fields(rt: HostRuntime) -> Result<(), Fail> {
+    let item = dublin_core(rt.alloc(), &[])?;
+    let day = Granularity::Day;
+    assert_record(
+        &rt,
+        rt.alloc(),
+        &item,
+        day,
+        expected::record_without_fields(),
+    )
+}
+
+/// The record in jnl of the item `oai:a:2` is spelled so.
+fn assert_record_in_journal(
+    rt: &impl Abort,
+    alloc: Global,
+    item: &Item,
+    wanted: &str,
+) -> Result<(), Fail> {
+    let format = journal(alloc)?;
+    let body = Body::GetRecord(Record {
+        item,
+        granularity: Granularity::Second,
+        format: &format,
+    });
+    let asked = in_format("GetRecord", Some("oai:a:2"), "jnl");
+    assert_answer(rt, alloc, asked, body, wanted)
 }
 
 #[test]
 fn declared_record(rt: HostRuntime) -> Result<(), Fail> {
     let alloc = rt.alloc();
-    let format = journal(alloc)?;
     let item = in_journal(alloc, "oai:a:2", DATE, &["x:y", "z"], "7")?;
-    let body = Body::GetRecord(Record {
-        item: &item,
-        granularity: Granularity::Second,
-        format: &format,
-    });
-    let asked = in_format("GetRecord", Some("oai:a:2"), "jnl");
-    assert_answer(&rt, alloc, asked, body, expected::declared_record())
+    assert_record_in_journal(&rt, alloc, &item, expected::declared_record())
 }
 
 #[test]
 fn deleted_record(rt: HostRuntime) -> Result<(), Fail> {
-    let alloc = rt.alloc();
-    let format = journal(alloc)?;
-    let item = deleted(alloc)?;
-    let body = Body::GetRecord(Record {
-        item: &item,
-        granularity: Granularity::Second,
-        format: &format,
-    });
-    let asked = in_format("GetRecord", Some("oai:a:2"), "jnl");
-    assert_answer(&rt, alloc, asked, body, expected::deleted_record())
+    let item = deleted(rt.alloc())?;
+    assert_record_in_journal(&rt, rt.alloc(), &item, expected::deleted_record())
 }
 
-#[test]
-fn record_without_fields(rt: HostRuntime) -> Result<(), Fail> {
-    let alloc = rt.alloc();
-    let formats = Formats::dc(alloc)?;
-    let Some(format) = formats.get(0) else {
-        panic!(rt; "no format");
-    };
-    let item = dublin_core(alloc, &[])?;
-    let body = Body::GetRecord(Record {
-        item: &item,
-        granularity: Granularity::Day,
-        format,
-    });
-    let asked = in_format("GetRecord", Some("oai:a:1"), "oai_dc");
-    assert_answer(&rt, alloc, asked, body, expected::record_without_fields())
-}
-
-#[test]
-fn headers(rt: HostRuntime) -> Result<(), Fail> {
-    let alloc = rt.alloc();
-    let items = [
-        dublin_core(alloc, &[])?,
-        in_journal(alloc, "oai:a:2", DATE + 1, &["x:y", "z"], "7")?,
-    ];
+/// The headers of the items, as the whole list and as the front of three, are spelled so.
+fn assert_headers(rt: &impl Abort, alloc: Global, items: &[Item]) -> Result<(), Fail> {
     let whole = Listed {
-        items: &items,
+        items,
         granularity: Granularity::Second,
         resumption: Resumption::Whole,
     };
     let asked = in_format("ListIdentifiers", None, "oai_dc");
     let body = Body::ListIdentifiers(whole);
-    assert_answer(&rt, alloc, asked, body, expected::headers())?;
+    assert_answer(rt, alloc, asked, body, expected::headers())?;
     let resumption = Resumption::More(Remaining {
         expires: DATE + 61,
         extent: at(0, 3),
@@ -413,7 +451,17 @@ fn headers(rt: HostRuntime) -> Result<(), Fail> {
         ..whole
     };
     let body = Body::ListIdentifiers(first);
-    assert_answer(&rt, alloc, asked, body, expected::headers_that_go_on())
+    assert_answer(rt, alloc, asked, body, expected::headers_that_go_on())
+}
+
+#[test]
+fn headers(rt: HostRuntime) -> Result<(), Fail> {
+    let alloc = rt.alloc();
+    let items = [
+        dublin_core(alloc, &[])?,
+        in_journal(alloc, "oai:a:2", DATE + 1, &["x:y", "z"], "7")?,
+    ];
+    assert_headers(&rt, alloc, &items)
 }
 
 #[test]
@@ -433,66 +481,75 @@ fn last_headers(rt: HostRuntime) -> Result<(), Fail> {
     assert_answer(&rt, alloc, asked, body, expected::last_headers())
 }
 
-#[test]
-fn records(rt: HostRuntime) -> Result<(), Fail> {
-    let alloc = rt.alloc();
+/// The records of the items in oai_dc, as such a part of the list, are spelled so.
+fn assert_records(
+    rt: &impl Abort,
+    alloc: Global,
+    asked: Asked<'_>,
+    items: &[Item],
+    resumption: Resumption<'_>,
+    wanted: &str,
+) -> Result<(), Fail>
+    requires { HasWritableEnd (continuation_of resumption) }
+{
     let formats = Formats::dc(alloc)?;
     let Some(format) = formats.get(0) else {
         panic!(rt; "no format");
     };
+    let part = Listed {
+        items,
+        granularity: Granularity::Second,
+        resumption,
+    };
+    assert_answer(rt, alloc, asked, Body::ListRecords(format, part), wanted)
+}
+
+#[test]
+fn records(rt: HostRuntime) -> Result<(), Fail> {
+    let alloc = rt.alloc();
     let items = [
         dublin_core(alloc, &[("title", "A & B < \"C\" é")])?,
         deleted(alloc)?,
     ];
-    let whole = Listed {
-        items: &items,
-        granularity: Granularity::Second,
-        resumption: Resumption::Whole,
-    };
     let asked = in_format("ListRecords", None, "oai_dc");
-    let body = Body::ListRecords(format, whole);
-    assert_answer(&rt, alloc, asked, body, expected::records())
+    let whole = Resumption::Whole;
+    assert_records(&rt, alloc, asked, &items, whole, expected::records())
 }
 
-#[test]
-fn records_of_days(rt: HostRuntime) -> Result<(), Fail> {
-    let alloc = rt.alloc();
+/// The records of the items in jnl, as the part of a long list behind ten, are spelled so.
+fn assert_records_of_days(rt: &impl Abort, alloc: Global, items: &[Item]) -> Result<(), Fail> {
     let format = journal(alloc)?;
-    let items = [in_journal(alloc, "oai:a:2", DATE, &["x:y", "z"], "7")?];
     let resumption = Resumption::More(Remaining {
         expires: DATE + 61,
         extent: at(10, 18_446_744_073_709_551_615),
         token: "1.2",
     });
     let part = Listed {
-        items: &items,
+        items,
         granularity: Granularity::Day,
         resumption,
     };
     let asked = in_format("ListRecords", None, "jnl");
     let body = Body::ListRecords(&format, part);
-    assert_answer(&rt, alloc, asked, body, expected::records_of_days())
+    assert_answer(rt, alloc, asked, body, expected::records_of_days())
+}
+
+#[test]
+fn records_of_days(rt: HostRuntime) -> Result<(), Fail> {
+    let items = [in_journal(rt.alloc(), "oai:a:2", DATE, &["x:y", "z"], "7")?];
+    assert_records_of_days(&rt, rt.alloc(), &items)
 }
 
 #[test]
 fn last_records(rt: HostRuntime) -> Result<(), Fail> {
     let alloc = rt.alloc();
-    let formats = Formats::dc(alloc)?;
-    let Some(format) = formats.get(0) else {
-        panic!(rt; "no format");
-    };
     let items = [dublin_core(alloc, &[("title", "T"), ("creator", "C"), ("title", "")])?];
-    let last = Listed {
-        items: &items,
-        granularity: Granularity::Second,
-        resumption: Resumption::Last(at(100, 101)),
-    };
     let asked = Asked {
         token: Some("1.100"),
         ..verb("ListRecords")
     };
-    let body = Body::ListRecords(format, last);
-    assert_answer(&rt, alloc, asked, body, expected::last_records())
+    let last = Resumption::Last(at(100, 101));
+    assert_records(&rt, alloc, asked, &items, last, expected::last_records())
 }
 
 #[test]
@@ -523,29 +580,33 @@ fn escaped_formats(rt: HostRuntime) -> Result<(), Fail> {
 #[test]
 fn escaped_sets(rt: HostRuntime) -> Result<(), Fail> {
     let alloc = rt.alloc();
-    let sets = [(SetSpec::read(alloc, "x'y")?, Text::new(alloc, MARKUP)?)];
+    let sets = [set(alloc, "x'y", MARKUP)?];
     let body = Body::ListSets(&sets);
     assert_escaped(&rt, alloc, body, expected::escaped_sets())
 }
 
-/// Markup stands in the parts of a record, in its format and in a token.
-#[test]
-fn escaped_records(rt: HostRuntime) -> Result<(), Fail> {
-    let alloc = rt.alloc();
+/// The records of the items in a format with markup, before a token with markup, are spelled so.
+fn assert_escaped_records(rt: &impl Abort, alloc: Global, items: &[Item]) -> Result<(), Fail> {
     let format = format(alloc, "jnl", MARKUP, MARKUP)?;
-    let items = [in_journal(alloc, "a:&'1", DATE, &["x'y"], MARKUP)?];
     let resumption = Resumption::More(Remaining {
         expires: 253_402_300_799,
         extent: at(0, 0),
         token: MARKUP,
     });
     let part = Listed {
-        items: &items,
+        items,
         granularity: Granularity::Second,
         resumption,
     };
     let body = Body::ListRecords(&format, part);
-    assert_escaped(&rt, alloc, body, expected::escaped_records())
+    assert_escaped(rt, alloc, body, expected::escaped_records())
+}
+
+/// Markup stands in the parts of a record, in its format and in a token.
+#[test]
+fn escaped_records(rt: HostRuntime) -> Result<(), Fail> {
+    let items = [in_journal(rt.alloc(), "a:&'1", DATE, &["x'y"], MARKUP)?];
+    assert_escaped_records(&rt, rt.alloc(), &items)
 }
 
 /// What stood in the buffer stays in front of the document.
