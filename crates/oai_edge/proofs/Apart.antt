@@ -6,8 +6,7 @@ use Rattle.std.proofs.lemmas.Bool.{cases_Bool, cond-false, cond-true, eq-eqb, eq
 use Rattle.std.proofs.lemmas.List.{length-append, length-drop, take-append-drop}
 use Rattle.oai_front.proofs.FrontLemmas.{taken_number}
 use Rattle.oai_front.proofs.RunLemmas.{number_found, numbered_other, numbered_same}
-use Rattle.oai_front.specs.Connections.{Connection, IsEnded, fresh}
-use Rattle.oai_front.specs.Queues.{IsFrontOf}
+use Rattle.oai_front.specs.Connections.{Connection, IsEnded, IsFrontOf, fresh}
 use Rattle.oai_front.specs.Fronts.{HasOutput, IsChange, IsEnding, IsForgetting, IsOpening, IsOutput, IsPiece, IsTaking, State, connection_numbered, is_numbered, with_connection, without_connection}
 use Rattle.oai_front.specs.Performing.{Steps}
 use Rattle.oai_front.specs.declared.faults.NoSuchConnection.{NoSuchConnection as Absent}

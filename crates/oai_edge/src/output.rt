@@ -2,7 +2,7 @@
 ghost use Rattle.std.specs.Prelude.{◌≡◌, ◌+◌, ◌++◌, ◌<◌, ◌≤◌, [], length, vec_capacity, vec_len, IfOk, IfErr, OnOk};
 ghost use Rattle.std.specs.Io.KnownBytes.{append_known, Appends, Keeps};
 ghost use Rattle.oai_front.specs.Fronts.{HasOutput};
-ghost use Rattle.oai_front.specs.Queues.{IsFrontOf};
+ghost use Rattle.oai_front.specs.Connections.{IsFrontOf};
 ghost use Rattle.oai_edge.specs.Outputs as spec;
 ghost use Rattle.oai_edge.specs.declared.output.TheConstants.{SHORT_BYTES};
 ghost use Rattle.oai_edge.specs.declared.stop.Stop.TheVariants.{NoMemory};

@@ -1,7 +1,6 @@
 -- What waits to be written, as buffers in order. No definition of a connection rests on it.
 use Rattle.std.specs.Prelude.{◌≡◌, ℕ, ◌<◌, Bool, true, nat_lt, List, [], ◌∷◌, length}
 use Rattle.std.specs.List.{list_all}
-pub use Rattle.oai_front.specs.Connections.{IsFrontOf}
 
 -- the buffer holds something
 abbrev pub is_filled : List ℕ → Bool
