@@ -5,7 +5,7 @@ use Rattle.std.specs.Str.{bytes_eq}
 use Rattle.std.specs.Fmt.{signed_decimal}
 use Rattle.std.specs.Int.{w64}
 use Rattle.oai_host.specs.Hosts.{Hosting, IsAnswered}
-use Rattle.oai_host.specs.Readings.{◌>>=◌, tested}
+use Rattle.oai_host.specs.Optional.{◌>>=◌, tested}
 use Rattle.oai_host.specs.Statuses.{number_of}
 use Rattle.oai_host.specs.Tasks.{call_of}
 use Rattle.oai_host.specs.declared.exchanges.Answer.{Answer}
