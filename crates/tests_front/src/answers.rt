@@ -1,6 +1,6 @@
 //! The head of each answer, by its whole bytes, and the faults of a connection.
 use crate::teller::assert_answered;
-use std::alloc::Global;
+use std::alloc::{AllocError, Global};
 use std::process::Abort;
 use std::test::Fail;
 
@@ -10,80 +10,70 @@ fn assert_got(rt: &impl Abort, alloc: Global, target: &str, wanted: &str) -> Res
     assert_answered(rt, alloc, request.as_str(), wanted, false)
 }
 
+/// Targets of requests, and what they are answered.
+fn requests() -> [(&'static str, &'static str); 7] {
+    [
+        (
+            "/oai/a",
+            "HTTP/1.1 200 OK\r\nContent-Type: text/xml\r\nContent-Length: 12\r\n\r\n1 0 GET [-] ",
+        ),
+        (
+            "/oai/put",
+            "HTTP/1.1 405 Method Not Allowed\r\nAllow: GET, POST\r\nContent-Length: 0\r\n\r\n",
+        ),
+        (
+            "/oai/type",
+            "HTTP/1.1 415 Unsupported Media Type\r\nContent-Length: 0\r\n\r\n",
+        ),
+        (
+            "/oai/later",
+            "HTTP/1.1 503 Service Unavailable\r\nRetry-After: 50\r\nContent-Length: 0\r\n\r\n",
+        ),
+        (
+            "/oai/failed",
+            "HTTP/1.1 500 Internal Server Error\r\nContent-Length: 0\r\n\r\n",
+        ),
+        ("*", "HTTP/1.1 400 Bad Request\r\nContent-Length: 0\r\n\r\n"),
+        ("/", "HTTP/1.1 404 Not Found\r\nContent-Length: 0\r\n\r\n"),
+    ]
+}
+
 #[test]
 fn answers_of_requests(rt: HostRuntime) -> Result<(), Fail> {
-    let alloc = rt.alloc();
-    assert_got(
-        &rt,
-        alloc,
-        "/oai/a",
-        "HTTP/1.1 200 OK\r\nContent-Type: text/xml\r\nContent-Length: 12\r\n\r\n1 0 GET [-] ",
-    )?;
-    assert_got(
-        &rt,
-        alloc,
-        "/oai/put",
-        "HTTP/1.1 405 Method Not Allowed\r\nAllow: GET, POST\r\nContent-Length: 0\r\n\r\n",
-    )?;
-    assert_got(
-        &rt,
-        alloc,
-        "/oai/type",
-        "HTTP/1.1 415 Unsupported Media Type\r\nContent-Length: 0\r\n\r\n",
-    )?;
-    assert_got(
-        &rt,
-        alloc,
-        "/oai/later",
-        "HTTP/1.1 503 Service Unavailable\r\nRetry-After: 50\r\nContent-Length: 0\r\n\r\n",
-    )?;
-    assert_got(
-        &rt,
-        alloc,
-        "/oai/failed",
-        "HTTP/1.1 500 Internal Server Error\r\nContent-Length: 0\r\n\r\n",
-    )?;
-    assert_got(
-        &rt,
-        alloc,
-        "*",
-        "HTTP/1.1 400 Bad Request\r\nContent-Length: 0\r\n\r\n",
-    )?;
-    assert_got(
-        &rt,
-        alloc,
-        "/",
-        "HTTP/1.1 404 Not Found\r\nContent-Length: 0\r\n\r\n",
-    )
+    for (target, wanted) in requests() {
+        assert_got(&rt, rt.alloc(), target, wanted)?;
+    }
+    Ok(())
+}
+
+/// Targets of deposits, and what they are answered.
+fn deposits() -> [(&'static str, &'static str); 4] {
+    [
+        (
+            "/deposit/a",
+            "HTTP/1.1 200 OK\r\nContent-Type: text/plain; charset=utf-8\r\nContent-Length: 12\r\n\r\n1 0 GET [-] ",
+        ),
+        (
+            "/deposit/put",
+            "HTTP/1.1 405 Method Not Allowed\r\nAllow: POST\r\nContent-Length: 0\r\n\r\n",
+        ),
+        (
+            "/deposit/later",
+            "HTTP/1.1 503 Service Unavailable\r\nRetry-After: 60\r\nX-Lines-Done: 2\r\nContent-Length: 0\r\n\r\n",
+        ),
+        (
+            "/deposit/failed",
+            "HTTP/1.1 500 Internal Server Error\r\nX-Lines-Done: 1\r\nContent-Length: 0\r\n\r\n",
+        ),
+    ]
 }
 
 #[test]
 fn answers_of_deposits(rt: HostRuntime) -> Result<(), Fail> {
-    let alloc = rt.alloc();
-    assert_got(
-        &rt,
-        alloc,
-        "/deposit/a",
-        "HTTP/1.1 200 OK\r\nContent-Type: text/plain; charset=utf-8\r\nContent-Length: 12\r\n\r\n1 0 GET [-] ",
-    )?;
-    assert_got(
-        &rt,
-        alloc,
-        "/deposit/put",
-        "HTTP/1.1 405 Method Not Allowed\r\nAllow: POST\r\nContent-Length: 0\r\n\r\n",
-    )?;
-    assert_got(
-        &rt,
-        alloc,
-        "/deposit/later",
-        "HTTP/1.1 503 Service Unavailable\r\nRetry-After: 60\r\nX-Lines-Done: 2\r\nContent-Length: 0\r\n\r\n",
-    )?;
-    assert_got(
-        &rt,
-        alloc,
-        "/deposit/failed",
-        "HTTP/1.1 500 Internal Server Error\r\nX-Lines-Done: 1\r\nContent-Length: 0\r\n\r\n",
-    )
+    for (target, wanted) in deposits() {
+        assert_got(&rt, rt.alloc(), target, wanted)?;
+    }
+    Ok(())
 }
 
 /// What comes behind the request line of a GET is answered so, and closes the connection.
@@ -127,24 +117,34 @@ fn closing_heads() -> &'static str {
 1|Host: h;Bad Name: x|400 Bad Request"
 }
 
+/// The fields, which stand with semicolons between, as lines.
+fn lines_of(alloc: Global, fields: &str) -> Result<String, AllocError> {
+    let mut lines = String::new(alloc);
+    for field in fields.split(';') {
+        if !field.is_empty() {
+            lines.push_str(field)?;
+            lines.push_str("\r\n")?;
+        }
+    }
+    Ok(lines)
+}
+
+/// The row is answered as it says.
+fn assert_row(rt: &impl Abort, alloc: Global, row: &str) -> Result<(), Fail> {
+    let Some((version, rest)) = row.split_once("|") else {
+        panic!(rt; "no version in {row}")
+    };
+    let Some((fields, status)) = rest.split_once("|") else {
+        panic!(rt; "no status in {row}")
+    };
+    let lines = lines_of(alloc, fields)?;
+    assert_closes(rt, alloc, version, lines.as_str(), status)
+}
+
 #[test]
 fn faults_and_last_messages_close(rt: HostRuntime) -> Result<(), Fail> {
-    let alloc = rt.alloc();
     for row in closing_heads().lines() {
-        let Some((version, rest)) = row.split_once("|") else {
-            panic!(&rt; "no version in {row}")
-        };
-        let Some((fields, status)) = rest.split_once("|") else {
-            panic!(&rt; "no status in {row}")
-        };
-        let mut lines = String::new(alloc);
-        for field in fields.split(';') {
-            if !field.is_empty() {
-                lines.push_str(field)?;
-                lines.push_str("\r\n")?;
-            }
-        }
-        assert_closes(&rt, alloc, version, lines.as_str(), status)?;
+        assert_row(&rt, rt.alloc(), row)?;
     }
     Ok(())
 }
@@ -171,30 +171,23 @@ fn a_fault_is_answered_behind_the_messages(rt: HostRuntime) -> Result<(), Fail> 
     )
 }
 
+/// Messages that keep the connection: three that are whole, and one that is not.
+fn other_heads() -> [&'static str; 4] {
+    [
+        "\r\n\nGET / HTTP/1.1\nHost:\n\n",
+        "GET / HTTP/1.1\r\nHost: h\r\nConnection: closed, x\r\n\r\n",
+        "GET / HTTP/1.1\r\nHost: h\r\nContent-Length: 0000000000000000003\r\n\r\nabc",
+        "GET / HTTP/1.1\r\nHost: h\r\nContent-Length: 4\r\n\r\nabc",
+    ]
+}
+
 #[test]
 fn other_heads_keep_the_connection(rt: HostRuntime) -> Result<(), Fail> {
     let alloc = rt.alloc();
     let answer = "HTTP/1.1 404 Not Found\r\nContent-Length: 0\r\n\r\n";
-    assert_answered(&rt, alloc, "\r\n\nGET / HTTP/1.1\nHost:\n\n", answer, false)?;
-    assert_answered(
-        &rt,
-        alloc,
-        "GET / HTTP/1.1\r\nHost: h\r\nConnection: closed, x\r\n\r\n",
-        answer,
-        false,
-    )?;
-    assert_answered(
-        &rt,
-        alloc,
-        "GET / HTTP/1.1\r\nHost: h\r\nContent-Length: 0000000000000000003\r\n\r\nabc",
-        answer,
-        false,
-    )?;
-    assert_answered(
-        &rt,
-        alloc,
-        "GET / HTTP/1.1\r\nHost: h\r\nContent-Length: 4\r\n\r\nabc",
-        "",
-        false,
-    )
+    let [first, second, third, part] = other_heads();
+    for whole in [first, second, third] {
+        assert_answered(&rt, alloc, whole, answer, false)?;
+    }
+    assert_answered(&rt, alloc, part, "", false)
 }

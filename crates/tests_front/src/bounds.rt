@@ -36,30 +36,47 @@ fn assert_found(rt: &impl Abort, alloc: Global, bytes: &[u8], wanted: &str) -> R
 
 #[test]
 fn heads_have_at_most_16384_bytes(rt: HostRuntime) -> Result<(), Fail> {
-    let alloc = rt.alloc();
-    let head = head_of(alloc, 16_384)?;
-    assert_found(&rt, alloc, &head, FOUND)?;
-    let head = head_of(alloc, 16_385)?;
-    assert_found(&rt, alloc, &head, BAD)
+    assert_size(&rt, rt.alloc(), 16_384, FOUND)?;
+    assert_size(&rt, rt.alloc(), 16_385, BAD)
+}
+
+/// A head of so many bytes is answered so.
+fn assert_size(rt: &impl Abort, alloc: Global, size: usize, wanted: &str) -> Result<(), Fail> {
+    let head = head_of(alloc, size)?;
+    assert_found(rt, alloc, &head, wanted)
 }
 
 #[test]
 fn heads_have_at_most_64_fields(rt: HostRuntime) -> Result<(), Fail> {
-    let alloc = rt.alloc();
-    let head = fields_of(alloc, 64)?;
-    assert_found(&rt, alloc, &head, FOUND)?;
-    let head = fields_of(alloc, 65)?;
-    assert_found(&rt, alloc, &head, "")?;
+    assert_fields(&rt, rt.alloc(), 64, FOUND)?;
+    assert_fields(&rt, rt.alloc(), 65, "")?;
+    let filled = filled(rt.alloc())?;
+    assert_found(&rt, rt.alloc(), &filled, BAD)
+}
+
+/// A head of so many fields is answered so.
+fn assert_fields(rt: &impl Abort, alloc: Global, count: usize, wanted: &str) -> Result<(), Fail> {
+    let head = fields_of(alloc, count)?;
+    assert_found(rt, alloc, &head, wanted)
+}
+
+/// A head of 65 fields, and bytes behind it, as many as a head may have.
+fn filled(alloc: Global) -> Result<Vec<u8>, AllocError> {
     let mut filled = fields_of(alloc, 65)?;
     for _ in filled.len()..16_384 {
         filled.push(b'x')?;
     }
-    assert_found(&rt, alloc, &filled, BAD)
+    Ok(filled)
 }
 
 #[test]
 fn bodies_have_at_most_1048576_bytes(rt: HostRuntime) -> Result<(), Fail> {
-    let alloc = rt.alloc();
+    let message = longest_message(rt.alloc())?;
+    assert_found(&rt, rt.alloc(), &message, FOUND)
+}
+
+/// A message with the longest body.
+fn longest_message(alloc: Global) -> Result<Vec<u8>, AllocError> {
     let mut message = Vec::from_slice(
         alloc,
         b"PUT / HTTP/1.1\r\nHost: h\r\nContent-Length: 1048576\r\n\r\n",
@@ -67,5 +84,5 @@ fn bodies_have_at_most_1048576_bytes(rt: HostRuntime) -> Result<(), Fail> {
     for _ in 0..1_048_576u32 {
         message.push(b'b')?;
     }
-    assert_found(&rt, alloc, &message, FOUND)
+    Ok(message)
 }

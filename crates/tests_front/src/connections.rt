@@ -1,35 +1,69 @@
 //! Connections beside each other, their ends and their numbers.
-use crate::teller::{front, take_all};
-use oai_front::{ConnId, NoSuchConnection, OpenFault, PieceFault};
+use crate::teller::{Teller, assert_waits, front, two_opened};
+use oai_front::{ConnId, Front, NoSuchConnection, OpenFault, PieceFault};
+use std::alloc::Global;
 use std::process::Abort;
 use std::test::Fail;
 
+/// The end of a message that begins with `GET / `, and what it is answered.
+fn last_piece() -> (&'static [u8], &'static [u8]) {
+    (
+        b"HTTP/1.1\r\nHost: h\r\n\r\n",
+        b"HTTP/1.1 404 Not Found\r\nContent-Length: 0\r\n\r\n",
+    )
+}
+
+/// The front of a message comes.
+fn begin(front: &mut Front<Teller>, conn: ConnId) -> Result<(), PieceFault> {
+    front.piece(conn, 0, b"GET / ")
+}
+
+/// Its end comes, and it is answered.
+fn assert_ended(
+    rt: &impl Abort,
+    alloc: Global,
+    front: &mut Front<Teller>,
+    conn: ConnId,
+) -> Result<(), Fail> {
+    let (piece, wanted) = last_piece();
+    front.piece(conn, 0, piece)?;
+    assert_waits(rt, alloc, front, conn, wanted)
+}
+
+/// Of two messages that have begun the second is ended and answered, and then the first.
+fn assert_apart(
+    rt: &impl Abort,
+    alloc: Global,
+    front: &mut Front<Teller>,
+    first: ConnId,
+    second: ConnId,
+) -> Result<(), Fail> {
+    assert_ended(rt, alloc, front, second)?;
+    assert_waits(rt, alloc, front, first, b"")?;
+    assert_ended(rt, alloc, front, first)
+}
+
 #[test]
 fn pieces_of_two_connections_do_not_mix(rt: HostRuntime) -> Result<(), Fail> {
-    let alloc = rt.alloc();
-    let mut front = front(alloc, 2);
-    let first = front.open()?;
-    let second = front.open()?;
-    front.piece(first, 0, b"GET / ")?;
-    front.piece(second, 0, b"GET / ")?;
-    front.piece(second, 0, b"HTTP/1.1\r\nHost: h\r\n\r\n")?;
-    let wanted: &[u8] = b"HTTP/1.1 404 Not Found\r\nContent-Length: 0\r\n\r\n";
-    let mut all = Vec::new(alloc);
-    take_all(&mut front, first, false, &mut all)?;
-    assert_eq!(&rt; all.len(), 0);
-    take_all(&mut front, second, false, &mut all)?;
-    assert_eq!(&rt; all.as_slice(), wanted);
-    front.piece(first, 0, b"HTTP/1.1\r\nHost: h\r\n\r\n")?;
-    all.clear();
-    take_all(&mut front, first, false, &mut all)?;
-    assert_eq!(&rt; all.as_slice(), wanted);
+    let mut front = front(rt.alloc(), 2);
+    let (first, second) = two_opened(&mut front)?;
+    begin(&mut front, first)?;
+    begin(&mut front, second)?;
+    assert_apart(&rt, rt.alloc(), &mut front, first, second)
+}
+
+/// The connection ends, and is closing; what comes behind is not answered.
+fn assert_closes(rt: &impl Abort, front: &mut Front<Teller>, conn: ConnId) -> Result<(), Fail> {
+    front.end(conn)?;
+    assert_eq!(rt; front.closing(conn), Some(true));
+    front.piece(conn, 0, b"y")?;
+    assert_eq!(rt; front.output(conn).map(|bytes| bytes.len()), Some(0));
     Ok(())
 }
 
 #[test]
 fn what_is_not_whole_at_the_end_is_dropped(rt: HostRuntime) -> Result<(), Fail> {
-    let alloc = rt.alloc();
-    let mut front = front(alloc, 1);
+    let mut front = front(rt.alloc(), 1);
     let conn = front.open()?;
     front.piece(
         conn,
@@ -37,28 +71,40 @@ fn what_is_not_whole_at_the_end_is_dropped(rt: HostRuntime) -> Result<(), Fail> 
         b"POST /oai/a HTTP/1.1\r\nHost: h\r\nContent-Length: 2\r\n\r\nx",
     )?;
     assert_eq!(&rt; front.closing(conn), Some(false));
-    front.end(conn)?;
-    assert_eq!(&rt; front.closing(conn), Some(true));
-    front.piece(conn, 0, b"y")?;
-    assert_eq!(&rt; front.output(conn).map(|bytes| bytes.len()), Some(0));
-    Ok(())
+    assert_closes(&rt, &mut front, conn)
+}
+
+/// No call finds the connection.
+fn assert_gone(rt: &impl Abort, front: &mut Front<Teller>, conn: ConnId) {
+    assert_eq!(rt;
+        front.piece(conn, 0, b""),
+        Err(PieceFault::NoSuchConnection)
+    );
+    assert_eq!(rt; front.end(conn), Err(NoSuchConnection));
+    assert_eq!(rt; front.forget(conn), Err(NoSuchConnection));
+}
+
+/// Nothing is told of the connection.
+fn assert_untold(rt: &impl Abort, front: &Front<Teller>, conn: ConnId) {
+    assert!(rt; front.output(conn).is_none());
+    assert_eq!(rt; front.closing(conn), None);
+}
+
+/// The one connection that may be open.
+fn only_opened(rt: &impl Abort, front: &mut Front<Teller>) -> Result<ConnId, Fail> {
+    let conn = front.open()?;
+    assert_eq!(rt; conn.number, 1);
+    assert_eq!(rt; front.open(), Err(OpenFault::Full));
+    Ok(conn)
 }
 
 #[test]
 fn a_forgotten_connection_is_gone(rt: HostRuntime) -> Result<(), Fail> {
     let mut front = front(rt.alloc(), 1);
-    let conn = front.open()?;
-    assert_eq!(&rt; conn.number, 1);
-    assert_eq!(&rt; front.open(), Err(OpenFault::Full));
+    let conn = only_opened(&rt, &mut front)?;
     front.forget(conn)?;
-    assert_eq!(&rt;
-        front.piece(conn, 0, b""),
-        Err(PieceFault::NoSuchConnection)
-    );
-    assert_eq!(&rt; front.end(conn), Err(NoSuchConnection));
-    assert_eq!(&rt; front.forget(conn), Err(NoSuchConnection));
-    assert!(&rt; front.output(conn).is_none());
-    assert_eq!(&rt; front.closing(conn), None);
+    assert_gone(&rt, &mut front, conn);
+    assert_untold(&rt, &front, conn);
     assert_eq!(&rt; front.open(), Ok(ConnId { number: 2 }));
     Ok(())
 }

@@ -1,5 +1,5 @@
 //! A host of two repositories behind connections.
-use crate::teller::take_all;
+use crate::teller::{take_all, two_opened};
 use oai_catalogue::PlainVersions;
 use oai_front::{ConnId, Front};
 use oai_host::{Config, Host};
@@ -47,6 +47,20 @@ fn assert_told(
     Ok(())
 }
 
+/// The piece is answered so.
+fn assert_answered(
+    rt: &impl Abort,
+    alloc: Global,
+    front: &mut Front<Host<PlainVersions>>,
+    conn: ConnId,
+    moment: i64,
+    piece: &[u8],
+    wanted: &str,
+) -> Result<(), Fail> {
+    front.piece(conn, moment, piece)?;
+    assert_told(rt, alloc, front, conn, wanted)
+}
+
 /// A set that is new.
 fn deposit() -> &'static [u8] {
     b"POST /deposit/a HTTP/1.1\r\nHost: h\r\nContent-Length: 22\r\n\r\n{\"set\":\"x\",\"name\":\"X\"}"
@@ -66,28 +80,38 @@ fn known() -> &'static str {
 fn a_deposit_comes_byte_by_byte(rt: HostRuntime) -> Result<(), Fail> {
     let alloc = rt.alloc();
     let mut front = hosting(alloc, 1)?;
+    assert_byte_by_byte(&rt, alloc, &mut front)
+}
+
+/// A deposit comes byte by byte, and again as one piece.
+fn assert_byte_by_byte(
+    rt: &impl Abort,
+    alloc: Global,
+    front: &mut Front<Host<PlainVersions>>,
+) -> Result<(), Fail> {
     let conn = front.open()?;
     for byte in deposit() {
         front.piece(conn, START, &[*byte])?;
     }
-    assert_told(&rt, alloc, &mut front, conn, added())?;
-    front.piece(conn, START, deposit())?;
-    assert_told(&rt, alloc, &mut front, conn, known())
+    assert_told(rt, alloc, front, conn, added())?;
+    assert_answered(rt, alloc, front, conn, START, deposit(), known())
 }
 
 #[test]
 fn a_deposit_that_lacks_a_byte_is_not_performed(rt: HostRuntime) -> Result<(), Fail> {
     let alloc = rt.alloc();
     let mut front = hosting(alloc, 2)?;
-    let conn = front.open()?;
+    let (first, second) = two_opened(&mut front)?;
+    end_too_early(&mut front, first)?;
+    assert_answered(&rt, alloc, &mut front, first, START, b"}", "")?;
+    assert_answered(&rt, alloc, &mut front, second, START, deposit(), added())
+}
+
+/// A deposit comes but for its last byte, and then the end of the connection.
+fn end_too_early(front: &mut Front<Host<PlainVersions>>, conn: ConnId) -> Result<(), Fail> {
     let bytes = deposit();
     front.piece(conn, START, &bytes[..bytes.len().saturating_sub(1)])?;
-    front.end(conn)?;
-    front.piece(conn, START, b"}")?;
-    assert_told(&rt, alloc, &mut front, conn, "")?;
-    let other = front.open()?;
-    front.piece(other, START, bytes)?;
-    assert_told(&rt, alloc, &mut front, other, added())
+    Ok(front.end(conn)?)
 }
 
 /// Messages that are refused, one behind the other.
@@ -105,8 +129,7 @@ fn a_host_refuses_and_the_connection_stays(rt: HostRuntime) -> Result<(), Fail> 
     let alloc = rt.alloc();
     let mut front = hosting(alloc, 1)?;
     let conn = front.open()?;
-    front.piece(conn, START, refused())?;
-    assert_told(&rt, alloc, &mut front, conn, refusals())?;
+    assert_answered(&rt, alloc, &mut front, conn, START, refused(), refusals())?;
     assert_eq!(&rt; front.closing(conn), Some(true));
     Ok(())
 }
@@ -126,17 +149,32 @@ fn a_full_table_tells_when_to_come_again(rt: HostRuntime) -> Result<(), Fail> {
     let alloc = rt.alloc();
     let mut front = hosting(alloc, 1)?;
     let conn = front.open()?;
-    front.piece(conn, START + 1, three_items())?;
-    let mut all = Vec::new(alloc);
-    take_all(&mut front, conn, false, &mut all)?;
-    front.piece(conn, START + 11, second_list())?;
-    assert_told(
+    begin_list(alloc, &mut front, conn)?;
+    assert_answered(
         &rt,
         alloc,
         &mut front,
         conn,
-        "HTTP/1.1 503 Service Unavailable\r\nRetry-After: 50\r\nContent-Length: 0\r\n\r\n",
+        START + 11,
+        second_list(),
+        full(),
     )
+}
+
+/// Three items come, and a list of them begins.
+fn begin_list(
+    alloc: Global,
+    front: &mut Front<Host<PlainVersions>>,
+    conn: ConnId,
+) -> Result<(), Fail> {
+    front.piece(conn, START + 1, three_items())?;
+    let mut all = Vec::new(alloc);
+    Ok(take_all(front, conn, false, &mut all)?)
+}
+
+/// What is answered where no list can begin for 50 seconds.
+fn full() -> &'static str {
+    "HTTP/1.1 503 Service Unavailable\r\nRetry-After: 50\r\nContent-Length: 0\r\n\r\n"
 }
 
 /// A request of the repository.
@@ -176,14 +214,33 @@ fn whole_answer(alloc: Global, name: &str) -> Result<String, AllocError> {
 fn two_requests_come_byte_by_byte_in_turns(rt: HostRuntime) -> Result<(), Fail> {
     let alloc = rt.alloc();
     let mut front = hosting(alloc, 2)?;
-    let first = front.open()?;
-    let second = front.open()?;
+    let (first, second) = two_opened(&mut front)?;
+    hand_in_turns(&mut front, first, second)?;
+    assert_identified(&rt, alloc, &mut front, second, "b")?;
+    assert_identified(&rt, alloc, &mut front, first, "a")
+}
+
+/// A request of each repository comes, byte by byte in turns.
+fn hand_in_turns(
+    front: &mut Front<Host<PlainVersions>>,
+    first: ConnId,
+    second: ConnId,
+) -> Result<(), Fail> {
     for (a, b) in identify("a").iter().zip(identify("b")) {
         front.piece(first, START, &[*a])?;
         front.piece(second, START, &[*b])?;
     }
-    let wanted = whole_answer(alloc, "b")?;
-    assert_told(&rt, alloc, &mut front, second, wanted.as_str())?;
-    let wanted = whole_answer(alloc, "a")?;
-    assert_told(&rt, alloc, &mut front, first, wanted.as_str())
+    Ok(())
+}
+
+/// What waits on the connection is the answer of that repository.
+fn assert_identified(
+    rt: &impl Abort,
+    alloc: Global,
+    front: &mut Front<Host<PlainVersions>>,
+    conn: ConnId,
+    name: &str,
+) -> Result<(), Fail> {
+    let wanted = whole_answer(alloc, name)?;
+    assert_told(rt, alloc, front, conn, wanted.as_str())
 }

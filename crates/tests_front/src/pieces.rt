@@ -1,5 +1,7 @@
 //! Bytes that come in pieces.
-use crate::teller::{answered, front, hand_on, take_all};
+use crate::teller::{Teller, answered, assert_waits, front, hand_on, take_all};
+use oai_front::{ConnId, Front, PieceFault};
+use std::alloc::Global;
 use std::process::Abort;
 use std::test::Fail;
 
@@ -16,49 +18,71 @@ fn answers() -> &'static [u8] {
 
 #[test]
 fn every_cut_gives_the_same_answers(rt: HostRuntime) -> Result<(), Fail> {
-    let alloc = rt.alloc();
     let bytes = stream();
     for at in 0..=bytes.len() {
-        let mut front = front(alloc, 1);
-        let conn = front.open()?;
         let (first, second) = bytes.split_at(at);
-        hand_on(&mut front, conn, 7, first)?;
-        hand_on(&mut front, conn, 7, second)?;
-        let mut all = Vec::new(alloc);
-        take_all(&mut front, conn, false, &mut all)?;
-        assert_eq!(&rt; all.as_slice(), answers(), "cut at {at}");
-        assert_eq!(&rt; front.closing(conn), Some(true));
+        assert_cut(&rt, rt.alloc(), first, second)?;
     }
     Ok(())
+}
+
+/// The stream, cut into these two, is answered so.
+fn assert_cut(rt: &impl Abort, alloc: Global, first: &[u8], second: &[u8]) -> Result<(), Fail> {
+    let mut front = front(alloc, 1);
+    let conn = front.open()?;
+    hand_both(&mut front, conn, first, second)?;
+    assert_waits(rt, alloc, &mut front, conn, answers())?;
+    assert_eq!(rt; front.closing(conn), Some(true));
+    Ok(())
+}
+
+/// Hands two pieces on.
+fn hand_both(
+    front: &mut Front<Teller>,
+    conn: ConnId,
+    first: &[u8],
+    second: &[u8],
+) -> Result<(), PieceFault> {
+    hand_on(front, conn, 7, first)?;
+    hand_on(front, conn, 7, second)
 }
 
 #[test]
 fn single_bytes_give_the_same_answers(rt: HostRuntime) -> Result<(), Fail> {
-    let alloc = rt.alloc();
-    let mut front = front(alloc, 1);
+    let mut front = front(rt.alloc(), 1);
     let conn = front.open()?;
-    let mut all = Vec::new(alloc);
-    for byte in stream() {
-        hand_on(&mut front, conn, 7, &[*byte])?;
-        take_all(&mut front, conn, true, &mut all)?;
-    }
+    let all = slowly_answered(rt.alloc(), &mut front, conn)?;
     assert_eq!(&rt; all.as_slice(), answers());
     Ok(())
 }
 
+/// What is answered where the stream comes byte by byte, and is taken so behind each.
+fn slowly_answered(
+    alloc: Global,
+    front: &mut Front<Teller>,
+    conn: ConnId,
+) -> Result<Vec<u8>, Fail> {
+    let mut all = Vec::new(alloc);
+    for byte in stream() {
+        hand_on(front, conn, 7, &[*byte])?;
+        take_all(front, conn, true, &mut all)?;
+    }
+    Ok(all)
+}
+
+/// A message of which the last byte comes as the fourth piece.
+fn slow_message() -> [&'static [u8]; 4] {
+    [
+        b"POST /oai/a HTTP/1.1\r\nHost: h\r\nContent-Length: 2\r\n\r\n",
+        b"x",
+        b"",
+        b"y",
+    ]
+}
+
 #[test]
 fn a_message_is_performed_at_the_moment_of_its_last_byte(rt: HostRuntime) -> Result<(), Fail> {
-    let alloc = rt.alloc();
-    let (answer, closing) = answered(
-        &rt,
-        alloc,
-        &[
-            b"POST /oai/a HTTP/1.1\r\nHost: h\r\nContent-Length: 2\r\n\r\n",
-            b"x",
-            b"",
-            b"y",
-        ],
-    )?;
+    let (answer, closing) = answered(&rt, rt.alloc(), &slow_message())?;
     let wanted: &[u8] =
         b"HTTP/1.1 200 OK\r\nContent-Type: text/xml\r\nContent-Length: 15\r\n\r\n1 3 POST [-] xy";
     assert_eq!(&rt; answer.as_slice(), wanted);

@@ -1,7 +1,7 @@
 //! A handler that tells what it was asked, and what a front over it answers.
 ghost use Rattle.std.specs.Prelude.{⊤};
 
-use oai_front::{ConnId, Front, Handler, PieceFault};
+use oai_front::{ConnId, Front, Handler, OpenFault, PieceFault};
 use oai_host::{Answer, Exchange, Status};
 use oai_names::Sequence;
 use std::alloc::{AllocError, Global};
@@ -20,24 +20,26 @@ impl Handler for Teller {
 
     fn exchange(&mut self, moment: i64, exchange: &Exchange<'_>) -> Answer {
         self.asked = self.asked.wrapping_add(1);
-        match exchange.target {
-            b"/oai/a" => self.told(moment, exchange),
-            b"/deposit/a" => self.told(moment, exchange),
-            b"/oai/later" => told_only(self.alloc, Status::ServiceUnavailable, Some(50), None),
-            b"/deposit/later" => told_only(
-                self.alloc,
-                Status::ServiceUnavailable,
-                Some(60),
-                Some(2),
-            ),
-            b"/deposit/failed" => told_only(self.alloc, Status::InternalServerError, None, Some(1)),
-            b"/oai/failed" => told_only(self.alloc, Status::InternalServerError, None, None),
-            b"/oai/put" => told_only(self.alloc, Status::MethodNotAllowed, None, None),
-            b"/deposit/put" => told_only(self.alloc, Status::MethodNotAllowed, None, None),
-            b"/oai/type" => told_only(self.alloc, Status::UnsupportedMediaType, None, None),
-            b"*" => told_only(self.alloc, Status::BadRequest, None, None),
-            _ => told_only(self.alloc, Status::NotFound, None, None),
+        match planned(exchange.target) {
+            Some((status, seconds, done)) => told_only(self.alloc, status, seconds, done),
+            None => self.told(moment, exchange),
         }
+    }
+}
+
+/// The status, the seconds and the number of lines that a target is answered, where it is not told what
+/// was asked.
+fn planned(target: &[u8]) -> Option<(Status, Option<i64>, Option<u64>)> {
+    match target {
+        b"/oai/a" | b"/deposit/a" => None,
+        b"/oai/later" => Some((Status::ServiceUnavailable, Some(50), None)),
+        b"/deposit/later" => Some((Status::ServiceUnavailable, Some(60), Some(2))),
+        b"/deposit/failed" => Some((Status::InternalServerError, None, Some(1))),
+        b"/oai/failed" => Some((Status::InternalServerError, None, None)),
+        b"/oai/put" | b"/deposit/put" => Some((Status::MethodNotAllowed, None, None)),
+        b"/oai/type" => Some((Status::UnsupportedMediaType, None, None)),
+        b"*" => Some((Status::BadRequest, None, None)),
+        _ => Some((Status::NotFound, None, None)),
     }
 }
 
@@ -65,11 +67,11 @@ fn in_words(
 ) -> Result<Vec<u8>, AllocError> {
     let number = format!(in alloc; "{asked} {moment} ")?;
     let mut words = number.into_bytes();
-    words.extend_from_slice(exchange.method)?;
-    words.extend_from_slice(b" [")?;
-    words.extend_from_slice(exchange.content_type.unwrap_or(b"-"))?;
-    words.extend_from_slice(b"] ")?;
-    words.extend_from_slice(exchange.body)?;
+    let content_type = exchange.content_type.unwrap_or(b"-");
+    let pieces: [&[u8]; 5] = [exchange.method, b" [", content_type, b"] ", exchange.body];
+    for piece in pieces {
+        words.extend_from_slice(piece)?;
+    }
     Ok(words)
 }
 
@@ -105,6 +107,13 @@ pub(crate) fn hand_on(
     }
 }
 
+/// Opens two connections.
+pub(crate) fn two_opened<H>(front: &mut Front<H>) -> Result<(ConnId, ConnId), OpenFault> {
+    let first = front.open()?;
+    let second = front.open()?;
+    Ok((first, second))
+}
+
 /// Takes what is to be written on the connection, one byte at a time where `slowly`.
 pub(crate) fn take_all<H>(
     front: &mut Front<H>,
@@ -127,6 +136,30 @@ pub(crate) fn take_all<H>(
     Ok(())
 }
 
+/// What is to be written on the connection is that.
+pub(crate) fn assert_waits(
+    rt: &impl Abort,
+    alloc: Global,
+    front: &mut Front<Teller>,
+    conn: ConnId,
+    wanted: &[u8],
+) -> Result<(), Fail> {
+    let mut all = Vec::new(alloc);
+    take_all(front, conn, false, &mut all)?;
+    assert_eq!(rt; all.as_slice(), wanted);
+    Ok(())
+}
+
+/// Hands the pieces on, each at the moment of its number.
+fn hand_each(front: &mut Front<Teller>, conn: ConnId, pieces: &[&[u8]]) -> Result<(), PieceFault> {
+    let mut moment: i64 = 0;
+    for piece in pieces {
+        hand_on(front, conn, moment, piece)?;
+        moment = moment.wrapping_add(1);
+    }
+    Ok(())
+}
+
 /// What is answered to these pieces on one connection, each at the moment of its number, and whether the
 /// connection is closing then.
 pub(crate) fn answered(
@@ -136,11 +169,7 @@ pub(crate) fn answered(
 ) -> Result<(Vec<u8>, bool), Fail> {
     let mut front = front(alloc, 1);
     let conn = front.open()?;
-    let mut moment: i64 = 0;
-    for piece in pieces {
-        hand_on(&mut front, conn, moment, piece)?;
-        moment = moment.wrapping_add(1);
-    }
+    hand_each(&mut front, conn, pieces)?;
     let mut all = Vec::new(alloc);
     take_all(&mut front, conn, false, &mut all)?;
     Ok((all, front.closing(conn) == Some(true)))
