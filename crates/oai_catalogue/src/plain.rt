@@ -90,12 +90,12 @@ impl Versions for PlainVersions {
 }
 
 impl PlainVersions {
-    /// A store of no version. It takes no memory.
+    /// A store of no version, with room for 18,446,744,073,709,551,614 calls at least. It takes no memory.
     pub fn new(alloc: Global) -> PlainVersions
         ensures lists { ⟦<PlainVersions as Versions>⟧.lists result ≡ no_lists }
         ensures failures { ⟦<PlainVersions as Versions>⟧.failures result ≡ 0 }
         ensures honest { ⟦<PlainVersions as Versions>⟧.honest result ≡ true }
-        ensures room { ⟦<PlainVersions as Versions>⟧.room result ≡ LAST_VERSION - 1 }
+        ensures room { ⟦<PlainVersions as Versions>⟧.room result ≡ 18_446_744_073_709_551_614 }
     {
         PlainVersions {
             alloc,
