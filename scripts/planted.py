@@ -272,7 +272,7 @@ def main(names):
     refused = others = 0
     # (the crate with the most bugs is the last to end, so it begins first)
     listed.sort(key=lambda it: -len(os.listdir(f"crates/{it}/planted")))
-    with ThreadPoolExecutor(os.cpu_count() or 1) as pool:
+    with ThreadPoolExecutor(len(os.sched_getaffinity(0))) as pool:
         tries = {pool.submit(tried, it): it for it in listed}
         for done in as_completed(tries):
             edits, found = done.result()
