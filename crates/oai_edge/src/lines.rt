@@ -112,6 +112,7 @@ impl Lines {
     /// Adds to the line what was read and not given, up to the line end; whether there is one.
     fn take_piece(&mut self) -> Result<bool, Stop>
         ensures piece { spec.IsPiece self.old result self.new }
+        ensures given { IfOk result (λ found. found ≡ false → self.new.ahead ≡ []) }
         ensures over { self.new.is_over ≡ self.old.is_over }
         ensures number { self.new.number ≡ self.old.number }
     {
