@@ -5,7 +5,7 @@ use oai_catalogue::{FaultyVersions, PlainVersions, Versions};
 use oai_edge::{config_in, write_answer};
 use oai_host::{Answer, Exchange, Host};
 use oai_item::Fault;
-use std::alloc::{AllocError, Global};
+use std::alloc::Global;
 use std::process::Abort;
 use std::test::Fail;
 
@@ -85,54 +85,31 @@ fn answer<V: Versions + Drop>(
     Ok(true)
 }
 
-/// Performs the exchanges, and says whether the store failed in one: it may in no more.
-fn answer_all<V: Versions + Drop>(
-    rt: &impl Abort,
-    host: &mut Host<V>,
-    output: &mut Vec<u8>,
-) -> Result<bool, Fail> {
+/// Performs the exchanges over a store whose k-th call fails, and says whether one did: no more may.
+fn assert_answers(rt: &impl Abort, alloc: Global, k: u64) -> Result<bool, Fail> {
+    let store = FaultyVersions::new(PlainVersions::new(alloc), k);
+    let config = config_in(alloc, worked_configuration().as_bytes())?;
+    let mut host = match Host::new(alloc, config, store) {
+        Ok(host) => host,
+        Err(fault) => {
+            assert_eq!(rt; fault, Fault::Device);
+            return Ok(true);
+        }
+    };
+    let mut output = Vec::new(alloc);
     let mut failed = false;
     for asked in exchanges() {
-        if answer(rt, host, asked, output)? {
+        if answer(rt, &mut host, asked, &mut output)? {
             assert!(rt; !failed);
             failed = true;
         }
     }
-    Ok(failed)
-}
-
-/// All that is to be written.
-fn wanted(alloc: Global) -> Result<String, AllocError> {
     let mut wanted = String::new(alloc);
     for line in answers().lines() {
         push_wanted(line, &mut wanted)?;
     }
-    Ok(wanted)
-}
-
-/// The exchanges are answered so, and the store fails in one of them at most: it says whether it did.
-fn assert_answered<V: Versions + Drop>(
-    rt: &impl Abort,
-    alloc: Global,
-    host: &mut Host<V>,
-) -> Result<bool, Fail> {
-    let mut output = Vec::new(alloc);
-    let failed = answer_all(rt, host, &mut output)?;
-    assert_eq!(rt; output.as_slice(), wanted(alloc)?.as_bytes());
+    assert_eq!(rt; output.as_slice(), wanted.as_bytes(), "call {k}");
     Ok(failed)
-}
-
-/// Performs the exchanges over a store whose k-th call fails, and says whether one did.
-fn assert_answers(rt: &impl Abort, alloc: Global, k: u64) -> Result<bool, Fail> {
-    let store = FaultyVersions::new(PlainVersions::new(alloc), k);
-    let config = config_in(alloc, worked_configuration().as_bytes())?;
-    match Host::new(alloc, config, store) {
-        Ok(mut host) => assert_answered(rt, alloc, &mut host),
-        Err(fault) => {
-            assert_eq!(rt; fault, Fault::Device);
-            Ok(true)
-        }
-    }
 }
 
 /// Each call of the store fails once.
