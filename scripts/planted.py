@@ -4,6 +4,8 @@ Bugs of different functions share a check, as a batch. Where a function is not p
 So no function of a batch calls another one of it, and each is judged by its own goals.
 """
 
+import hashlib
+import json
 import os
 import re
 import shutil
@@ -30,6 +32,9 @@ IMPL = re.compile(r"^impl(?:<[^\n]*?>)? (?:([\w:<>, ]+) for )?(\w+)", re.M)
 # What a check says of a proof file that names something which the edit took away.
 TAKEN_AWAY = re.compile(r"has no field|is not in scope|has no `|was not admitted")
 
+# What is told of a bug that a check judged.
+REFUSED, NAMED, PROVED = "refused", "only named", "NOT REFUSED"
+
 
 class Edit:
     """A planted bug: the changes that it makes, and the functions in which it makes them."""
@@ -38,10 +43,55 @@ class Edit:
         self.name = os.path.basename(path).removesuffix(".edit")
         self.changes = read_changes(path)
         self.functions = functions_of(self.changes, texts)
+        self.digest = digest_of(self.changes)
 
     def may_share(self):
         """Whether all that it changes stands in functions, so that it may be tried beside others."""
         return None not in self.functions
+
+
+class Judged:
+    """What became of the bugs of a crate, kept in its folder `out`: a run that was stopped goes on where it ended.
+
+    A verdict is of one edit and of the texts of the crate and of those below it. Where one of them changed, it holds no more.
+    """
+
+    def __init__(self, name):
+        self.path = f"crates/{name}/out/planted.json"
+        self.texts = digest_of([sources_of(f"crates/{it}") for it in sorted(below(name))])
+        self.verdicts = {}
+        if os.path.isfile(self.path):
+            with open(self.path, encoding="utf-8") as it:
+                kept = json.load(it)
+            self.verdicts = kept["verdicts"] if kept["texts"] == self.texts else {}
+
+    def of(self, edit):
+        """What became of an edit; None where no check judged it."""
+        return self.verdicts.get(f"{edit.name} {edit.digest}")
+
+    def add(self, edit, verdict):
+        self.verdicts[f"{edit.name} {edit.digest}"] = verdict
+        os.makedirs(os.path.dirname(self.path), exist_ok=True)
+        with open(f"{self.path}.new", "w", encoding="utf-8") as it:
+            json.dump({"texts": self.texts, "verdicts": self.verdicts}, it, indent=1)
+        os.replace(f"{self.path}.new", self.path)
+
+
+def digest_of(told):
+    return hashlib.sha256(json.dumps(told, sort_keys=True).encode()).hexdigest()
+
+
+def below(name):
+    """A crate and all that it stands on, of those of the repository, as crates.txt tells them."""
+    with open("crates.txt", encoding="utf-8") as lines:
+        uses = {crate: words.split() for crate, _, words in (it.partition(":") for it in lines.read().split("\n")) if words}
+    reached, left = set(), [name]
+    while left:
+        crate = left.pop()
+        if crate in uses and crate not in reached:
+            reached.add(crate)
+            left.extend(uses[crate])
+    return reached
 
 
 def read_changes(path):
@@ -196,21 +246,20 @@ def batches_of(edits, texts):
 
 
 def try_alone(crate, edit, texts):
-    """What becomes of one edit in a check of its own: refused, only named, got through, or it cannot be read."""
+    """What becomes of one edit in a check of its own; why it is not judged, where it is not."""
     changed = applied(texts, edit)
     if changed is None:
         return "CANNOT BE APPLIED"
     said = check(crate, changed, texts)
     if "logic=proved" in said:
-        return "NOT REFUSED"
+        return PROVED
     if "logic=not-proved" not in said:
         return "CANNOT BE READ"
-    return "only named" if is_only_named(said, unproved(said)) else "refused"
+    return NAMED if is_only_named(said, unproved(said)) else REFUSED
 
 
-def try_all(crate, edits, texts):
-    """What becomes of each edit of a crate: in batches first, and alone what a batch does not tell."""
-    found = {}
+def try_batches(crate, edits, texts, judged):
+    """Tries edits that may share a check in batches, and keeps what became of those that a batch tells of."""
     for batch, changed in batches_of(edits, texts):
         said = check(crate, changed, texts)
         own = unproved(said)
@@ -218,10 +267,17 @@ def try_all(crate, edits, texts):
             continue
         for edit in batch:
             if edit.functions & own:
-                found[edit] = "only named" if is_only_named(said, edit.functions & own) else "refused"
+                judged.add(edit, NAMED if is_only_named(said, edit.functions & own) else REFUSED)
+
+
+def try_all(crate, edits, texts, judged):
+    """What becomes of each edit of a crate: in batches first, and alone what a batch does not tell."""
+    try_batches(crate, [it for it in edits if not judged.of(it)], texts, judged)
+    found = {}
     for edit in edits:
-        if edit not in found:
-            found[edit] = try_alone(crate, edit, texts)
+        found[edit] = judged.of(edit) or try_alone(crate, edit, texts)
+        if found[edit] in (REFUSED, NAMED, PROVED):
+            judged.add(edit, found[edit])
     return found
 
 
@@ -243,23 +299,25 @@ def unneeded_for(name):
 
 
 def tried(name):
-    """The edits of a crate, and what becomes of each, tried on a copy of the repository."""
+    """The edits of a crate, and what becomes of each: what was kept, and the others tried on a copy of the repository."""
+    judged, edits = Judged(name), planted_in(f"crates/{name}", sources_of(f"crates/{name}"))
+    if all(judged.of(it) for it in edits):
+        return edits, {it: judged.of(it) for it in edits}
     with tempfile.TemporaryDirectory(prefix="planted-") as room:
         shutil.copytree(".", f"{room}/copy", ignore=unneeded_for(name), symlinks=True)
         crate = f"{room}/copy/crates/{name}"
         texts = sources_of(crate)
-        edits = planted_in(crate, texts)
         if "logic=proved" not in check(crate, texts, texts):
             sys.exit(f"planted: {name} is not proved without a bug")
-        return edits, try_all(crate, edits, texts)
+        return edits, try_all(crate, edits, texts, judged)
 
 
 def told(name, edits, found):
     """Prints what became of the edits of a crate; how many were refused."""
     for edit in edits:
-        if found[edit] != "refused":
+        if found[edit] != REFUSED:
             print(f"{name}/{edit.name}: {found[edit]}")
-    refused = sum(it in ("refused", "only named") for it in found.values())
+    refused = sum(it in (REFUSED, NAMED) for it in found.values())
     print(f"{name}: {refused} of {len(edits)} refused", flush=True)
     return refused
 
