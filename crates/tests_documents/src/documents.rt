@@ -13,7 +13,7 @@ use oai_answers::{
 use oai_item::{Field, Format, Formats, Item};
 use oai_names::{Identifier, Prefix, Sequence, SetSpec, Text};
 use oai_time::Granularity;
-use std::alloc::Global;
+use std::alloc::{AllocError, Global};
 use std::process::Abort;
 use std::test::Fail;
 
@@ -358,6 +358,35 @@ fn sets(rt: HostRuntime) -> Result<(), Fail> {
     let sets = [set(alloc, "x", "X & Y")?, set(alloc, "x:y", "Y")?];
     let body = Body::ListSets(&sets);
     assert_answer(&rt, alloc, verb("ListSets"), body, expected::sets())
+}
+
+/// So many bytes that they are more than a megabyte.
+const MUCH: usize = 1_048_577;
+
+/// A document is written behind what is there, however much that is.
+#[test]
+fn document_behind_much(rt: HostRuntime) -> Result<(), Fail> {
+    let alloc = rt.alloc();
+    let sets = [set(alloc, "x", "X & Y")?, set(alloc, "x:y", "Y")?];
+    let doc = Doc {
+        date: DATE,
+        base: BASE,
+        asked: verb("ListSets"),
+        body: Body::ListSets(&sets),
+    };
+    let mut written = bytes(alloc, MUCH)?;
+    write_document(alloc, &doc, &mut written)?;
+    assert_eq!(rt; written.get(MUCH..), Some(expected::sets().as_bytes()));
+    Ok(())
+}
+
+/// So many bytes.
+fn bytes(alloc: Global, count: usize) -> Result<Vec<u8>, AllocError> {
+    let mut bytes = Vec::new(alloc);
+    for _ in 0..count {
+        bytes.push(b'-')?;
+    }
+    Ok(bytes)
 }
 
 /// The record in oai_dc of the item `oai:a:1` is spelled so.

@@ -86,3 +86,39 @@ fn longest_message(alloc: Global) -> Result<Vec<u8>, AllocError> {
     }
     Ok(message)
 }
+
+/// The bytes, so many times.
+fn times(alloc: Global, bytes: &[u8], count: usize) -> Result<Vec<u8>, AllocError> {
+    let mut all = Vec::new(alloc);
+    for _ in 0..count {
+        all.extend_from_slice(bytes)?;
+    }
+    Ok(all)
+}
+
+/// Each of the messages in a piece is answered 404.
+fn assert_all_found(
+    rt: &impl Abort,
+    alloc: Global,
+    piece: &[u8],
+    count: usize,
+) -> Result<(), Fail> {
+    let (answer, _) = answered(rt, alloc, &[piece])?;
+    let wanted = times(alloc, FOUND.as_bytes(), count)?;
+    assert_eq!(rt; answer.as_slice(), wanted.as_slice());
+    Ok(())
+}
+
+/// Two of the longest messages are more than two megabytes.
+#[test]
+fn pieces_have_any_size(rt: HostRuntime) -> Result<(), Fail> {
+    let message = longest_message(rt.alloc())?;
+    let piece = times(rt.alloc(), &message, 2)?;
+    assert_all_found(&rt, rt.alloc(), &piece, 2)
+}
+
+#[test]
+fn pieces_have_any_number_of_messages(rt: HostRuntime) -> Result<(), Fail> {
+    let piece = times(rt.alloc(), b"GET / HTTP/1.1\r\nHost: h\r\n\r\n", 100)?;
+    assert_all_found(&rt, rt.alloc(), &piece, 100)
+}

@@ -118,3 +118,33 @@ fn as_many_connections_are_open_as_may_be(rt: HostRuntime) -> Result<(), Fail> {
     assert_eq!(&rt; front.open(), Err(OpenFault::Full));
     Ok(())
 }
+
+#[test]
+fn faults_of_opening_are_told(rt: HostRuntime) -> Result<(), Fail> {
+    for (fault, text) in [
+        (OpenFault::Full, "too many connections are open"),
+        (OpenFault::NoMemory, "out of memory"),
+        (
+            OpenFault::NumbersSpent,
+            "no number is left for a connection",
+        ),
+    ] {
+        assert_eq!(rt; format!(in rt.alloc(); "{fault}")?.as_str(), text);
+    }
+    Ok(())
+}
+
+#[test]
+fn faults_of_pieces_are_told(rt: HostRuntime) -> Result<(), Fail> {
+    for (fault, text) in [
+        (PieceFault::NoSuchConnection, "no such connection is open"),
+        (PieceFault::NoMemory, "out of memory"),
+        (
+            PieceFault::Unfinished,
+            "out of memory before all was performed",
+        ),
+    ] {
+        assert_eq!(rt; format!(in rt.alloc(); "{fault}")?.as_str(), text);
+    }
+    Ok(())
+}

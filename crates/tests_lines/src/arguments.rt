@@ -199,13 +199,13 @@ fn long_queries_are_read(rt: HostRuntime) -> Result<(), Fail> {
     )
 }
 
-/// An identifier of 5,000 bytes.
+/// An identifier of 12,000 bytes.
 #[test]
 fn long_identifiers_are_read(rt: HostRuntime) -> Result<(), Fail> {
     let alloc = rt.alloc();
     let front = "verb=GetRecord&metadataPrefix=oai_dc&identifier=oai:";
-    let query = padded(alloc, front, 5_048, "")?;
-    let wanted = padded(alloc, "GetRecord [oai:", 5_011, "] [oai_dc]")?;
+    let query = padded(alloc, front, 12_048, "")?;
+    let wanted = padded(alloc, "GetRecord [oai:", 12_011, "] [oai_dc]")?;
     assert_answer(
         &rt,
         alloc,

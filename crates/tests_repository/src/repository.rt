@@ -2,6 +2,7 @@
 use oai_answers::DeletedRecord;
 use oai_catalogue::PlainVersions;
 use oai_deposit::{LineFault, read_line};
+use oai_item::{ChangeRefusal, Fault};
 use oai_repo::{Refusal, Reply};
 use oai_settings::RepoConfig;
 use std::alloc::{AllocError, Global};
@@ -169,4 +170,18 @@ fn deletion_with_a_trace(rt: HostRuntime) -> Result<(), Fail> {
         (MIDNIGHT, deletion(), Err("refused 14 already-deleted")),
     ];
     assert_deposits(&rt, rt.alloc(), &mut repo, &lines)
+}
+
+#[test]
+fn refusals_are_told(rt: HostRuntime) -> Result<(), Fail> {
+    for (refusal, text) in [
+        (
+            Refusal::Refused(ChangeRefusal::AlreadyDeleted),
+            "the change is refused: the item is deleted already",
+        ),
+        (Refusal::Fault(Fault::Device), "the device failed"),
+    ] {
+        assert_eq!(rt; format!(in rt.alloc(); "{refusal}")?.as_str(), text);
+    }
+    Ok(())
 }

@@ -265,6 +265,31 @@ fn a_change_is_whole_or_none(rt: HostRuntime) -> Result<(), Fail> {
     assert_change(&rt, alloc, &mut store, v)
 }
 
+/// Letting go of a version is no call of the device, and a count is one: the call behind them fails.
+fn assert_counted<V: Versions>(
+    rt: &impl Abort,
+    alloc: Global,
+    store: &mut V,
+    v: u64,
+) -> Result<(), Fail>
+    requires { IsSome (V.lists store.old v) }
+{
+    let w = frozen(store, v)?;
+    release(rt, store, v, w);
+    let all = filter(alloc, 0, 9)?;
+    assert_eq!(rt; store.count(w, &all), Ok(2));
+    assert_fails(rt, alloc, store, w)
+}
+
+#[test]
+fn calls_are_counted(rt: HostRuntime) -> Result<(), Fail> {
+    let alloc = rt.alloc();
+    // two items are stored by three calls, the fourth freezes them, and the fifth counts
+    let mut store = FaultyVersions::new(PlainVersions::new(alloc), 6);
+    let v = stored(alloc, &mut store)?;
+    assert_counted(&rt, alloc, &mut store, v)
+}
+
 /// Another number for what the list holds.
 fn frozen<V: Versions>(store: &mut V, v: u64) -> Result<u64, Fail>
     requires { IsSome (V.lists store.old v) }
