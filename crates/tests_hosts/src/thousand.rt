@@ -1,4 +1,4 @@
-//! A host of as many repositories as there may be.
+//! A host of as many repositories as there may be, and one of more than a thousand items.
 use crate::transcripts::assert_answers;
 use oai_catalogue::{PlainVersions, Versions};
 use oai_host::{Config, Host};
@@ -29,9 +29,13 @@ fn configuration(alloc: Global) -> Result<String, AllocError> {
     Ok(text)
 }
 
-fn host_of<V: Versions + Drop>(alloc: Global, store: V) -> Result<Host<V>, Fail> {
-    let text = configuration(alloc)?;
-    Ok(Host::new(alloc, Config::read(alloc, text.as_bytes())?, store)?)
+fn host_of<V: Versions + Drop>(
+    alloc: Global,
+    configuration: &str,
+    store: V,
+) -> Result<Host<V>, Fail> {
+    let config = Config::read(alloc, configuration.as_bytes())?;
+    Ok(Host::new(alloc, config, store)?)
 }
 
 /// The first and the last are there, each with its own sets and its own clock.
@@ -60,6 +64,43 @@ DOC <responseDate>2024-01-01T00:00:02Z</responseDate><request verb="ListSets">ht
 #[test]
 fn thousand_repositories(rt: HostRuntime) -> Result<(), Fail> {
     let alloc = rt.alloc();
-    let mut host = host_of(alloc, PlainVersions::new(alloc))?;
+    let configuration = configuration(alloc)?;
+    let mut host = host_of(alloc, configuration.as_str(), PlainVersions::new(alloc))?;
     assert_answers(&rt, alloc, &mut host, first_and_last())
+}
+
+/// A configuration of one repository, with room for 1,001 items.
+fn configuration_of_many() -> &'static str {
+    r#"{"base":"http://host.example","cache":1,"repositories":[{"name":"a","repositoryName":"A","adminEmail":["a@host.example"],"earliestDatestamp":"2024-01-01T00:00:00Z","deletedRecord":"persistent","granularity":"seconds","chunk":2,"lifetime":60,"lists":1,"items":1001,"formats":[]}]}"#
+}
+
+/// Appends the line that deposits the item of that number.
+fn push_item(transcript: &mut String, number: usize) -> Result<(), AllocError> {
+    let alloc = *transcript.allocator();
+    let line = format!(in alloc;
+        "{{\"deposit\":\"oai:a:{number}\",\"sets\":[],\"records\":{{\"oai_dc\":[]}}}}¶"
+    )?;
+    transcript.push_str(line.as_str())
+}
+
+/// So many items are deposited, and the first of them is deleted.
+fn many_items_asked(alloc: Global, items: usize) -> Result<String, AllocError> {
+    let mut transcript = String::from_str(alloc, "> 1704067200 POST /deposit/a | - | ")?;
+    for number in 0..items {
+        push_item(&mut transcript, number)?;
+    }
+    transcript.push_str("{\"delete\":\"oai:a:0\"}\n200")?;
+    for _ in 0..=items {
+        transcript.push_str("\nok 2024-01-01T00:00:00Z")?;
+    }
+    Ok(transcript)
+}
+
+/// The deletion copies the list of the items, however many there are.
+#[test]
+fn many_items(rt: HostRuntime) -> Result<(), Fail> {
+    let alloc = rt.alloc();
+    let asked = many_items_asked(alloc, 1_001)?;
+    let mut host = host_of(alloc, configuration_of_many(), PlainVersions::new(alloc))?;
+    assert_answers(&rt, alloc, &mut host, asked.as_str())
 }

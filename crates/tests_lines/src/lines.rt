@@ -135,9 +135,11 @@ fn lines_and_answers() -> &'static str {
 {"deposit":"-","sets":[],"records":{"x":[["a"]]}} => refused 2 bad-command
 {"deposit":"-","sets":[],"records":{"x":[["a","b","c"]]}} => refused 2 bad-command
 {"deposit":"a:b","sets":[],"records":{},"x":0} => refused 2 bad-command
+{"deposit":"a:b","sets":["x",1],"records":{}} => refused 2 bad-command
 {"deposit":"-","sets":["x:"],"records":{"x":[["a","\u0000"]]}} => refused 3 bad-identifier
 {"deposit":"a:b","sets":["x","x:"],"records":{"x":[["a","\u0000"]]}} => refused 4 bad-set-spec
 {"deposit":"a:b","sets":[],"records":{"x":[["a","\u0000"]]}} => refused 5 bad-text
+{"deposit":"a:b","sets":["x"],"records":{"x":[["a","\u0000"]]}} => refused 5 bad-text
 {"deposit":"a:b","sets":[],"records":{"\u0000":[["\u0000","b"]]}} => read"#
 }
 
