@@ -4,7 +4,7 @@ use std::alloc::{AllocError, Global};
 use std::test::Fail;
 
 /// A body is cut at each line end, whatever its type, and each line that is not blank is answered. A line
-/// that is refused stops nothing.
+/// that is refused stops nothing. The sets are listed whole, though a page has two records.
 fn lines_asked() -> &'static str {
     r#"> 1704067200 POST /deposit/a | text/plain | [¶{"set":"x","name":"X"}
 200
@@ -22,7 +22,10 @@ ok 2024-01-01T00:00:01Z
 refused 14 already-deleted
 > 1704067201 POST /deposit/b | - | {"set":"x","name":"X"}¶
 200
-ok 2024-01-01"#
+ok 2024-01-01
+> 1704067201 GET /oai/a?verb=ListSets
+200
+DOC <responseDate>2024-01-01T00:00:01Z</responseDate><request verb="ListSets">http://host.example/oai/a</request><ListSets><set><setSpec>x</setSpec><setName>X</setName></set><set><setSpec>x:y</setSpec><setName>Y</setName></set><set><setSpec>z</setSpec><setName>Z</setName></set></ListSets></OAI-PMH>"#
 }
 
 #[test]

@@ -45,6 +45,16 @@ fn texts_of_tokens(rt: HostRuntime) -> Result<(), Fail> {
     )
 }
 
+#[test]
+fn tokens_are_displayed(rt: HostRuntime) -> Result<(), Fail> {
+    let token = Token {
+        list: 2,
+        cursor: 1_000_000,
+    };
+    assert_eq!(rt; format!(in rt.alloc(); "{token}")?.as_str(), "2.1000000");
+    Ok(())
+}
+
 /// The first is empty.
 fn no_tokens() -> &'static str {
     "
@@ -69,6 +79,16 @@ fn texts_that_are_no_tokens(rt: HostRuntime) -> Result<(), Fail> {
     for text in no_tokens().lines() {
         assert!(rt; Token::read(text).is_none(), "{text}");
     }
+    Ok(())
+}
+
+/// A list of no records is opened as any other.
+#[test]
+fn empty_list_is_opened(rt: HostRuntime) -> Result<(), Fail> {
+    let mut lists = Lists::new(rt.alloc(), 1, 1);
+    let filter = Filter::new(Prefix::read(rt.alloc(), "oai_dc")?, 0, 9, None);
+    let opened = lists.open(0, ListVerb::Records, filter, 1, 0, 60);
+    assert_eq!(rt; opened, Ok(1));
     Ok(())
 }
 
