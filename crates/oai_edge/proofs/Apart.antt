@@ -1,13 +1,13 @@
 -- What is done with one connection leaves the others.
-use Rattle.std.proofs.Common.{◌≡◌, ◌≢◌, ◌∙◌, ℕ, ℤ, ◌<◌, ◌≤◌, ◌-◌, ◌+◌, ◌==◌, List, [], ◌∷◌, ◌++◌, append_assoc, length, drop, take, Option, Some, None, Result, Ok, Err, sym, ap, subst, refl, arith, Bool, true, false, cond, not, inl, inr}
+use Rattle.std.proofs.Common.{◌≡◌, ◌≢◌, ◌∙◌, ℕ, ℤ, ◌<◌, ◌≤◌, ◌+◌, List, [], ◌∷◌, ◌++◌, append_assoc, length, drop, take, Option, Some, None, Result, Ok, Err, sym, ap, subst, refl, arith, Bool, false, cond, not, inl, inr}
 use Rattle.std.specs.Option.{option_map}
 use Rattle.std.specs.Prelude.{IfErr, MatchOption, filter, find}
-use Rattle.std.proofs.lemmas.Bool.{cases_Bool, cond-false, cond-true, eq-eqb, eqb-true, false≢true}
+use Rattle.std.proofs.lemmas.Bool.{cases_Bool, cond-false, eqb-true}
 use Rattle.std.proofs.lemmas.List.{length-append, length-drop, take-append-drop}
 use Rattle.oai_front.proofs.FrontLemmas.{taken_number}
 use Rattle.oai_front.proofs.RunLemmas.{number_found, numbered_other, numbered_same}
 use Rattle.oai_front.specs.Connections.{Connection, IsEnded, IsFrontOf, fresh}
-use Rattle.oai_front.specs.Fronts.{HasOutput, IsChange, IsEnding, IsForgetting, IsOpening, IsOutput, IsPiece, IsTaking, State, connection_numbered, is_numbered, with_connection, without_connection}
+use Rattle.oai_front.specs.Fronts.{HasOutput, IsChange, IsEnding, IsForgetting, IsOutput, IsPiece, IsTaking, State, connection_numbered, is_numbered, without_connection}
 use Rattle.oai_front.specs.Performing.{Steps}
 use Rattle.oai_front.specs.declared.faults.NoSuchConnection.{NoSuchConnection as Absent}
 use Rattle.oai_front.specs.declared.faults.PieceFault.{PieceFault}

@@ -1,5 +1,5 @@
 -- The lines of an input are performed one after the other, and what comes of it.
-use Rattle.std.proofs.Common.{◌≡◌, ◌∙◌, inl, inr, ℕ, ◌+◌, ◌-◌, ◌^◌, min, Bool, true, false, ◌&&◌, List, [], ◌∷◌, ◌++◌, length, map, filter, Option, None, Some, IfErr, IfSome, OnOk, Result, Ok, Err, is_none, IsTrue, refl, sym, ap, subst, arith, append_assoc, append-nil}
+use Rattle.std.proofs.Common.{◌≡◌, ◌∙◌, inl, inr, ℕ, ◌+◌, ◌-◌, ◌^◌, min, Bool, true, false, ◌&&◌, List, [], ◌∷◌, ◌++◌, length, map, filter, Option, Some, IfErr, IfSome, OnOk, Result, Ok, Err, is_none, IsTrue, refl, sym, ap, subst, append-nil}
 use Rattle.std.specs.Io.KnownBytes.{Appends, Keeps}
 use Rattle.std.specs.List.{flat_map}
 use Rattle.std.proofs.lemmas.Bool.{cases_Bool, cond-true, cond-false}
@@ -9,17 +9,19 @@ use Rattle.std.proofs.lemmas.List.Elements.{filter-append}
 use Rattle.oai_host.proofs.RunLemmas.{answered_last, answered_none}
 use Rattle.oai_host.specs.Hosts.{Hosting}
 use Rattle.oai_host.specs.declared.exchanges.Call.{Call}
-use Rattle.oai_edge.specs.Asked.{AreAsked, AreBegun, AreDone, count_of, lines_of}
+use Rattle.oai_edge.specs.Asked.{AreAsked, AreDone}
 use Rattle.oai_edge.specs.Inputs.{IsNext, IsUnread, left, unread}
 use Rattle.oai_edge.specs.Lines.{IsLineDone, is_bad, is_filled, shown, spelled}
+use Rattle.oai_edge.specs.Places.{AreFirst, count_of, lines_of}
 use Rattle.oai_edge.specs.Workings.{AreEnded, IsEnded, IsReadSoFar}
 use Rattle.oai_edge.specs.declared.stop.Stop.{Stop}
 use Rattle.oai_edge.specs.declared.stop.Stop.TheVariants.{BadConfig, BadExchange, BadPiece, CannotRead, InputFault, NoMemory, OutputFault, SocketFault, TooManyConnections, Usage}
 use Rattle.oai_edge.proofs.KnownLemmas.{appends_both, appends_kept, appends_none}
+use Rattle.oai_edge.proofs.ReadLemmas.{counted_next, known_all, known_so, number_next, read_front, read_none, read_to, read_whole}
 
 -- ---- lines that are done
 
-pub ended_none : (host : Hosting) (known : Option (List ℕ)) → AreEnded [] host host 0 (Appends known known)
+pub ended_none : (host : Hosting) (known : Option (List ℕ)) → AreEnded host host 0 (Appends known known) []
 ended_none host known = record {
   honest = refl;
   counted = refl;
@@ -61,29 +63,22 @@ done_line front line old mid new from was is full honest done last = record {
       subst (Appends from is) (sym all) (appends_both from was is (flat_map shown done.answers) (shown last.answer) done.written last.written);
 }
 
-number_next : (ended lines : ℕ) → ended ≡ min lines (2 ^ 64 - 1) → min (ended + 1) (2 ^ 64 - 1) ≡ min (lines + 1) (2 ^ 64 - 1)
-number_next ended lines is = omega (arith, is)
-
-length_next : (front : List (List ℕ)) (line : List ℕ) → length (front ++ line ∷ []) ≡ length front + 1
-length_next [] line = refl
-length_next (f ∷ front) line = omega (arith, length_next front line)
-
 ended_as : (front : List (List ℕ)) (line : List ℕ) (old mid new : Hosting) (was is : ℕ) (Before Writes : List ℕ → Type 0) → is ≡ min (was + 1) (2 ^ 64 - 1) → new.honest ≡ mid.honest
-    → AreEnded front old mid was Before → AreDone (front ++ line ∷ []) old new Writes → AreEnded (front ++ line ∷ []) old new is Writes
+    → AreEnded old mid was Before front → AreDone (front ++ line ∷ []) old new Writes → AreEnded old new is Writes (front ++ line ∷ [])
 ended_as front line old mid new was is Before Writes counted honest ended done = record {
   honest = honest ∙ ended.honest;
-  counted = counted ∙ number_next was (length front) ended.counted ∙ ap (λ (n : ℕ). min n (2 ^ 64 - 1)) (sym (length_next front line));
+  counted = counted_next front line was is counted ended.counted;
   done = done;
 }
 
 pub ended_empty : (front : List (List ℕ)) (line : List ℕ) (old new : Hosting) (was is : ℕ) (Writes : List ℕ → Type 0) → is ≡ min (was + 1) (2 ^ 64 - 1) → is_filled line ≡ false
-    → AreEnded front old new was Writes → AreEnded (front ++ line ∷ []) old new is Writes
+    → AreEnded old new was Writes front → AreEnded old new is Writes (front ++ line ∷ [])
 ended_empty front line old new was is Writes counted empty ended =
     ended_as front line old new new was is Writes Writes counted refl ended (done_empty front line old new Writes empty ended.done)
 
 ended_line : (front : List (List ℕ)) (line : List ℕ) (old mid new : Hosting) (was is : ℕ) (from before after : Option (List ℕ)) → is ≡ min (was + 1) (2 ^ 64 - 1)
-    → is_filled line ≡ true → new.honest ≡ mid.honest → IsLineDone line mid new (Appends before after) → AreEnded front old mid was (Appends from before)
-    → AreEnded (front ++ line ∷ []) old new is (Appends from after)
+    → is_filled line ≡ true → new.honest ≡ mid.honest → IsLineDone line mid new (Appends before after) → AreEnded old mid was (Appends from before) front
+    → AreEnded old new is (Appends from after) (front ++ line ∷ [])
 ended_line front line old mid new was is from before after counted full honest last ended =
     ended_as front line old mid new was is (Appends from before) (Appends from after) counted honest ended
     (done_line front line old mid new from before after full ended.honest ended.done last)
@@ -93,7 +88,7 @@ ended_stopped : (front : List (List ℕ)) (line : List ℕ) (old mid new : Hosti
     → is_filled line ≡ true
     → (is_none (spelled line) ≡ true → (stop ≡ BadExchange is) × (new ≡ mid) × (after ≡ before))
     → (is_none (spelled line) ≡ false → stop ≡ OutputFault)
-    → AreEnded front old mid was (Appends from before) → IsEnded front line old (Err stop) new is (Appends from after)
+    → AreEnded old mid was (Appends from before) front → IsEnded front line old (Err stop) new is (Appends from after)
 ended_stopped front line old mid new was is from before after stop counted full bad good ended = elim (cases_Bool (is_none (spelled line))) [
   | inl none ↦
       let so = bad none in
@@ -114,7 +109,7 @@ stop_in (Err stop) = stop
 pub ended_so : (front : List (List ℕ)) (line : List ℕ) (old mid new : Hosting) (was is : ℕ) (from before after : Option (List ℕ)) (result : Result Unit Stop) → is ≡ min (was + 1) (2 ^ 64 - 1)
     → is_filled line ≡ true → (is_none (spelled line) ≡ true → result ≡ Err (BadExchange is)) → (is_none (spelled line) ≡ true → new ≡ mid) → (is_none (spelled line) ≡ true → after ≡ before)
     → (is_none (spelled line) ≡ false → IfErr result (λ (stop : Stop). stop ≡ OutputFault)) → OnOk result (IsLineDone line mid new (Appends before after)) → new.honest ≡ mid.honest
-    → AreEnded front old mid was (Appends from before) → IsEnded front line old result new is (Appends from after)
+    → AreEnded old mid was (Appends from before) front → IsEnded front line old result new is (Appends from after)
 ended_so front line old mid new was is from before after (Ok done) counted full bad bad_host bad_written good last honest ended =
     ended_line front line old mid new was is from before after counted full honest last ended
 ended_so front line old mid new was is from before after (Err stop) counted full bad bad_host bad_written good last honest ended =
@@ -122,24 +117,10 @@ ended_so front line old mid new was is from before after (Err stop) counted full
 
 -- ---- the whole input
 
-pub read_none : (known : Option (List ℕ)) (host : Hosting) (written : Option (List ℕ)) → IsReadSoFar known (left unread known) host host 0 (Appends written written)
-read_none None host written = tt
-read_none (Some input) host written = ([], refl, ended_none host written)
-
--- one line more
-pub read_more : (known : Option (List ℕ)) (lines others : Option (List (List ℕ))) (line : List ℕ) (old mid new : Hosting) (was is : ℕ) (Before Writes : List ℕ → Type 0)
-    → IsNext lines (Ok true) line others → ((front : List (List ℕ)) → AreEnded front old mid was Before → IsEnded front line old (Ok tt) new is Writes)
-    → IsReadSoFar known lines old mid was Before → IsReadSoFar known others old new is Writes
-read_more None lines others line old mid new was is Before Writes next goes so_far = tt
-read_more (Some input) None others line old mid new was is Before Writes next goes so_far = absurd so_far
-read_more (Some input) (Some ls) None line old mid new was is Before Writes next goes so_far = absurd next
-read_more (Some input) (Some ls) (Some os) line old mid new was is Before Writes next goes so_far =
-    (so_far.0 ++ line ∷ [], so_far.1 ∙ ap (λ (xs : List (List ℕ)). so_far.0 ++ xs) next ∙ sym (append_assoc so_far.0 (line ∷ []) os), goes so_far.0 so_far.2)
-
 stopped_there : (front lines others : List (List ℕ)) (line : List ℕ) (old new : Hosting) (is : ℕ) (Writes : List ℕ → Type 0) (stop : Stop) → lines ≡ front ++ line ∷ others
     → IsEnded front line old (Err stop) new is Writes → AreAsked lines old (Err stop) new Writes
 stopped_there front lines others line old new is Writes (BadExchange number) cut ended =
-    record { front = front; line = line; others = others; cut = cut; numbered = ended.1; bad = ended.0; done = ended.2 }
+    record { front = front; line = line; others = others; cut = cut; numbered = ended.1; so = (ended.0, ended.2) }
 stopped_there front lines others line old new is Writes OutputFault cut ended = tt
 stopped_there front lines others line old new is Writes Usage cut ended = absurd cc
 stopped_there front lines others line old new is Writes CannotRead cut ended = absurd cc
@@ -152,38 +133,38 @@ stopped_there front lines others line old new is Writes NoMemory cut ended = abs
 
 -- it stops at a line
 pub asked_stopped : (known : Option (List ℕ)) (lines others : Option (List (List ℕ))) (line : List ℕ) (old mid new : Hosting) (was is : ℕ) (Before Writes : List ℕ → Type 0) (stop : Stop)
-    → IsNext lines (Ok true) line others → ((front : List (List ℕ)) → AreEnded front old mid was Before → IsEnded front line old (Err stop) new is Writes)
-    → IsReadSoFar known lines old mid was Before → IfSome known (λ (input : List ℕ). AreAsked (lines_of input) old (Err stop) new Writes)
-asked_stopped None lines others line old mid new was is Before Writes stop next goes so_far = tt
-asked_stopped (Some input) None others line old mid new was is Before Writes stop next goes so_far = absurd so_far
-asked_stopped (Some input) (Some ls) None line old mid new was is Before Writes stop next goes so_far = absurd next
-asked_stopped (Some input) (Some ls) (Some os) line old mid new was is Before Writes stop next goes so_far =
-    stopped_there so_far.0 (lines_of input) os line old new is Writes stop (so_far.1 ∙ ap (λ (xs : List (List ℕ)). so_far.0 ++ xs) next) (goes so_far.0 so_far.2)
+    → IsNext lines (Ok true) line others → ((front : List (List ℕ)) → AreEnded old mid was Before front → IsEnded front line old (Err stop) new is Writes)
+    → IsReadSoFar known lines (AreEnded old mid was Before) → IfSome known (λ (input : List ℕ). AreAsked (lines_of input) old (Err stop) new Writes)
+asked_stopped known lines others line old mid new was is Before Writes stop next goes so_far =
+    read_to known lines others line (AreEnded old mid was Before) (λ all. AreAsked all old (Err stop) new Writes) next
+    (λ front rest all cut ended. stopped_there front all rest line old new is Writes stop cut (goes front ended)) so_far
 
 -- there is no line more
 pub asked_whole : (known : Option (List ℕ)) (lines others : Option (List (List ℕ))) (line : List ℕ) (old new : Hosting) (count : ℕ) (Writes : List ℕ → Type 0)
-    → IsNext lines (Ok false) line others → IsReadSoFar known lines old new count Writes → IfSome known (λ (input : List ℕ). AreAsked (lines_of input) old (Ok tt) new Writes)
-asked_whole None lines others line old new count Writes next so_far = tt
-asked_whole (Some input) None others line old new count Writes next so_far = absurd so_far
-asked_whole (Some input) (Some ls) others line old new count Writes next so_far =
-    subst (λ (ls : List (List ℕ)). AreDone ls old new Writes) (sym (so_far.1 ∙ ap (λ (xs : List (List ℕ)). so_far.0 ++ xs) next ∙ append-nil so_far.0)) so_far.2.done
+    → IsNext lines (Ok false) line others → IsReadSoFar known lines (AreEnded old new count Writes)
+    → IfSome known (λ (input : List ℕ). AreAsked (lines_of input) old (Ok tt) new Writes)
+asked_whole known lines others line old new count Writes next so_far =
+    known_so known (λ (input : List ℕ). AreEnded old new count Writes (lines_of input)) (λ (input : List ℕ). AreDone (lines_of input) old new Writes) (λ input ended. ended.done)
+    (read_whole known lines others line (AreEnded old new count Writes) next so_far)
 
 -- the input is not read to its end: the lines that were read are done
-begun_so : (lines : List (List ℕ)) (old new : Hosting) (Writes : List ℕ → Type 0) (stop : Stop) → IsUnread stop → AreBegun lines old new Writes → AreAsked lines old (Err stop) new Writes
+begun_so : (lines : List (List ℕ)) (old new : Hosting) (Writes : List ℕ → Type 0) (stop : Stop) → IsUnread stop → AreFirst lines (λ front. AreDone front old new Writes)
+    → AreAsked lines old (Err stop) new Writes
 begun_so lines old new Writes stop (inl is) begun = subst (λ (s : Stop). AreAsked lines old (Err s) new Writes) (sym is) begun
 begun_so lines old new Writes stop (inr is) begun = subst (λ (s : Stop). AreAsked lines old (Err s) new Writes) (sym is) begun
 
 pub asked_unread : (known : Option (List ℕ)) (lines : Option (List (List ℕ))) (old new : Hosting) (count : ℕ) (Writes : List ℕ → Type 0) (stop : Stop) → IsUnread stop
-    → IsReadSoFar known lines old new count Writes → IfSome known (λ (input : List ℕ). AreAsked (lines_of input) old (Err stop) new Writes)
-asked_unread None lines old new count Writes stop cause so_far = tt
-asked_unread (Some input) None old new count Writes stop cause so_far = absurd so_far
-asked_unread (Some input) (Some ls) old new count Writes stop cause so_far =
-    begun_so (lines_of input) old new Writes stop cause (record { front = so_far.0; others = ls; cut = so_far.1; done = so_far.2.done })
+    → IsReadSoFar known lines (AreEnded old new count Writes) → IfSome known (λ (input : List ℕ). AreAsked (lines_of input) old (Err stop) new Writes)
+asked_unread known lines old new count Writes stop cause so_far =
+    read_front known lines (AreEnded old new count Writes) (λ all. AreAsked all old (Err stop) new Writes)
+    (λ front others all cut ended. begun_so all old new Writes stop cause (record { front = front; others = others; cut = cut; so = ended.done })) so_far
 
 -- nothing of it is read
 pub asked_none : (known : Option (List ℕ)) (host : Hosting) (written : Option (List ℕ)) (stop : Stop) → stop ≡ NoMemory
     → IfSome known (λ (input : List ℕ). AreAsked (lines_of input) host (Err stop) host (Appends written written))
-asked_none known host written stop is = asked_unread known (left unread known) host host 0 (Appends written written) stop (inr is) (read_none known host written)
+asked_none known host written stop is =
+    asked_unread known (left unread known) host host 0 (Appends written written) stop (inr is)
+    (read_none known (AreEnded host host 0 (Appends written written)) (ended_none host written))
 
 -- ---- what was written is kept
 
@@ -196,9 +177,10 @@ done_kept lines old new a b c kept done = record {
   written = appends_kept a b c (flat_map shown done.answers) done.written kept;
 }
 
-begun_kept : (lines : List (List ℕ)) (old new : Hosting) (a b c : Option (List ℕ)) → Keeps b c → AreBegun lines old new (Appends a b) → AreBegun lines old new (Appends a c)
+begun_kept : (lines : List (List ℕ)) (old new : Hosting) (a b c : Option (List ℕ)) → Keeps b c → AreFirst lines (λ front. AreDone front old new (Appends a b))
+    → AreFirst lines (λ front. AreDone front old new (Appends a c))
 begun_kept lines old new a b c kept begun =
-    record { front = begun.front; others = begun.others; cut = begun.cut; done = done_kept begun.front old new a b c kept begun.done }
+    record { front = begun.front; others = begun.others; cut = begun.cut; so = done_kept begun.front old new a b c kept begun.so }
 
 kept_so : (lines : List (List ℕ)) (old new : Hosting) (a b c : Option (List ℕ)) (result : Result Unit Stop) → Keeps b c → AreAsked lines old result new (Appends a b)
     → AreAsked lines old result new (Appends a c)
@@ -209,8 +191,7 @@ kept_so lines old new a b c (Err (BadExchange number)) kept asked = record {
   others = asked.others;
   cut = asked.cut;
   numbered = asked.numbered;
-  bad = asked.bad;
-  done = done_kept asked.front old new a b c kept asked.done;
+  so = (asked.so.0, done_kept asked.front old new a b c kept asked.so.1);
 }
 kept_so lines old new a b c (Err OutputFault) kept asked = tt
 kept_so lines old new a b c (Err Usage) kept asked = begun_kept lines old new a b c kept asked
@@ -225,11 +206,11 @@ kept_so lines old new a b c (Err NoMemory) kept asked = begun_kept lines old new
 -- what was asked is flushed
 pub asked_kept : (known : Option (List ℕ)) (old new : Hosting) (a b c : Option (List ℕ)) (result : Result Unit Stop) → Keeps b c
     → IfSome known (λ (input : List ℕ). AreAsked (lines_of input) old result new (Appends a b)) → IfSome known (λ (input : List ℕ). AreAsked (lines_of input) old result new (Appends a c))
-asked_kept None old new a b c result kept asked = tt
-asked_kept (Some input) old new a b c result kept asked = kept_so (lines_of input) old new a b c result kept asked
+asked_kept known old new a b c result kept asked =
+    known_so known (λ (input : List ℕ). AreAsked (lines_of input) old result new (Appends a b)) (λ (input : List ℕ). AreAsked (lines_of input) old result new (Appends a c))
+    (λ input so. kept_so (lines_of input) old new a b c result kept so) asked
 
 -- where that fails nothing is said
 pub asked_unwritten : (known : Option (List ℕ)) (old new : Hosting) (Writes : List ℕ → Type 0)
     → IfSome known (λ (input : List ℕ). AreAsked (lines_of input) old (Err OutputFault) new Writes)
-asked_unwritten None old new Writes = tt
-asked_unwritten (Some input) old new Writes = tt
+asked_unwritten known old new Writes = known_all known (λ (input : List ℕ). AreAsked (lines_of input) old (Err OutputFault) new Writes) (λ input. tt)

@@ -1,14 +1,14 @@
 -- The lines of an input, as its bytes come.
-use Rattle.std.proofs.Common.{◌≡◌, ◌∙◌, ◌<◌, ◌≤◌, inl, inr, ℕ, zero, suc, ◌+◌, ◌-◌, Bool, true, false, nat_lt, List, [], ◌∷◌, ◌++◌, length, take, drop, cond, Option, None, Some, Result, Ok, Err, refl, sym, ap, subst, arith, append_assoc, append-nil}
+use Rattle.std.proofs.Common.{◌≡◌, ◌∙◌, ◌<◌, ◌≤◌, inl, inr, ℕ, zero, suc, ◌+◌, ◌-◌, Bool, true, false, nat_lt, List, [], ◌∷◌, ◌++◌, length, take, drop, cond, Option, None, Some, Ok, refl, sym, ap, subst, arith, append_assoc, append-nil}
 use Rattle.std.specs.Io.KnownBytes.{Consumes, IsAtEnd, prepend_known}
-use Rattle.std.specs.List.{after_first, before_first, onto_first, position_or_len, slice_split}
+use Rattle.std.specs.List.{after_first, before_first, onto_first, position_or_len}
 use Rattle.std.specs.Option.{option_map}
 use Rattle.std.proofs.lemmas.Bool.{cases_Bool, lt-ltb}
 use Rattle.std.proofs.lemmas.List.{drop-take, length-take}
 use Rattle.std.proofs.lemmas.List.Splits.{slice_split_first, slice_split_none, slice_split-cons_no, slice_split-cons_yes}
 use Rattle.std.proofs.lemmas.List.Sums.{fails_before_first, prefix_len-le-length}
 use Rattle.oai_host.specs.Bodies.{is_line_end}
-use Rattle.oai_edge.specs.Asked.{lines_of}
+use Rattle.oai_edge.specs.Places.{lines_of}
 use Rattle.oai_edge.specs.Inputs.{Input, IsGoing, IsNext, IsPiece, left, onto_line}
 
 -- there is a first line

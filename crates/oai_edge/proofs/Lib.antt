@@ -5,5 +5,7 @@ mod KnownLemmas
 mod LineLemmas
 mod NumeralLemmas
 pub mod Performed
+mod ReadLemmas
+mod TraceLemmas
 mod Traced
 mod WrittenLines

@@ -1,5 +1,5 @@
 -- What a handler performs for the connections of a front, one message after the other.
-use Rattle.std.proofs.Common.{◌≡◌, ◌∙◌, ℕ, ℤ, List, [], ◌∷◌, ◌++◌, map, Some, None, Result, Ok, Err, sym, ap, subst, refl}
+use Rattle.std.proofs.Common.{◌≡◌, ℕ, ℤ, List, [], ◌∷◌, ◌++◌, map, Result, Ok, Err, sym, ap, subst}
 use Rattle.oai_front.specs.Fronts.{IsEnding, IsOpening, IsPiece, State}
 use Rattle.oai_front.specs.Performing.{Done, Run, Steps}
 use Rattle.oai_front.specs.Runs.{Served, Serves}

@@ -3,14 +3,15 @@ use Rattle.std.proofs.Common.{◌≡◌, ◌∙◌, ℕ, ℤ, Bool, true, false,
 use Rattle.std.specs.Prelude.{OnOk, is_ok, unwrap_or}
 use Rattle.std.specs.Io.KnownBytes.{Appends}
 use Rattle.std.specs.Option.{option_map}
-use Rattle.std.proofs.lemmas.Bool.{false_from_ne_true}
 use Rattle.oai_front.specs.Connections.{Connection}
 use Rattle.oai_front.specs.Fronts.{IsPiece, State, connection_numbered}
 use Rattle.oai_front.specs.Performing.{Steps}
 use Rattle.oai_front.specs.Stages.{is_closing}
 use Rattle.oai_front.specs.declared.faults.PieceFault.{PieceFault}
+use Rattle.oai_front.specs.declared.numbers.ConnId.{ConnId}
 use Rattle.oai_edge.specs.Events.{shown_close, shown_output}
-use Rattle.oai_edge.specs.Outputs.{ComesOn, EndsOn, IsEmptied, IsTraced, is_over, left_on, output_in, output_of, shown_on, with_output}
+use Rattle.oai_edge.specs.Outputs.{IsApart, IsEmptied, output_in, output_of, with_output}
+use Rattle.oai_edge.specs.Traces.{ComesOn, EndsOn, IsNamed, IsTraced, Names, Tracing, is_over, left_on, name_on, shown_on}
 use Rattle.oai_edge.specs.declared.events.Event.{Event}
 use Rattle.oai_edge.proofs.KnownLemmas.{appends_both}
 
@@ -71,10 +72,32 @@ unfolding left_on
 left_open number old mid emptied is =
     emptied ∙ sym (ap (λ (test : Bool). cond test None (option_map (with_output []) (connection_numbered number old.connections))) (over_before number old mid false emptied is))
 
--- ---- both
+-- what its label stands for
+pub named_over : {H : Type 0} (conn : ConnId) (label : ℕ) (old mid : State H) (before after : Names) → IsEmptied conn.number old mid
+    → is_over (connection_numbered conn.number mid.connections) ≡ true → after label ≡ Some None → ((other : ℕ) → other ≢ label → after other ≡ before other)
+    → IsNamed label (name_on conn (connection_numbered conn.number old.connections)) before after
+unfolding name_on
+named_over conn label old mid before after emptied is none others = record {
+  own = none ∙ sym (ap (λ (test : Bool). Some (cond test None (Some conn))) (over_before conn.number old mid true emptied is));
+  others = others;
+}
 
-pub traced_so : {H A E : Type 0} (step : Steps H) (number : ℕ) (event : Event) (old mid new : State H) (a b : Option (List ℕ)) (result : Result A E)
-    → ComesOn step number event.moment event.piece old true mid → OnOk result (Appends a b (shown_on event.label (connection_numbered number mid.connections)))
-    → OnOk result (connection_numbered number new.connections ≡ left_on (connection_numbered number mid.connections)) → OnOk result (IsTraced step number event old new (Appends a b))
-traced_so step number event old mid new a b (Ok x) came written left = record { mid = mid; came = came; written = written; left = left }
-traced_so step number event old mid new a b (Err e) came written left = tt
+pub named_open : {H : Type 0} (conn : ConnId) (label : ℕ) (old mid : State H) (names : Names) → IsEmptied conn.number old mid
+    → is_over (connection_numbered conn.number mid.connections) ≡ false → names label ≡ Some (Some conn)
+    → IsNamed label (name_on conn (connection_numbered conn.number old.connections)) names names
+unfolding name_on
+named_open conn label old mid names emptied is known = record {
+  own = known ∙ sym (ap (λ (test : Bool). Some (cond test None (Some conn))) (over_before conn.number old mid false emptied is));
+  others = λ other away. refl;
+}
+
+-- ---- all of it
+
+pub traced_so : {H A E : Type 0} (step : Steps H) (conn : ConnId) (event : Event) (mid : State H) (old new : Tracing H) (a b : Option (List ℕ)) (result : Result A E)
+    → ComesOn step conn.number event.moment event.piece old.front true mid → OnOk result (Appends a b (shown_on event.label (connection_numbered conn.number mid.connections)))
+    → OnOk result (connection_numbered conn.number new.front.connections ≡ left_on (connection_numbered conn.number mid.connections)) → IsApart conn.number mid new.front
+    → new.front.handler ≡ mid.handler → OnOk result (IsNamed event.label (name_on conn (connection_numbered conn.number mid.connections)) old.names new.names)
+    → OnOk result (IsTraced step event conn old new (Appends a b))
+traced_so step conn event mid old new a b (Ok x) came written left apart handler named =
+    record { mid = mid; came = came; written = written; left = left; apart = apart; handler = handler; named = named }
+traced_so step conn event mid old new a b (Err e) came written left apart handler named = tt

@@ -10,7 +10,7 @@ use Rattle.hex.specs.declared.error.FromHexError.{FromHexError}
 use Rattle.hex.specs.declared.error.FromHexError.TheVariants.{InvalidHexCharacter, InvalidStringLength, OddLength, OutOfMemory}
 use Rattle.hex.specs.Hex.{IsBytes, decode_of, encode_lower}
 use Rattle.oai_host.specs.Optional.{◌>>=◌, tested}
-use Rattle.oai_edge.specs.Asked.{lines_of}
+use Rattle.oai_edge.specs.Places.{lines_of}
 use Rattle.oai_edge.specs.Lines.{is_space, part, rest}
 use Rattle.oai_edge.specs.Numbers.{moment_of, number_in}
 use Rattle.oai_edge.specs.declared.events.Event.{Event}

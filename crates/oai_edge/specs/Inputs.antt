@@ -2,7 +2,7 @@
 use Rattle.std.specs.Prelude.{◌≡◌, ◌⊎◌, ℕ, ◌+◌, Bool, true, false, List, [], ◌∷◌, ◌++◌, Option, Some, None, Result, Ok, Err, if◌then◌else◌}
 use Rattle.std.specs.Io.KnownBytes.{prepend_known}
 use Rattle.std.specs.Option.{option_map}
-use Rattle.oai_edge.specs.Asked.{count_of, lines_of}
+use Rattle.oai_edge.specs.Places.{count_of, lines_of}
 use Rattle.oai_edge.specs.declared.stop.Stop.{Stop}
 use Rattle.oai_edge.specs.declared.stop.Stop.TheVariants.{InputFault, NoMemory}
 

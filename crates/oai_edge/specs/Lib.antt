@@ -5,5 +5,7 @@ pub mod Inputs
 pub mod Lines
 pub mod Numbers
 pub mod Outputs
+pub mod Places
 pub mod Stops
+pub mod Traces
 pub mod Workings

@@ -1,15 +1,10 @@
 -- What is done with one connection of a front, and what it leaves of the others. This repository's own.
-use Rattle.std.specs.Prelude.{◌≡◌, ◌≢◌, ℕ, ℤ, ◌+◌, ◌<◌, Bool, true, false, List, [], ◌++◌, take, Option, Some, None, Result, Ok, Err, is_ok, if◌then◌else◌}
+use Rattle.std.specs.Prelude.{◌≡◌, ◌≢◌, ℕ, ℤ, ◌+◌, ◌<◌, List, [], take, Option, Some, None, Result, Ok, Err}
 use Rattle.std.specs.Option.{option_map}
 use Rattle.oai_front.specs.Connections.{Connection}
-use Rattle.oai_front.specs.Fronts.{HasOutput, IsEnding, IsOpening, IsPiece, State, connection_numbered}
+use Rattle.oai_front.specs.Fronts.{HasOutput, IsOpening, IsPiece, State, connection_numbered}
 use Rattle.oai_front.specs.Performing.{Steps}
 use Rattle.oai_front.specs.Runs.{Served, Serves}
-use Rattle.oai_front.specs.Stages.{is_closing}
-use Rattle.oai_front.specs.declared.faults.NoSuchConnection.{NoSuchConnection as Absent}
-use Rattle.oai_front.specs.declared.faults.PieceFault.{PieceFault}
-use Rattle.oai_edge.specs.Events.{shown_close, shown_output}
-use Rattle.oai_edge.specs.declared.events.Event.{Event}
 use Rattle.oai_edge.specs.declared.serving.StreamFault.{StreamFault}
 use Rattle.oai_edge.specs.declared.serving.StreamFault.TheVariants.{NotOpened}
 
@@ -69,34 +64,3 @@ pub record IsAnswered {H : Type 0} (step : Steps H) (number : ℕ) (moment : ℤ
 abbrev pub IsForgotten : {H : Type 0} → State H → Result Unit StreamFault → State H → Type 0
 IsForgotten old (Err (NotOpened fault)) new = IsOpening old (Err fault) new
 IsForgotten old result new = (new.last ≡ old.last + 1) × (connection_numbered (old.last + 1) new.connections ≡ None)
-
--- ---- a line of a trace
-
--- the end of the connection of the number came, where it is open
-abbrev pub EndsOn : {H : Type 0} → ℕ → State H → State H → Type 0
-EndsOn number old new = (told : Result Unit Absent) × IsEnding number old told new
-
--- a piece came on the connection of the number at that moment, and was taken with all that it completes, or was not; or its end came
-abbrev pub ComesOn : {H : Type 0} → Steps H → ℕ → ℤ → Option (List ℕ) → State H → Bool → State H → Type 0
-ComesOn step number moment (Some bytes) old whole new = (told : Result Unit PieceFault) × IsPiece step number moment bytes old told new × (is_ok told ≡ whole)
-ComesOn step number moment None old whole new = EndsOn number old new × (whole ≡ true)
-
--- the connection is open, and reads nothing any more
-abbrev pub is_over : Option Connection → Bool
-is_over None = false
-is_over (Some c) = is_closing c.stage
-
--- what is written of the connection of that label: what it was to put out, and that it is closed, where it reads nothing any more
-unfoldable pub shown_on : ℕ → Option Connection → List ℕ
-shown_on label c = shown_output label (output_in c) ++ shown_close label (is_over c)
-
--- what is left of it then: it has nothing to put out, or it is not open any more
-unfoldable pub left_on : Option Connection → Option Connection
-left_on c = if is_over c then None else option_map (with_output []) c
-
--- what the line tells came on the connection of the number, and what this put out was written under the label
-pub record IsTraced {H : Type 0} (step : Steps H) (number : ℕ) (event : Event) (old new : State H) (Writes : List ℕ → Type 0) : Type 0 where
-  pub mid : State H
-  pub came : ComesOn step number event.moment event.piece old true mid
-  pub written : Writes (shown_on event.label (connection_numbered number mid.connections))
-  pub left : connection_numbered number new.connections ≡ left_on (connection_numbered number mid.connections)

@@ -5,6 +5,8 @@ ghost use Rattle.oai_host.specs.Hosts.{Hosting};
 ghost use Rattle.oai_edge.specs.Asked as asked;
 ghost use Rattle.oai_edge.specs.Inputs.{numbered};
 ghost use Rattle.oai_edge.specs.Lines as spec;
+ghost use Rattle.oai_edge.specs.Places.{lines_of};
+ghost use Rattle.oai_edge.specs.Stops.{StopsAsking};
 ghost use Rattle.oai_edge.specs.Workings.{AreEnded, IsEnded};
 ghost use Rattle.oai_edge.specs.declared.stop.Stop.TheVariants.{BadExchange, OutputFault};
 
@@ -32,8 +34,10 @@ pub fn ask_lines<V: Versions + Drop, R: Read, W: Write>(
     reader: &mut R,
     writer: &mut W,
 ) -> Result<(), Stop>
-    ensures { IfSome (R.Read.remaining reader.old) (λ input. asked.AreAsked (asked.lines_of input) host.old
-        result host.new (Appends (W.Write.contents writer.old) (W.Write.contents writer.new))) }
+    ensures asked { IfSome (R.Read.remaining reader.old) (λ input. asked.AreAsked (lines_of input)
+        host.old result host.new
+        (Appends (W.Write.contents writer.old) (W.Write.contents writer.new))) }
+    ensures stops { IfErr result StopsAsking }
 {
     let asked = ask_all(alloc, host, reader, writer);
     if writer.flush().is_err() {
@@ -49,8 +53,10 @@ fn ask_all<V: Versions + Drop, R: Read, W: Write>(
     reader: &mut R,
     writer: &mut W,
 ) -> Result<(), Stop>
-    ensures { IfSome (R.Read.remaining reader.old) (λ input. asked.AreAsked (asked.lines_of input) host.old
-        result host.new (Appends (W.Write.contents writer.old) (W.Write.contents writer.new))) }
+    ensures asked { IfSome (R.Read.remaining reader.old) (λ input. asked.AreAsked (lines_of input)
+        host.old result host.new
+        (Appends (W.Write.contents writer.old) (W.Write.contents writer.new))) }
+    ensures stops { IfErr result StopsAsking }
 {
     let mut lines = Lines::new(alloc)?;
     for _ in 0..u64::MAX {
@@ -74,7 +80,7 @@ fn ask_line<V: Versions + Drop, W: Write>(
     ensures empty { line.now ≡ [] → result ≡ Ok tt }
     ensures done { (first : Hosting) (from : Option (List ℕ)) (front : List (List ℕ)) (count : ℕ)
         → number ≡ numbered true count
-        → AreEnded front first host.old count (Appends from (W.Write.contents writer.old))
+        → AreEnded first host.old count (Appends from (W.Write.contents writer.old)) front
         → IsEnded front line.now first result host.new number
         (Appends from (W.Write.contents writer.new)) }
 {

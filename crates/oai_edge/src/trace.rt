@@ -1,11 +1,16 @@
 //! Connections whose bytes stand in the lines of an input.
-ghost use Rattle.std.specs.Prelude.{◌≡◌, ◌≢◌, ℕ, None, Some, true, is_ok, IfOk, IfSome, OnOk};
+ghost use Rattle.std.specs.Prelude.{◌≡◌, ◌≢◌, ℕ, None, Some, true, IfErr, IfOk, IfSome, OnOk, is_ok};
 ghost use Rattle.std.specs.BTreeMap.{get};
 ghost use Rattle.std.specs.Io.KnownBytes.{Appends};
 ghost use Rattle.std.specs.Ordering.{nat_cmp};
 ghost use Rattle.oai_front.specs.Fronts.{connection_numbered};
 ghost use Rattle.oai_edge.specs.Events.{shown_close, shown_output};
-ghost use Rattle.oai_edge.specs.Outputs.{ComesOn, EndsOn, IsApart, IsEmptied, IsServing, IsTraced, is_over, left_on, output_of, shown_on};
+ghost use Rattle.oai_edge.specs.Outputs.{IsApart, IsEmptied, IsServing, output_of};
+ghost use Rattle.oai_edge.specs.Places.{lines_of};
+ghost use Rattle.oai_edge.specs.Stops.{StopsTracing};
+ghost use Rattle.oai_edge.specs.Traces as spec;
+ghost use Rattle.oai_edge.specs.Workings.{IsBroken, IsLine, IsUnopened, tracing};
+ghost use Rattle.oai_edge.specs.declared.stop.Stop.TheVariants.{NoMemory, OutputFault};
 
 use crate::events::{Event, read_event};
 use crate::lines::Lines;
@@ -38,7 +43,11 @@ pub fn trace_lines<H: Handler, R: Read, W: Write>(
     reader: &mut R,
     writer: &mut W,
 ) -> Result<(), Stop>
-    ensures { IsServing H.step front.old.handler front.new.handler }
+    ensures traced { IfSome (R.Read.remaining reader.old) (λ input. spec.AreTraced H.step
+        (lines_of input) front.old result front.new
+        (Appends (W.Write.contents writer.old) (W.Write.contents writer.new))) }
+    ensures stops { IfErr result StopsTracing }
+    ensures handler { IsServing H.step front.old.handler front.new.handler }
 {
     let traced = trace_all(alloc, front, reader, writer);
     if writer.flush().is_err() {
@@ -54,7 +63,11 @@ fn trace_all<H: Handler, R: Read, W: Write>(
     reader: &mut R,
     writer: &mut W,
 ) -> Result<(), Stop>
-    ensures { IsServing H.step front.old.handler front.new.handler }
+    ensures traced { IfSome (R.Read.remaining reader.old) (λ input. spec.AreTraced H.step
+        (lines_of input) front.old result front.new
+        (Appends (W.Write.contents writer.old) (W.Write.contents writer.new))) }
+    ensures stops { IfErr result StopsTracing }
+    ensures handler { IsServing H.step front.old.handler front.new.handler }
 {
     let mut lines = Lines::new(alloc)?;
     let mut labels = BTreeMap::new(alloc);
@@ -83,7 +96,10 @@ fn trace_line<H: Handler, W: Write>(
     number: u64,
     writer: &mut W,
 ) -> Result<(), Stop>
-    ensures { IsServing H.step front.old.handler front.new.handler }
+    ensures line { IsLine H.step line.now number (tracing front.old labels.old) result
+        (tracing front.new labels.new)
+        (Appends (W.Write.contents writer.old) (W.Write.contents writer.new)) }
+    ensures handler { IsServing H.step front.old.handler front.new.handler }
 {
     if line.is_empty() {
         return Ok(());
@@ -104,8 +120,11 @@ fn trace_event<H: Handler, W: Write>(
     event: &Event,
     writer: &mut W,
 ) -> Result<(), Stop>
-    ensures traced { OnOk result (IsTraced H.step conn.number event.now front.old front.new
+    requires { get nat_cmp labels.old event.now.label ≡ Some (Some conn) }
+    ensures traced { OnOk result (spec.IsTraced H.step event.now conn
+        (tracing front.old labels.old) (tracing front.new labels.new)
         (Appends (W.Write.contents writer.old) (W.Write.contents writer.new))) }
+    ensures err { IfErr result IsBroken }
     ensures handler { IsServing H.step front.old.handler front.new.handler }
 {
     deliver(front, conn, event)?;
@@ -121,10 +140,15 @@ fn tell<H, W: Write>(
     conn: ConnId,
     writer: &mut W,
 ) -> Result<(), Stop>
+    requires { get nat_cmp labels.old label ≡ Some (Some conn) }
     ensures written { OnOk result (Appends (W.Write.contents writer.old) (W.Write.contents writer.new)
-        (shown_on label (connection_numbered conn.number front.old.connections))) }
+        (spec.shown_on label (connection_numbered conn.number front.old.connections))) }
     ensures left { OnOk result (connection_numbered conn.number front.new.connections
-        ≡ left_on (connection_numbered conn.number front.old.connections)) }
+        ≡ spec.left_on (connection_numbered conn.number front.old.connections)) }
+    ensures named { OnOk result (spec.IsNamed label
+        (spec.name_on conn (connection_numbered conn.number front.old.connections))
+        (get nat_cmp labels.old) (get nat_cmp labels.new)) }
+    ensures err { IfErr result IsBroken }
     ensures apart { IsApart conn.number front.old front.new }
     ensures handler { front.new.handler ≡ front.old.handler }
 {
@@ -138,7 +162,7 @@ fn tell<H, W: Write>(
 
 /// Whether the connection is open and reads nothing any more.
 fn reads_nothing<H>(front: &Front<H>, conn: ConnId) -> bool
-    ensures { result ≡ is_over (connection_numbered conn.number front.now.connections) }
+    ensures { result ≡ spec.is_over (connection_numbered conn.number front.now.connections) }
 {
     front.closing(conn).unwrap_or(false)
 }
@@ -150,10 +174,11 @@ fn connection_of<H>(
     label: u64,
     number: u64,
 ) -> Result<Option<ConnId>, Stop>
-    ensures known { IfSome (get nat_cmp labels.old label) (λ known. result ≡ Ok known) }
+    ensures of { IfOk result (λ conn. spec.IsOf label (tracing front.old labels.old) conn
+        (tracing front.new labels.new)) }
     ensures named { IfOk result (λ conn. get nat_cmp labels.new label ≡ Some conn) }
-    ensures others { (other : ℕ) → other ≢ label
-        → get nat_cmp labels.new other ≡ get nat_cmp labels.old other }
+    ensures refused { IfErr result
+        (IsUnopened number label (tracing front.old labels.old) front.new) }
     ensures handler { front.new.handler ≡ front.old.handler }
 {
     if let Some(known) = labels.get(&label) {
@@ -172,8 +197,9 @@ fn connection_of<H>(
 
 /// Lets the piece, or the end, come on the connection.
 fn deliver<H: Handler>(front: &mut Front<H>, conn: ConnId, event: &Event) -> Result<(), Stop>
-    ensures came { ComesOn H.step conn.number event.now.moment event.now.piece front.old
+    ensures came { spec.ComesOn H.step conn.number event.now.moment event.now.piece front.old
         (is_ok result) front.new }
+    ensures err { IfErr result (λ stop. stop ≡ NoMemory) }
     ensures apart { IsApart conn.number front.old front.new }
     ensures handler { IsServing H.step front.old.handler front.new.handler }
 {
@@ -191,7 +217,7 @@ fn deliver<H: Handler>(front: &mut Front<H>, conn: ConnId, event: &Event) -> Res
 
 /// Takes note of the end of the connection.
 fn end<H>(front: &mut Front<H>, conn: ConnId)
-    ensures ended { EndsOn conn.number front.old front.new }
+    ensures ended { spec.EndsOn conn.number front.old front.new }
     ensures apart { IsApart conn.number front.old front.new }
     ensures handler { front.new.handler ≡ front.old.handler }
 {
@@ -209,6 +235,7 @@ fn write_output<H, W: Write>(
     ensures written { OnOk result (Appends (W.Write.contents writer.old) (W.Write.contents writer.new)
         (shown_output label (output_of conn.number front.old.connections))) }
     ensures emptied { OnOk result (IsEmptied conn.number front.old front.new) }
+    ensures err { IfErr result IsBroken }
     ensures apart { IsApart conn.number front.old front.new }
     ensures handler { front.new.handler ≡ front.old.handler }
 {
@@ -227,8 +254,9 @@ fn write_output<H, W: Write>(
 
 /// Writes that the connection of the label is closed.
 fn write_close<W: Write>(label: u64, writer: &mut W) -> Result<(), Stop>
-    ensures { OnOk result (Appends (W.Write.contents writer.old) (W.Write.contents writer.new)
-        (shown_close label true)) }
+    ensures written { OnOk result (Appends (W.Write.contents writer.old)
+        (W.Write.contents writer.new) (shown_close label true)) }
+    ensures err { IfErr result (λ stop. stop ≡ OutputFault) }
 {
     match writeln!(writer, "{label} close") {
         Ok(()) => Ok(()),
@@ -245,6 +273,7 @@ fn forget<H>(
 ) -> Result<(), Stop>
     ensures none { connection_numbered conn.number front.new.connections ≡ None }
     ensures named { OnOk result (get nat_cmp labels.new label ≡ Some None) }
+    ensures err { IfErr result (λ stop. stop ≡ NoMemory) }
     ensures others { (other : ℕ) → other ≢ label
         → get nat_cmp labels.new other ≡ get nat_cmp labels.old other }
     ensures apart { IsApart conn.number front.old front.new }

@@ -1,7 +1,7 @@
 -- An empty line does nothing; any other is performed.
-use Rattle.std.proofs.Common.{◌≡◌, true, false, rules}
+use Rattle.std.proofs.Common.{◌≡◌, true, rules}
 use Rattle.oai_edge.specs.Lines.{is_filled}
-use Rattle.oai_edge.proofs.AskedLemmas.{ended_empty, ended_so}
+use Rattle.oai_edge.proofs.AskedLemmas.{ended_so}
 use Rattle.oai_edge.proofs.ask.ask_line.Goals as goal
 
 pub returns-clause-done : goal.returns-clause-done

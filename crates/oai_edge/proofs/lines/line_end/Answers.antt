@@ -1,6 +1,6 @@
 -- What is found is the first place at which the test passes.
-use Rattle.std.proofs.Common.{◌≡◌, ◌∙◌, ℕ, List, Option, Some, None, length, arith, sym, le_refl}
-use Rattle.std.proofs.lemmas.Bool.{cond-false, cond-true, false_from_ne_true}
+use Rattle.std.proofs.Common.{◌≡◌, ℕ, List, Option, Some, None, length, arith, le_refl}
+use Rattle.std.proofs.lemmas.Bool.{false_from_ne_true}
 use Rattle.std.specs.List.{position, position_or_len}
 use Rattle.std.proofs.lemmas.List.Sums.{position_or_len_is}
 use Rattle.memchr.specs.Find.{IsFirstByte, is_byte}

@@ -1,5 +1,4 @@
 -- What a front gives is the front of the output of the connection.
-use Rattle.std.proofs.Common.{◌≡◌, ◌<◌, ℕ, rules}
 use Rattle.oai_edge.proofs.Apart.{none_front, output_front, output_has, output_none}
 use Rattle.oai_edge.proofs.output.next_output.Goals as goal
 

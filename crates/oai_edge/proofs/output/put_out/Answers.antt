@@ -1,9 +1,9 @@
 -- Each turn takes some of the output, puts it behind what was gathered, and takes nothing of another connection.
-use Rattle.std.proofs.Common.{◌≡◌, ◌∙◌, ◌<◌, ℕ, List, [], ◌++◌, Option, take, refl, rules}
-use Rattle.std.specs.Io.KnownBytes.{Appends, append_known}
+use Rattle.std.proofs.Common.{◌∙◌, ℕ, List, take, refl}
+use Rattle.std.specs.Io.KnownBytes.{append_known}
 use Rattle.oai_edge.specs.Outputs.{output_of}
-use Rattle.oai_edge.proofs.Apart.{apart_same, apart_then, same_begun, same_emptied, taken_less, taken_same, taken_split, taking_apart}
-use Rattle.oai_edge.proofs.KnownLemmas.{on_ok, put_none, put_on, put_whole}
+use Rattle.oai_edge.proofs.Apart.{apart_same, apart_then, same_begun, taken_less, taken_same, taken_split, taking_apart}
+use Rattle.oai_edge.proofs.KnownLemmas.{put_none, put_on}
 use Rattle.oai_edge.proofs.output.put_out.Goals as goal
 
 pub loop-count-smaller : goal.loop-count-smaller

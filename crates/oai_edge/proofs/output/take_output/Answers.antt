@@ -1,7 +1,7 @@
 -- Each turn takes some of the output, puts it behind what was taken, and takes nothing of another connection.
-use Rattle.std.proofs.Common.{◌≡◌, ◌∙◌, ◌<◌, ◌++◌, ℕ, List, ap, refl, rules}
+use Rattle.std.proofs.Common.{◌∙◌, ◌++◌, ℕ, List, ap, refl}
 use Rattle.oai_edge.specs.Outputs.{output_of}
-use Rattle.oai_edge.proofs.Apart.{apart_same, apart_then, same_begun, same_emptied, taken_joined, taken_less, taken_same, taking_apart}
+use Rattle.oai_edge.proofs.Apart.{apart_same, apart_then, same_begun, taken_joined, taken_less, taken_same, taking_apart}
 use Rattle.oai_edge.proofs.output.take_output.Goals as goal
 
 pub loop-bytes-smaller : goal.loop-bytes-smaller

@@ -1,5 +1,5 @@
 -- What is read is the number of the digits, with its sign; a text that is not all digits behind a minus is no moment.
-use Rattle.std.proofs.Common.{◌≡◌, ◌∙◌, ℕ, zero, suc, ℤ, pos, neg_ℤ, ◌+◌, ◌^◌, ◌==◌, true, false, List, [], ◌∷◌, drop, slice_index, Option, None, Result, w64, sym, ap, ◌≢◌, arith, lit<}
+use Rattle.std.proofs.Common.{◌≡◌, ◌∙◌, ℕ, zero, suc, ℤ, pos, neg_ℤ, ◌+◌, ◌^◌, ◌==◌, true, List, [], ◌∷◌, drop, slice_index, Option, None, Result, w64, sym, ap, ◌≢◌, arith, lit<}
 use Rattle.std.specs.Option.{option_map}
 use Rattle.std.specs.Result.{result_ok}
 use Rattle.std.specs.Str.{all_ascii_digits, IsAscii, IsUtf8}

@@ -1,5 +1,5 @@
 -- What was performed was performed by the piece; what is put out changes no handler.
-use Rattle.std.proofs.Common.{◌≡◌, ◌∙◌, ℕ, w64, FitsSigned, to_z-of_z, rules, inl, inr, refl, sym, subst}
+use Rattle.std.proofs.Common.{w64, FitsSigned, to_z-of_z}
 use Rattle.oai_edge.proofs.Apart.{apart_then}
 use Rattle.oai_edge.proofs.Performed.{serving_until}
 use Rattle.oai_edge.proofs.serving.answer.Goals as goal

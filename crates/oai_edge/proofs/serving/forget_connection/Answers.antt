@@ -1,5 +1,4 @@
 -- A connection that is forgotten is gone, and no other.
-use Rattle.std.proofs.Common.{◌≡◌}
 use Rattle.oai_edge.proofs.Apart.{forgetting_apart, forgetting_handler, forgetting_none}
 use Rattle.oai_edge.proofs.serving.forget_connection.Goals as goal
 

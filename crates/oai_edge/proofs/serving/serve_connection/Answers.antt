@@ -1,5 +1,5 @@
 -- Each turn changes the one connection alone.
-use Rattle.std.proofs.Common.{◌≡◌, ◌∙◌, ℕ, rules, inl, inr, refl, sym, subst}
+use Rattle.std.proofs.Common.{refl}
 use Rattle.oai_edge.proofs.Apart.{apart_same, apart_then}
 use Rattle.oai_edge.proofs.Performed.{serving_none, serving_then}
 use Rattle.oai_edge.proofs.serving.serve_connection.Goals as goal

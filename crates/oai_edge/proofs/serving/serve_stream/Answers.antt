@@ -1,9 +1,9 @@
 -- The connection that is opened is forgotten, and what was done was done to it alone.
-use Rattle.std.proofs.Common.{◌≡◌, ◌∙◌, ◌+◌, None, ℕ, ap, subst}
+use Rattle.std.proofs.Common.{◌≡◌, ◌∙◌, ◌+◌, None, ℕ, subst}
 use Rattle.oai_front.specs.Fronts.{connection_numbered}
-use Rattle.oai_edge.specs.Outputs.{IsApart, OthersStay}
-use Rattle.oai_edge.proofs.Apart.{apart_then, equal_limit, equal_others, forgotten_so, opened_last, opened_limit, opened_others, others_then}
-use Rattle.oai_edge.proofs.Performed.{opening_handler, opening_refused, serving_from, serving_none, serving_until}
+use Rattle.oai_edge.specs.Outputs.{OthersStay}
+use Rattle.oai_edge.proofs.Apart.{equal_limit, equal_others, forgotten_so, opened_last, opened_limit, opened_others, others_then}
+use Rattle.oai_edge.proofs.Performed.{opening_handler, opening_refused, serving_from, serving_until}
 use Rattle.oai_edge.proofs.serving.serve_stream.Goals as goal
 
 pub returns-in-Ok-clause-forgotten : goal.returns-in-Ok-clause-forgotten

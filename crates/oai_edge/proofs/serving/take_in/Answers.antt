@@ -1,5 +1,5 @@
 -- A piece changes its connection, and its messages are performed.
-use Rattle.std.proofs.Common.{◌≡◌, w64, FitsSigned, to_z-of_z}
+use Rattle.std.proofs.Common.{w64, FitsSigned, to_z-of_z}
 use Rattle.oai_edge.proofs.Apart.{piece_apart}
 use Rattle.oai_edge.proofs.Performed.{piece_serving}
 use Rattle.oai_edge.proofs.serving.take_in.Goals as goal

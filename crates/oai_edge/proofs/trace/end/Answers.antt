@@ -1,5 +1,4 @@
 -- The end of a connection is seen by it alone.
-use Rattle.std.proofs.Common.{◌≡◌}
 use Rattle.oai_edge.proofs.Apart.{ending_apart}
 use Rattle.oai_edge.proofs.Performed.{ending_handler}
 use Rattle.oai_edge.proofs.trace.end.Goals as goal

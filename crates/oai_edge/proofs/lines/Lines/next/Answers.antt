@@ -1,5 +1,5 @@
 -- A line begins, goes on, and ends.
-use Rattle.std.proofs.Common.{◌≡◌, ◌-◌, drop, take, rules, refl}
+use Rattle.std.proofs.Common.{◌-◌, drop, take, rules}
 use Rattle.oai_edge.specs.Inputs.{Input}
 use Rattle.oai_edge.proofs.InputLemmas.{going_starts}
 use Rattle.oai_edge.proofs.lines.Lines.next.Goals as goal

@@ -1,5 +1,5 @@
 -- What was read ahead ends the line, or goes on with it.
-use Rattle.std.proofs.Common.{◌≡◌, ◌∙◌, ◌-◌, ◌++◌, drop, take, sym}
+use Rattle.std.proofs.Common.{◌∙◌, ◌-◌, drop, take, sym}
 use Rattle.oai_edge.proofs.InputLemmas.{piece_ends_in, piece_goes_on}
 use Rattle.oai_edge.proofs.lines.Lines.take_piece.Goals as goal
 

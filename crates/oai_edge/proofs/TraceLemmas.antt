@@ -1,0 +1,334 @@
+-- The lines of a trace are followed one after the other, and what comes of it.
+use Rattle.std.proofs.Common.{◌≡◌, ◌∙◌, inl, inr, ℕ, ◌+◌, ◌-◌, ◌^◌, min, true, false, List, [], ◌∷◌, ◌++◌, length, map, filter, Option, None, Some, IfErr, IfSome, OnOk, Result, Ok, Err, refl, sym, ap, subst, append-nil}
+use Rattle.std.specs.BTreeMap.{BTreeMap, get, is_at}
+use Rattle.std.specs.Io.KnownBytes.{Appends, Keeps}
+use Rattle.std.specs.List.{flat_map}
+use Rattle.std.specs.Map.{lookup}
+use Rattle.std.specs.Ordering.{nat_cmp}
+use Rattle.std.proofs.lemmas.Bool.{cond-true, cond-false}
+use Rattle.std.proofs.lemmas.Grind.{flat_map-append}
+use Rattle.std.proofs.lemmas.List.{map-append}
+use Rattle.std.proofs.lemmas.List.Elements.{filter-append}
+use Rattle.oai_front.specs.Fronts.{State, connection_numbered}
+use Rattle.oai_front.specs.Performing.{Chain, Steps}
+use Rattle.oai_front.specs.declared.numbers.ConnId.{ConnId}
+use Rattle.oai_edge.specs.Events.{IsTold, told}
+use Rattle.oai_edge.specs.Inputs.{IsNext, IsUnread}
+use Rattle.oai_edge.specs.Lines.{is_filled}
+use Rattle.oai_edge.specs.Places.{lines_of}
+use Rattle.oai_edge.specs.Stops.{StopsTracing}
+use Rattle.oai_edge.specs.Traces.{AreFollowed, AreTraced, AreTracedTo, IsFollowed, IsFollowedOn, IsOf, IsTraced, Shown, Tracing, shown_on, untold}
+use Rattle.oai_edge.specs.Workings.{AreCounted, IsBroken, IsLine, IsReadSoFar, IsUnopened}
+use Rattle.oai_edge.specs.declared.events.Event.{Event}
+use Rattle.oai_edge.specs.declared.stop.Stop.{Stop}
+use Rattle.oai_edge.specs.declared.stop.Stop.TheVariants.{BadConfig, BadExchange, BadPiece, CannotRead, InputFault, NoMemory, OutputFault, SocketFault, TooManyConnections, Usage}
+use Rattle.oai_edge.proofs.KnownLemmas.{appends_both, appends_kept, appends_none}
+use Rattle.oai_edge.proofs.ReadLemmas.{counted_next, known_all, known_so, number_next, read_front, read_to, read_whole}
+
+-- ---- a line
+
+pub line_passed : {H : Type 0} (step : Steps H) (line : List ℕ) (number : ℕ) (state : Tracing H) (known : Option (List ℕ)) → is_filled line ≡ false
+    → IsLine step line number state (Ok tt) state (Appends known known)
+line_passed step line number state known empty = inl (record { empty = empty; same = refl; written = appends_none known })
+
+-- it tells nothing, or memory for what it tells is refused
+pub line_untold : {H : Type 0} (step : Steps H) (line : List ℕ) (number : ℕ) (state : Tracing H) (known : Option (List ℕ)) (stop : Stop) → is_filled line ≡ true
+    → IsTold line number (Err stop) → IsLine step line number state (Err stop) state (Appends known known)
+line_untold step line number state known (BadPiece at) full said = (said.1, full, said.0, refl, appends_none known)
+line_untold step line number state known (TooManyConnections at) full said = absurd cc
+line_untold step line number state known Usage full said = inr said
+line_untold step line number state known CannotRead full said = inr said
+line_untold step line number state known (BadConfig fault) full said = inr said
+line_untold step line number state known (BadExchange at) full said = inr said
+line_untold step line number state known InputFault full said = inr said
+line_untold step line number state known OutputFault full said = inr said
+line_untold step line number state known SocketFault full said = inr said
+line_untold step line number state known NoMemory full said = inr said
+
+-- no connection stands for its label
+pub line_unopened : {H : Type 0} (step : Steps H) (line : List ℕ) (number : ℕ) (event : Event) (old new : Tracing H) (known : Option (List ℕ)) (stop : Stop) → told line ≡ Some event
+    → IsUnopened number event.label old new.front stop → IsLine step line number old (Err stop) new (Appends known known)
+line_unopened step line number event old new known (TooManyConnections at) tells why = (why.0, (event, tells, why.1), appends_none known)
+line_unopened step line number event old new known (BadPiece at) tells why = let is : BadPiece at ≡ NoMemory = why.0 in absurd cc
+line_unopened step line number event old new known Usage tells why = inr why.0
+line_unopened step line number event old new known CannotRead tells why = inr why.0
+line_unopened step line number event old new known (BadConfig fault) tells why = inr why.0
+line_unopened step line number event old new known (BadExchange at) tells why = inr why.0
+line_unopened step line number event old new known InputFault tells why = inr why.0
+line_unopened step line number event old new known OutputFault tells why = inr why.0
+line_unopened step line number event old new known SocketFault tells why = inr why.0
+line_unopened step line number event old new known NoMemory tells why = inr why.0
+
+-- its connection was forgotten
+pub line_forgotten : {H : Type 0} (step : Steps H) (line : List ℕ) (number : ℕ) (event : Event) (old mid : Tracing H) (known : Option (List ℕ)) → is_filled line ≡ true
+    → told line ≡ Some event → IsOf event.label old None mid → IsLine step line number old (Ok tt) mid (Appends known known)
+line_forgotten step line number event old mid known full tells of =
+    inr (record { filled = full; event = event; tells = tells; followed = record { conn = None; mid = mid; of = of; on = (refl, appends_none known) } })
+
+-- what it tells is followed on its connection, or is not to the end
+line_broken : {H : Type 0} (step : Steps H) (line : List ℕ) (number : ℕ) (old new : Tracing H) (Writes : List ℕ → Type 0) (stop : Stop) → IsBroken stop
+    → IsLine step line number old (Err stop) new Writes
+line_broken step line number old new Writes stop (inl is) = subst (λ (s : Stop). IsLine step line number old (Err s) new Writes) (sym is) (inl refl)
+line_broken step line number old new Writes stop (inr is) = subst (λ (s : Stop). IsLine step line number old (Err s) new Writes) (sym is) (inr refl)
+
+pub line_followed : {H : Type 0} (step : Steps H) (line : List ℕ) (number : ℕ) (event : Event) (conn : ConnId) (old mid new : Tracing H) (Writes : List ℕ → Type 0)
+    (result : Result Unit Stop) → is_filled line ≡ true → told line ≡ Some event → IsOf event.label old (Some conn) mid → OnOk result (IsTraced step event conn mid new Writes)
+    → IfErr result IsBroken → IsLine step line number old result new Writes
+line_followed step line number event conn old mid new Writes (Ok done) full tells of traced broken =
+    inr (record { filled = full; event = event; tells = tells; followed = record { conn = Some conn; mid = mid; of = of; on = traced } })
+line_followed step line number event conn old mid new Writes (Err stop) full tells of traced broken = line_broken step line number old new Writes stop broken
+
+-- ---- lines that are followed
+
+chain_last : {A S : Type 0} (Step : A → S → S → Type 0) (xs : List A) (x : A) (old mid new : S) → Chain Step xs old mid → Step x mid new → Chain Step (xs ++ x ∷ []) old new
+chain_last {A} {S} Step [] x old mid new chain last = (new, subst (λ (s : S). Step x s new) chain last, refl)
+chain_last Step (y ∷ xs) x old mid new chain last = (chain.0, chain.1, chain_last Step xs x chain.0 mid new chain.2 last)
+
+-- so no label stands for anything
+untold_so : {H : Type 0} (front : State H) (labels : BTreeMap ℕ (Option ConnId)) → labels.entries ≡ [] → record { front = front; names = get nat_cmp labels } ≡ untold front
+untold_so {H} front labels none = ap (λ (entries : List (ℕ × Option ConnId)). record { front = front; names = λ label. lookup (is_at (nat_cmp label)) entries }) none
+
+pub counted_none : {H : Type 0} (step : Steps H) (front : State H) (labels : BTreeMap ℕ (Option ConnId)) (known : Option (List ℕ)) → labels.entries ≡ []
+    → AreCounted step front (record { front = front; names = get nat_cmp labels }) 0 (Appends known known) []
+counted_none step front labels known none = record {
+  counted = refl;
+  followed = record { events = []; read = refl; run = untold_so front labels none; written = appends_none known };
+}
+
+-- what was written for an event
+followed_text : {H : Type 0} (step : Steps H) (event : Event) (conn : Option ConnId) (old new : Tracing H) (Writes : List ℕ → Type 0) → IsFollowedOn step event conn old new Writes
+    → (text : List ℕ) × IsFollowedOn step event conn old new (λ (t : List ℕ). t ≡ text) × Writes text
+followed_text step event None old new Writes on = ([], (on.0, refl), on.1)
+followed_text step event (Some conn) old new Writes on = (
+  shown_on event.label (connection_numbered conn.number on.mid.connections),
+  record { mid = on.mid; came = on.came; written = refl; left = on.left; apart = on.apart; handler = on.handler; named = on.named },
+  on.written,
+)
+
+-- an empty line more
+passed_more : {H : Type 0} (step : Steps H) (front : List (List ℕ)) (line : List ℕ) (old : State H) (new : Tracing H) (Writes : List ℕ → Type 0) → is_filled line ≡ false
+    → AreFollowed step front old new Writes → AreFollowed step (front ++ line ∷ []) old new Writes
+passed_more step front line old new Writes empty done = record {
+  events = done.events;
+  read =
+      let none : filter is_filled (line ∷ []) ≡ [] = cond-false (is_filled line) (line ∷ []) [] empty in
+      ap (map told) (filter-append is_filled front (line ∷ []) ∙ ap (λ (ls : List (List ℕ)). filter is_filled front ++ ls) none ∙ append-nil (filter is_filled front)) ∙ done.read;
+  run = done.run;
+  written = done.written;
+}
+
+-- a line more that tells an event
+told_more : {H : Type 0} (step : Steps H) (front : List (List ℕ)) (line : List ℕ) (event : Event) (old : State H) (mid new : Tracing H) (from was is : Option (List ℕ))
+    → is_filled line ≡ true → told line ≡ Some event → IsFollowed step event mid new (Appends was is) → AreFollowed step front old mid (Appends from was)
+    → AreFollowed step (front ++ line ∷ []) old new (Appends from is)
+told_more step front line event old mid new from was is full tells last done =
+    let said = followed_text step event last.conn last.mid new (Appends was is) last.on in
+    let shown : Shown = record { event = event; text = said.0 } in
+    record {
+      events = done.events ++ shown ∷ [];
+      read =
+          let one : filter is_filled (line ∷ []) ≡ line ∷ [] = cond-true (is_filled line) (line ∷ []) [] full in
+          ap (map told) (filter-append is_filled front (line ∷ []) ∙ ap (λ (ls : List (List ℕ)). filter is_filled front ++ ls) one)
+          ∙ map-append told (filter is_filled front) (line ∷ [])
+          ∙ ap (λ (xs : List (Option Event)). xs ++ told line ∷ []) done.read
+          ∙ ap (λ (x : Option Event). map (λ (e : Shown). Some e.event) done.events ++ x ∷ []) tells
+          ∙ sym (map-append (λ (e : Shown). Some e.event) done.events (shown ∷ []));
+      run =
+          chain_last (λ (e : Shown) before after. IsFollowed step e.event before after (λ (text : List ℕ). text ≡ e.text)) done.events shown (untold old) mid new done.run
+          (record { conn = last.conn; mid = last.mid; of = last.of; on = said.1 });
+      written =
+          let all : flat_map (λ (e : Shown). e.text) (done.events ++ shown ∷ []) ≡ flat_map (λ (e : Shown). e.text) done.events ++ said.0 =
+          flat_map-append (λ (e : Shown). e.text) done.events (shown ∷ [])
+          ∙ ap (λ (xs : List ℕ). flat_map (λ (e : Shown). e.text) done.events ++ xs) (append-nil said.0) in
+          subst (Appends from is) (sym all) (appends_both from was is (flat_map (λ (e : Shown). e.text) done.events) said.0 done.written said.2);
+    }
+
+-- what is not written any more
+followed_on : {H : Type 0} (step : Steps H) (lines : List (List ℕ)) (old : State H) (new : Tracing H) (a b c : Option (List ℕ)) → Appends b c []
+    → AreFollowed step lines old new (Appends a b) → AreFollowed step lines old new (Appends a c)
+followed_on step lines old new a b c none done =
+    let text : List ℕ = flat_map (λ (e : Shown). e.text) done.events in
+    record {
+      events = done.events;
+      read = done.read;
+      run = done.run;
+      written = subst (Appends a c) (append-nil text) (appends_both a b c text [] done.written none);
+    }
+
+-- a line more that was followed, or passed over
+pub counted_more : {H : Type 0} (step : Steps H) (front : List (List ℕ)) (line : List ℕ) (old : State H) (mid new : Tracing H) (was is : ℕ) (from before after : Option (List ℕ))
+    → is ≡ min (was + 1) (2 ^ 64 - 1) → IsLine step line is mid (Ok tt) new (Appends before after) → AreCounted step old mid was (Appends from before) front
+    → AreCounted step old new is (Appends from after) (front ++ line ∷ [])
+counted_more {H} step front line old mid new was is from before after counted (inl passed) done = record {
+  counted = counted_next front line was is counted done.counted;
+  followed =
+      subst (λ (t : Tracing H). AreFollowed step (front ++ line ∷ []) old t (Appends from after)) (sym passed.same)
+      (followed_on step (front ++ line ∷ []) old mid from before after passed.written (passed_more step front line old mid (Appends from before) passed.empty done.followed));
+}
+counted_more step front line old mid new was is from before after counted (inr says) done = record {
+  counted = counted_next front line was is counted done.counted;
+  followed = told_more step front line says.event old mid new from before after says.filled says.tells says.followed done.followed;
+}
+
+-- ---- where it stops
+
+broken_stops : (stop : Stop) → IsBroken stop → StopsTracing stop
+broken_stops stop (inl is) = subst StopsTracing (sym is) tt
+broken_stops stop (inr is) = subst StopsTracing (sym is) tt
+
+pub line_stops : {H : Type 0} (step : Steps H) (line : List ℕ) (number : ℕ) (old new : Tracing H) (Writes : List ℕ → Type 0) (stop : Stop)
+    → IsLine step line number old (Err stop) new Writes → StopsTracing stop
+line_stops step line number old new Writes (BadPiece at) is = tt
+line_stops step line number old new Writes (TooManyConnections at) is = tt
+line_stops step line number old new Writes Usage is = broken_stops Usage is
+line_stops step line number old new Writes CannotRead is = broken_stops CannotRead is
+line_stops step line number old new Writes (BadConfig fault) is = broken_stops (BadConfig fault) is
+line_stops step line number old new Writes (BadExchange at) is = broken_stops (BadExchange at) is
+line_stops step line number old new Writes InputFault is = tt
+line_stops step line number old new Writes OutputFault is = tt
+line_stops step line number old new Writes SocketFault is = broken_stops SocketFault is
+line_stops step line number old new Writes NoMemory is = tt
+
+pub unread_stops : (stop : Stop) → IsUnread stop → StopsTracing stop
+unread_stops stop (inl is) = subst StopsTracing (sym is) tt
+unread_stops stop (inr is) = subst StopsTracing (sym is) tt
+
+broken_traced : {H : Type 0} (step : Steps H) (lines : List (List ℕ)) (old new : State H) (Writes : List ℕ → Type 0) (stop : Stop) → IsBroken stop
+    → AreTraced step lines old (Err stop) new Writes
+broken_traced step lines old new Writes stop (inl is) = subst (λ (s : Stop). AreTraced step lines old (Err s) new Writes) (sym is) tt
+broken_traced step lines old new Writes stop (inr is) = subst (λ (s : Stop). AreTraced step lines old (Err s) new Writes) (sym is) tt
+
+stopped_there : {H : Type 0} (step : Steps H) (front lines others : List (List ℕ)) (line : List ℕ) (old : State H) (mid new : Tracing H) (was is : ℕ) (from before after : Option (List ℕ))
+    (stop : Stop) → is ≡ min (was + 1) (2 ^ 64 - 1) → lines ≡ front ++ line ∷ others → IsLine step line is mid (Err stop) new (Appends before after)
+    → AreCounted step old mid was (Appends from before) front → AreTraced step lines old (Err stop) new.front (Appends from after)
+stopped_there {H} step front lines others line old mid new was is from before after (BadPiece at) counted cut here done = record {
+  front = front;
+  line = line;
+  others = others;
+  cut = cut;
+  numbered = here.0 ∙ counted ∙ number_next was (length front) done.counted;
+  so = (
+    here.1,
+    here.2,
+    (new.names, subst (λ (t : Tracing H). AreFollowed step front old t (Appends from after)) (sym here.3) (followed_on step front old mid from before after here.4 done.followed)),
+  );
+}
+stopped_there step front lines others line old mid new was is from before after (TooManyConnections at) counted cut here done = record {
+  front = front;
+  line = line;
+  others = others;
+  cut = cut;
+  numbered = here.0 ∙ counted ∙ number_next was (length front) done.counted;
+  so = record {
+    event = here.1.0;
+    tells = here.1.1;
+    mid = mid;
+    followed = followed_on step front old mid from before after here.2 done.followed;
+    refused = here.1.2;
+  };
+}
+stopped_there step front lines others line old mid new was is from before after Usage counted cut here done = broken_traced step lines old new.front (Appends from after) Usage here
+stopped_there step front lines others line old mid new was is from before after CannotRead counted cut here done = broken_traced step lines old new.front (Appends from after) CannotRead here
+stopped_there step front lines others line old mid new was is from before after (BadConfig fault) counted cut here done =
+    broken_traced step lines old new.front (Appends from after) (BadConfig fault) here
+stopped_there step front lines others line old mid new was is from before after (BadExchange at) counted cut here done =
+    broken_traced step lines old new.front (Appends from after) (BadExchange at) here
+stopped_there step front lines others line old mid new was is from before after InputFault counted cut here done = broken_traced step lines old new.front (Appends from after) InputFault here
+stopped_there step front lines others line old mid new was is from before after OutputFault counted cut here done = tt
+stopped_there step front lines others line old mid new was is from before after SocketFault counted cut here done = broken_traced step lines old new.front (Appends from after) SocketFault here
+stopped_there step front lines others line old mid new was is from before after NoMemory counted cut here done = tt
+
+-- ---- the whole input
+
+pub traced_stopped : {H : Type 0} (step : Steps H) (known : Option (List ℕ)) (lines others : Option (List (List ℕ))) (line : List ℕ) (old : State H) (mid new : Tracing H) (was is : ℕ)
+    (from before after : Option (List ℕ)) (stop : Stop) → IsNext lines (Ok true) line others → is ≡ min (was + 1) (2 ^ 64 - 1)
+    → IsLine step line is mid (Err stop) new (Appends before after) → IsReadSoFar known lines (AreCounted step old mid was (Appends from before))
+    → IfSome known (λ (input : List ℕ). AreTraced step (lines_of input) old (Err stop) new.front (Appends from after))
+traced_stopped step known lines others line old mid new was is from before after stop next counted here so_far =
+    read_to known lines others line (AreCounted step old mid was (Appends from before)) (λ all. AreTraced step all old (Err stop) new.front (Appends from after)) next
+    (λ front rest all cut done. stopped_there step front all rest line old mid new was is from before after stop counted cut here done) so_far
+
+pub traced_whole : {H : Type 0} (step : Steps H) (known : Option (List ℕ)) (lines others : Option (List (List ℕ))) (line : List ℕ) (old : State H) (new : Tracing H) (count : ℕ)
+    (Writes : List ℕ → Type 0) → IsNext lines (Ok false) line others → IsReadSoFar known lines (AreCounted step old new count Writes)
+    → IfSome known (λ (input : List ℕ). AreTraced step (lines_of input) old (Ok tt) new.front Writes)
+traced_whole step known lines others line old new count Writes next so_far =
+    known_so known (λ (input : List ℕ). AreCounted step old new count Writes (lines_of input)) (λ (input : List ℕ). AreTracedTo step old new.front Writes (lines_of input))
+    (λ input done. (new.names, done.followed)) (read_whole known lines others line (AreCounted step old new count Writes) next so_far)
+
+unread_so : {H : Type 0} (step : Steps H) (front others lines : List (List ℕ)) (old : State H) (new : Tracing H) (count : ℕ) (Writes : List ℕ → Type 0) (stop : Stop) → IsUnread stop
+    → lines ≡ front ++ others → AreCounted step old new count Writes front → AreTraced step lines old (Err stop) new.front Writes
+unread_so step front others lines old new count Writes stop (inl is) cut done =
+    subst (λ (s : Stop). AreTraced step lines old (Err s) new.front Writes) (sym is) (record { front = front; others = others; cut = cut; so = (new.names, done.followed) })
+unread_so step front others lines old new count Writes stop (inr is) cut done = subst (λ (s : Stop). AreTraced step lines old (Err s) new.front Writes) (sym is) tt
+
+pub traced_unread : {H : Type 0} (step : Steps H) (known : Option (List ℕ)) (lines : Option (List (List ℕ))) (old : State H) (new : Tracing H) (count : ℕ) (Writes : List ℕ → Type 0)
+    (stop : Stop) → IsUnread stop → IsReadSoFar known lines (AreCounted step old new count Writes)
+    → IfSome known (λ (input : List ℕ). AreTraced step (lines_of input) old (Err stop) new.front Writes)
+traced_unread step known lines old new count Writes stop cause so_far =
+    read_front known lines (AreCounted step old new count Writes) (λ all. AreTraced step all old (Err stop) new.front Writes)
+    (λ front others all cut done. unread_so step front others all old new count Writes stop cause cut done) so_far
+
+-- nothing of it is read
+pub traced_none : {H : Type 0} (step : Steps H) (known : Option (List ℕ)) (old new : State H) (Writes : List ℕ → Type 0) (stop : Stop) → stop ≡ NoMemory
+    → IfSome known (λ (input : List ℕ). AreTraced step (lines_of input) old (Err stop) new Writes)
+traced_none step known old new Writes stop is =
+    known_all known (λ (input : List ℕ). AreTraced step (lines_of input) old (Err stop) new Writes) (λ input. broken_traced step (lines_of input) old new Writes stop (inr is))
+
+-- ---- what was written is kept
+
+followed_kept : {H : Type 0} (step : Steps H) (lines : List (List ℕ)) (old : State H) (new : Tracing H) (a b c : Option (List ℕ)) → Keeps b c
+    → AreFollowed step lines old new (Appends a b) → AreFollowed step lines old new (Appends a c)
+followed_kept step lines old new a b c kept done =
+    record { events = done.events; read = done.read; run = done.run; written = appends_kept a b c (flat_map (λ (e : Shown). e.text) done.events) done.written kept }
+
+to_kept : {H : Type 0} (step : Steps H) (lines : List (List ℕ)) (old new : State H) (a b c : Option (List ℕ)) → Keeps b c → AreTracedTo step old new (Appends a b) lines
+    → AreTracedTo step old new (Appends a c) lines
+to_kept step lines old new a b c kept done = (done.0, followed_kept step lines old (record { front = new; names = done.0 }) a b c kept done.1)
+
+kept_so : {H : Type 0} (step : Steps H) (lines : List (List ℕ)) (old new : State H) (a b c : Option (List ℕ)) (result : Result Unit Stop) → Keeps b c
+    → AreTraced step lines old result new (Appends a b) → AreTraced step lines old result new (Appends a c)
+kept_so step lines old new a b c (Ok done) kept traced = to_kept step lines old new a b c kept traced
+kept_so step lines old new a b c (Err (BadPiece number)) kept traced = record {
+  front = traced.front;
+  line = traced.line;
+  others = traced.others;
+  cut = traced.cut;
+  numbered = traced.numbered;
+  so = (traced.so.0, traced.so.1, to_kept step traced.front old new a b c kept traced.so.2);
+}
+kept_so step lines old new a b c (Err (TooManyConnections number)) kept traced = record {
+  front = traced.front;
+  line = traced.line;
+  others = traced.others;
+  cut = traced.cut;
+  numbered = traced.numbered;
+  so = record {
+    event = traced.so.event;
+    tells = traced.so.tells;
+    mid = traced.so.mid;
+    followed = followed_kept step traced.front old traced.so.mid a b c kept traced.so.followed;
+    refused = traced.so.refused;
+  };
+}
+kept_so step lines old new a b c (Err InputFault) kept traced =
+    record { front = traced.front; others = traced.others; cut = traced.cut; so = to_kept step traced.front old new a b c kept traced.so }
+kept_so step lines old new a b c (Err Usage) kept traced = tt
+kept_so step lines old new a b c (Err CannotRead) kept traced = tt
+kept_so step lines old new a b c (Err (BadConfig fault)) kept traced = tt
+kept_so step lines old new a b c (Err (BadExchange number)) kept traced = tt
+kept_so step lines old new a b c (Err OutputFault) kept traced = tt
+kept_so step lines old new a b c (Err SocketFault) kept traced = tt
+kept_so step lines old new a b c (Err NoMemory) kept traced = tt
+
+-- what was traced is flushed
+pub traced_kept : {H : Type 0} (step : Steps H) (known : Option (List ℕ)) (old new : State H) (a b c : Option (List ℕ)) (result : Result Unit Stop) → Keeps b c
+    → IfSome known (λ (input : List ℕ). AreTraced step (lines_of input) old result new (Appends a b))
+    → IfSome known (λ (input : List ℕ). AreTraced step (lines_of input) old result new (Appends a c))
+traced_kept step known old new a b c result kept traced =
+    known_so known (λ (input : List ℕ). AreTraced step (lines_of input) old result new (Appends a b)) (λ (input : List ℕ). AreTraced step (lines_of input) old result new (Appends a c))
+    (λ input so. kept_so step (lines_of input) old new a b c result kept so) traced
+
+-- where that fails nothing is said
+pub traced_unwritten : {H : Type 0} (step : Steps H) (known : Option (List ℕ)) (old new : State H) (Writes : List ℕ → Type 0)
+    → IfSome known (λ (input : List ℕ). AreTraced step (lines_of input) old (Err OutputFault) new Writes)
+traced_unwritten step known old new Writes = known_all known (λ (input : List ℕ). AreTraced step (lines_of input) old (Err OutputFault) new Writes) (λ input. tt)

@@ -1,0 +1,31 @@
+-- An empty line does nothing; any other tells an event, which is followed, or the program stops.
+use Rattle.std.proofs.Common.{◌≡◌, None, Some, true, false, rules}
+use Rattle.std.specs.Io.KnownBytes.{Appends}
+use Rattle.oai_edge.specs.Lines.{is_filled}
+use Rattle.oai_edge.specs.Traces.{IsOf}
+use Rattle.oai_edge.specs.Workings.{tracing}
+use Rattle.oai_edge.proofs.TraceLemmas.{line_followed, line_forgotten, line_passed}
+use Rattle.oai_edge.proofs.trace.trace_line.Goals as goal
+
+pub returns-then-is_empty-clause-line : goal.returns-then-is_empty-clause-line
+returns-then-is_empty-clause-line g c =
+    let empty : is_filled c.args.line.now ≡ false = search rules in
+    line_passed g.H.Handler.step c.args.line.now c.args.number (tracing c.args.front.now c.args.labels.now) (g.W.Write.contents c.args.writer.now) empty
+
+pub returns-in-Some-clause-line : goal.returns-in-Some-clause-line
+returns-in-Some-clause-line g c =
+    let full : is_filled c.args.line.now ≡ true = search rules in
+    let of : IsOf c.in_ok-event.event.label (tracing c.args.front.now c.args.labels.now) (Some c.in-Some.conn) (tracing c.connection_of.new.front c.connection_of.new.labels) =
+    rw c.in-Some.is at c.in_ok-conn.ensures.of in
+    line_followed g.H.Handler.step c.args.line.now c.args.number c.in_ok-event.event c.in-Some.conn (tracing c.args.front.now c.args.labels.now)
+    (tracing c.connection_of.new.front c.connection_of.new.labels) (tracing c.trace_event.new.front c.trace_event.new.labels)
+    (Appends (g.W.Write.contents c.args.writer.now) (g.W.Write.contents c.trace_event.new.writer)) c.trace_event.result full c.in_ok-event.ensures of c.trace_event.ensures.traced
+    c.trace_event.ensures.err
+
+pub returns-clause-line : goal.returns-clause-line
+returns-clause-line g c =
+    let full : is_filled c.args.line.now ≡ true = search rules in
+    let of : IsOf c.in_ok-event.event.label (tracing c.args.front.now c.args.labels.now) None (tracing c.connection_of.new.front c.connection_of.new.labels) =
+    rw c.in-None.is at c.in_ok-conn.ensures.of in
+    line_forgotten g.H.Handler.step c.args.line.now c.args.number c.in_ok-event.event (tracing c.args.front.now c.args.labels.now)
+    (tracing c.connection_of.new.front c.connection_of.new.labels) (g.W.Write.contents c.args.writer.now) full c.in_ok-event.ensures of

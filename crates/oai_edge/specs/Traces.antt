@@ -1,0 +1,140 @@
+-- What comes of an input of lines that trace connections: what comes on each of them, and what is written for it. This repository's own.
+use Rattle.std.specs.Prelude.{◌≡◌, ◌≢◌, ◌⊎◌, ℕ, ℤ, Bool, true, false, List, [], ◌++◌, map, filter, Option, Some, None, MatchOption, Result, Ok, Err, is_ok, if◌then◌else◌}
+use Rattle.std.specs.List.{flat_map}
+use Rattle.std.specs.Option.{option_map}
+use Rattle.oai_front.specs.Connections.{Connection}
+use Rattle.oai_front.specs.Fronts.{IsEnding, IsOpening, IsPiece, State, connection_numbered}
+use Rattle.oai_front.specs.Performing.{Chain, Steps}
+use Rattle.oai_front.specs.Stages.{is_closing}
+use Rattle.oai_front.specs.declared.faults.NoSuchConnection.{NoSuchConnection as Absent}
+use Rattle.oai_front.specs.declared.faults.OpenFault.TheVariants as refusal
+use Rattle.oai_front.specs.declared.faults.PieceFault.{PieceFault}
+use Rattle.oai_front.specs.declared.numbers.ConnId.{ConnId}
+use Rattle.oai_edge.specs.Events.{shown_close, shown_output, told}
+use Rattle.oai_edge.specs.Lines.{is_filled}
+use Rattle.oai_edge.specs.Outputs.{IsApart, output_in, with_output}
+use Rattle.oai_edge.specs.Places.{AreFirst, IsAt}
+use Rattle.oai_edge.specs.declared.events.Event.{Event}
+use Rattle.oai_edge.specs.declared.stop.Stop.{Stop}
+use Rattle.oai_edge.specs.declared.stop.Stop.TheVariants.{BadPiece, InputFault, TooManyConnections}
+
+-- ---- the connections of the labels
+
+-- what the labels stand for: a connection, or none any more; a label that no line told stands for nothing
+abbrev pub Names : Type 0
+Names = ℕ → Option (Option ConnId)
+
+-- the front, and what the labels stand for
+pub record Tracing (H : Type 0) : Type 0 where
+  pub front : State H
+  pub names : Names
+
+-- before the first line
+abbrev pub untold : {H : Type 0} → State H → Tracing H
+untold front = record { front = front; names = λ label. None }
+
+-- the label stands for that connection, or for none any more, and each other one for what it did
+pub record IsNamed (label : ℕ) (conn : Option ConnId) (old new : Names) : Type 0 where
+  pub own : new label ≡ Some conn
+  pub others : (other : ℕ) → other ≢ label → new other ≡ old other
+
+-- a label that no line told before: a connection is opened for it
+abbrev pub IsFirst : {H : Type 0} → ℕ → Tracing H → Option ConnId → Tracing H → Type 0
+IsFirst label old None new = ⊥
+IsFirst label old (Some conn) new = IsOpening old.front (Ok conn) new.front × IsNamed label (Some conn) old.names new.names
+
+-- the connection of the label, which is opened where the label is new
+abbrev pub IsOf : {H : Type 0} → ℕ → Tracing H → Option ConnId → Tracing H → Type 0
+IsOf label old conn new = MatchOption (old.names label) (IsFirst label old conn new) (λ known. (conn ≡ known) × (new ≡ old))
+
+-- the label is new, and no connection can be opened: too many are open, or all numbers were given
+abbrev pub IsRefused : {H : Type 0} → ℕ → Tracing H → State H → Type 0
+IsRefused label old new = (old.names label ≡ None) × (IsOpening old.front (Err refusal.Full) new ⊎ IsOpening old.front (Err refusal.NumbersSpent) new)
+
+-- ---- what comes on a connection
+
+-- the end of the connection of the number came, where it is open
+abbrev pub EndsOn : {H : Type 0} → ℕ → State H → State H → Type 0
+EndsOn number old new = (said : Result Unit Absent) × IsEnding number old said new
+
+-- a piece came on the connection of the number at that moment, and was taken with all that it completes, or was not; or its end came
+abbrev pub ComesOn : {H : Type 0} → Steps H → ℕ → ℤ → Option (List ℕ) → State H → Bool → State H → Type 0
+ComesOn step number moment (Some bytes) old whole new = (said : Result Unit PieceFault) × IsPiece step number moment bytes old said new × (is_ok said ≡ whole)
+ComesOn step number moment None old whole new = EndsOn number old new × (whole ≡ true)
+
+-- the connection is open, and reads nothing any more
+abbrev pub is_over : Option Connection → Bool
+is_over None = false
+is_over (Some c) = is_closing c.stage
+
+-- what is written of the connection of that label: what it was to put out, and that it is closed, where it reads nothing any more
+unfoldable pub shown_on : ℕ → Option Connection → List ℕ
+shown_on label c = shown_output label (output_in c) ++ shown_close label (is_over c)
+
+-- what is left of it then: it has nothing to put out, or it is not open any more
+unfoldable pub left_on : Option Connection → Option Connection
+left_on c = if is_over c then None else option_map (with_output []) c
+
+-- what the label of it stands for then
+unfoldable pub name_on : ConnId → Option Connection → Option ConnId
+name_on conn c = if is_over c then None else Some conn
+
+-- what the event tells came on the connection, and what this put out was written under the label; no other connection was changed by that
+pub record IsTraced {H : Type 0} (step : Steps H) (event : Event) (conn : ConnId) (old new : Tracing H) (Writes : List ℕ → Type 0) : Type 0 where
+  pub mid : State H
+  pub came : ComesOn step conn.number event.moment event.piece old.front true mid
+  pub written : Writes (shown_on event.label (connection_numbered conn.number mid.connections))
+  pub left : connection_numbered conn.number new.front.connections ≡ left_on (connection_numbered conn.number mid.connections)
+  pub apart : IsApart conn.number mid new.front
+  pub handler : new.front.handler ≡ mid.handler
+  pub named : IsNamed event.label (name_on conn (connection_numbered conn.number mid.connections)) old.names new.names
+
+-- ---- the lines
+
+-- so an event is followed on the connection of its label; where this was forgotten nothing comes of it
+abbrev pub IsFollowedOn : {H : Type 0} → Steps H → Event → Option ConnId → Tracing H → Tracing H → (List ℕ → Type 0) → Type 0
+IsFollowedOn step event None old new Writes = (new ≡ old) × Writes []
+IsFollowedOn step event (Some conn) old new Writes = IsTraced step event conn old new Writes
+
+pub record IsFollowed {H : Type 0} (step : Steps H) (event : Event) (old new : Tracing H) (Writes : List ℕ → Type 0) : Type 0 where
+  pub conn : Option ConnId
+  pub mid : Tracing H
+  pub of : IsOf event.label old conn mid
+  pub on : IsFollowedOn step event conn mid new Writes
+
+-- an event, and what was written for it
+pub record Shown : Type 0 where
+  pub event : Event
+  pub text : List ℕ
+
+-- the lines that are not empty tell events; these were followed in order, and what was written for them stands in that order
+pub record AreFollowed {H : Type 0} (step : Steps H) (lines : List (List ℕ)) (old : State H) (new : Tracing H) (Writes : List ℕ → Type 0) : Type 0 where
+  pub events : List Shown
+  pub read : map told (filter is_filled lines) ≡ map (λ e. Some e.event) events
+  pub run : Chain (λ e before after. IsFollowed step e.event before after (λ text. text ≡ e.text)) events (untold old) new
+  pub written : Writes (flat_map (λ e. e.text) events)
+
+-- they were, and the front is left so
+abbrev pub AreTracedTo : {H : Type 0} → Steps H → State H → State H → (List ℕ → Type 0) → List (List ℕ) → Type 0
+AreTracedTo step old new Writes lines = (names : Names) × AreFollowed step lines old (record { front = new; names = names }) Writes
+
+-- the line is bad, and those in front of it were followed
+abbrev pub IsBadBehind : {H : Type 0} → Steps H → State H → State H → (List ℕ → Type 0) → List (List ℕ) → List ℕ → Type 0
+IsBadBehind step old new Writes front line = (is_filled line ≡ true) × (told line ≡ None) × AreTracedTo step old new Writes front
+
+-- no connection can be opened for the line, and those in front of it were followed
+pub record IsFullBehind {H : Type 0} (step : Steps H) (old new : State H) (Writes : List ℕ → Type 0) (front : List (List ℕ)) (line : List ℕ) : Type 0 where
+  pub event : Event
+  pub tells : told line ≡ Some event
+  pub mid : Tracing H
+  pub followed : AreFollowed step front old mid Writes
+  pub refused : IsRefused event.label mid new
+
+-- what comes of the lines: all were followed, or all before the first that is bad or for which no connection can be opened, or the first of them;
+-- where the output failed or memory was refused nothing is said
+abbrev pub AreTraced : {H : Type 0} → Steps H → List (List ℕ) → State H → Result Unit Stop → State H → (List ℕ → Type 0) → Type 0
+AreTraced step lines old (Ok done) new Writes = AreTracedTo step old new Writes lines
+AreTraced step lines old (Err (BadPiece number)) new Writes = IsAt number lines (IsBadBehind step old new Writes)
+AreTraced step lines old (Err (TooManyConnections number)) new Writes = IsAt number lines (IsFullBehind step old new Writes)
+AreTraced step lines old (Err InputFault) new Writes = AreFirst lines (AreTracedTo step old new Writes)
+AreTraced step lines old (Err stop) new Writes = Unit {0}
