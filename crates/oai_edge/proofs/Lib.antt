@@ -4,8 +4,8 @@ mod InputLemmas
 mod KnownLemmas
 mod LineLemmas
 mod NumeralLemmas
-pub mod Performed
 mod ReadLemmas
 mod TraceLemmas
 mod Traced
+pub mod UsedLemmas
 mod WrittenLines

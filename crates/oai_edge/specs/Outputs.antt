@@ -4,7 +4,7 @@ use Rattle.std.specs.Option.{option_map}
 use Rattle.oai_front.specs.Connections.{Connection}
 use Rattle.oai_front.specs.Fronts.{HasOutput, IsOpening, IsPiece, State, connection_numbered}
 use Rattle.oai_front.specs.Performing.{Steps}
-use Rattle.oai_front.specs.Runs.{Served, Serves}
+use Rattle.oai_front.specs.Runs.{Comes, Coming}
 use Rattle.oai_edge.specs.declared.serving.StreamFault.{StreamFault}
 use Rattle.oai_edge.specs.declared.serving.StreamFault.TheVariants.{NotOpened}
 
@@ -44,12 +44,12 @@ pub record IsApart {H : Type 0} (number : ℕ) (old new : State H) : Type 0 wher
   pub limit : new.limit ≡ old.limit
   pub last : new.last ≡ old.last
 
--- ---- what is performed
+-- ---- what is done to a front
 
--- the handler performed messages, one after the other
-pub record IsServing {H : Type 0} (step : Steps H) (old new : H) : Type 0 where
-  pub served : List Served
-  pub run : Serves step old served new
+-- calls of the front, one after the other, and nothing else
+pub record IsUsed {H : Type 0} (step : Steps H) (old new : State H) : Type 0 where
+  pub calls : List Coming
+  pub run : Comes step old calls new
 
 -- ---- a stream that was served
 

@@ -8,7 +8,7 @@ ghost use Rattle.oai_edge.specs.declared.output.TheConstants.{SHORT_BYTES};
 ghost use Rattle.oai_edge.specs.declared.stop.Stop.TheVariants.{NoMemory};
 
 use crate::stop::Stop;
-use oai_front::{ConnId, Front};
+use oai_front::{ConnId, Front, Handler};
 use std::alloc::{AllocError, Global};
 use std::io::{self, Write};
 
@@ -16,7 +16,7 @@ use std::io::{self, Write};
 const SHORT_BYTES: usize = 4_096;
 
 /// Takes all that the connection puts out. The error is `NoMemory`.
-pub(crate) fn take_output<H>(
+pub(crate) fn take_output<H: Handler>(
     alloc: Global,
     front: &mut Front<H>,
     conn: ConnId,
@@ -26,6 +26,7 @@ pub(crate) fn take_output<H>(
     ensures emptied { OnOk result (spec.IsEmptied conn.number front.old front.new) }
     ensures apart { spec.IsApart conn.number front.old front.new }
     ensures handler { front.new.handler ≡ front.old.handler }
+    ensures used { spec.IsUsed H.step front.old front.new }
     ensures err { IfErr result (λ stop. stop ≡ NoMemory) }
 {
     let mut bytes = Vec::new(alloc);
@@ -131,7 +132,7 @@ fn add(bytes: &[u8], others: &mut Vec<u8>)
 
 /// Writes all that the connection puts out. What is shorter than 4,096 bytes is gathered before it is
 /// written, and what is longer is written as it is.
-pub(crate) fn put_out<H, W: Write>(
+pub(crate) fn put_out<H: Handler, W: Write>(
     front: &mut Front<H>,
     conn: ConnId,
     gathered: &mut Gathered,
@@ -144,6 +145,7 @@ pub(crate) fn put_out<H, W: Write>(
     ensures emptied { OnOk result (spec.IsEmptied conn.number front.old front.new) }
     ensures apart { spec.IsApart conn.number front.old front.new }
     ensures handler { front.new.handler ≡ front.old.handler }
+    ensures used { spec.IsUsed H.step front.old front.new }
 {
     while let Some(count) = put_next(front, conn, gathered, writer)? {
         front.taken(conn, count);

@@ -2,7 +2,7 @@
 ghost use Rattle.std.specs.Prelude.{◌≡◌, ◌+◌, ◌++◌, None, IfErr, OnOk};
 ghost use Rattle.std.specs.Io.KnownBytes.{Appends};
 ghost use Rattle.oai_front.specs.Fronts.{IsPiece, connection_numbered};
-ghost use Rattle.oai_edge.specs.Outputs.{IsAnswered, IsApart, IsForgotten, IsServing, OthersStay};
+ghost use Rattle.oai_edge.specs.Outputs.{IsAnswered, IsApart, IsForgotten, IsUsed, OthersStay};
 ghost use Rattle.oai_edge.specs.Workings.{IsOfOpened};
 
 use crate::limits::{MOST_READS, READ_BYTES};
@@ -48,7 +48,7 @@ pub fn serve_stream<H: Handler, S: Read + Write, C: Clock>(
     ensures forgotten { IsForgotten front.old result front.new }
     ensures others { OthersStay (front.old.last + 1) front.old front.new }
     ensures limit { front.new.limit ≡ front.old.limit }
-    ensures handler { IsServing H.step front.old.handler front.new.handler }
+    ensures used { IsUsed H.step front.old front.new }
 {
     match front.open() {
         Ok(conn) => {
@@ -69,7 +69,7 @@ fn serve_connection<H: Handler, S: Read + Write, C: Clock>(
     clock: &C,
 ) -> Result<(), StreamFault>
     ensures apart { IsApart conn.number front.old front.new }
-    ensures handler { IsServing H.step front.old.handler front.new.handler }
+    ensures used { IsUsed H.step front.old front.new }
     ensures err { IfErr result IsOfOpened }
 {
     let Ok(mut buffer) = vec![in alloc; 0u8; READ_BYTES] else {
@@ -96,7 +96,7 @@ fn read_on<H: Handler, S: Read + Write, C: Clock>(
     clock: &C,
 ) -> Result<bool, StreamFault>
     ensures apart { IsApart conn.number front.old front.new }
-    ensures handler { IsServing H.step front.old.handler front.new.handler }
+    ensures used { IsUsed H.step front.old front.new }
     ensures err { IfErr result IsOfOpened }
 {
     let Ok(count) = stream.read(buffer) else {
@@ -122,7 +122,7 @@ fn answer<H: Handler, S: Write>(
         front.new (λ bytes. Appends (S.Write.contents stream.old) (S.Write.contents stream.new)
         (gathered.old.bytes.items ++ bytes))) }
     ensures apart { IsApart conn.number front.old front.new }
-    ensures handler { IsServing H.step front.old.handler front.new.handler }
+    ensures used { IsUsed H.step front.old front.new }
     ensures err { IfErr result IsOfOpened }
 {
     let taken = take_in(front, conn, moment, piece);
@@ -143,16 +143,17 @@ pub(crate) fn take_in<H: Handler>(
 ) -> Result<(), PieceFault>
     ensures piece { IsPiece H.step conn.number moment piece.now front.old result front.new }
     ensures apart { IsApart conn.number front.old front.new }
-    ensures handler { IsServing H.step front.old.handler front.new.handler }
+    ensures used { IsUsed H.step front.old front.new }
 {
     front.piece(conn, moment, piece)
 }
 
 /// Forgets the connection.
-pub(crate) fn forget_connection<H>(front: &mut Front<H>, conn: ConnId)
+pub(crate) fn forget_connection<H: Handler>(front: &mut Front<H>, conn: ConnId)
     ensures none { connection_numbered conn.number front.new.connections ≡ None }
     ensures apart { IsApart conn.number front.old front.new }
     ensures handler { front.new.handler ≡ front.old.handler }
+    ensures used { IsUsed H.step front.old front.new }
 {
     let _ = front.forget(conn);
 }

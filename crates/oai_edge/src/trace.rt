@@ -5,7 +5,7 @@ ghost use Rattle.std.specs.Io.KnownBytes.{Appends};
 ghost use Rattle.std.specs.Ordering.{nat_cmp};
 ghost use Rattle.oai_front.specs.Fronts.{connection_numbered};
 ghost use Rattle.oai_edge.specs.Events.{shown_close, shown_output};
-ghost use Rattle.oai_edge.specs.Outputs.{IsApart, IsEmptied, IsServing, output_of};
+ghost use Rattle.oai_edge.specs.Outputs.{IsApart, IsEmptied, IsUsed, output_of};
 ghost use Rattle.oai_edge.specs.Places.{lines_of};
 ghost use Rattle.oai_edge.specs.Stops.{StopsTracing};
 ghost use Rattle.oai_edge.specs.Traces as spec;
@@ -47,7 +47,7 @@ pub fn trace_lines<H: Handler, R: Read, W: Write>(
         (lines_of input) front.old result front.new
         (Appends (W.Write.contents writer.old) (W.Write.contents writer.new))) }
     ensures stops { IfErr result StopsTracing }
-    ensures handler { IsServing H.step front.old.handler front.new.handler }
+    ensures used { IsUsed H.step front.old front.new }
 {
     let traced = trace_all(alloc, front, reader, writer);
     if writer.flush().is_err() {
@@ -67,7 +67,7 @@ fn trace_all<H: Handler, R: Read, W: Write>(
         (lines_of input) front.old result front.new
         (Appends (W.Write.contents writer.old) (W.Write.contents writer.new))) }
     ensures stops { IfErr result StopsTracing }
-    ensures handler { IsServing H.step front.old.handler front.new.handler }
+    ensures used { IsUsed H.step front.old front.new }
 {
     let mut lines = Lines::new(alloc)?;
     let mut labels = BTreeMap::new(alloc);
@@ -99,7 +99,7 @@ fn trace_line<H: Handler, W: Write>(
     ensures line { IsLine H.step line.now number (tracing front.old labels.old) result
         (tracing front.new labels.new)
         (Appends (W.Write.contents writer.old) (W.Write.contents writer.new)) }
-    ensures handler { IsServing H.step front.old.handler front.new.handler }
+    ensures used { IsUsed H.step front.old front.new }
 {
     if line.is_empty() {
         return Ok(());
@@ -125,14 +125,14 @@ fn trace_event<H: Handler, W: Write>(
         (tracing front.old labels.old) (tracing front.new labels.new)
         (Appends (W.Write.contents writer.old) (W.Write.contents writer.new))) }
     ensures err { IfErr result IsBroken }
-    ensures handler { IsServing H.step front.old.handler front.new.handler }
+    ensures used { IsUsed H.step front.old front.new }
 {
     deliver(front, conn, event)?;
     tell(alloc, front, labels, event.label, conn, writer)
 }
 
 /// Writes what the connection puts out, and where it is closing, that it is closed; then it is forgotten.
-fn tell<H, W: Write>(
+fn tell<H: Handler, W: Write>(
     alloc: Global,
     front: &mut Front<H>,
     labels: &mut Labels,
@@ -151,6 +151,7 @@ fn tell<H, W: Write>(
     ensures err { IfErr result IsBroken }
     ensures apart { IsApart conn.number front.old front.new }
     ensures handler { front.new.handler ≡ front.old.handler }
+    ensures used { IsUsed H.step front.old front.new }
 {
     write_output(alloc, front, conn, label, writer)?;
     if reads_nothing(front, conn) {
@@ -168,7 +169,7 @@ fn reads_nothing<H>(front: &Front<H>, conn: ConnId) -> bool
 }
 
 /// The connection of the label, which is opened where the label is new; None where it was forgotten.
-fn connection_of<H>(
+fn connection_of<H: Handler>(
     front: &mut Front<H>,
     labels: &mut Labels,
     label: u64,
@@ -179,7 +180,7 @@ fn connection_of<H>(
     ensures named { IfOk result (λ conn. get nat_cmp labels.new label ≡ Some conn) }
     ensures refused { IfErr result
         (IsUnopened number label (tracing front.old labels.old) front.new) }
-    ensures handler { front.new.handler ≡ front.old.handler }
+    ensures used { IsUsed H.step front.old front.new }
 {
     if let Some(known) = labels.get(&label) {
         return Ok(*known);
@@ -201,7 +202,7 @@ fn deliver<H: Handler>(front: &mut Front<H>, conn: ConnId, event: &Event) -> Res
         (is_ok result) front.new }
     ensures err { IfErr result (λ stop. stop ≡ NoMemory) }
     ensures apart { IsApart conn.number front.old front.new }
-    ensures handler { IsServing H.step front.old.handler front.new.handler }
+    ensures used { IsUsed H.step front.old front.new }
 {
     match &event.piece {
         Some(bytes) => match take_in(front, conn, event.moment, bytes.as_slice()) {
@@ -216,16 +217,16 @@ fn deliver<H: Handler>(front: &mut Front<H>, conn: ConnId, event: &Event) -> Res
 }
 
 /// Takes note of the end of the connection.
-fn end<H>(front: &mut Front<H>, conn: ConnId)
+fn end<H: Handler>(front: &mut Front<H>, conn: ConnId)
     ensures ended { spec.EndsOn conn.number front.old front.new }
     ensures apart { IsApart conn.number front.old front.new }
-    ensures handler { front.new.handler ≡ front.old.handler }
+    ensures used { IsUsed H.step front.old front.new }
 {
     let _ = front.end(conn);
 }
 
 /// Writes all that the connection puts out, where it does, as a line `<label> <hex>`.
-fn write_output<H, W: Write>(
+fn write_output<H: Handler, W: Write>(
     alloc: Global,
     front: &mut Front<H>,
     conn: ConnId,
@@ -238,6 +239,7 @@ fn write_output<H, W: Write>(
     ensures err { IfErr result IsBroken }
     ensures apart { IsApart conn.number front.old front.new }
     ensures handler { front.new.handler ≡ front.old.handler }
+    ensures used { IsUsed H.step front.old front.new }
 {
     let bytes = take_output(alloc, front, conn)?;
     if bytes.is_empty() {
@@ -265,7 +267,7 @@ fn write_close<W: Write>(label: u64, writer: &mut W) -> Result<(), Stop>
 }
 
 /// Forgets the connection of the label, so that later lines of the label do nothing.
-fn forget<H>(
+fn forget<H: Handler>(
     front: &mut Front<H>,
     labels: &mut Labels,
     label: u64,
@@ -278,6 +280,7 @@ fn forget<H>(
         → get nat_cmp labels.new other ≡ get nat_cmp labels.old other }
     ensures apart { IsApart conn.number front.old front.new }
     ensures handler { front.new.handler ≡ front.old.handler }
+    ensures used { IsUsed H.step front.old front.new }
 {
     forget_connection(front, conn);
     match labels.insert(label, None) {

@@ -4,6 +4,7 @@ use Rattle.std.specs.Io.KnownBytes.{append_known}
 use Rattle.oai_edge.specs.Outputs.{output_of}
 use Rattle.oai_edge.proofs.Apart.{apart_same, apart_then, same_begun, taken_less, taken_same, taken_split, taking_apart}
 use Rattle.oai_edge.proofs.KnownLemmas.{put_none, put_on}
+use Rattle.oai_edge.proofs.UsedLemmas.{used_none, used_taking, used_then}
 use Rattle.oai_edge.proofs.output.put_out.Goals as goal
 
 pub loop-count-smaller : goal.loop-count-smaller
@@ -15,6 +16,7 @@ pub loop-count-init : goal.loop-count-init
 loop-count-init g c = record {
   apart = apart_same c.args.conn.number c.args.front.now;
   handler = refl;
+  used = used_none g.H.Handler.step c.args.front.now c.args.front.now refl;
   same = same_begun c.args.conn.number c.args.front.now;
   put = put_none (append_known (g.W.Write.contents c.args.writer.now) c.args.gathered.now.bytes.items) (output_of c.args.conn.number c.args.front.now.connections);
 }
@@ -28,6 +30,8 @@ loop-count-preserved g c =
       apart = apart_then number c.args.front.now c.loop-count.front c.taken.new.self c.loop-count.invariant.apart
           (taking_apart number c.in-Some.count c.loop-count.front c.taken.new.self c.taken.ensures.change);
       handler = c.taken.ensures.handler ∙ c.loop-count.invariant.handler;
+      used = used_then g.H.Handler.step c.args.front.now c.loop-count.front c.taken.new.self c.loop-count.invariant.used
+          (used_taking g.H.Handler.step c.args.conn.number c.in-Some.count c.loop-count.front c.taken.new.self next.1 c.taken.ensures.change c.taken.ensures.handler);
       same = taken_same number c.in-Some.count c.args.front.now c.loop-count.front c.taken.new.self c.taken.ensures.change c.loop-count.invariant.same;
       put = put_on (append_known (g.W.Write.contents c.args.writer.now) c.args.gathered.now.bytes.items)
           (append_known (g.W.Write.contents c.loop-count.writer) c.loop-count.gathered.bytes.items)

@@ -1,7 +1,7 @@
 use Rattle.std.proofs.Common.{◌≡◌, ◌++◌, length}
 use Rattle.std.specs.Option.{option_map}
 use Rattle.oai_front.specs.Fronts.{connection_numbered}
-use Rattle.oai_edge.specs.Outputs.{IsApart, output_of, with_output}
+use Rattle.oai_edge.specs.Outputs.{IsApart, IsUsed, output_of, with_output}
 use Rattle.oai_edge.proofs.output.take_output.Given as goal
 
 -- what was taken was of the one connection: the front of what it was to put out
@@ -9,6 +9,7 @@ abbrev pub invariant-loop-bytes : goal.invariant-loop-bytes
 invariant-loop-bytes g l = record {
   apart : IsApart l.conn.number l.fn.front l.front;
   handler : l.front.handler ≡ l.fn.front.handler;
+  used : IsUsed g.H.Handler.step l.fn.front l.front;
   same : connection_numbered l.conn.number l.front.connections ≡ option_map (with_output (output_of l.conn.number l.front.connections)) (connection_numbered l.conn.number l.fn.front.connections);
   joined : l.bytes.items ++ output_of l.conn.number l.front.connections ≡ output_of l.conn.number l.fn.front.connections;
 }

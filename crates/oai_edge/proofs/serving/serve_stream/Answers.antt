@@ -3,7 +3,7 @@ use Rattle.std.proofs.Common.{◌≡◌, ◌∙◌, ◌+◌, None, ℕ, subst}
 use Rattle.oai_front.specs.Fronts.{connection_numbered}
 use Rattle.oai_edge.specs.Outputs.{OthersStay}
 use Rattle.oai_edge.proofs.Apart.{equal_limit, equal_others, forgotten_so, opened_last, opened_limit, opened_others, others_then}
-use Rattle.oai_edge.proofs.Performed.{opening_handler, opening_refused, serving_from, serving_until}
+use Rattle.oai_edge.proofs.UsedLemmas.{opening_refused, used_opening, used_then}
 use Rattle.oai_edge.proofs.serving.serve_stream.Goals as goal
 
 pub returns-in-Ok-clause-forgotten : goal.returns-in-Ok-clause-forgotten
@@ -29,11 +29,15 @@ returns-in-Ok-clause-limit g c =
     c.forget_connection.ensures.apart.limit ∙ c.serve_connection-served.ensures.apart.limit
     ∙ opened_limit (c.args.front.now.last + 1) (c.args.front.now.last + 1) c.args.front.now c.open.new.self c.in-Ok.ensures.3
 
-pub returns-in-Ok-clause-handler : goal.returns-in-Ok-clause-handler
-returns-in-Ok-clause-handler g c =
-    serving_until g.H.Handler.step _ _ _
-    (serving_from g.H.Handler.step _ _ _ (opening_handler c.args.front.now c.open.result c.open.new.self c.open.ensures) c.serve_connection-served.ensures.handler)
-    c.forget_connection.ensures.handler
+pub returns-in-Ok-clause-used : goal.returns-in-Ok-clause-used
+returns-in-Ok-clause-used g c =
+    used_then g.H.Handler.step c.args.front.now c.open.new.self c.forget_connection.new.front
+    (used_opening g.H.Handler.step c.args.front.now c.open.result c.open.new.self c.open.ensures)
+    (used_then g.H.Handler.step c.open.new.self c.serve_connection-served.new.front c.forget_connection.new.front c.serve_connection-served.ensures.used
+    c.forget_connection.ensures.used)
+
+pub returns-in-Err-clause-used : goal.returns-in-Err-clause-used
+returns-in-Err-clause-used g c = used_opening g.H.Handler.step c.args.front.now c.open.result c.open.new.self c.open.ensures
 
 pub returns-in-Err-clause-others : goal.returns-in-Err-clause-others
 returns-in-Err-clause-others g c =

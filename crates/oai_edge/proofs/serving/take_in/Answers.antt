@@ -1,7 +1,7 @@
 -- A piece changes its connection, and its messages are performed.
 use Rattle.std.proofs.Common.{w64, FitsSigned, to_z-of_z}
 use Rattle.oai_edge.proofs.Apart.{piece_apart}
-use Rattle.oai_edge.proofs.Performed.{piece_serving}
+use Rattle.oai_edge.proofs.UsedLemmas.{used_piece}
 use Rattle.oai_edge.proofs.serving.take_in.Goals as goal
 
 pub returns-clause-piece : goal.returns-clause-piece
@@ -12,5 +12,5 @@ returns-clause-piece g c =
 pub returns-clause-apart : goal.returns-clause-apart
 returns-clause-apart g c = piece_apart g.H.Handler.step c.args.conn.number _ c.args.piece.now c.args.front.now c.piece.result c.piece.new.self c.piece.ensures
 
-pub returns-clause-handler : goal.returns-clause-handler
-returns-clause-handler g c = piece_serving g.H.Handler.step c.args.conn.number _ c.args.piece.now c.args.front.now c.piece.result c.piece.new.self c.piece.ensures
+pub returns-clause-used : goal.returns-clause-used
+returns-clause-used g c = used_piece g.H.Handler.step c.args.conn.number _ c.args.piece.now c.args.front.now c.piece.result c.piece.new.self c.piece.ensures

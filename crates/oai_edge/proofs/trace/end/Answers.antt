@@ -1,6 +1,6 @@
 -- The end of a connection is seen by it alone.
 use Rattle.oai_edge.proofs.Apart.{ending_apart}
-use Rattle.oai_edge.proofs.Performed.{ending_handler}
+use Rattle.oai_edge.proofs.UsedLemmas.{used_ending}
 use Rattle.oai_edge.proofs.trace.end.Goals as goal
 
 pub returns-clause-ended : goal.returns-clause-ended
@@ -9,5 +9,5 @@ returns-clause-ended g c = (c.end.result, c.end.ensures)
 pub returns-clause-apart : goal.returns-clause-apart
 returns-clause-apart g c = ending_apart c.args.conn.number c.args.front.now c.end.result c.end.new.self c.end.ensures
 
-pub returns-clause-handler : goal.returns-clause-handler
-returns-clause-handler g c = ending_handler c.args.conn.number c.args.front.now c.end.result c.end.new.self c.end.ensures
+pub returns-clause-used : goal.returns-clause-used
+returns-clause-used g c = used_ending g.H.Handler.step c.args.conn.number c.args.front.now c.end.result c.end.new.self c.end.ensures

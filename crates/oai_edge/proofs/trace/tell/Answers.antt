@@ -4,6 +4,7 @@ use Rattle.std.specs.BTreeMap.{get}
 use Rattle.std.specs.Ordering.{nat_cmp}
 use Rattle.oai_edge.proofs.KnownLemmas.{on_ok, on_ok_so}
 use Rattle.oai_edge.proofs.Traced.{left_open, left_over, named_open, named_over, told_open, told_over}
+use Rattle.oai_edge.proofs.UsedLemmas.{used_then}
 use Rattle.oai_edge.proofs.trace.tell.Goals as goal
 
 pub returns-then-reads_nothing-clause-written : goal.returns-then-reads_nothing-clause-written
@@ -38,3 +39,7 @@ pub returns-clause-named : goal.returns-clause-named
 returns-clause-named g c =
     named_open c.args.conn c.args.label c.args.front.now c.write_output.new.front (get nat_cmp c.args.labels.now) c.in_ok-write_output.ensures.emptied
     (sym c.reads_nothing.ensures ∙ c.if-reads_nothing.false) c.requires
+
+pub returns-then-reads_nothing-clause-used : goal.returns-then-reads_nothing-clause-used
+returns-then-reads_nothing-clause-used g c =
+    used_then g.H.Handler.step c.args.front.now c.write_output.new.front c.forget.new.front c.write_output.ensures.used c.forget.ensures.used

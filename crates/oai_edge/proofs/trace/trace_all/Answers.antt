@@ -5,15 +5,15 @@ use Rattle.std.specs.Io.KnownBytes.{Appends}
 use Rattle.oai_edge.specs.Inputs.{IsNext, left, numbered}
 use Rattle.oai_edge.specs.Workings.{AreCounted, tracing}
 use Rattle.oai_edge.specs.declared.stop.Stop.TheVariants.{InputFault}
-use Rattle.oai_edge.proofs.Performed.{serving_none, serving_then}
 use Rattle.oai_edge.proofs.ReadLemmas.{read_more, read_none}
 use Rattle.oai_edge.proofs.TraceLemmas.{counted_more, counted_none, line_stops, traced_none, traced_stopped, traced_unread, traced_whole, unread_stops}
+use Rattle.oai_edge.proofs.UsedLemmas.{used_none, used_then}
 use Rattle.oai_edge.proofs.trace.trace_all.Goals as goal
 
 pub loop-init : goal.loop-init
 loop-init g c =
     let written = g.W.Write.contents c.args.writer.now in (
-      serving_none g.H.Handler.step c.args.front.now.handler c.args.front.now.handler refl,
+      used_none g.H.Handler.step c.args.front.now c.args.front.now refl,
       rw c.in_ok-lines.ensures.begun
           (read_none (g.R.Read.remaining c.args.reader.now) (AreCounted g.H.Handler.step c.args.front.now (tracing c.args.front.now c.new-labels.result) 0 (Appends written written))
           (counted_none g.H.Handler.step c.args.front.now c.new-labels.result written c.new-labels.ensures.empty)),
@@ -26,7 +26,7 @@ loop-preserved g c =
     let next : IsNext (left c.loop.lines (g.R.Read.remaining c.loop.reader)) (Ok true) c.line.result.now (left c.next.new.self (g.R.Read.remaining c.next.new.reader)) =
     rw (c.line.ensures) (rw some at c.in_ok-next.ensures.next) in
     let counted : c.number.result ≡ numbered true c.loop.lines.number = c.number.ensures ∙ rw some at c.in_ok-next.ensures.number in (
-      serving_then g.H.Handler.step c.args.front.now.handler c.loop.front.handler c.trace_line.new.front.handler c.loop.invariant.0 c.in_ok-trace_line.ensures.handler,
+      used_then g.H.Handler.step c.args.front.now c.loop.front c.trace_line.new.front c.loop.invariant.0 c.in_ok-trace_line.ensures.used,
       rw (c.number.ensures) at
           (read_more (g.R.Read.remaining c.args.reader.now) _ _ c.line.result.now
           (AreCounted g.H.Handler.step c.args.front.now (tracing c.loop.front c.loop.labels) c.loop.lines.number (Appends from (g.W.Write.contents c.loop.writer)))
@@ -58,8 +58,8 @@ returns-in_err-next-clause-stops g c =
     let p = err_from_is_err_and c.from_residual-in_err-next.result c.from_residual-in_err-next.ensures.1 in
     rw (p.1, p.2) (unread_stops c.in_err-next.field-0.0 c.in_err-next.ensures.err)
 
-pub returns-in_err-next-clause-handler : goal.returns-in_err-next-clause-handler
-returns-in_err-next-clause-handler g c = c.loop.invariant.0
+pub returns-in_err-next-clause-used : goal.returns-in_err-next-clause-used
+returns-in_err-next-clause-used g c = c.loop.invariant.0
 
 pub returns-then-not-branch-clause-traced : goal.returns-then-not-branch-clause-traced
 returns-then-not-branch-clause-traced g c =
@@ -68,8 +68,8 @@ returns-then-not-branch-clause-traced g c =
     (tracing c.loop.front c.loop.labels) c.loop.lines.number (Appends (g.W.Write.contents c.args.writer.now) (g.W.Write.contents c.loop.writer))
     (rw none at c.in_ok-next.ensures.next) c.loop.invariant.1
 
-pub returns-then-not-branch-clause-handler : goal.returns-then-not-branch-clause-handler
-returns-then-not-branch-clause-handler g c = c.loop.invariant.0
+pub returns-then-not-branch-clause-used : goal.returns-then-not-branch-clause-used
+returns-then-not-branch-clause-used g c = c.loop.invariant.0
 
 pub returns-in_err-trace_line-clause-traced : goal.returns-in_err-trace_line-clause-traced
 returns-in_err-trace_line-clause-traced g c =
@@ -91,9 +91,9 @@ returns-in_err-trace_line-clause-stops g c =
     (line_stops g.H.Handler.step c.line.result.now c.number.result (tracing c.loop.front c.loop.labels) (tracing c.trace_line.new.front c.trace_line.new.labels)
     (Appends (g.W.Write.contents c.loop.writer) (g.W.Write.contents c.trace_line.new.writer)) c.in_err-trace_line.field-0.0 c.in_err-trace_line.ensures.line)
 
-pub returns-in_err-trace_line-clause-handler : goal.returns-in_err-trace_line-clause-handler
-returns-in_err-trace_line-clause-handler g c =
-    serving_then g.H.Handler.step c.args.front.now.handler c.loop.front.handler c.trace_line.new.front.handler c.loop.invariant.0 c.in_err-trace_line.ensures.handler
+pub returns-in_err-trace_line-clause-used : goal.returns-in_err-trace_line-clause-used
+returns-in_err-trace_line-clause-used g c =
+    used_then g.H.Handler.step c.args.front.now c.loop.front c.trace_line.new.front c.loop.invariant.0 c.in_err-trace_line.ensures.used
 
 pub returns-clause-traced : goal.returns-clause-traced
 returns-clause-traced g c =
@@ -101,5 +101,5 @@ returns-clause-traced g c =
     (tracing c.loop.front c.loop.labels) c.loop.lines.number (Appends (g.W.Write.contents c.args.writer.now) (g.W.Write.contents c.loop.writer)) InputFault (inl refl)
     c.loop.invariant.1
 
-pub returns-clause-handler : goal.returns-clause-handler
-returns-clause-handler g c = c.loop.invariant.0
+pub returns-clause-used : goal.returns-clause-used
+returns-clause-used g c = c.loop.invariant.0

@@ -1,12 +1,12 @@
 use Rattle.std.specs.Io.KnownBytes.{Appends}
 use Rattle.oai_edge.specs.Inputs.{left}
-use Rattle.oai_edge.specs.Outputs.{IsServing}
+use Rattle.oai_edge.specs.Outputs.{IsUsed}
 use Rattle.oai_edge.specs.Workings.{AreCounted, IsReadSoFar, tracing}
 use Rattle.oai_edge.proofs.trace.trace_all.Given as goal
 
--- messages were performed; the lines that were read were followed, and the others are left
+-- the front was used by its calls; the lines that were read were followed, and the others are left
 abbrev pub invariant-loop : goal.invariant-loop
 invariant-loop g l =
-    IsServing g.H.Handler.step l.fn.front.handler l.front.handler
+    IsUsed g.H.Handler.step l.fn.front l.front
     × IsReadSoFar (g.R.Read.remaining l.fn.reader) (left l.lines (g.R.Read.remaining l.reader))
     (AreCounted g.H.Handler.step l.fn.front (tracing l.front l.labels) l.lines.number (Appends (g.W.Write.contents l.fn.writer) (g.W.Write.contents l.writer)))

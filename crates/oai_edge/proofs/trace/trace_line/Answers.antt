@@ -1,10 +1,11 @@
 -- An empty line does nothing; any other tells an event, which is followed, or the program stops.
-use Rattle.std.proofs.Common.{◌≡◌, None, Some, true, false, rules}
+use Rattle.std.proofs.Common.{◌≡◌, None, Some, true, false, refl, rules}
 use Rattle.std.specs.Io.KnownBytes.{Appends}
 use Rattle.oai_edge.specs.Lines.{is_filled}
 use Rattle.oai_edge.specs.Traces.{IsOf}
 use Rattle.oai_edge.specs.Workings.{tracing}
 use Rattle.oai_edge.proofs.TraceLemmas.{line_followed, line_forgotten, line_passed}
+use Rattle.oai_edge.proofs.UsedLemmas.{used_none, used_then}
 use Rattle.oai_edge.proofs.trace.trace_line.Goals as goal
 
 pub returns-then-is_empty-clause-line : goal.returns-then-is_empty-clause-line
@@ -29,3 +30,13 @@ returns-clause-line g c =
     rw c.in-None.is at c.in_ok-conn.ensures.of in
     line_forgotten g.H.Handler.step c.args.line.now c.args.number c.in_ok-event.event (tracing c.args.front.now c.args.labels.now)
     (tracing c.connection_of.new.front c.connection_of.new.labels) (g.W.Write.contents c.args.writer.now) full c.in_ok-event.ensures of
+
+pub returns-then-is_empty-clause-used : goal.returns-then-is_empty-clause-used
+returns-then-is_empty-clause-used g c = used_none g.H.Handler.step c.args.front.now c.args.front.now refl
+
+pub returns-in_err-event-clause-used : goal.returns-in_err-event-clause-used
+returns-in_err-event-clause-used g c = used_none g.H.Handler.step c.args.front.now c.args.front.now refl
+
+pub returns-in-Some-clause-used : goal.returns-in-Some-clause-used
+returns-in-Some-clause-used g c =
+    used_then g.H.Handler.step c.args.front.now c.connection_of.new.front c.trace_event.new.front c.connection_of.ensures.used c.trace_event.ensures.used
