@@ -1,7 +1,8 @@
 //! A repository over a store that lies, and says that there is nothing: each call returns, and one
 //! that finds an item missing changes nothing.
 use crate::samples::{
-    Asked, BEGIN, NEXT_DAY, change_in, deletion, deposit, formats, headers, record, records,
+    Asked, BEGIN, NEXT_DAY, change_in, deletion, deposit, formats, headers, next_records, record,
+    records,
 };
 use oai_catalogue::{PlainVersions, Versions};
 use oai_item::Fault;
@@ -136,6 +137,24 @@ fn damage_changes_nothing(rt: HostRuntime) -> Result<(), Fail> {
     let wanted = record_after(&rt, rt.alloc(), 0, &no_lies())?;
     assert_eq!(rt; page.as_slice(), wanted.as_slice());
     Ok(())
+}
+
+/// A list of which the store answers the first part, and then nothing.
+fn missing_part() -> [(Asked, &'static str); 5] {
+    [
+        ((BEGIN, deposit(1)), "ok"),
+        ((BEGIN + 1, deposit(2)), "ok"),
+        ((BEGIN + 2, deposit(3)), "ok"),
+        ((NEXT_DAY, records()), "page"),
+        ((NEXT_DAY, next_records()), "damaged"),
+    ]
+}
+
+/// A part that has fewer records than are left is none of the list.
+#[test]
+fn a_missing_part_is_damage(rt: HostRuntime) -> Result<(), Fail> {
+    let mut repo = archive(rt.alloc(), 2, ALWAYS)?;
+    assert_outcomes(&rt, rt.alloc(), &mut repo, &missing_part())
 }
 
 /// A new item, one in its place at the same datestamp and at another, lists, a deletion, and what it

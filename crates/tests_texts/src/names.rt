@@ -218,6 +218,15 @@ fn escapes(rt: HostRuntime) -> Result<(), Fail> {
     assert_attr(&rt, alloc, "<<a long run\"", "-&lt;&lt;a long run&quot;")
 }
 
+#[test]
+fn long_texts_are_escaped(rt: HostRuntime) -> Result<(), Fail> {
+    let alloc = rt.alloc();
+    let text = with_letters(alloc, "<", 100_000)?;
+    let wanted = with_letters(alloc, "-&lt;", 100_000)?;
+    assert_text(&rt, alloc, text.as_str(), wanted.as_str())?;
+    assert_attr(&rt, alloc, text.as_str(), wanted.as_str())
+}
+
 fn set_spec(rt: &impl Abort, alloc: Global, text: &str) -> SetSpec {
     match SetSpec::read(alloc, text) {
         Ok(spec) => spec,
