@@ -1,6 +1,7 @@
 #!/usr/bin/env bash
-# Shows that a client which sends nothing, and one which reads nothing of what it is answered, keep the others waiting for a minute and no
-# longer: the server lets it go after 60 seconds, and serves the next one. It takes some two minutes. The status is 0 where that is so.
+# Shows that a client which sends nothing, and one which reads nothing of what it is answered, do not keep the others waiting for ever: the
+# server lets it go once a read, or a write, has done nothing for 60 seconds, and serves the next one. The first is let go after a minute, the
+# second after some three: the buffers of the system take a part of what is written at last. The status is 0 where that is so.
 # OAIHOST is the program, `bin/oaihost` if it is not set.
 # Usage: scripts/idle-clients.sh
 set -u

@@ -6,9 +6,10 @@ import time
 from generated import NAME, configuration
 from served import Server, get
 
-# After how many seconds the server lets a client go, and how much later the next one may be served.
-MOST = 60
-LATER = 20
+# Within how many seconds the server lets a client go that sends nothing, and one that reads nothing; and how early that may be.
+SENDS_NOTHING = 80
+READS_NOTHING = 300
+SOONEST = 50
 
 # What is asked of it without reading: its answers are more than any buffer between the two holds.
 REQUEST = f"GET /oai/{NAME}?verb=Identify HTTP/1.1\r\nHost: h\r\n\r\n".encode()
@@ -33,21 +34,20 @@ def asks(client):
     raise SystemExit("the server took all requests of a client that reads nothing")
 
 
-def is_let_go(server, idle, what):
-    """Whether the next client is served a minute after the idle one did its part, and not before."""
+def is_let_go(server, idle, what, most):
+    """Whether the next client is served within so many seconds after the idle one did its part, and not at once."""
     with open_to(server) as client:
         idle(client)
         begun = time.monotonic()
-        # a read or a write that is not answered for so long fails, and so does this script
         next_one = server.connect()
-        next_one.timeout = MOST + LATER
+        next_one.timeout = most
         try:
             status, _ = get(next_one, "verb=Identify")
         except OSError:
             status = None
         next_one.close()
         passed = time.monotonic() - begun
-    served = status == 200 and passed > MOST / 2
+    served = status == 200 and passed > SOONEST
     print(f"{what}: the next one is {'served' if status == 200 else 'not served'} after {passed:.0f} seconds")
     return served
 
@@ -55,12 +55,12 @@ def is_let_go(server, idle, what):
 def main():
     with Server(configuration(100, 60, 10, 10)) as server:
         each = [
-            is_let_go(server, lambda client: None, "a client that sends nothing"),
-            is_let_go(server, asks, "a client that reads nothing"),
+            is_let_go(server, lambda client: None, "a client that sends nothing", SENDS_NOTHING),
+            is_let_go(server, asks, "a client that reads nothing", READS_NOTHING),
         ]
     if not all(each):
-        raise SystemExit("idle-clients: a client that does nothing is not let go after a minute")
-    print("idle-clients: each was let go after a minute")
+        raise SystemExit("idle-clients: a client that does nothing is not let go in time")
+    print("idle-clients: each was let go in time")
 
 
 main()

@@ -83,17 +83,26 @@ fn push_item(transcript: &mut String, number: usize) -> Result<(), AllocError> {
     transcript.push_str(line.as_str())
 }
 
-/// So many items are deposited, and the first of them is deleted.
+/// So many items are deposited, and a second later the first of them is deleted.
 fn many_items_asked(alloc: Global, items: usize) -> Result<String, AllocError> {
     let mut transcript = String::from_str(alloc, "> 1704067200 POST /deposit/a | - | ")?;
     for number in 0..items {
         push_item(&mut transcript, number)?;
     }
-    transcript.push_str("{\"delete\":\"oai:a:0\"}\n200")?;
-    for _ in 0..=items {
+    transcript.push_str("\n200")?;
+    for _ in 0..items {
         transcript.push_str("\nok 2024-01-01T00:00:00Z")?;
     }
+    transcript.push_str(deleted_later())?;
     Ok(transcript)
+}
+
+/// The deletion of the first item, and what it is answered.
+fn deleted_later() -> &'static str {
+    r#"
+> 1704067201 POST /deposit/a | - | {"delete":"oai:a:0"}
+200
+ok 2024-01-01T00:00:01Z"#
 }
 
 /// The deletion copies the list of the items, however many there are.
