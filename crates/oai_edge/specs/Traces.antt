@@ -91,11 +91,12 @@ pub record IsTraced {H : Type 0} (step : Steps H) (event : Event) (conn : ConnId
 
 -- ---- the lines
 
--- so an event is followed on the connection of its label; where this was forgotten nothing comes of it
+-- so an event is followed on that connection; where it was forgotten nothing comes of it
 abbrev pub IsFollowedOn : {H : Type 0} → Steps H → Event → Option ConnId → Tracing H → Tracing H → (List ℕ → Type 0) → Type 0
 IsFollowedOn step event None old new Writes = (new ≡ old) × Writes []
 IsFollowedOn step event (Some conn) old new Writes = IsTraced step event conn old new Writes
 
+-- the event is followed on the connection that its label stands for
 pub record IsFollowed {H : Type 0} (step : Steps H) (event : Event) (old new : Tracing H) (Writes : List ℕ → Type 0) : Type 0 where
   pub conn : Option ConnId
   pub mid : Tracing H
