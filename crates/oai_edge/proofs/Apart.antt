@@ -1,13 +1,13 @@
 -- What is done with one connection leaves the others.
-use Rattle.std.proofs.Common.{◌≡◌, ◌≢◌, ◌∙◌, ℕ, ℤ, ◌<◌, ◌≤◌, ◌+◌, List, [], ◌∷◌, ◌++◌, append_assoc, length, drop, take, Option, Some, None, Result, Ok, Err, sym, ap, subst, refl, arith, Bool, false, cond, not, inl, inr}
+use Rattle.std.proofs.Common.{◌≡◌, ◌≢◌, ◌∙◌, ℕ, ℤ, ◌<◌, ◌≤◌, ◌+◌, List, [], ◌∷◌, ◌++◌, append_assoc, length, drop, take, Option, Some, None, Result, Ok, Err, sym, ap, subst, refl, arith, false}
 use Rattle.std.specs.Option.{option_map}
-use Rattle.std.specs.Prelude.{IfErr, MatchOption, filter, find}
-use Rattle.std.proofs.lemmas.Bool.{cases_Bool, cond-false, eqb-true}
+use Rattle.std.specs.Prelude.{◌==◌, IfErr, MatchOption}
+use Rattle.std.proofs.lemmas.Bool.{ne_eqb}
 use Rattle.std.proofs.lemmas.List.{length-append, length-drop, take-append-drop}
 use Rattle.oai_front.proofs.FrontLemmas.{taken_number}
-use Rattle.oai_front.proofs.RunLemmas.{number_found, numbered_other, numbered_same}
+use Rattle.oai_front.proofs.RunLemmas.{not_numbered, number_found, numbered_other, numbered_same, opened_other, without_other, without_own}
 use Rattle.oai_front.specs.Connections.{Connection, IsEnded, IsFrontOf, fresh}
-use Rattle.oai_front.specs.Fronts.{HasOutput, IsChange, IsEnding, IsForgetting, IsOutput, IsPiece, IsTaking, State, connection_numbered, is_numbered, without_connection}
+use Rattle.oai_front.specs.Fronts.{HasOutput, IsChange, IsEnding, IsForgetting, IsOutput, IsPiece, IsTaking, State, connection_numbered}
 use Rattle.oai_front.specs.Performing.{Steps}
 use Rattle.oai_front.specs.declared.faults.NoSuchConnection.{NoSuchConnection as Absent}
 use Rattle.oai_front.specs.declared.faults.PieceFault.{PieceFault}
@@ -30,11 +30,9 @@ apart_then number old mid new a b = record {
   last = b.last ∙ a.last;
 }
 
-not_numbered : (number other : ℕ) (d : Connection) → d.number ≡ number → other ≢ number → is_numbered other d ≡ false
-not_numbered number other d e away = elim (cases_Bool (is_numbered other d)) [
-  | inl here ↦ absurd (away (sym (eqb-true d.number other here) ∙ e))
-  | inr there ↦ there
-]
+-- numbers that differ are told apart by their test
+apart_numbers : (number other : ℕ) → other ≢ number → (number == other) ≡ false
+apart_numbers number other away = ne_eqb number other (λ e. away (sym e))
 
 pub changed_apart : {H : Type 0} (number : ℕ) (old new : State H) (change : Connection → Connection → Type 0) → ((c d : Connection) → change c d → d.number ≡ c.number)
     → IsChange number old new change → IsApart number old new
@@ -43,7 +41,7 @@ changed_apart {H} number old new change same h =
     record {
       others = λ other away.
           ap (λ (s : State H). connection_numbered other s.connections) h.others
-          ∙ numbered_other other old.connections h.after (not_numbered number other h.after own away);
+          ∙ numbered_other other old.connections h.after (not_numbered number other h.after own (apart_numbers number other away));
       limit = ap (λ (s : State H). s.limit) h.others;
       last = ap (λ (s : State H). s.last) h.others;
     }
@@ -66,39 +64,9 @@ ending_apart number old (Err absent) new h = apart_equal number old new h.1
 
 -- ---- a connection that is forgotten
 
-without_other : (number other : ℕ) (connections : List Connection) → other ≢ number
-    → connection_numbered other (without_connection number connections) ≡ connection_numbered other connections
-unfolding connection_numbered without_connection
-without_other number other [] away = refl
-without_other number other (x ∷ connections) away =
-    let rest = without_other number other connections away in
-    elim (cases_Bool (is_numbered number x)) [
-      | inl here ↦
-          let gone : is_numbered other x ≡ false = not_numbered number other x (eqb-true x.number number here) away in
-          ap (λ (b : Bool). find (is_numbered other) (cond (not b) (x ∷ filter (λ c. not (is_numbered number c)) connections) (filter (λ c. not (is_numbered number c)) connections))) here
-          ∙ rest ∙ sym (cond-false (is_numbered other x) (Some x) (find (is_numbered other) connections) gone)
-      | inr there ↦
-          ap (λ (b : Bool). find (is_numbered other) (cond (not b) (x ∷ filter (λ c. not (is_numbered number c)) connections) (filter (λ c. not (is_numbered number c)) connections))) there
-          ∙ ap (cond (is_numbered other x) (Some x)) rest
-    ]
-
-without_own : (number : ℕ) (connections : List Connection) → connection_numbered number (without_connection number connections) ≡ None
-unfolding connection_numbered without_connection
-without_own number [] = refl
-without_own number (x ∷ connections) =
-    let rest = without_own number connections in
-    elim (cases_Bool (is_numbered number x)) [
-      | inl here ↦
-          ap (λ (b : Bool). find (is_numbered number) (cond (not b) (x ∷ filter (λ c. not (is_numbered number c)) connections) (filter (λ c. not (is_numbered number c)) connections))) here
-          ∙ rest
-      | inr there ↦
-          ap (λ (b : Bool). find (is_numbered number) (cond (not b) (x ∷ filter (λ c. not (is_numbered number c)) connections) (filter (λ c. not (is_numbered number c)) connections))) there
-          ∙ cond-false (is_numbered number x) (Some x) (find (is_numbered number) (filter (λ c. not (is_numbered number c)) connections)) there ∙ rest
-    ]
-
 pub forgetting_apart : {H : Type 0} (number : ℕ) (old : State H) (result : Result Unit Absent) (new : State H) → IsForgetting number old result new → IsApart number old new
 forgetting_apart {H} number old (Ok done) new h = record {
-  others = λ other away. ap (λ (s : State H). connection_numbered other s.connections) h.1 ∙ without_other number other old.connections away;
+  others = λ other away. ap (λ (s : State H). connection_numbered other s.connections) h.1 ∙ without_other number other old.connections (apart_numbers number other away);
   limit = ap (λ (s : State H). s.limit) h.1;
   last = ap (λ (s : State H). s.last) h.1;
 }
@@ -115,15 +83,9 @@ forgetting_handler {H} number old (Err absent) new h = ap (λ (s : State H). s.h
 
 -- ---- a connection that is opened
 
-opened_other : (number other : ℕ) (connections : List Connection) → other ≢ number
-    → connection_numbered other (connections ++ fresh number ∷ []) ≡ connection_numbered other connections
-unfolding connection_numbered
-opened_other number other [] away = cond-false (is_numbered other (fresh number)) (Some (fresh number)) None (not_numbered number other (fresh number) refl away)
-opened_other number other (x ∷ connections) away = ap (cond (is_numbered other x) (Some x)) (opened_other number other connections away)
-
 pub opened_others : {H : Type 0} (number last : ℕ) (old new : State H) → new ≡ record old { last = last; connections = old.connections ++ fresh number ∷ [] }
     → OthersStay number old new
-opened_others {H} number last old new e = λ other away. ap (λ (s : State H). connection_numbered other s.connections) e ∙ opened_other number other old.connections away
+opened_others {H} number last old new e = λ other away. ap (λ (s : State H). connection_numbered other s.connections) e ∙ opened_other number other old.connections (apart_numbers number other away)
 
 pub opened_limit : {H : Type 0} (number last : ℕ) (old new : State H) → new ≡ record old { last = last; connections = old.connections ++ fresh number ∷ [] } → new.limit ≡ old.limit
 opened_limit {H} number last old new e = ap (λ (s : State H). s.limit) e

@@ -173,7 +173,7 @@ without_own number (x ∷ connections) =
           ∙ cond-false (is_numbered number x) (Some x) (find (is_numbered number) (filter (λ c. not (is_numbered number c)) connections)) there ∙ rest
     ]
 
-opened_other : (number other : ℕ) (connections : List Connection) → (number == other) ≡ false
+pub opened_other : (number other : ℕ) (connections : List Connection) → (number == other) ≡ false
     → connection_numbered other (connections ++ fresh number ∷ []) ≡ connection_numbered other connections
 unfolding connection_numbered
 opened_other number other [] away = cond-false (is_numbered other (fresh number)) (Some (fresh number)) None away

@@ -1,6 +1,7 @@
 -- The connections that are open, and what the calls of a front do. This repository's own.
-use Rattle.std.specs.Prelude.{◌≡◌, ℕ, ℤ, ◌+◌, ◌<◌, ◌≤◌, Bool, true, not, ◌&&◌, ◌==◌, nat_le, nat_lt, if◌then◌else◌, List, [], ◌∷◌, ◌++◌, length, drop, map, filter, find, Option, Some, None, IsSome, MatchOption, Result, Ok, Err}
+use Rattle.std.specs.Prelude.{◌≡◌, ℕ, ℤ, ◌+◌, ◌<◌, ◌≤◌, Bool, true, not, ◌==◌, nat_le, if◌then◌else◌, List, [], ◌∷◌, ◌++◌, length, drop, map, filter, find, Option, Some, None, IsSome, MatchOption, Result, Ok, Err}
 use Rattle.std.specs.List.{list_all}
+use Rattle.oai_names.specs.Numbered.{numbers_rise}
 use Rattle.oai_front.specs.Connections.{Connection, IsEnded, IsFrontOf, IsTakenIn, fresh}
 use Rattle.oai_front.specs.Performing.{Steps}
 use Rattle.oai_front.specs.declared.faults.OpenFault.{OpenFault}
@@ -43,14 +44,13 @@ without_connection number connections = filter (λ c. not (is_numbered number c)
 
 -- ---- what is true of each front
 
--- the connection has a lower number than the other
-abbrev pub is_before : Connection → Connection → Bool
-is_before a b = nat_lt a.number b.number
+-- the number of a connection
+abbrev pub number_of : Connection → ℕ
+number_of c = c.number
 
 -- the numbers rise strictly
 abbrev pub are_numbered : List Connection → Bool
-are_numbered [] = true
-are_numbered (c ∷ connections) = list_all (is_before c) connections && are_numbered connections
+are_numbered connections = numbers_rise number_of connections
 
 -- no number stands twice, and none above the one that was given last
 pub record IsTable (connections : List Connection) (last : ℕ) : Type 0 where

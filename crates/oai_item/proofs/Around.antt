@@ -1,56 +1,33 @@
 -- Items in order, cut around a place: those before it, those at it or near it, and those behind it. What is done at the place is done in
 -- the middle part alone.
-use Rattle.std.proofs.Common.{◌≡◌, ◌+◌, ◌<◌, ◌≤◌, ℕ, ℤ, suc, zero, Bool, true, false, not, cond, List, [], ◌∷◌, ◌++◌, None, Some, Result, Ok, Err, length, take, drop, get_or, set, refl, sym, ◌∙◌, ap, arith, add-one, drop-cons}
-use Rattle.std.specs.Prelude.{filter, find}
+use Rattle.std.proofs.Common.{◌≡◌, ◌+◌, ◌<◌, ◌≤◌, ℕ, ℤ, suc, zero, Bool, true, false, not, cond, List, [], ◌∷◌, ◌++◌, None, Some, Result, Ok, Err, length, take, drop, get_or, set, refl, sym, ◌∙◌, ap, arith, add-one}
+use Rattle.std.specs.Prelude.{filter}
 use Rattle.std.specs.List.{AllWithin, HoldsAt, insert, remove, list_all}
 use Rattle.std.specs.List.Sorted.{IsBinarySearchResult, IsNonDecreasingBy, IsSearchInRange}
 use Rattle.std.specs.Ordering.{is_lt, is_gt, is_eq, ordering_index}
 use Rattle.std.specs.declared.cmp.Ordering.TheVariants.{Less, Equal, Greater}
-use Rattle.std.proofs.lemmas.Bool.{and_from, and_parts, cond-true, cond-false, cond_both, not-true, not_from_false}
+use Rattle.std.proofs.lemmas.Bool.{and_from, and_parts, cond-true, cond-false, cond_both, not_from_false}
 use Rattle.std.proofs.lemmas.Cmp.{alike_right}
-use Rattle.std.proofs.lemmas.List.{drop-set, take-set, get_or-drop, get_or-take, length-drop, length-take-le, take-append-drop}
+use Rattle.std.proofs.lemmas.List.{get_or-drop, get_or-take, length-drop, length-take-le, take-append-drop}
 use Rattle.std.proofs.lemmas.List.Elements.{filter-append}
 use Rattle.std.proofs.lemmas.List.Folds.{list_all-append}
 use Rattle.std.proofs.lemmas.List.Sorted.{searchable_from_sorted}
 use Rattle.std.proofs.lemmas.List.Sums.{list_all-from_AllPass}
+use Rattle.oai_names.proofs.Lists.{all-weaker, cut, filter_all, find_before, find_past, set_cut}
 use Rattle.oai_item.specs.Item.{ItemState}
 use Rattle.oai_item.specs.Items.{is_at, item_at, without_at, placed, with_item}
 use Rattle.oai_item.specs.Order.{AreAround, IsPlace, place_cmp, item_cmp, precedes, are_in_order}
-use Rattle.oai_item.proofs.OrderLemmas.{all-weaker, behind-precedes, is_at-Equal, not_at-above, not_at-below, not_precedes-above, placed-cons, placed-nil, total}
-
--- ---- tests that all pass, or that all fail
-
-pub filter_all : (p : ItemState → Bool) (items : List ItemState) → list_all p items ≡ true → filter p items ≡ items
-filter_all p [] h = refl
-filter_all p (x ∷ items) h =
-    let parts = and_parts (p x) (list_all p items) h in
-    cond-true (p x) (x ∷ filter p items) (filter p items) parts.0 ∙ ap (λ ys. x ∷ ys) (filter_all p items parts.1)
-
-pub find_past : (p : ItemState → Bool) (front items : List ItemState) → list_all (λ x. not (p x)) front ≡ true → find p (front ++ items) ≡ find p items
-find_past p [] items h = refl
-find_past p (x ∷ front) items h =
-    let parts = and_parts (not (p x)) (list_all (λ y. not (p y)) front) h in
-    cond-false (p x) (Some x) (find p (front ++ items)) (not-true (p x) parts.0) ∙ find_past p front items parts.1
-
-pub find_none : (p : ItemState → Bool) (items : List ItemState) → list_all (λ x. not (p x)) items ≡ true → find p items ≡ None
-find_none p [] h = refl
-find_none p (x ∷ items) h =
-    let parts = and_parts (not (p x)) (list_all (λ y. not (p y)) items) h in
-    cond-false (p x) (Some x) (find p items) (not-true (p x) parts.0) ∙ find_none p items parts.1
-
-pub find_before : (p : ItemState → Bool) (items back : List ItemState) → list_all (λ x. not (p x)) back ≡ true → find p (items ++ back) ≡ find p items
-find_before p [] back h = find_none p back h
-find_before p (x ∷ items) back h = ap (cond (p x) (Some x)) (find_before p items back h)
+use Rattle.oai_item.proofs.OrderLemmas.{behind-precedes, is_at-Equal, not_at-above, not_at-below, not_precedes-above, placed-cons, placed-nil, total}
 
 -- ---- no item before a place, or behind it, is at it
 
 pub front_free : (stamp : ℤ) (identifier : List ℕ) (before : List ItemState) → list_all (λ item. is_lt (place_cmp item stamp identifier)) before ≡ true → list_all (λ item. not (is_at stamp identifier item)) before ≡ true
 front_free stamp identifier before h =
-    all-weaker (λ item. is_lt (place_cmp item stamp identifier)) (λ item. not (is_at stamp identifier item)) (λ item below. not_from_false _ (not_at-below stamp identifier item below)) before h
+    all-weaker (λ (item : ItemState). is_lt (place_cmp item stamp identifier)) (λ item. not (is_at stamp identifier item)) (λ item below. not_from_false _ (not_at-below stamp identifier item below)) before h
 
 pub back_free : (stamp : ℤ) (identifier : List ℕ) (behind : List ItemState) → list_all (λ item. is_gt (place_cmp item stamp identifier)) behind ≡ true → list_all (λ item. not (is_at stamp identifier item)) behind ≡ true
 back_free stamp identifier behind h =
-    all-weaker (λ item. is_gt (place_cmp item stamp identifier)) (λ item. not (is_at stamp identifier item)) (λ item above. not_from_false _ (not_at-above stamp identifier item above)) behind h
+    all-weaker (λ (item : ItemState). is_gt (place_cmp item stamp identifier)) (λ item. not (is_at stamp identifier item)) (λ item above. not_from_false _ (not_at-above stamp identifier item above)) behind h
 
 -- ---- what is done at a place is done in the middle
 
@@ -138,7 +115,7 @@ around_item stamp identifier before behind x here h =
     let parts = in_order-append before (x ∷ behind) h in
     let later = and_parts (list_all (precedes x) behind) (are_in_order behind) parts.1 in
     record {
-      below = all-weaker (λ y. list_all (precedes y) (x ∷ behind)) (λ y. is_lt (item_cmp y place))
+      below = all-weaker (λ (y : ItemState). list_all (precedes y) (x ∷ behind)) (λ y. is_lt (item_cmp y place))
           (λ y ahead. ap is_lt (sym (alike_right total x place y here)) ∙ (and_parts (precedes y x) (list_all (precedes y) behind) ahead).0)
           before parts.2;
       above = all-weaker (precedes x) (λ y. is_gt (item_cmp y place))
@@ -179,9 +156,6 @@ back_above stamp identifier items at within h =
     (λ k d below.
     let inside : at + k < length items = omega (arith, length-drop at items) in
     ap p (get_or-drop at items k d) ∙ ap is_gt (h (at + k) d (omega arith) inside))
-
-cut : (items : List ItemState) (at : ℕ) (d : ItemState) → at < length items → items ≡ take at items ++ (get_or items at d ∷ drop (at + 1) items)
-cut items at d within = sym (take-append-drop at items) ∙ ap (λ ys. take at items ++ ys) (drop-cons items at d within ∙ ap (λ n. get_or items at d ∷ drop n items) (sym (add-one at)))
 
 -- an item found at a place stands there
 pub found_place : (stamp : ℤ) (identifier : List ℕ) (items : List ItemState) (at : ℕ) → are_in_order items ≡ true → at < length items
@@ -233,9 +207,6 @@ without_at-missing stamp identifier items at place =
     ap (without_at stamp identifier) (sym (take-append-drop at items))
     ∙ without_at-around stamp identifier (take at items) [] (drop at items) place.1
     ∙ take-append-drop at items
-
-set_cut : (items : List ItemState) (at : ℕ) (item : ItemState) → at < length items → set items at item ≡ take at items ++ (item ∷ drop (at + 1) items)
-set_cut items at item within = sym (take-append-drop at (set items at item)) ∙ rw (take-set items at item, drop-set items at item within) refl
 
 -- the items with one in place of that at its place
 pub with_item-found : (item : ItemState) (items : List ItemState) (at : ℕ) (d : ItemState) → IsPlace items item.stamp item.identifier (Ok at) → with_item item items ≡ set items at item

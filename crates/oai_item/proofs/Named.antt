@@ -10,8 +10,8 @@ use Rattle.std.proofs.lemmas.Slice.Eq.{bytes_eq-Decides}
 use Rattle.oai_item.specs.Item.{ItemState}
 use Rattle.oai_item.specs.Items.{is_named, is_apart, are_apart, is_at, item_at, item_named, placed, with_item, without, without_at}
 use Rattle.oai_item.specs.Order.{precedes}
-use Rattle.oai_item.proofs.Around.{filter_all}
-use Rattle.oai_item.proofs.OrderLemmas.{all-filter_same, all-weaker, placed-cons, placed-nil}
+use Rattle.oai_names.proofs.Lists.{all-filter_same, all-weaker, filter_all}
+use Rattle.oai_item.proofs.OrderLemmas.{placed-cons, placed-nil}
 
 -- ---- what is found
 
@@ -69,16 +69,16 @@ not_at stamp identifier item h = by_test (int_eq item.stamp stamp) (is_named ide
     by_test false b h = refl
 
 not_at-all : (stamp : ℤ) (identifier : List ℕ) (items : List ItemState) → none_named identifier items ≡ true → list_all (λ item. not (is_at stamp identifier item)) items ≡ true
-not_at-all stamp identifier items h = all-weaker (λ item. not (is_named identifier item)) (λ item. not (is_at stamp identifier item)) (λ item. not_at stamp identifier item) items h
+not_at-all stamp identifier items h = all-weaker (λ (item : ItemState). not (is_named identifier item)) (λ item. not (is_at stamp identifier item)) (λ item. not_at stamp identifier item) items h
 
 -- where no item has the identifier, the items without it are all of them
 pub without-none : (identifier : List ℕ) (items : List ItemState) → item_named identifier items ≡ None → without identifier items ≡ items
 unfolding without
-without-none identifier items h = filter_all (λ item. not (is_named identifier item)) items (none_named-from identifier items h)
+without-none identifier items h = filter_all (λ (item : ItemState). not (is_named identifier item)) items (none_named-from identifier items h)
 
 pub without_at-none : (stamp : ℤ) (identifier : List ℕ) (items : List ItemState) → none_named identifier items ≡ true → without_at stamp identifier items ≡ items
 unfolding without_at
-without_at-none stamp identifier items h = filter_all (λ item. not (is_at stamp identifier item)) items (not_at-all stamp identifier items h)
+without_at-none stamp identifier items h = filter_all (λ (item : ItemState). not (is_at stamp identifier item)) items (not_at-all stamp identifier items h)
 
 -- those that are apart from an item have not its identifier
 apart_none : (identifier : List ℕ) (x : ItemState) (items : List ItemState) → x.identifier ≡ identifier → list_all (is_apart x) items ≡ true → none_named identifier items ≡ true
@@ -127,8 +127,8 @@ without_at-named identifier (x ∷ items) item h apart =
           let others : none_named identifier items ≡ true = apart_none identifier x items name parts.0 in
           let at : is_at item.stamp identifier x ≡ true = subst (λ (y : ItemState). is_at y.stamp identifier x ≡ true) same (at_own x identifier name) in
           cond-false (not (is_at item.stamp identifier x)) (x ∷ by_place) by_place (ap not at)
-          ∙ filter_all (λ other. not (is_at item.stamp identifier other)) items (not_at-all item.stamp identifier items others)
-          ∙ sym (filter_all (λ other. not (is_named identifier other)) items others)
+          ∙ filter_all (λ (other : ItemState). not (is_at item.stamp identifier other)) items (not_at-all item.stamp identifier items others)
+          ∙ sym (filter_all (λ (other : ItemState). not (is_named identifier other)) items others)
           ∙ sym (cond-false (not (is_named identifier x)) (x ∷ by_name) by_name (ap not here))
       | inr other ↦
           let later : find (is_named identifier) items ≡ Some item = sym (cond-false (is_named identifier x) (Some x) (find (is_named identifier) items) other) ∙ h in
@@ -148,7 +148,7 @@ length-without identifier (x ∷ items) item h apart =
     elim (cases_Bool (is_named identifier x)) [
       | inl here ↦
           let name : x.identifier ≡ identifier = (bytes_eq-Decides x.identifier identifier).0 here in
-          let all : by_name ≡ items = filter_all (λ other. not (is_named identifier other)) items (apart_none identifier x items name parts.0) in
+          let all : by_name ≡ items = filter_all (λ (other : ItemState). not (is_named identifier other)) items (apart_none identifier x items name parts.0) in
           let left = ap length (cond-false (not (is_named identifier x)) (x ∷ by_name) by_name (ap not here) ∙ all) in
           omega (arith, left)
       | inr other ↦
@@ -163,7 +163,7 @@ length-without identifier (x ∷ items) item h apart =
 -- none of the items but those of the identifier has it
 pub none_left : (identifier : List ℕ) (items : List ItemState) → none_named identifier (without identifier items) ≡ true
 unfolding without
-none_left identifier items = all-filter_same (λ other. not (is_named identifier other)) items
+none_left identifier items = all-filter_same (λ (other : ItemState). not (is_named identifier other)) items
 
 -- what is found once an item is taken out
 pub item_named-without : (gone q : List ℕ) (items : List ItemState) → item_named q (without gone items) ≡ cond (bytes_eq gone q) None (item_named q items)

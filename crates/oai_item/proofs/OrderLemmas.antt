@@ -10,6 +10,7 @@ use Rattle.std.specs.declared.cmp.Ordering.TheVariants.{Less, Equal, Greater}
 use Rattle.std.proofs.lemmas.Bool.{and_from, and_parts, and_right, cases_Bool, cond_both, not-true, not_from_false}
 use Rattle.std.proofs.lemmas.Cmp.{on_total, then_total, int_cmp_total, nat_list_cmp_total, nat_list_eq_equiv, tied_itself}
 use Rattle.std.proofs.lemmas.Map.Text.{is_eq-slice_cmp}
+use Rattle.oai_names.proofs.Lists.{all-filter, all-filter_same, all-weaker}
 use Rattle.oai_item.specs.Item.{ItemState}
 use Rattle.oai_item.specs.Items.{is_named, is_apart, are_apart, is_at, item_at, without, without_at, placed, with_item}
 use Rattle.oai_item.specs.Order.{place_cmp, item_cmp, precedes, are_in_order}
@@ -90,26 +91,6 @@ precedes-turned a b h g =
     turned (item_cmp a b) (item_cmp b a) (total.antisymm b a) h (sym (is_at-Equal a.stamp a.identifier b) ∙ g)
 
 -- ---- what holds of each item, after an item is taken out or put in
-
-pub all-weaker : (p q : ItemState → Bool) (weaker : (item : ItemState) → p item ≡ true → q item ≡ true) → (items : List ItemState) → list_all p items ≡ true → list_all q items ≡ true
-all-weaker p q weaker [] h = refl
-all-weaker p q weaker (x ∷ items) h =
-    let parts = and_parts (p x) (list_all p items) h in
-    and_from (q x) (list_all q items) (weaker x parts.0) (all-weaker p q weaker items parts.1)
-
-pub all-filter : (p q : ItemState → Bool) (items : List ItemState) → list_all p items ≡ true → list_all p (filter q items) ≡ true
-all-filter p q [] h = refl
-all-filter p q (x ∷ items) h =
-    let parts = and_parts (p x) (list_all p items) h in
-    let rest = all-filter p q items parts.1 in
-    cond_both (q x) (x ∷ filter q items) (filter q items) (λ ys. list_all p ys ≡ true) (λ _. and_from (p x) (list_all p (filter q items)) parts.0 rest) (λ _. rest)
-
--- what a filter keeps passes
-pub all-filter_same : (q : ItemState → Bool) (items : List ItemState) → list_all q (filter q items) ≡ true
-all-filter_same q [] = refl
-all-filter_same q (x ∷ items) =
-    let rest = all-filter_same q items in
-    cond_both (q x) (x ∷ filter q items) (filter q items) (λ ys. list_all q ys ≡ true) (λ passes. and_from (q x) (list_all q (filter q items)) passes rest) (λ _. rest)
 
 insert-suc : (x : ItemState) (items : List ItemState) (n : ℕ) (item : ItemState) → insert (x ∷ items) (1 + n) item ≡ x ∷ insert items n item
 insert-suc x items n item = let e : 1 + n ≡ suc n = omega arith in rw e refl

@@ -26,7 +26,8 @@ use Rattle.oai_item.specs.declared.formats.Format.{Format}
 use Rattle.oai_item.specs.declared.refusals.ChangeRefusal.{ChangeRefusal}
 use Rattle.oai_item.specs.declared.refusals.ChangeRefusal.TheVariants.{AlreadyDeleted, NotTransient, BadDate}
 use Rattle.oai_item.proofs.Named.{found_name, of_found}
-use Rattle.oai_item.proofs.OrderLemmas.{all-weaker, all-placed, in_order-changed, apart-changed}
+use Rattle.oai_names.proofs.Lists.{all-weaker}
+use Rattle.oai_item.proofs.OrderLemmas.{all-placed, in_order-changed, apart-changed}
 use Rattle.oai_args.specs.Asks.{AskOrError, asks, bad_verb, bad_argument}
 use Rattle.oai_args.specs.declared.requests.Ask.TheVariants as ask
 use Rattle.oai_answers.specs.declared.identify.DeletedRecord.{DeletedRecord}

@@ -24,7 +24,8 @@ use Rattle.oai_item.specs.Item.{ItemState}
 use Rattle.oai_item.specs.Items.{without}
 use Rattle.oai_item.specs.Membership.{is_in}
 use Rattle.oai_item.specs.Selection.{Filter, IsSelected}
-use Rattle.oai_item.proofs.OrderLemmas.{all-placed, all-weaker}
+use Rattle.oai_names.proofs.Lists.{all-weaker}
+use Rattle.oai_item.proofs.OrderLemmas.{all-placed}
 use Rattle.oai_item.proofs.Selecting.{contains_selected, in_order-selected}
 use Rattle.oai_args.specs.Bounds.{given_bound}
 use Rattle.oai_settings.specs.Config.{Config, IsConfig, is_date, is_in_years}

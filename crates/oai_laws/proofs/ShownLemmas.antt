@@ -18,7 +18,7 @@ use Rattle.oai_item.specs.Known.{are_fields_of, has_format, has_known_fields}
 use Rattle.oai_item.specs.Rules.{is_allowed}
 use Rattle.oai_item.specs.Selection.{selected}
 use Rattle.oai_item.specs.declared.formats.Format.{Format}
-use Rattle.oai_item.proofs.OrderLemmas.{all-weaker}
+use Rattle.oai_names.proofs.Lists.{all-weaker}
 use Rattle.oai_args.specs.Asks.{AskOrError, asks, bad_argument, bad_verb}
 use Rattle.oai_args.specs.declared.requests.Ask.TheVariants as ask
 use Rattle.oai_answers.specs.Answers.{Attributes, Page}

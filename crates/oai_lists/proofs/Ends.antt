@@ -5,17 +5,19 @@ use Rattle.std.specs.Int.{int_min}
 use Rattle.std.specs.List.{after_first, before_first, list_all, position_or_len, remove}
 use Rattle.std.proofs.lemmas.Bool.{false≢true, and_from, and_parts, cond-true, cond-false, cond_both, cases_Bool, eqb-false, le-leb, lt-leb, lt-ltb, ltb-true, not-true, not_from_false}
 use Rattle.std.proofs.lemmas.Int.{ints}
-use Rattle.std.proofs.lemmas.List.{drop-set, drop_all, get_or-take, get_or_default, length-take-le, map-append, take-append-drop, take-set, take_all}
+use Rattle.std.proofs.lemmas.List.{drop_all, get_or-take, get_or_default, length-take-le, map-append, take_all}
 use Rattle.std.proofs.lemmas.List.Folds.{list_all-append}
 use Rattle.std.proofs.lemmas.List.Quantifiers.{position-Some}
 use Rattle.std.proofs.lemmas.List.Sums.{AllPass-from_list_all, list_all-from_AllPass, position_or_len_is}
 use Rattle.oai_lists.specs.Workings.{IsHeld, IsPlaced, none_numbered}
-use Rattle.oai_lists.specs.OpenLists.{IsEarliest, IsOpening, Table, answered, are_numbered, has_ended, is_before, is_numbered, is_open, list_numbered, open_fault, open_ones, renewed, renewed_one, with_opened}
+use Rattle.oai_lists.specs.OpenLists.{IsEarliest, IsOpening, Table, answered, are_numbered, has_ended, is_numbered, is_open, list_numbered, number_of, open_fault, open_ones, renewed, renewed_one, with_opened}
 use Rattle.oai_lists.specs.declared.lists.OpenFault.{OpenFault}
 use Rattle.oai_lists.specs.declared.lists.OpenFault.TheVariants.{Full, NumbersSpent}
 use Rattle.oai_lists.specs.declared.open_lists.OpenList.{OpenList}
 use Rattle.oai_lists.specs.declared.lists.TheConstants.{LAST_NUMBER}
-use Rattle.oai_lists.proofs.Tables.{all-weaker, cut, filter_all, find_past, numbered-append, numbered-join}
+use Rattle.oai_names.specs.Numbered.{is_lower}
+use Rattle.oai_names.proofs.Lists.{all-weaker, cut, filter_all, find_past, set_cut}
+use Rattle.oai_names.proofs.Numbered.{rise-append, rise-join}
 
 -- ---- numbers of moments
 
@@ -47,11 +49,11 @@ min_right a b = cond_both (int_lt b a) b a (λ m. int_le m b ≡ true) (λ _. it
 
 pub none_ended : (earliest now : ℤ) (lists : List OpenList) → list_all (λ list. int_le earliest list.end) lists ≡ true → now <ℤ earliest → list_all (λ list. not (has_ended now list)) lists ≡ true
 none_ended earliest now lists bound early =
-    all-weaker (λ list. int_le earliest list.end) (λ list. not (has_ended now list)) (λ list h. ended_not earliest now list early h) lists bound
+    all-weaker (λ (list : OpenList). int_le earliest list.end) (λ list. not (has_ended now list)) (λ list h. ended_not earliest now list early h) lists bound
 
 pub all_open : (earliest now : ℤ) (lists : List OpenList) → list_all (λ list. int_le earliest list.end) lists ≡ true → now <ℤ earliest → open_ones now lists ≡ lists
 all_open earliest now lists bound early =
-    filter_all (is_open now) lists (all-weaker (λ list. int_le earliest list.end) (is_open now) (λ list h. open_yet earliest now list early h) lists bound)
+    filter_all (is_open now) lists (all-weaker (λ (list : OpenList). int_le earliest list.end) (is_open now) (λ list h. open_yet earliest now list early h) lists bound)
 
 pub fewer_open : (now : ℤ) (lists : List OpenList) → length (open_ones now lists) ≤ length lists
 fewer_open now [] = omega arith
@@ -151,18 +153,18 @@ earliest_bounds lists (Some end) d h = list_all-from_AllPass (λ list. int_le en
 pub held_push : (table : Table) (earliest : ℤ) (list : OpenList) → IsHeld table earliest → list.number ≡ table.next → IsHeld (with_opened table list) (int_min earliest list.end)
 held_push table earliest list held same = record {
   numbers = record {
-    numbered = numbered-join table.lists (list ∷ []) held.numbers.numbered refl
-        (all-weaker (λ other. nat_lt other.number table.next) (λ other. list_all (is_before other) (list ∷ []))
-        (λ other low. and_from (is_before other list) true (lt-ltb other.number list.number (omega (arith, same, ltb-true other.number table.next low))) refl)
+    numbered = rise-join number_of table.lists (list ∷ []) held.numbers.numbered refl
+        (all-weaker (λ (other : OpenList). nat_lt other.number table.next) (λ other. list_all (is_lower number_of other) (list ∷ []))
+        (λ other low. and_from (is_lower number_of other list) true (lt-ltb other.number list.number (omega (arith, same, ltb-true other.number table.next low))) refl)
         table.lists held.numbers.given);
     given = list_all-append (λ other. nat_lt other.number (table.next + 1)) table.lists (list ∷ [])
         ∙ and_from _ _
-        (all-weaker (λ other. nat_lt other.number table.next) (λ other. nat_lt other.number (table.next + 1)) (λ other low. lt-ltb other.number (table.next + 1) (omega (arith, ltb-true other.number table.next low))) table.lists held.numbers.given)
+        (all-weaker (λ (other : OpenList). nat_lt other.number table.next) (λ other. nat_lt other.number (table.next + 1)) (λ other low. lt-ltb other.number (table.next + 1) (omega (arith, ltb-true other.number table.next low))) table.lists held.numbers.given)
         (and_from (nat_lt list.number (table.next + 1)) true (lt-ltb list.number (table.next + 1) (omega (arith, same))) refl);
   };
   bound = list_all-append (λ other. int_le (int_min earliest list.end) other.end) table.lists (list ∷ [])
       ∙ and_from _ _
-      (all-weaker (λ other. int_le earliest other.end) (λ other. int_le (int_min earliest list.end) other.end) (λ other low. min_left earliest list.end other.end low) table.lists held.bound)
+      (all-weaker (λ (other : OpenList). int_le earliest other.end) (λ other. int_le (int_min earliest list.end) other.end) (λ other low. min_left earliest list.end other.end low) table.lists held.bound)
       (and_from (int_le (int_min earliest list.end) list.end) true (min_right earliest list.end) refl);
 }
 
@@ -180,10 +182,10 @@ numbered-removed : (lists : List OpenList) (at : ℕ) (d : OpenList) → at < le
 numbered-removed lists at d within h =
     let x : OpenList = get_or lists at d in
     let rest : List OpenList = drop (at + 1) lists in
-    let parts = numbered-append (take at lists) (x ∷ rest) (ap are_numbered (sym (cut lists at d within)) ∙ h) in
+    let parts = rise-append number_of (take at lists) (x ∷ rest) (ap are_numbered (sym (cut lists at d within)) ∙ h) in
     ap (λ n. are_numbered (take at lists ++ drop n lists)) (sym (add-one at))
-    ∙ numbered-join (take at lists) rest parts.0 (and_parts (list_all (is_before x) rest) (are_numbered rest) parts.1).1
-    (all-weaker (λ y. list_all (is_before y) (x ∷ rest)) (λ y. list_all (is_before y) rest) (λ y ahead. (and_parts (is_before y x) (list_all (is_before y) rest) ahead).1) (take at lists) parts.2)
+    ∙ rise-join number_of (take at lists) rest parts.0 (and_parts (list_all (is_lower number_of x) rest) (are_numbered rest) parts.1).1
+    (all-weaker (λ (y : OpenList). list_all (is_lower number_of y) (x ∷ rest)) (λ y. list_all (is_lower number_of y) rest) (λ y ahead. (and_parts (is_lower number_of y x) (list_all (is_lower number_of y) rest) ahead).1) (take at lists) parts.2)
 
 held_at : (table : Table) (earliest : ℤ) (at : ℕ) (d : OpenList) → at < length table.lists → IsHeld table earliest → IsHeld (record table { lists = remove table.lists at }) earliest
 held_at table earliest at d within held = record {
@@ -203,16 +205,16 @@ renewed_end : (number : ℕ) (end earliest : ℤ) (list : OpenList) → int_le e
 renewed_end number end earliest list h =
     cond_both (is_numbered number list) (record list { end = end }) list (λ x. int_le (int_min earliest end) x.end ≡ true) (λ _. min_right earliest end) (λ _. min_left earliest end list.end h)
 
-before_renewed : (number : ℕ) (end : ℤ) (x : OpenList) (lists : List OpenList) → list_all (is_before (renewed_one number end x)) (renewed number end lists) ≡ list_all (is_before x) lists
+before_renewed : (number : ℕ) (end : ℤ) (x : OpenList) (lists : List OpenList) → list_all (is_lower number_of (renewed_one number end x)) (renewed number end lists) ≡ list_all (is_lower number_of x) lists
 before_renewed number end x [] = refl
 before_renewed number end x (y ∷ lists) =
-    let here : is_before (renewed_one number end x) (renewed_one number end y) ≡ is_before x y = ap (λ n. nat_lt n (renewed_one number end y).number) (renewed_number number end x) ∙ ap (nat_lt x.number) (renewed_number number end y) in
-    ap (λ b. b && list_all (is_before (renewed_one number end x)) (renewed number end lists)) here ∙ ap (λ b. is_before x y && b) (before_renewed number end x lists)
+    let here : is_lower number_of (renewed_one number end x) (renewed_one number end y) ≡ is_lower number_of x y = ap (λ n. nat_lt n (renewed_one number end y).number) (renewed_number number end x) ∙ ap (nat_lt x.number) (renewed_number number end y) in
+    ap (λ b. b && list_all (is_lower number_of (renewed_one number end x)) (renewed number end lists)) here ∙ ap (λ b. is_lower number_of x y && b) (before_renewed number end x lists)
 
 numbered_renewed : (number : ℕ) (end : ℤ) (lists : List OpenList) → are_numbered (renewed number end lists) ≡ are_numbered lists
 numbered_renewed number end [] = refl
 numbered_renewed number end (x ∷ lists) =
-    ap (λ b. b && are_numbered (renewed number end lists)) (before_renewed number end x lists) ∙ ap (λ b. list_all (is_before x) lists && b) (numbered_renewed number end lists)
+    ap (λ b. b && are_numbered (renewed number end lists)) (before_renewed number end x lists) ∙ ap (λ b. list_all (is_lower number_of x) lists && b) (numbered_renewed number end lists)
 
 given_renewed : (number next : ℕ) (end : ℤ) (lists : List OpenList) → list_all (λ list. nat_lt list.number next) (renewed number end lists) ≡ list_all (λ list. nat_lt list.number next) lists
 given_renewed number next end [] = refl
@@ -236,9 +238,6 @@ unrenewed number end [] h = refl
 unrenewed number end (x ∷ lists) h =
     let parts = and_parts (not (is_numbered number x)) (list_all (λ list. not (is_numbered number list)) lists) h in
     ap (λ y. y ∷ renewed number end lists) (cond-false (is_numbered number x) (record x { end = end }) x (not-true _ parts.0)) ∙ ap (λ ys. x ∷ ys) (unrenewed number end lists parts.1)
-
-set_cut : (lists : List OpenList) (at : ℕ) (list : OpenList) → at < length lists → set lists at list ≡ take at lists ++ (list ∷ drop (at + 1) lists)
-set_cut lists at list within = sym (take-append-drop at (set lists at list)) ∙ rw (take-set lists at list, drop-set lists at list within) refl
 
 -- the one list that is renewed
 pub renewed-placed : (number : ℕ) (end : ℤ) (lists : List OpenList) (at : ℕ) (d : OpenList) → IsPlaced number lists (Some at) → renewed number end lists ≡ set lists at (record (get_or lists at d) { end = end })

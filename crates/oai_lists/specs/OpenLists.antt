@@ -2,6 +2,7 @@
 use Rattle.std.specs.Prelude.{◌≡◌, ◌+◌, ◌≤ℤ◌, ℕ, ℤ, int_le, int_lt, Bool, true, ◌&&◌, ◌==◌, nat_le, nat_lt, if◌then◌else◌, List, [], ◌∷◌, ◌++◌, length, map, Option, None, Some, MatchOption, filter, find, Result, Ok, Err}
 use Rattle.std.specs.List.{All, Contains, after_first, before_first, list_all}
 use Rattle.oai_names.specs.declared.list_verbs.ListVerb.{ListVerb}
+use Rattle.oai_names.specs.Numbered.{numbers_rise}
 use Rattle.oai_item.specs.Selection.{Filter}
 use Rattle.oai_lists.specs.declared.open_lists.OpenList.{OpenList}
 use Rattle.oai_lists.specs.declared.lists.OpenFault.{OpenFault}
@@ -98,14 +99,13 @@ IsEarliest lists end = MatchOption end (lists ≡ [])
 
 -- ---- what is true of each table
 
--- the first list has the lower number
-abbrev pub is_before : OpenList → OpenList → Bool
-is_before a b = nat_lt a.number b.number
+-- the number of a list
+abbrev pub number_of : OpenList → ℕ
+number_of list = list.number
 
 -- the numbers rise strictly along the lists
 abbrev pub are_numbered : List OpenList → Bool
-are_numbered [] = true
-are_numbered (list ∷ lists) = list_all (is_before list) lists && are_numbered lists
+are_numbered lists = numbers_rise number_of lists
 
 -- no number stands twice, and none is given again: they rise strictly, and the next is above them
 pub record IsTable (table : Table) : Type 0 where

@@ -1,7 +1,8 @@
 -- What the table of open lists keeps beside its lists, and what this crate's private functions find. No definition rests on it.
-use Rattle.std.specs.Prelude.{◌≡◌, ◌+◌, ◌<◌, ◌^◌, ℕ, ℤ, int_le, true, not, List, decimal, length, take, drop, Option, MatchOption}
-use Rattle.std.specs.List.{HoldsAt, list_all}
-use Rattle.oai_lists.specs.OpenLists.{Table, IsTable, is_numbered}
+use Rattle.std.specs.Prelude.{◌≡◌, ◌<◌, ◌^◌, ℕ, ℤ, int_le, true, List, decimal, Option}
+use Rattle.std.specs.List.{list_all}
+use Rattle.oai_names.specs.Numbered.{IsPlaceOf, none_has}
+use Rattle.oai_lists.specs.OpenLists.{Table, IsTable, number_of}
 use Rattle.oai_lists.specs.declared.open_lists.OpenList.{OpenList}
 use Rattle.oai_lists.specs.declared.tokens.Token.{Token}
 
@@ -12,13 +13,11 @@ pub record IsHeld (table : Table) (earliest : ℤ) : Type 0 where
 
 -- none of the lists has that number
 abbrev pub none_numbered : ℕ → List OpenList → Type 0
-none_numbered number lists = list_all (λ list. not (is_numbered number list)) lists ≡ true
+none_numbered number lists = none_has number_of number lists
 
 -- where the list of that number is: there, and nowhere else
 abbrev pub IsPlaced : ℕ → List OpenList → Option ℕ → Type 0
-IsPlaced number lists place = MatchOption place (none_numbered number lists)
-    (λ at. (at < length lists) × HoldsAt (λ list. is_numbered number list ≡ true) lists at
-    × none_numbered number (take at lists) × none_numbered number (drop (at + 1) lists))
+IsPlaced number lists place = IsPlaceOf number_of number lists place
 
 -- the two texts are the numbers of the token, of 64 bits, both decimal without leading zeros
 abbrev pub AreNumbers : List ℕ → List ℕ → Token → Type 0

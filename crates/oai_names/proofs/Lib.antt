@@ -4,3 +4,5 @@ pub mod Ancestors
 pub mod Additions
 pub mod Cuts
 pub mod EscapeCuts
+pub mod Lists
+pub mod Numbered

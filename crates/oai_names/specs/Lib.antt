@@ -2,4 +2,5 @@ pub mod Characters
 pub mod Names
 pub mod Escapes
 pub mod Sets
+pub mod Numbered
 pub mod Workings

@@ -8,7 +8,8 @@ use Rattle.oai_answers.specs.declared.identify.DeletedRecord.{DeletedRecord}
 use Rattle.oai_answers.specs.declared.identify.DeletedRecord.TheVariants.{No, Transient, Persistent}
 use Rattle.oai_item.specs.Item.{IsStamp, ItemState, Metadata, has_record, record_named, live_item, tombstone_of}
 use Rattle.oai_item.specs.Items.{item_named, without}
-use Rattle.oai_item.proofs.OrderLemmas.{all-filter, all-placed}
+use Rattle.oai_names.proofs.Lists.{all-filter}
+use Rattle.oai_item.proofs.OrderLemmas.{all-placed}
 use Rattle.oai_repo.specs.Held.{is_dated}
 use Rattle.oai_item.specs.Membership.{reduced}
 use Rattle.oai_item.specs.Refusals.{in_repository}

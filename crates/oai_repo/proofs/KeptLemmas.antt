@@ -27,7 +27,8 @@ use Rattle.oai_item.specs.declared.sizes.TooLarge.{TooLarge as LengthFault}
 use Rattle.oai_item.specs.declared.refusals.ChangeRefusal.TheVariants.{UnknownSet, UnknownFormat, NoDc, UnknownField, DropsFormat, TooLarge, TooManyItems}
 use Rattle.oai_item.proofs.Lengths.{length-encoded, length-encoded_list, length-encoded_record}
 use Rattle.oai_item.proofs.Named.{found_name, of_found}
-use Rattle.oai_item.proofs.OrderLemmas.{all-weaker, all-filter, all-placed, placed-cons, placed-nil, in_order-changed, apart-changed, in_order-filter, apart-filter}
+use Rattle.oai_names.proofs.Lists.{all-filter, all-weaker}
+use Rattle.oai_item.proofs.OrderLemmas.{all-placed, placed-cons, placed-nil, in_order-changed, apart-changed, in_order-filter, apart-filter}
 use Rattle.oai_repo.specs.Changes.{after_deletion, after_purge, with_tombstone, deposit_refusal, item_refusal, is_past, limit_of, purged, refusal_of, changed, drops_format, is_one_too_many, with_new}
 use Rattle.oai_answers.specs.declared.identify.DeletedRecord.{DeletedRecord}
 use Rattle.oai_answers.specs.declared.identify.DeletedRecord.TheVariants.{No, Transient, Persistent}

@@ -14,7 +14,7 @@ use Rattle.oai_item.specs.Item.{ItemState}
 use Rattle.oai_item.specs.Items.{are_apart, is_apart, is_at, item_named, without_at}
 use Rattle.oai_item.specs.Selection.{passes, selected}
 use Rattle.oai_item.proofs.Named.{without_at-none}
-use Rattle.oai_item.proofs.OrderLemmas.{all-filter}
+use Rattle.oai_names.proofs.Lists.{all-filter}
 use Rattle.oai_catalogue.specs.Store.{is_at_one_of, without_each}
 use Rattle.oai_catalogue.proofs.Gone.{without_each-at, without_each-first, without_each-none}
 use Rattle.oai_repo.specs.Changes.{is_past, purged}

@@ -3,7 +3,7 @@ use Rattle.std.proofs.Common.{◌≡◌, ◌&&◌, Bool, true, false, refl, Fits
 use Rattle.std.proofs.lemmas.Bool.{and_parts}
 use Rattle.std.proofs.lemmas.Int.{to_z-of_z}
 use Rattle.oai_item.specs.Item.{ItemState}
-use Rattle.oai_item.proofs.OrderLemmas.{all-weaker}
+use Rattle.oai_names.proofs.Lists.{all-weaker}
 use Rattle.oai_repo.specs.Held.{holdings_of, items_on}
 use Rattle.oai_repo.specs.Kept.{is_too_large, is_well_kept}
 use Rattle.oai_repo.specs.Purges.{is_in_core}

@@ -4,7 +4,7 @@ use Rattle.std.specs.List.{after_first, before_first, list_all}
 use Rattle.std.proofs.lemmas.Int.{ints, to_z-of_z}
 use Rattle.oai_lists.specs.OpenLists.{Table, has_ended}
 use Rattle.oai_lists.specs.declared.open_lists.OpenList.{OpenList}
-use Rattle.oai_lists.proofs.Tables.{find_none}
+use Rattle.oai_names.proofs.Lists.{find_none}
 use Rattle.oai_lists.proofs.Ends.{earliest_bounds, first_left, first_place, found_first, held_removed, none_ended, none_left, none_passes, some_item}
 use Rattle.oai_lists.proofs.lists.Lists.expire.Goals as goal
 
