@@ -40,7 +40,7 @@ none_of_nothing = refl
 None≢Some : (d : Data) → None ≡ Some d → ⊥
 None≢Some d is = absurd cc
 
-some_read : (line : List ℕ) (d : Data) → read line ≡ Some d → 0 < length line
+pub some_read : (line : List ℕ) (d : Data) → read line ≡ Some d → 0 < length line
 some_read [] d is = absurd (None≢Some d (sym none_of_nothing ∙ is))
 some_read (b ∷ line) d is = omega arith
 

@@ -78,11 +78,11 @@ text = record { takes = takes; again = λ s. refl; only = λ d. only_there (as_s
     takes (array ds) s is = absurd cc
     takes (object ms) s is = absurd cc
 
-elements_in-items_of : (ds : List Data) → elements_in (items_of ds) ≡ ds
+pub elements_in-items_of : (ds : List Data) → elements_in (items_of ds) ≡ ds
 elements_in-items_of [] = refl
 elements_in-items_of (d ∷ ds) = ap (λ es. d ∷ es) (elements_in-items_of ds)
 
-items_of-elements_in : (ds : Items) → items_of (elements_in ds) ≡ ds
+pub items_of-elements_in : (ds : Items) → items_of (elements_in ds) ≡ ds
 items_of-elements_in no_items = refl
 items_of-elements_in (item d ds) = ap (item d) (items_of-elements_in ds)
 

@@ -54,7 +54,7 @@ both true b is = refl
 both false b is = absurd cc
 
 -- an object of exactly these members is of their number
-of_size : (names : List (List ℕ)) (d : Data) → has_members names d ≡ true → size d ≡ length names
+pub of_size : (names : List (List ℕ)) (d : Data) → has_members names d ≡ true → size d ≡ length names
 unfolding has_members
 of_size names d is = eqb-true _ _ (both (eqb (size d) (length names)) (has_each names d) is)
 

@@ -1,5 +1,5 @@
 -- The JSON value of a text, and the elements of its arrays.
-use Rattle.std.proofs.Common.{◌≡◌, ◌<◌, ℕ, length, arith, Bool, true, false, cond, Option, Some, None, List, [], ◌∷◌, map, refl, sym, ap, ◌∙◌}
+use Rattle.std.proofs.Common.{◌≡◌, ℕ, Bool, true, false, cond, Option, Some, None, List, map, refl, sym, ap, ◌∙◌}
 use Rattle.std.proofs.lemmas.Str.{is_utf8-from_IsUtf8, IsUtf8-from_is_utf8}
 use Rattle.std.specs.Option.{option_map}
 use Rattle.std.specs.Str.{IsUtf8, is_utf8}
@@ -8,10 +8,10 @@ use Rattle.serde_json.specs.Read.{read}
 use Rattle.serde_json.specs.Find.{get, as_array}
 use Rattle.serde_json.specs.View.{view, items_view}
 use Rattle.serde_json.specs.declared.value.Value.{Value}
-use Rattle.serde_json.proofs.OnLiterals.{serde_json_on_literals}
 use Rattle.oai_deposit.specs.Json.{elements_in}
 use Rattle.oai_deposit.specs.Lines.{TakesMemory}
 use Rattle.oai_deposit.proofs.JsonLemmas.{elements_in-items_view}
+use Rattle.oai_deposit.proofs.LineLemmas.{some_read}
 use Rattle.oai_host.specs.Optional.{◌>>=◌}
 use Rattle.oai_host.specs.Shapes.{elements_at, json_in}
 
@@ -33,20 +33,6 @@ unfolding json_in
 json_in-None text none = no_value (is_utf8 text) (read text) (λ utf8. none (IsUtf8-from_is_utf8 text utf8))
 
 -- ---- what memory is taken for
-
-pub takes-text : (text part : List ℕ) → part ≡ text → IsUtf8 text → 0 < length part → TakesMemory text
-takes-text text part same is some = record { text = is_utf8-from_IsUtf8 text is; some = rw (← same) some }
-
-none_of_nothing : read [] ≡ None
-unfolding serde_json_on_literals
-none_of_nothing = refl
-
-None≢Some : (d : Data) → None ≡ Some d → ⊥
-None≢Some d is = absurd cc
-
-some_read : (text : List ℕ) (d : Data) → read text ≡ Some d → 0 < length text
-some_read [] d is = absurd (None≢Some d (sym none_of_nothing ∙ is))
-some_read (b ∷ text) d is = omega arith
 
 json_read : (b : Bool) (o : Option Data) (d : Data) → cond b o None ≡ Some d → (b ≡ true) × (o ≡ Some d)
 json_read true o d is = (refl, is)

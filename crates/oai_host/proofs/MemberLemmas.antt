@@ -2,9 +2,10 @@
 use Rattle.std.proofs.Common.{◌≡◌, ℕ, Option, Some, None, List, [], ◌∷◌, map, refl, sym, ap, ◌∙◌, subst}
 use Rattle.std.specs.List.{AllZip}
 use Rattle.std.specs.Option.{option_map}
-use Rattle.serde_json.specs.Data.{Data, Num, null, boolean, number, string, array, object, Items, no_items, item}
+use Rattle.serde_json.specs.Data.{Data, Num, null, boolean, number, string, array, object}
 use Rattle.serde_json.specs.Find.{get, as_str, as_array, as_number, as_u64}
-use Rattle.oai_deposit.specs.Json.{elements_in, items_of, array_of}
+use Rattle.oai_deposit.specs.Json.{elements_in, array_of}
+use Rattle.oai_deposit.proofs.ReaderLemmas.{elements_in-items_of, items_of-elements_in}
 use Rattle.oai_host.specs.Optional.{◌>>=◌, each_of}
 use Rattle.oai_host.specs.Shapes.{text_at, number_at, elements_at, texts_at}
 use Rattle.oai_host.specs.Written.{HasText, HasNumber, HasTexts, HasList}
@@ -93,14 +94,6 @@ unfolding number_at
 number_again name d n is = ap (λ o. option_map as_u64 (o >>= as_number)) is.1 ∙ ap (λ m. Some m) is.2
 
 -- ---- lists
-
-elements_in-items_of : (ds : List Data) → elements_in (items_of ds) ≡ ds
-elements_in-items_of [] = refl
-elements_in-items_of (d ∷ ds) = ap (λ es. d ∷ es) (elements_in-items_of ds)
-
-items_of-elements_in : (ds : Items) → items_of (elements_in ds) ≡ ds
-items_of-elements_in no_items = refl
-items_of-elements_in (item d ds) = ap (item d) (items_of-elements_in ds)
 
 as_array-takes : (d : Data) (ds : List Data) → option_map elements_in (as_array d) ≡ Some ds → d ≡ array_of ds
 as_array-takes null ds is = absurd cc

@@ -1,29 +1,21 @@
 -- What a value tells is what it is written as: the law of the shape.
-use Rattle.std.proofs.Common.{◌≡◌, ℕ, Bool, ◌&&◌, eqb, true, false, cond, Option, Some, None, List, length, codes, refl, sym, ap, subst, is_some, ◌∙◌}
-use Rattle.std.proofs.lemmas.Bool.{and_from, eqb-true}
+use Rattle.std.proofs.Common.{◌≡◌, ℕ, Bool, eqb, true, false, cond, Option, Some, None, List, codes, refl, sym, ap, subst, is_some, ◌∙◌}
+use Rattle.std.proofs.lemmas.Bool.{and_from}
 use Rattle.std.proofs.lemmas.Bool.Decides.{Decides-eqb}
 use Rattle.serde_json.specs.Data.{Data, number, string}
 use Rattle.serde_json.specs.Find.{get}
 use Rattle.oai_item.specs.ShortTexts.{is_short_text}
-use Rattle.oai_deposit.specs.Json.{size, has_members, has_each}
+use Rattle.oai_deposit.specs.Json.{size, has_members}
 use Rattle.oai_settings.specs.declared.settings.FormatSettings.{FormatSettings}
 use Rattle.oai_settings.specs.declared.settings.Settings.{Settings}
 use Rattle.oai_host.specs.declared.readings.told.HostSettings.{HostSettings}
 use Rattle.oai_host.specs.Optional.{◌>>=◌, tested}
-use Rattle.oai_host.specs.Shapes.{text_at, number_at, texts_at, format_members, format_of, deleted_at, granularity_at, formats_at, repository_members, settings_of, base_at, repositories_at, host_members, told_of}
+use Rattle.oai_host.specs.Shapes.{text_at, number_at, texts_at, format_members, format_of, deleted_at, granularity_at, formats_at, repository_members, settings_of, base_at, repositories_at, host_members, told_of, format_from, settings_from, told_from}
 use Rattle.oai_host.specs.Written.{HasText, HasNumber, HasList, IsFormat, IsRepository, IsHost, ShapeLaw}
+use Rattle.oai_deposit.proofs.ShapeLemmas.{of_size}
 use Rattle.oai_host.proofs.MemberLemmas.{Some-injective, Undoes, bind-Some, list_again, list_takes, number_again, number_takes, text_again, text_takes, texts_are, texts_take}
 use Rattle.oai_host.proofs.WordLemmas.{deleted_again, deleted_takes, granularity_again, granularity_takes}
 use Rattle.oai_host.proofs.SettingsLemmas.{settings_of-Some}
-
-both : (a b : Bool) → (a && b) ≡ true → a ≡ true
-both true b is = refl
-both false b is = absurd cc
-
--- an object of exactly these members is of their number
-of_size : (names : List (List ℕ)) (d : Data) → has_members names d ≡ true → size d ≡ length names
-unfolding has_members
-of_size names d is = eqb-true _ _ (both (eqb (size d) (length names)) (has_each names d) is)
 
 tested_is : {A : Type 0} (b : Bool) (x y : A) → cond b (Some x) None ≡ Some y → (b ≡ true) × (x ≡ y)
 tested_is true x y is = (refl, Some-injective x y is)
@@ -46,15 +38,6 @@ same_size : (d : Data) (n : ℕ) → size d ≡ n → eqb (size d) n ≡ true
 same_size d n is = (Decides-eqb (size d) n).1 is
 
 -- ---- a format
-
-abbrev format_from : Data → Option FormatSettings
-format_from d = do
-  prefix ← text_at (codes "prefix") d
-  schema ← text_at (codes "schema") d
-  namespace ← text_at (codes "namespace") d
-  root ← text_at (codes "root") d
-  fields ← texts_at (codes "fields") d
-  Some (record { prefix = prefix; schema = schema; namespace = namespace; root = root; fields = fields })
 
 format_parts : (d : Data) (f : FormatSettings) → size d ≡ 5 → format_from d ≡ Some f → IsFormat f d
 format_parts d f five is =
@@ -105,34 +88,6 @@ formats_take d fs is = list_takes format_of IsFormat one_format (codes "formats"
 formats_again : (d : Data) (fs : List FormatSettings) → HasList (codes "formats") IsFormat fs d → formats_at d ≡ Some fs
 unfolding formats_at
 formats_again d fs is = list_again format_of IsFormat one_format (codes "formats") d fs is
-
-abbrev settings_from : List ℕ → Data → Option Settings
-settings_from base d = do
-  name ← text_at (codes "name") d
-  repository_name ← text_at (codes "repositoryName") d
-  addresses ← texts_at (codes "adminEmail") d
-  earliest ← text_at (codes "earliestDatestamp") d
-  deleted ← deleted_at d
-  granularity ← granularity_at d
-  chunk ← number_at (codes "chunk") d
-  lifetime ← number_at (codes "lifetime") d
-  lists ← number_at (codes "lists") d
-  items ← number_at (codes "items") d
-  formats ← formats_at d
-  Some (record {
-    base = base;
-    name = name;
-    repository_name = repository_name;
-    addresses = addresses;
-    earliest = earliest;
-    deleted = deleted;
-    granularity = granularity;
-    chunk = chunk;
-    lifetime = lifetime;
-    lists = lists;
-    items = items;
-    formats = formats;
-  })
 
 repository_parts : (base : List ℕ) (d : Data) (s : Settings) → size d ≡ 11 → settings_from base d ≡ Some s → IsRepository base s d
 repository_parts base d s eleven is =
@@ -239,13 +194,6 @@ repositories_take base d ss is = list_takes (settings_of base) (IsRepository bas
 repositories_again : (base : List ℕ) (d : Data) (ss : List Settings) → HasList (codes "repositories") (IsRepository base) ss d → repositories_at base d ≡ Some ss
 unfolding repositories_at
 repositories_again base d ss is = list_again (settings_of base) (IsRepository base) (one_repository base) (codes "repositories") d ss is
-
-abbrev told_from : Data → Option HostSettings
-told_from d = do
-  base ← base_at d
-  cache ← number_at (codes "cache") d
-  repositories ← repositories_at base d
-  Some (record { cache = cache; repositories = repositories })
 
 host_parts : (d : Data) (told : HostSettings) → size d ≡ 3 → told_from d ≡ Some told → (base : List ℕ) × IsHost base told d
 host_parts d told three is =

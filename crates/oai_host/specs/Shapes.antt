@@ -42,16 +42,19 @@ texts_at name d = elements_at name d >>= each_of as_str
 abbrev pub format_members : List (List ℕ)
 format_members = codes "prefix" ∷ codes "schema" ∷ codes "namespace" ∷ codes "root" ∷ codes "fields" ∷ []
 
--- {"prefix":TEXT,"schema":TEXT,"namespace":TEXT,"root":TEXT,"fields":[TEXT,..]}, and no other member
-unfoldable pub format_of : Data → Option FormatSettings
-format_of d = do
-  d ← tested (has_members format_members) d
+-- what they tell
+abbrev pub format_from : Data → Option FormatSettings
+format_from d = do
   prefix ← text_at (codes "prefix") d
   schema ← text_at (codes "schema") d
   namespace ← text_at (codes "namespace") d
   root ← text_at (codes "root") d
   fields ← texts_at (codes "fields") d
   Some (record { prefix = prefix; schema = schema; namespace = namespace; root = root; fields = fields })
+
+-- {"prefix":TEXT,"schema":TEXT,"namespace":TEXT,"root":TEXT,"fields":[TEXT,..]}, and no other member
+unfoldable pub format_of : Data → Option FormatSettings
+format_of d = tested (has_members format_members) d >>= format_from
 
 -- ---- a repository
 
@@ -86,10 +89,9 @@ repository_members =
     codes "name" ∷ codes "repositoryName" ∷ codes "adminEmail" ∷ codes "earliestDatestamp" ∷ codes "deletedRecord"
     ∷ codes "granularity" ∷ codes "chunk" ∷ codes "lifetime" ∷ codes "lists" ∷ codes "items" ∷ codes "formats" ∷ []
 
--- the object of these members, which tells the settings of a repository below the base
-unfoldable pub settings_of : List ℕ → Data → Option Settings
-settings_of base d = do
-  d ← tested (has_members repository_members) d
+-- what they tell of a repository below the base
+abbrev pub settings_from : List ℕ → Data → Option Settings
+settings_from base d = do
   name ← text_at (codes "name") d
   repository_name ← text_at (codes "repositoryName") d
   addresses ← texts_at (codes "adminEmail") d
@@ -116,6 +118,10 @@ settings_of base d = do
     formats = formats;
   })
 
+-- the object of these members, and no other
+unfoldable pub settings_of : List ℕ → Data → Option Settings
+settings_of base d = tested (has_members repository_members) d >>= settings_from base
+
 -- ---- the host
 
 -- the base of all base URLs: 1 to 512 bytes, of characters that a document may hold (XML 1.0, section 2.2)
@@ -130,14 +136,17 @@ repositories_at base d = elements_at (codes "repositories") d >>= each_of (setti
 abbrev pub host_members : List (List ℕ)
 host_members = codes "base" ∷ codes "cache" ∷ codes "repositories" ∷ []
 
--- {"base":TEXT,"cache":NUMBER,"repositories":[REPOSITORY,..]}, and no other member
-unfoldable pub told_of : Data → Option HostSettings
-told_of d = do
-  d ← tested (has_members host_members) d
+-- what they tell
+abbrev pub told_from : Data → Option HostSettings
+told_from d = do
   base ← base_at d
   cache ← number_at (codes "cache") d
   repositories ← repositories_at base d
   Some (record { cache = cache; repositories = repositories })
+
+-- {"base":TEXT,"cache":NUMBER,"repositories":[REPOSITORY,..]}, and no other member
+unfoldable pub told_of : Data → Option HostSettings
+told_of d = tested (has_members host_members) d >>= told_from
 
 -- ---- the text
 

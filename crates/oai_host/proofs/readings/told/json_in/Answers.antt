@@ -1,4 +1,5 @@
-use Rattle.oai_host.proofs.JsonLemmas.{json_in-Some, json_in-None, takes-text}
+use Rattle.oai_deposit.proofs.LineLemmas.{takes-text}
+use Rattle.oai_host.proofs.JsonLemmas.{json_in-Some, json_in-None}
 use Rattle.oai_host.proofs.readings.told.json_in.Goals as goal
 
 pub returns-in_default : goal.returns-in_default
