@@ -1,9 +1,10 @@
 //! A host of repositories.
-ghost use Rattle.std.specs.Prelude.{◌≡◌, ◌≤◌, true, map, if◌then◌else◌, IfOk, IfSome, IsTrue, OnErr};
+ghost use Rattle.std.specs.Prelude.{◌≡◌, ◌+◌, ◌<◌, ◌≤◌, true, length, map, if◌then◌else◌, IfErr, IfOk, IfSome, IsTrue, OnErr};
 ghost use Rattle.std.specs.List.{list_all};
 ghost use Rattle.std.specs.Option.{IfNone};
 ghost use Rattle.oai_settings.specs.Config.{is_repository_name};
 ghost use Rattle.oai_catalogue.specs.Store.{IsCounted, IsHonest};
+ghost use Rattle.oai_item.specs.declared.faults.Fault.TheVariants.{TooManyPages};
 ghost use Rattle.oai_host.specs.Answers.{AnswersLines, AreCounted, AreHonest, OnFailed, failure_in};
 ghost use Rattle.oai_host.specs.Faults.{HasCause};
 ghost use Rattle.oai_host.specs.Hosts.{AreAnswered, AreAsAlone, IsAnswered, LeavesOthers, begun, is_of_none, none_failed, refused};
@@ -62,6 +63,9 @@ impl<V: Versions + Drop> Host<V> {
         ensures honesty { IfOk result (λ host. host.honest ≡ V.honest store) }
         ensures count { IfOk result (λ host. V.failures store ≤ host.failures) }
         ensures cause { HasCause V.failures V.honest store result }
+        ensures room { IfErr result (λ fault. fault ≡ TooManyPages
+            → V.room store < length config.repositories) }
+        ensures used { IfOk result (λ host. V.room store ≤ host.room + length config.repositories) }
     {
         let routes = Routes::new(alloc)?;
         let mut repositories = Repositories::new(alloc);

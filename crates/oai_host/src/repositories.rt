@@ -2,7 +2,7 @@
 ghost use Rattle.std.specs.Prelude.{◌≡◌, ◌<◌, ◌++◌, ℕ, [], ◌∷◌, true, false, length, map, get_or, IfSome, IsTrue, OnErr, OnOk};
 ghost use Rattle.std.specs.List.{AllZip, list_any, position, slice_get};
 ghost use Rattle.std.specs.Str.{bytes_eq};
-ghost use Rattle.oai_catalogue.specs.Store.{IsCounted, IsHonest};
+ghost use Rattle.oai_catalogue.specs.Store.{IsCounted, IsHonest, NeedsRoom};
 ghost use Rattle.oai_host.specs.Answers.{AnswersLines, OnFailed, failure_in};
 ghost use Rattle.oai_host.specs.Hosts.{IsStep, LeavesOthers, begun};
 ghost use Rattle.oai_host.specs.Housed.{AreHoused, housed_names, place_in, repositories_of};
@@ -79,6 +79,7 @@ impl Repositories {
         ensures begun { OnOk result (repositories_of self.new (V.lists store.new)
             ≡ repositories_of self.old (V.lists store.old) ++ begun hosted ∷ []) }
         ensures housed { OnOk result (AreHoused (V.honest store.new) self.new (V.lists store.new)) }
+        ensures room { NeedsRoom 1 result (V.room store.old) (V.room store.new) }
         ensures device { IsCounted result (V.failures store.old) (V.failures store.new) }
         ensures honesty { IsHonest result (V.honest store.old) (V.honest store.new) }
     {

@@ -1,5 +1,5 @@
 -- Each repository of the configuration begins beside those that have begun.
-use Rattle.std.proofs.Common.{◌≡◌, ◌∙◌, ◌∷◌, arith, refl, rules}
+use Rattle.std.proofs.Common.{◌≡◌, ◌∙◌, ◌∷◌, ap, arith, length, refl, rules}
 use Rattle.std.specs.Vec.Iter.{into_iter_items}
 use Rattle.oai_host.specs.Housed.{repositories_of}
 use Rattle.oai_host.proofs.HostLemmas.{begun_more, begun_none, next_named, next_unused}
@@ -11,6 +11,7 @@ loop-hosted-init g c =
     record {
       begun = rw (items, c.new-repositories.ensures) (begun_none c.args.config.repositories);
       housed = rw c.new-repositories.ensures (record { named = record { named = refl; distinct = refl }; stand = tt; held = λ _. tt; apart = tt });
+      room = omega (arith, ap length items);
       count = omega arith;
       honesty = refl;
       named = c.into_repositories.ensures.named;
@@ -38,6 +39,7 @@ loop-hosted-preserved g c =
       begun = begun_more c.args.config.repositories (into_iter_items c.next.new.self) c.in-Some.hosted (repositories_of c.loop-hosted.repositories (V.lists c.loop-hosted.store)) (repositories_of c.begin.new.self (V.lists c.begin.new.store))
           so_far c.in_ok-begin.ensures.begun;
       housed = c.in_ok-begin.ensures.housed;
+      room = omega (arith, ap length next, c.loop-hosted.invariant.room, c.begin.ensures.room.used);
       count = omega (arith, c.loop-hosted.invariant.count, c.begin.ensures.device.count);
       honesty = c.begin.ensures.honesty.same ∙ c.loop-hosted.invariant.honesty;
       named = c.loop-hosted.invariant.named;
