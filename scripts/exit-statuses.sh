@@ -29,7 +29,7 @@ ended 0 '' 'a whole input'
 bin/oaihost ask examples/archive.json </dev/null >/dev/null 2>"$said"
 status=$?
 ended 0 '' 'an empty input'
-for arguments in '' 'ask' 'check' 'ask a b' 'check a b' 'asks a' 'Ask a' 'trace' 'trace a b' 'serve a' 'serve a 1 b' 'serve a 1 b 1 c' \
+for arguments in '' 'ask' 'check' 'ask a b' 'check a b' 'asks a' 'Ask a' 'trace' 'trace a b' 'serve a' 'serve a 1 b' 'serve a 1 b 1 c' 'ask a 1 b 1' \
     'serve a 65536 b 1' 'serve a +1 b 1' 'serve a 1 b -1' 'serve a 1 b 18446744073709551616' 'serve a x b 1'; do
     # shellcheck disable=SC2086
     bin/oaihost $arguments </dev/null >/dev/null 2>"$said"
@@ -52,6 +52,12 @@ ended 1 'output fault' 'an output that is full'
     echo 'check does not say ok 3'
     wrong=1
 }
+# (the first two of the repositories)
+head -n 9 examples/archive.json | sed '$s/,$/]}/' >"$changed"
+[ "$(bin/oaihost check "$changed" 2>"$said")" = 'ok 2' ] || {
+    echo 'check does not say ok 2'
+    wrong=1
+}
 printf '1704067200 1 4\n' | bin/oaihost trace examples/archive.json >/dev/null 2>"$said"
 status=$?
 ended 1 'line 1: bad piece' 'a piece of one digit'
@@ -60,13 +66,14 @@ for ((label = 1; label <= 1025; label++)); do
 done | bin/oaihost trace examples/archive.json >/dev/null 2>"$said"
 status=$?
 ended 1 'line 1025: too many connections' 'a connection more than may be open'
-[ "$(bin/oaihost serve examples/archive.json 0 spill 0 2>"$said" | sed 's/[0-9]*$//')" = 'listening on 127.0.0.1:' ] || {
+[ "$(timeout 20 bin/oaihost serve examples/archive.json 0 spill 0 2>"$said" | sed 's/[0-9]*$//')" = 'listening on 127.0.0.1:' ] || {
     echo 'serve does not say where it listens'
     wrong=1
 }
 
-# Two servers on one port, of which the first answers one request.
-bin/oaihost serve examples/archive.json 0 spill 1 >"$changed" &
+# Two servers on one port, of which the first serves two connections, one after the other.
+: >"$changed"
+timeout 60 bin/oaihost serve examples/archive.json 0 spill 2 >"$changed" &
 first=$!
 for _ in {1..100}; do
     [ -s "$changed" ] && break
@@ -76,13 +83,18 @@ port=$(sed 's/.*://' "$changed")
 timeout 20 bin/oaihost serve examples/archive.json "$port" spill 1 >/dev/null 2>"$said"
 status=$?
 ended 1 'socket fault' 'a port that is taken'
-exec 3<>"/dev/tcp/127.0.0.1/$port"
-printf 'GET /oai/none HTTP/1.0\r\n\r\n' >&3
-[ "$(head -n 1 <&3)" = $'HTTP/1.1 404 Not Found\r' ] || {
-    echo 'serve does not answer 404'
-    wrong=1
-}
-exec 3>&-
+for connection in first second; do
+    told=
+    if exec 3<>"/dev/tcp/127.0.0.1/$port"; then
+        printf 'GET /oai/none HTTP/1.0\r\n\r\n' >&3
+        told=$(timeout 20 head -n 1 <&3)
+        exec 3>&-
+    fi 2>/dev/null
+    [ "$told" = $'HTTP/1.1 404 Not Found\r' ] || {
+        echo "serve does not answer 404 on its $connection connection"
+        wrong=1
+    }
+done
 wait "$first"
 status=$?
 first=
