@@ -13,7 +13,8 @@ use Rattle.oai_item.specs.Items.{are_apart, is_apart}
 use Rattle.oai_item.specs.Order.{are_in_order, precedes}
 use Rattle.oai_item.specs.Selection.{Filter, passes, selected}
 use Rattle.oai_item.specs.declared.formats.Format.{Format}
-use Rattle.oai_item.proofs.OrderLemmas.{apart-filter, in_order-filter}
+use Rattle.oai_item.proofs.OrderLemmas.{apart-filter}
+use Rattle.oai_item.proofs.Selecting.{in_order-selected}
 use Rattle.oai_args.specs.Asks.{asks}
 use Rattle.oai_args.specs.declared.requests.Ask.TheVariants as ask
 use Rattle.oai_answers.specs.Answers.{Page, fails}
@@ -148,10 +149,6 @@ front_apart (x ∷ front) others h =
     let parts = and_parts (list_all (is_apart x) (front ++ others)) (are_apart (front ++ others)) h in
     and_from (list_all (is_apart x) front) (are_apart front) (front_all (is_apart x) front others parts.0) (front_apart front others parts.1)
 
-selected_ordered : (asked : Filter) (items : List ItemState) → are_in_order items ≡ true → are_in_order (selected asked items) ≡ true
-unfolding selected
-selected_ordered asked items h = in_order-filter (passes asked) items h
-
 selected_apart : (asked : Filter) (items : List ItemState) → are_apart items ≡ true → are_apart (selected asked items) ≡ true
 unfolding selected
 selected_apart asked items h = apart-filter (passes asked) items h
@@ -173,7 +170,7 @@ whole_list config state wish format exchanges kept known followed =
         lasting = told.lasting;
         begun = (told.others, told.front);
         complete = λ ends. sym (append-nil (joined pages)) ∙ ap (λ ys. joined pages ++ ys) (sym (told.complete ends)) ∙ told.front;
-        ordered = front_ordered (joined pages) told.others (ap are_in_order told.front ∙ selected_ordered asked state.holdings.items kept.ordered);
+        ordered = front_ordered (joined pages) told.others (ap are_in_order told.front ∙ in_order-selected asked state.holdings.items kept.ordered);
         apart = front_apart (joined pages) told.others (ap are_apart told.front ∙ selected_apart asked state.holdings.items kept.apart);
       },
     )

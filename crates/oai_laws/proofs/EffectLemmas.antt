@@ -5,9 +5,7 @@ use Rattle.std.specs.List.{list_all}
 use Rattle.std.specs.Str.{bytes_eq}
 use Rattle.std.proofs.lemmas.Bool.{and_from, and_parts, cond_both}
 use Rattle.std.proofs.lemmas.Bool.Decides.{nat_tests}
-use Rattle.std.proofs.lemmas.List.Elements.{All-filter}
 use Rattle.std.proofs.lemmas.List.Folds.{list_all-append}
-use Rattle.std.proofs.lemmas.List.Sums.{AllPass-from_list_all, list_all-from_AllPass}
 use Rattle.std.proofs.lemmas.Slice.Eq.{bytes_eq-Decides}
 use Rattle.oai_names.specs.declared.list_verbs.ListVerb.{ListVerb}
 use Rattle.oai_lists.specs.declared.lists.TheConstants.{LAST_NUMBER}
@@ -26,7 +24,7 @@ use Rattle.oai_item.specs.declared.formats.Format.{Format}
 use Rattle.oai_item.specs.declared.refusals.ChangeRefusal.{ChangeRefusal}
 use Rattle.oai_item.specs.declared.refusals.ChangeRefusal.TheVariants.{AlreadyDeleted, NotTransient, BadDate}
 use Rattle.oai_item.proofs.Named.{found_name, of_found}
-use Rattle.oai_names.proofs.Lists.{all-weaker}
+use Rattle.oai_names.proofs.Lists.{all-filter, all-weaker}
 use Rattle.oai_item.proofs.OrderLemmas.{all-placed, in_order-changed, apart-changed}
 use Rattle.oai_args.specs.Asks.{AskOrError, asks, bad_verb, bad_argument}
 use Rattle.oai_args.specs.declared.requests.Ask.TheVariants as ask
@@ -48,18 +46,14 @@ use Rattle.oai_repo.proofs.KeptLemmas.{emptied-record, few-new, fits, kept-none,
 pub sound_empty : (config : Config) → IsSound config (empty_state config)
 sound_empty config = record { kept = kept-none config; live = λ _. refl; given = refl; formed = refl; known = refl; few = omega arith }
 
--- what is true of all is true of those that a test keeps
-pub all_kept : {A : Type 0} (p q : A → Bool) (xs : List A) → list_all p xs ≡ true → list_all p (filter q xs) ≡ true
-all_kept p q xs h = list_all-from_AllPass p (filter q xs) (All-filter q (λ x. p x ≡ true) xs (AllPass-from_list_all p xs h))
-
 -- at a later clock fewer lists are open
 pub sound_moved : (config : Config) (moment : ℤ) (state : State) → IsSound config state → IsSound config (moved moment state)
 sound_moved config moment state sound = record {
   kept = sound.kept;
   live = sound.live;
-  given = all_kept (is_given state.begun.next) (is_open_at (moved moment state).clock) state.begun.lists sound.given;
-  formed = all_kept (is_formed config) (is_open_at (moved moment state).clock) state.begun.lists sound.formed;
-  known = all_kept (is_of_format config) (is_open_at (moved moment state).clock) state.begun.lists sound.known;
+  given = all-filter (is_given state.begun.next) (is_open_at (moved moment state).clock) state.begun.lists sound.given;
+  formed = all-filter (is_formed config) (is_open_at (moved moment state).clock) state.begun.lists sound.formed;
+  known = all-filter (is_of_format config) (is_open_at (moved moment state).clock) state.begun.lists sound.known;
   few = sound.few;
 }
 
@@ -190,7 +184,7 @@ sound_effected config state (item_taken identifier) possible sound = record {
 }
 sound_effected config state (items_purged limit) possible sound = record {
   kept = purged_kept config state.holdings limit sound.kept;
-  live = λ none. all_kept is_live (λ item. not (goes_below limit item)) state.holdings.items (sound.live none);
+  live = λ none. all-filter is_live (λ item. not (goes_below limit item)) state.holdings.items (sound.live none);
   given = sound.given;
   formed = sound.formed;
   known = sound.known;
@@ -239,7 +233,7 @@ kept_formed config sets item h =
 pub selected_formed : (config : Config) (holdings : Holdings) (asked : Filter) → AreKept config holdings → list_all (has_known_records config) (selected asked holdings.items) ≡ true
 unfolding selected
 selected_formed config holdings asked kept =
-    all_kept (has_known_records config) (passes asked) holdings.items
+    all-filter (has_known_records config) (passes asked) holdings.items
     (all-weaker (is_well_kept config holdings.sets) (has_known_records config) (kept_formed config holdings.sets) holdings.items kept.well)
 
 -- the format that is found has the prefix

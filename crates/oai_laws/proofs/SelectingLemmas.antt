@@ -24,7 +24,7 @@ use Rattle.oai_item.specs.Item.{ItemState}
 use Rattle.oai_item.specs.Items.{without}
 use Rattle.oai_item.specs.Membership.{is_in}
 use Rattle.oai_item.specs.Selection.{Filter, IsSelected}
-use Rattle.oai_names.proofs.Lists.{all-weaker}
+use Rattle.oai_names.proofs.Lists.{all-filter, all-weaker}
 use Rattle.oai_item.proofs.OrderLemmas.{all-placed}
 use Rattle.oai_item.proofs.Selecting.{contains_selected, in_order-selected}
 use Rattle.oai_args.specs.Bounds.{given_bound}
@@ -39,7 +39,7 @@ use Rattle.oai_laws.specs.Runs.{Exchange, Throughout, Timed, performed, run}
 use Rattle.oai_laws.specs.Selecting.{IsAskedFor, IsFrom, IsInSet, IsSelection, IsUntil, is_dated}
 use Rattle.oai_repo.proofs.ClockLemmas.{in_years-config, in_years-tick, writable}
 use Rattle.oai_repo.proofs.KeptLemmas.{well-without}
-use Rattle.oai_laws.proofs.EffectLemmas.{all_kept, effect_of, sound_act, sound_empty, sound_moved}
+use Rattle.oai_laws.proofs.EffectLemmas.{effect_of, sound_act, sound_empty, sound_moved}
 
 -- ---- datestamps
 
@@ -125,7 +125,7 @@ timed_effected config state (item_put item) good possible timed = record {
 timed_effected config state (item_taken identifier) good possible timed =
     record { years = timed.years; begun = timed.begun; dated = well-without (is_dated config state.clock) identifier state.holdings.items timed.dated }
 timed_effected config state (items_purged limit) good possible timed =
-    record { years = timed.years; begun = timed.begun; dated = all_kept (is_dated config state.clock) (λ item. not (goes_below limit item)) state.holdings.items timed.dated }
+    record { years = timed.years; begun = timed.begun; dated = all-filter (is_dated config state.clock) (λ item. not (goes_below limit item)) state.holdings.items timed.dated }
 timed_effected config state (set_added set) good possible timed = record { years = timed.years; begun = timed.begun; dated = timed.dated }
 timed_effected config state (list_renewed number) good possible timed = record { years = timed.years; begun = timed.begun; dated = timed.dated }
 timed_effected config state (list_opened list) good possible timed = record { years = timed.years; begun = timed.begun; dated = timed.dated }

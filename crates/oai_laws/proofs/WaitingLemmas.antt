@@ -1,11 +1,12 @@
 -- A request that is told to wait is told to wait for a second at least, and where the table is full a list ends meanwhile.
-use Rattle.std.proofs.Common.{◌≡◌, ◌∙◌, ℕ, ℤ, pos, ◌<◌, ◌≤◌, ◌+ℤ◌, ◌-ℤ◌, ◌≤ℤ◌, Bool, true, false, not, ◌&&◌, eqb, cond, List, [], ◌∷◌, length, None, Some, refl, sym, ap, subst, arith}
+use Rattle.std.proofs.Common.{◌≡◌, ◌∙◌, ℕ, ℤ, pos, ◌<◌, ◌≤◌, ◌+ℤ◌, ◌-ℤ◌, ◌≤ℤ◌, ◌<ℤ◌, Bool, true, false, not, ◌&&◌, eqb, cond, List, [], ◌∷◌, length, None, Some, refl, sym, ap, subst, arith}
 use Rattle.std.specs.Prelude.{filter, int_lt, nat_le}
 use Rattle.std.specs.Int.{int_min}
 use Rattle.std.specs.List.{list_all}
 use Rattle.std.proofs.lemmas.Bool.{and_from, and_parts, cond_both, cond-false, not-true}
 use Rattle.std.proofs.lemmas.Bool.Decides.{nat_tests}
 use Rattle.std.proofs.lemmas.Int.{ints}
+use Rattle.oai_names.proofs.Lists.{all-filter_same, filter_all}
 use Rattle.oai_lists.specs.declared.lists.TheConstants.{LAST_NUMBER}
 use Rattle.oai_settings.specs.Config.{Config, IsConfig, are_limits, is_chunk, is_items, is_lifetime, is_lists}
 use Rattle.oai_repo.specs.Listing.{earliest_end, seconds_to_end, wait_at}
@@ -29,18 +30,17 @@ not_before a b same = let e : not (int_lt a b) ≡ true = grind (arith, ints) in
 some_seconds : (n : ℕ) → 1 ≤ n → pos 1 ≤ℤ pos n
 some_seconds n h = grind (arith, ints)
 
--- ---- lists that are open
-
-all_open : (clock : ℤ) (lists : List FrozenList) → list_all (is_open_at clock) (filter (is_open_at clock) lists) ≡ true
-all_open clock [] = refl
-all_open clock (x ∷ lists) = by_test (is_open_at clock x) refl (all_open clock lists)
+before_both : (c a b : ℤ) → int_lt c (int_min a b) ≡ true → (int_lt c a ≡ true) × (int_lt c b ≡ true)
+before_both c a b h = by_test (int_lt b a) refl h
   where
-    rest : List FrozenList
-    rest = filter (is_open_at clock) lists
+    by_test : (t : Bool) → int_lt b a ≡ t → int_lt c (cond t b a) ≡ true → (int_lt c a ≡ true) × (int_lt c b ≡ true)
+    by_test true less sooner = (let all : int_lt c a ≡ true = grind (arith, ints) in all, sooner)
+    by_test false more sooner = (sooner, let all : int_lt c b ≡ true = grind (arith, ints) in all)
 
-    by_test : (b : Bool) → is_open_at clock x ≡ b → list_all (is_open_at clock) rest ≡ true → list_all (is_open_at clock) (cond b (x ∷ rest) rest) ≡ true
-    by_test true lasts h = and_from (is_open_at clock x) (list_all (is_open_at clock) rest) lasts h
-    by_test false over h = h
+still_before : (c fewer e seconds : ℤ) → seconds ≡ (e -ℤ c) → fewer <ℤ seconds → int_lt (c +ℤ fewer) e ≡ true
+still_before c fewer e seconds is less = grind (arith, ints)
+
+-- ---- lists that are open
 
 -- the earliest of their ends is later
 ends_later : (clock : ℤ) (list : FrozenList) (lists : List FrozenList) → list_all (is_open_at clock) (list ∷ lists) ≡ true → int_lt clock (earliest_end list lists) ≡ true
@@ -87,6 +87,19 @@ one_ended now list (next ∷ lists) is = by_test (int_lt (earliest_end next list
     by_test true e later = later_ended now list (next ∷ lists) (later e)
     by_test false e later = first_ended now list (next ∷ lists) e
 
+-- ---- none ends before the earliest of the ends
+
+all_last : (now : ℤ) (list : FrozenList) (lists : List FrozenList) → int_lt now (earliest_end list lists) ≡ true → list_all (is_open_at now) (list ∷ lists) ≡ true
+all_last now list [] h = and_from (is_open_at now list) true h refl
+all_last now list (next ∷ lists) h =
+    let both = before_both now list.end (earliest_end next lists) h in
+    and_from (is_open_at now list) (list_all (is_open_at now) (next ∷ lists)) both.0 (all_last now next lists both.1)
+
+none_ended : (clock fewer seconds : ℤ) (lists : List FrozenList) → 1 ≤ length lists → seconds ≡ seconds_to_end clock lists → fewer <ℤ seconds → filter (is_open_at (clock +ℤ fewer)) lists ≡ lists
+none_ended clock fewer seconds [] some is less = absurd (omega (arith, some))
+none_ended clock fewer seconds (list ∷ lists) some is less =
+    filter_all (is_open_at (clock +ℤ fewer)) (list ∷ lists) (all_last (clock +ℤ fewer) list lists (still_before clock fewer (earliest_end list lists) seconds is less))
+
 -- ---- a wait
 
 full_wait : (clock seconds : ℤ) (lists : List FrozenList) → list_all (is_open_at clock) lists ≡ true → 1 ≤ length lists → seconds ≡ seconds_to_end clock lists
@@ -125,9 +138,14 @@ wait_is config clock seconds begun good waits =
         → cond full (Some (seconds_to_end clock lists)) (cond spent (Some (pos config.lifetime)) None) ≡ Some seconds → IsWait config clock (still_open clock begun) seconds
     by_tests true spent many some lasts is =
         let seconds_are : seconds ≡ seconds_to_end clock lists = cc in
-        let wait = full_wait clock seconds lists (all_open clock begun.lists) (omega (arith, some, is_up_to config.lists (length lists) many)) seconds_are in
-        record { some = wait.0; helps = λ _. wait.1 }
+        let any : 1 ≤ length lists = omega (arith, some, is_up_to config.lists (length lists) many) in
+        let wait = full_wait clock seconds lists (all-filter_same (is_open_at clock) begun.lists) any seconds_are in
+        record { some = wait.0; helps = λ _. wait.1; no_longer = λ fewer _ less. none_ended clock fewer seconds lists any seconds_are less }
     by_tests false true few some lasts is =
         let seconds_are : seconds ≡ pos config.lifetime = cc in
-        record { some = subst (λ (s : ℤ). pos 1 ≤ℤ s) (sym seconds_are) (some_seconds config.lifetime lasts); helps = λ many. absurd (is_above config.lists (length lists) few many) }
+        record {
+          some = subst (λ (s : ℤ). pos 1 ≤ℤ s) (sym seconds_are) (some_seconds config.lifetime lasts);
+          helps = λ many. absurd (is_above config.lists (length lists) few many);
+          no_longer = λ fewer many less. absurd (is_above config.lists (length lists) few many);
+        }
     by_tests false false few some lasts is = cc
