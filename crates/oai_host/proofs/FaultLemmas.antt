@@ -1,14 +1,14 @@
 -- Faults that answers tell: they have their cause also where more calls came before, or come later.
-use Rattle.std.proofs.Common.{◌≡◌, ◌∙◌, ◌<◌, ◌≤◌, ◌⊎◌, inl, inr, ℕ, Bool, List, [], ◌∷◌, ◌++◌, Option, None, Some, Result, Ok, Err, sym, subst, arith}
-use Rattle.std.specs.Prelude.{IfSome}
+use Rattle.std.proofs.Common.{◌≡◌, ◌∙◌, ◌<◌, ◌≤◌, ◌⊎◌, inl, inr, ℕ, Bool, List, [], ◌∷◌, ◌++◌, length, Option, None, Some, is_some, Result, Ok, Err, refl, sym, ap, subst, arith}
+use Rattle.std.specs.Prelude.{IfSome, IsSomeAnd, unwrap_or}
 use Rattle.std.proofs.lemmas.Bool.{cases_lt}
 use Rattle.oai_item.specs.declared.faults.Fault.{Fault}
 use Rattle.oai_item.specs.declared.faults.Fault.TheVariants.{Damaged, Device, NoMemory, TooManyPages}
 use Rattle.oai_catalogue.specs.Store.{IsCounted, IsHonest}
 use Rattle.oai_catalogue.specs.declared.versions.TheConstants.{MOST_FAILURES}
-use Rattle.oai_host.specs.Answers.{AreCounted, AreHonest, OnFailed, failed, failure_in}
+use Rattle.oai_host.specs.Answers.{AreCounted, AreHonest, OnFailed, TellsFault, failed, failure_in}
+use Rattle.oai_host.specs.Tasks.{Task, asking, depositing, refusing}
 use Rattle.oai_host.specs.declared.exchanges.Answer.{Answer}
-use Rattle.oai_host.proofs.PlaceLemmas.{nothing_there}
 
 -- ---- the count of failures
 
@@ -75,14 +75,35 @@ if_some_then P Q None f p = tt
 if_some_then P Q (Some fault) f p = f p
 
 pub left_so : (P : Type 0) (answer : Answer) → P → OnFailed answer P
-left_so P answer p = if_some (answer.done ≡ None → P) answer.fault (λ _. p)
+left_so P answer p = if_some (unwrap_or answer.done 0 ≡ 0 → P) answer.fault (λ _. p)
 
 pub left_then : (P Q : Type 0) (answer : Answer) → (P → Q) → OnFailed answer P → OnFailed answer Q
-left_then P Q answer f h = if_some_then (answer.done ≡ None → P) (answer.done ≡ None → Q) answer.fault (λ p none. f (p none)) h
+left_then P Q answer f h = if_some_then (unwrap_or answer.done 0 ≡ 0 → P) (unwrap_or answer.done 0 ≡ 0 → Q) answer.fault (λ p none. f (p none)) h
 
 -- a deposit tells how many of its lines were done
-pub deposit_left : (P : Type 0) (fault : Fault) (lines : ℕ) → OnFailed (failed fault (Some lines)) P
-deposit_left P NoMemory lines = λ none. nothing_there lines (sym none)
-deposit_left P TooManyPages lines = λ none. nothing_there lines (sym none)
-deposit_left P Device lines = λ none. nothing_there lines (sym none)
-deposit_left P Damaged lines = λ none. nothing_there lines (sym none)
+pub deposit_left : (P : Type 0) (fault : Fault) (lines : ℕ) → (lines ≡ 0 → P) → OnFailed (failed fault (Some lines)) P
+deposit_left P NoMemory lines left = left
+deposit_left P TooManyPages lines left = left
+deposit_left P Device lines left = left
+deposit_left P Damaged lines left = left
+
+-- ---- what is told of it
+
+pub request_told : (arguments : List ℕ) (fault : Fault) → TellsFault (asking arguments) (failed fault None)
+request_told arguments NoMemory = refl
+request_told arguments TooManyPages = refl
+request_told arguments Device = refl
+request_told arguments Damaged = refl
+
+pub deposit_told : (lines : List (List ℕ)) (fault : Fault) (done : ℕ) → done < length lines → TellsFault (depositing lines) (failed fault (Some done))
+deposit_told lines NoMemory done less = (refl, less)
+deposit_told lines TooManyPages done less = (refl, less)
+deposit_told lines Device done less = (refl, less)
+deposit_told lines Damaged done less = (refl, less)
+
+-- an answer without a fault tells none
+pub none_told : (task : Task) (answer : Answer) → answer.fault ≡ None → TellsFault task answer
+none_told (refusing why) answer none = ap (λ (fault : Option Fault). is_some fault) none
+none_told (asking arguments) answer none = subst (λ (fault : Option Fault). IfSome fault (λ f. answer ≡ failed f None)) (sym none) tt
+none_told (depositing lines) answer none =
+    subst (λ (fault : Option Fault). IfSome fault (λ f. IsSomeAnd answer.done (λ done. (answer ≡ failed f (Some done)) × (done < length lines)))) (sym none) tt

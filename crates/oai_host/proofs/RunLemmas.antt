@@ -9,7 +9,8 @@ use Rattle.oai_settings.specs.Config.{Config}
 use Rattle.oai_repo.specs.State.{State}
 use Rattle.oai_host.specs.Alone.{HasFailed, IsExchange, IsRun, answers_alone, own_answers, own_calls}
 use Rattle.oai_host.specs.Answers.{failed}
-use Rattle.oai_host.specs.Hosts.{AreAnswered, AreAsAlone, AreRefused, IsAnswered, IsOwnRun, IsStep, Repository, is_of_none, none_failed, refused}
+use Rattle.oai_host.specs.Exchanged.{AreExchanged, IsExchanged}
+use Rattle.oai_host.specs.Hosts.{AreAnswered, AreAsAlone, AreRefused, Hosting, IsAnswered, IsOwnRun, IsStep, Repository, is_of_none, none_failed, refused}
 use Rattle.oai_host.specs.Targets.{leads_to_repository}
 use Rattle.oai_host.specs.Tasks.{Task, asking, depositing, refusing, task_of}
 use Rattle.oai_host.specs.declared.exchanges.Answer.{Answer}
@@ -146,6 +147,14 @@ answered_last calls answers call answer before between after so_far last = recor
   each = each_last before calls answers call answer before between after so_far.none so_far.each last.each;
   none = refused_last before calls answers call answer so_far.none (λ none. last.none (sym (none_same calls answers call before between so_far.each) ∙ none));
 }
+
+pub exchanged_last : (calls : List Call) (answers : List Answer) (call : Call) (answer : Answer) (before between after : Hosting) → AreExchanged calls answers before between
+    → IsExchanged call answer between after → AreExchanged (calls ++ call ∷ []) (answers ++ answer ∷ []) before after
+exchanged_last [] [] call answer before between after run last = (after, subst (λ (h : Hosting). IsExchanged call answer h after) run last, refl)
+exchanged_last [] (a ∷ answers) call answer before between after run last = absurd run
+exchanged_last (c ∷ calls) [] call answer before between after run last = absurd run
+exchanged_last (c ∷ calls) (a ∷ answers) call answer before between after run last =
+    (run.0, run.1, exchanged_last calls answers call answer run.0 between after run.2 last)
 
 -- ---- no exchange
 

@@ -1,5 +1,5 @@
 -- What an exchange is answered: RFC 9110, sections 10.2.3 and 15; that a request is to be made again later, OAI-PMH 2.0, section 3.1.2.2.
-use Rattle.std.specs.Prelude.{◌≡◌, ◌≤◌, ℕ, ℤ, pos, Bool, List, [], length, Option, None, Some, IfSome, Result, Ok, Err}
+use Rattle.std.specs.Prelude.{◌≡◌, ◌<◌, ◌≤◌, ℕ, ℤ, pos, Bool, List, [], length, Option, None, Some, IfSome, IsNone, IsSomeAnd, unwrap_or, Result, Ok, Err}
 use Rattle.std.specs.List.{AllByRecursion, count_by}
 use Rattle.oai_catalogue.specs.Store.{IsCounted, IsHonest}
 use Rattle.oai_item.specs.declared.faults.Fault.{Fault}
@@ -60,9 +60,16 @@ AreCounted answers old new = AllByRecursion (λ (answer : Answer). IsCounted (fa
 abbrev pub AreHonest : List Answer → Bool → Bool → Type 0
 AreHonest answers old new = AllByRecursion (λ (answer : Answer). IsHonest (failure_in answer) old new) answers
 
--- P, where the exchange failed and was no deposit, of which some lines may have been done
+-- P, where the exchange failed, and of a deposit no line was done
 abbrev pub OnFailed : Answer → Type 0 → Type 0
-OnFailed answer P = IfSome answer.fault (λ fault. answer.done ≡ None → P)
+OnFailed answer P = IfSome answer.fault (λ fault. unwrap_or answer.done 0 ≡ 0 → P)
+
+-- a fault is told as what it is, over every store: of a request as that it failed, of a deposit with the number of lines that were done, which
+-- are not all; what is asked of no repository has none
+abbrev pub TellsFault : Task → Answer → Type 0
+TellsFault (refusing why) answer = IsNone answer.fault
+TellsFault (asking arguments) answer = IfSome answer.fault (λ fault. answer ≡ failed fault None)
+TellsFault (depositing lines) answer = IfSome answer.fault (λ fault. IsSomeAnd answer.done (λ done. (answer ≡ failed fault (Some done)) × (done < length lines)))
 
 -- a deposit that was performed is answered with no fewer lines than it has, over every store
 abbrev pub AnswersLines : Task → Answer → Type 0

@@ -16,6 +16,7 @@ pub mod Tasks
 pub mod Alone
 pub mod Hosts
 pub mod Room
+pub mod Exchanged
 pub mod Rows
 pub mod Housed
 pub mod Props

@@ -5,8 +5,8 @@ ghost use Rattle.oai_host.specs.Bodies as spec;
 
 use crate::bytes::len_before;
 
-/// The type of a body that is a form.
-const FORM: &[u8] = b"application/x-www-form-urlencoded";
+/// The type of a body that is a form: that of a request by POST (OAI-PMH 2.0, section 3.1.1.2).
+pub const FORM: &[u8] = b"application/x-www-form-urlencoded";
 
 /// Whether a body is a form, by the value of the field Content-Type.
 pub(crate) fn is_form(content_type: Option<&[u8]>) -> bool

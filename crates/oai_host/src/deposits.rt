@@ -7,7 +7,7 @@ ghost use Rattle.oai_catalogue.specs.Store.{IsCounted, IsHonest, NeedsRoom};
 ghost use Rattle.oai_repo.specs.Held.{IsHeld, StandsIn, state_of};
 ghost use Rattle.oai_repo.specs.Machine.{line};
 ghost use Rattle.oai_host.specs.Alone.{IsTried};
-ghost use Rattle.oai_host.specs.Answers.{AnswersLines, OnFailed, failure_in};
+ghost use Rattle.oai_host.specs.Answers.{AnswersLines, OnFailed, TellsFault, failure_in};
 ghost use Rattle.oai_host.specs.Bodies.{lines_in};
 ghost use Rattle.oai_host.specs.Housed.{IsKept};
 ghost use Rattle.oai_host.specs.Room.{room_for_line, room_for_task};
@@ -45,6 +45,7 @@ pub(crate) fn perform_lines<V: Versions>(
     ensures lines { AnswersLines (depositing (lines_in body.now)) result }
     ensures left { OnFailed result ((repo.new ≡ repo.old)
         × (V.lists store.new ≡ V.lists store.old)) }
+    ensures told { TellsFault (depositing (lines_in body.now)) result }
     ensures kept { IsKept (V.honest store.old) repo.old (V.lists store.old) repo.new
         (V.lists store.new) }
     ensures room { IsTrue (V.honest store.old) → NeedsRoom (room_for_task repo.old.config

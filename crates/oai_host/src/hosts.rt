@@ -5,7 +5,8 @@ ghost use Rattle.std.specs.Option.{IfNone};
 ghost use Rattle.oai_settings.specs.Config.{is_repository_name};
 ghost use Rattle.oai_catalogue.specs.Store.{IsCounted, IsHonest};
 ghost use Rattle.oai_item.specs.declared.faults.Fault.TheVariants.{TooManyPages};
-ghost use Rattle.oai_host.specs.Answers.{AnswersLines, AreCounted, AreHonest, OnFailed, failure_in};
+ghost use Rattle.oai_host.specs.Answers.{AnswersLines, AreCounted, AreHonest, OnFailed, TellsFault, failure_in};
+ghost use Rattle.oai_host.specs.Exchanged.{AreExchanged, IsExchanged};
 ghost use Rattle.oai_host.specs.Faults.{HasCause};
 ghost use Rattle.oai_host.specs.Hosts.{AreAnswered, AreAsAlone, IsAnswered, LeavesOthers, begun, is_of_none, none_failed, refused};
 ghost use Rattle.oai_host.specs.Housed.{AreHoused, housed_names};
@@ -29,9 +30,10 @@ use std::marker::Model;
 
 /// A host: repositories, each reached by its name, and the store that has the items of all of them.
 ///
-/// What happens at one repository cannot be seen at another: what is answered at each is what it alone
-/// would answer to its own exchanges, whatever comes between them. The numbers under which two
-/// repositories keep their items in the store are never the same.
+/// What happens at one repository cannot be seen at another: where no exchange failed, and the store gives
+/// back what was written to it, what is answered at each is what it alone would answer to its own
+/// exchanges, whatever comes between them. The numbers under which two repositories keep their items in the
+/// store are never the same.
 #[derive(Drop)]
 pub struct Host<V: Versions + Drop> {
     alloc: Global,
@@ -57,7 +59,8 @@ impl<V: Versions + Drop> Model for Host<V> {
 
 impl<V: Versions + Drop> Host<V> {
     /// The repositories of the configuration, each without items and sets, in the store. What grows in
-    /// them takes its memory from `alloc`. Any fault but `Damaged` may come over an honest store.
+    /// them takes its memory from `alloc`. Any fault but `Damaged` may come over an honest store, and
+    /// `TooManyPages` only where the store may lack room for one call for each repository.
     pub fn new(alloc: Global, config: Config, mut store: V) -> Result<Host<V>, Fault>
         ensures begun { IfOk result (λ host. host.repositories ≡ map begun config.repositories) }
         ensures honesty { IfOk result (λ host. host.honest ≡ V.honest store) }
@@ -80,12 +83,13 @@ impl<V: Versions + Drop> Host<V> {
         })
     }
 
-    /// Performs an exchange at the moment, in seconds from 1970 on, and answers it. Want of memory is
-    /// told inside the answer.
+    /// Performs an exchange at the moment, in seconds from 1970 on, and answers it. Each fault, want of
+    /// memory too, is told inside the answer.
     ///
     /// Over a store that does not give back what was written to it as well, an exchange leaves all
     /// repositories but its own as they were, one that is no repository's is refused, a request that failed
-    /// has left everything as it was, and a deposit that is answered `Ok` has a line for each of its lines.
+    /// and a deposit of which no line was done have left everything as it was, a fault is told as what it is,
+    /// and a deposit that is answered `Ok` has a line for each of its lines.
     pub fn exchange(&mut self, moment: i64, exchange: &Exchange<'_>) -> Answer
         ensures answered { IsTrue self.old.honest → IsAnswered (call_of moment exchange.now) result
             self.old.repositories self.new.repositories }
@@ -95,6 +99,7 @@ impl<V: Versions + Drop> Host<V> {
             → result ≡ refused (call_of moment exchange.now) }
         ensures lines { AnswersLines (task_of (call_of moment exchange.now)) result }
         ensures left { OnFailed result (self.new.repositories ≡ self.old.repositories) }
+        ensures told { TellsFault (task_of (call_of moment exchange.now)) result }
         ensures room { IsTrue self.old.honest → FindsRoom (call_of moment exchange.now) result
             self.old.repositories self.old.room self.new.room }
         ensures device { IsCounted (failure_in result) self.old.failures self.new.failures }
@@ -111,21 +116,20 @@ impl<V: Versions + Drop> Host<V> {
 
     /// The same of a call.
     fn perform(&mut self, call: &Call) -> Answer
-        ensures answered { IsTrue self.old.honest → IsAnswered call.now result self.old.repositories
-            self.new.repositories }
-        ensures device { IsCounted (failure_in result) self.old.failures self.new.failures }
-        ensures honesty { IsHonest (failure_in result) self.old.honest self.new.honest }
+        ensures { IsExchanged call.now result self.old self.new }
     {
         self.exchange(call.moment, &call.exchange())
     }
 
     /// Performs exchanges, one after the other, and answers them in their order. The error is want of
-    /// memory for the list of the answers; nothing was performed then.
+    /// memory for the list of the answers; nothing was performed then. Over every store each of them is what
+    /// `exchange` says.
     pub fn run(&mut self, calls: &[Call]) -> Result<Sequence<Answer>, AllocError>
         ensures answered { IfOk result (λ answers. IsTrue self.old.honest
             → AreAnswered calls.now answers self.old.repositories self.new.repositories) }
         ensures alone { IfOk result (λ answers. IsTrue self.old.honest → none_failed answers ≡ true
             → AreAsAlone calls.now answers self.old.repositories) }
+        ensures exchanged { IfOk result (λ answers. AreExchanged calls.now answers self.old self.new) }
         ensures err { OnErr result (self.new ≡ self.old) }
         ensures device { IfOk result (λ answers. AreCounted answers self.old.failures
             self.new.failures) }

@@ -18,6 +18,7 @@ mod requests;
 mod routes;
 mod statuses;
 
+pub use bodies::FORM;
 pub use config::{Config, HostedConfig};
 pub use exchanges::{Answer, Call, Exchange};
 pub use faults::{ReadFault, fault_law};

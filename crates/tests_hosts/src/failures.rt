@@ -115,6 +115,25 @@ fn damage(rt: HostRuntime) -> Result<(), Fail> {
     assert_transcript_over(&rt, alloc, store, damaged_line())
 }
 
+/// The first line of a deposit is damaged: no line was done, and the clock stands.
+fn damaged_first_line() -> &'static str {
+    r#"> 1704067200 POST /deposit/a | - | {"deposit":"oai:a:1","sets":[],"records":{"oai_dc":[]}}
+200
+ok 2024-01-01T00:00:00Z
+> 1704067209 POST /deposit/a | - | {"deposit":"oai:a:1","sets":[],"records":{"oai_dc":[]}}¶{"deposit":"oai:a:2","sets":[],"records":{"oai_dc":[]}}
+500 done 0 for Damaged
+> 1704067200 GET /oai/a?verb=ListIdentifiers&metadataPrefix=oai_dc
+200
+DOC <responseDate>2024-01-01T00:00:00Z</responseDate><request verb="ListIdentifiers" metadataPrefix="oai_dc">http://host.example/oai/a</request><ListIdentifiers><header><identifier>oai:a:1</identifier><datestamp>2024-01-01T00:00:00Z</datestamp></header></ListIdentifiers></OAI-PMH>"#
+}
+
+#[test]
+fn damage_at_once(rt: HostRuntime) -> Result<(), Fail> {
+    let alloc = rt.alloc();
+    let store = LyingVersions::new(alloc, PlainVersions::new(alloc), 0, 1);
+    assert_transcript_over(&rt, alloc, store, damaged_first_line())
+}
+
 // ---- requests
 
 /// A request that fails has no number of lines, and moves no clock.

@@ -5,9 +5,9 @@ use Rattle.oai_catalogue.specs.Store.{NeedsRoom}
 use Rattle.oai_settings.specs.Config.{Config}
 use Rattle.oai_host.specs.Bodies.{lines_in}
 use Rattle.oai_host.specs.Housed.{IsKept}
-use Rattle.oai_host.proofs.DepositLemmas.{failed_lines, line_failed, one_done, AreDone}
+use Rattle.oai_host.proofs.DepositLemmas.{below, failed_lines, line_failed, one_done, AreDone}
 use Rattle.oai_host.specs.Room.{room_for_line}
-use Rattle.oai_host.proofs.FaultLemmas.{deposit_left}
+use Rattle.oai_host.proofs.FaultLemmas.{deposit_left, deposit_told}
 use Rattle.oai_host.proofs.RoomLemmas.{room_failed, room_on}
 use Rattle.oai_host.proofs.deposits.perform_lines.Goals as goal
 
@@ -29,6 +29,7 @@ loop-text-preserved g c =
     record {
       lines = simp to_z-of_z (one_done (V.honest c.args.store.now) old mid new before between after c.args.moment (lines_in c.args.body.now) c.next.new.self c.in-Some.text.now c.loop-text.told.items c.perform_line.new.told.items c.loop-text.done
           so_far (λ honest. done (subst (λ (b : Bool). IsTrue b) (sym same) honest)) kept);
+      untouched = λ none. absurd (omega (arith, none));
       each = (let many : length c.loop-text.lines ≡ suc (length c.next.new.self) = ap (λ (lines : List (List ℕ)). length lines) next in
           let each = c.loop-text.invariant.each in let more = rw c.in-Ok.is at c.perform_line.ensures.line in omega (arith, each, many, more));
       room = λ honest.
@@ -59,7 +60,22 @@ returns-in-Err-clause-lines g c = rw c.of_fault.ensures (failed_lines (lines_in 
 pub returns-in-Err-clause-left : goal.returns-in-Err-clause-left
 returns-in-Err-clause-left g c =
     let lists = g.V.Versions.lists in
-    rw c.of_fault.ensures (deposit_left ((c.perform_line.new.repo ≡ c.args.repo.now) × (lists c.perform_line.new.store ≡ lists c.args.store.now)) c.in-Err.fault c.loop-text.done)
+    let repo = rw c.in-Err.is at c.perform_line.ensures.err in
+    let same = rw c.in-Err.is at c.perform_line.ensures.err_lists in
+    rw c.of_fault.ensures
+    (deposit_left ((c.perform_line.new.repo ≡ c.args.repo.now) × (lists c.perform_line.new.store ≡ lists c.args.store.now)) c.in-Err.fault c.loop-text.done
+    (λ none. let left = c.loop-text.invariant.untouched none in (repo ∙ left.0, same ∙ left.1)))
+
+pub returns-in-Err-clause-told : goal.returns-in-Err-clause-told
+returns-in-Err-clause-told g c =
+    let V = g.V.Versions in
+    let fits : FitsSigned w64 c.args.moment = c.ranges.moment in
+    let next : c.loop-text.lines ≡ c.in-Some.text.now ∷ c.next.new.self = rw c.in-Some.is at c.next.ensures in
+    let so_far = rw next at (simp to_z-of_z at c.loop-text.invariant.lines) in
+    rw c.of_fault.ensures
+    (deposit_told (lines_in c.args.body.now) c.in-Err.fault c.loop-text.done
+    (below (V.honest c.args.store.now) c.args.repo.now c.loop-text.repo (V.lists c.args.store.now) (V.lists c.loop-text.store) c.args.moment (lines_in c.args.body.now) c.next.new.self c.in-Some.text.now c.loop-text.told.items
+    c.loop-text.done so_far))
 
 pub returns-in-Err-clause-room : goal.returns-in-Err-clause-room
 returns-in-Err-clause-room g c = λ honest.

@@ -11,6 +11,7 @@ invariant-loop-text g l =
     let V = g.V.Versions in
     record {
       lines : AreDone (V.honest l.initial.store) l.initial.repo (V.lists l.initial.store) l.moment (lines_in l.body) l.lines l.told.items l.done l.repo (V.lists l.store);
+      untouched : l.done ≡ 0 → (l.repo ≡ l.initial.repo) × (V.lists l.store ≡ V.lists l.initial.store);
       each : length (lines_in l.body) ≤ length l.lines + count_by is_line_end l.told.items;
       room : IsTrue (V.honest l.initial.store) → V.room l.initial.store ≤ V.room l.store + l.done * room_for_line l.initial.repo.config;
       count : V.failures l.initial.store ≤ V.failures l.store;

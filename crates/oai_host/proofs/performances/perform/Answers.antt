@@ -33,3 +33,13 @@ pub returns-in-Err-clause-room : goal.returns-in-Err-clause-room
 returns-in-Err-clause-room g c = λ honest.
     let task = rw c.in-Err.is at (c.arguments_of.ensures c.args.moment) in
     rw (c.in-Requests.is, task, c.of_status.ensures) (record { enough = tt; used = omega arith })
+
+pub returns-in-Ok-clause-told : goal.returns-in-Ok-clause-told
+returns-in-Ok-clause-told g c =
+    let task = rw c.in-Ok.is at (c.arguments_of.ensures c.args.moment) in
+    rw (c.in-Requests.is, task) c.perform_request.ensures.told
+
+pub returns-in-Err-clause-told : goal.returns-in-Err-clause-told
+returns-in-Err-clause-told g c =
+    let task = rw c.in-Err.is at (c.arguments_of.ensures c.args.moment) in
+    rw (c.in-Requests.is, task, c.of_status.ensures) refl

@@ -4,14 +4,15 @@ use Rattle.std.proofs.lemmas.Int.{to_z-of_z}
 use Rattle.oai_host.specs.Hosts.{Hosting, IsAnswered, LeavesOthers, Repository, is_of_none}
 use Rattle.oai_host.specs.Housed.{AreHoused, repositories_of}
 use Rattle.oai_host.specs.Props.{housed_props}
-use Rattle.oai_host.specs.Answers.{AnswersLines}
+use Rattle.oai_host.specs.Answers.{AnswersLines, TellsFault}
 use Rattle.oai_host.specs.Tasks.{call_of, task_in, task_of}
 use Rattle.oai_host.specs.Room.{FindsRoom}
+use Rattle.oai_host.specs.declared.exchanges.Answer.{Answer}
 use Rattle.oai_host.specs.declared.housed.Housed.{Housed}
 use Rattle.oai_host.specs.declared.routes.Kind.{Kind}
 use Rattle.oai_catalogue.specs.Store.{Lists}
 use Rattle.oai_host.proofs.DepositLemmas.{refused_lines}
-use Rattle.oai_host.proofs.FaultLemmas.{left_then}
+use Rattle.oai_host.proofs.FaultLemmas.{left_then, none_told}
 use Rattle.oai_host.proofs.HostLemmas.{answered_nowhere, answered_there, none_there}
 use Rattle.oai_host.proofs.HousedLemmas.{others_same}
 use Rattle.oai_host.proofs.PlaceLemmas.{kind_is}
@@ -102,6 +103,19 @@ pub returns-in-None-clause-lines : goal.returns-in-None-clause-lines
 returns-in-None-clause-lines g c =
     let call = call_of c.args.moment c.args.exchange.now in
     refused_lines (task_of call) call c.of_status.result (rw c.status_of.ensures at c.of_status.ensures)
+
+pub returns-in-Some-clause-told : goal.returns-in-Some-clause-told
+returns-in-Some-clause-told g c =
+    let fits : FitsSigned w64 c.args.moment = c.ranges.moment in
+    let place = c.in-Some.ensures.place in
+    let call = call_of c.args.moment c.args.exchange.now in
+    let told : TellsFault (task_in c.in-Some.kind call) c.perform.result = simp to_z-of_z at c.perform.ensures.told in
+    subst (λ (kind : Kind). TellsFault (task_in kind call) c.perform.result) (sym (kind_is c.in-Some.kind place.one.name call.target place.path)) told
+
+pub returns-in-None-clause-told : goal.returns-in-None-clause-told
+returns-in-None-clause-told g c =
+    let call = call_of c.args.moment c.args.exchange.now in
+    none_told (task_of call) c.of_status.result (ap (λ (a : Answer). a.fault) (rw c.status_of.ensures at c.of_status.ensures))
 
 pub returns-in-Some-clause-left : goal.returns-in-Some-clause-left
 returns-in-Some-clause-left g c =

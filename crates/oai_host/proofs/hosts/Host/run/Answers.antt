@@ -2,7 +2,7 @@
 use Rattle.std.proofs.Common.{◌≡◌, ◌∙◌, ◌+◌, ◌∷◌, ◌++◌, [], suc, take, Bool, IsTrue, arith, rules, refl, sym, ap, subst}
 use Rattle.oai_host.specs.declared.exchanges.Call.{Call}
 use Rattle.oai_host.proofs.FaultLemmas.{counted_last, honest_last}
-use Rattle.oai_host.proofs.RunLemmas.{all_alone, answered_last, answered_none, one_longer, take_more, take_whole}
+use Rattle.oai_host.proofs.RunLemmas.{all_alone, answered_last, answered_none, exchanged_last, one_longer, take_more, take_whole}
 use Rattle.oai_host.proofs.hosts.Host.run.Goals as goal
 
 pub loop-call-init : goal.loop-call-init
@@ -10,6 +10,7 @@ loop-call-init g c =
     let items : c.in_ok-answers.answers.items ≡ [] = c.in_ok-answers.ensures.items in
     record {
       answered = λ _. rw items (answered_none c.args.self.now.repositories);
+      exchanged = rw items refl;
       many = rw items refl;
       device = rw items tt;
       damaged = rw items tt;
@@ -32,6 +33,8 @@ loop-call-preserved g c =
           rw (next, more, items)
           (answered_last (take at calls) c.loop-call.answers.items call c.perform-answer.result c.args.self.now.repositories c.loop-call.self.repositories
           c.perform-answer.new.self.repositories (c.loop-call.invariant.answered honest) (c.perform-answer.ensures.answered (subst (λ (b : Bool). IsTrue b) (sym c.loop-call.invariant.honesty) honest)));
+      exchanged = rw (next, more, items)
+          (exchanged_last (take at calls) c.loop-call.answers.items call c.perform-answer.result c.args.self.now c.loop-call.self c.perform-answer.new.self c.loop-call.invariant.exchanged c.perform-answer.ensures);
       many = rw (next, items) (one_longer c.loop-call.answers.items c.perform-answer.result at c.loop-call.invariant.many);
       device = rw items (counted_last c.loop-call.answers.items c.perform-answer.result c.args.self.now.failures c.loop-call.self.failures c.perform-answer.new.self.failures c.loop-call.invariant.count c.loop-call.invariant.device c.perform-answer.ensures.device);
       damaged = rw items (honest_last c.loop-call.answers.items c.perform-answer.result c.args.self.now.honest c.loop-call.self.honest c.perform-answer.new.self.honest c.loop-call.invariant.honesty c.loop-call.invariant.damaged c.perform-answer.ensures.honesty);
@@ -44,6 +47,11 @@ pub returns-clause-answered : goal.returns-clause-answered
 returns-clause-answered g c = λ honest.
     let whole = take_whole c.args.calls.now c.loop-call.call-index c.loop-call-test.false in
     rw c.new.ensures (rw whole at (c.loop-call.invariant.answered honest))
+
+pub returns-clause-exchanged : goal.returns-clause-exchanged
+returns-clause-exchanged g c =
+    let whole = take_whole c.args.calls.now c.loop-call.call-index c.loop-call-test.false in
+    rw c.new.ensures (rw whole at c.loop-call.invariant.exchanged)
 
 pub returns-clause-alone : goal.returns-clause-alone
 returns-clause-alone g c = λ honest none.

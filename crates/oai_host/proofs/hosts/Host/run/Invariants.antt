@@ -1,5 +1,6 @@
 use Rattle.std.proofs.Common.{◌≡◌, ◌≤◌, length, take, IsTrue, vec_capacity}
 use Rattle.oai_host.specs.Answers.{AreCounted, AreHonest}
+use Rattle.oai_host.specs.Exchanged.{AreExchanged}
 use Rattle.oai_host.specs.Hosts.{AreAnswered}
 use Rattle.oai_host.proofs.hosts.Host.run.Given as goal
 
@@ -7,6 +8,7 @@ use Rattle.oai_host.proofs.hosts.Host.run.Given as goal
 abbrev pub invariant-loop-call : goal.invariant-loop-call
 invariant-loop-call g l = record {
   answered : IsTrue l.fn.self.honest → AreAnswered (take l.call-index l.calls) l.answers.items l.fn.self.repositories l.self.repositories;
+  exchanged : AreExchanged (take l.call-index l.calls) l.answers.items l.fn.self l.self;
   many : length l.answers.items ≡ l.call-index;
   device : AreCounted l.answers.items l.fn.self.failures l.self.failures;
   damaged : AreHonest l.answers.items l.fn.self.honest l.self.honest;

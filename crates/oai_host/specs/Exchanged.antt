@@ -1,0 +1,31 @@
+-- What holds of an exchange with a host over every store, also over one that does not give back what was written to it. This repository's own.
+use Rattle.std.specs.Prelude.{◌≡◌, true, IsTrue, List, [], ◌∷◌}
+use Rattle.oai_catalogue.specs.Store.{IsCounted, IsHonest}
+use Rattle.oai_host.specs.Answers.{AnswersLines, OnFailed, TellsFault, failure_in}
+use Rattle.oai_host.specs.Hosts.{Hosting, IsAnswered, LeavesOthers, is_of_none, refused}
+use Rattle.oai_host.specs.Room.{FindsRoom}
+use Rattle.oai_host.specs.Tasks.{task_of}
+use Rattle.oai_host.specs.declared.exchanges.Answer.{Answer}
+use Rattle.oai_host.specs.declared.exchanges.Call.{Call}
+
+-- over a store that gives back what was written to it, it is answered as `IsAnswered` says; over every store the repositories of others stay, an
+-- exchange of none is refused, a deposit that is answered Ok has a line for each of its lines, what failed before anything was done left all as
+-- it was, a fault is told as what it is and has its cause, and no more room is used than was asked for
+pub record IsExchanged (call : Call) (answer : Answer) (before after : Hosting) : Type 0 where
+  pub answered : IsTrue before.honest → IsAnswered call answer before.repositories after.repositories
+  pub others : LeavesOthers call.target before.repositories after.repositories
+  pub none : is_of_none before.repositories call ≡ true → answer ≡ refused call
+  pub lines : AnswersLines (task_of call) answer
+  pub left : OnFailed answer (after.repositories ≡ before.repositories)
+  pub told : TellsFault (task_of call) answer
+  pub room : IsTrue before.honest → FindsRoom call answer before.repositories before.room after.room
+  pub device : IsCounted (failure_in answer) before.failures after.failures
+  pub honesty : IsHonest (failure_in answer) before.honest after.honest
+
+-- exchanges, one after the other, each with its answer
+abbrev pub AreExchanged : List Call → List Answer → Hosting → Hosting → Type 0
+AreExchanged [] [] before after = after ≡ before
+AreExchanged [] (answer ∷ answers) before after = ⊥
+AreExchanged (call ∷ calls) [] before after = ⊥
+AreExchanged (call ∷ calls) (answer ∷ answers) before after =
+    (between : Hosting) × IsExchanged call answer before between × AreExchanged calls answers between after
