@@ -1,8 +1,8 @@
 -- What comes of the calls of a front, on any number of connections, where a host performs the messages. This repository's own.
-use Rattle.std.specs.Prelude.{◌≡◌, ◌≤◌, ℤ, true, IsTrue, List, map}
-use Rattle.oai_catalogue.specs.Store.{IsCounted, IsHonest}
-use Rattle.oai_host.specs.Answers.{AreCounted, AreHonest, failure_in}
-use Rattle.oai_host.specs.Hosts.{AreAnswered, AreAsAlone, Hosting, IsAnswered, none_failed}
+use Rattle.std.specs.Prelude.{◌≡◌, ◌≤◌, ℤ, true, List, map}
+use Rattle.oai_host.specs.Answers.{AreCounted, AreHonest}
+use Rattle.oai_host.specs.Exchanged as exchanged
+use Rattle.oai_host.specs.Hosts.{AreAnswered, AreAsAlone, Hosting, none_failed}
 use Rattle.oai_host.specs.declared.exchanges.Answer.{Answer}
 use Rattle.oai_host.specs.declared.exchanges.Call.{Call}
 use Rattle.oai_front.specs.Fronts.{State}
@@ -21,12 +21,9 @@ call_at moment asked = record {
   body = asked.body;
 }
 
--- what a host does: over a store that gives back what was written to it, the call is answered as an exchange with the host is; that a device
--- failed is told only where it did, and that something is damaged only where the store does not give back what was written
-pub record IsExchanged (old : Hosting) (moment : ℤ) (asked : Asked) (answer : Answer) (new : Hosting) : Type 0 where
-  pub answered : IsTrue old.honest → IsAnswered (call_at moment asked) answer old.repositories new.repositories
-  pub device : IsCounted (failure_in answer) old.failures new.failures
-  pub honesty : IsHonest (failure_in answer) old.honest new.honest
+-- what a host does with a message is what it does with the call
+abbrev pub IsExchanged : Hosting → ℤ → Asked → Answer → Hosting → Type 0
+IsExchanged old moment asked answer new = exchanged.IsExchanged (call_at moment asked) answer old new
 
 -- ---- all messages
 

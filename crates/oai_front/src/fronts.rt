@@ -70,7 +70,9 @@ impl<H> Front<H> {
     }
 
     /// Takes note that no more bytes come on the connection. What has come of a message that is not whole
-    /// is dropped; messages that wait to be performed stay. It takes no memory.
+    /// is dropped; messages that wait to be performed, and a fault that waits to be answered, stay for the
+    /// next piece, an empty one too. The error comes where the connection is not open; nothing changes then.
+    /// It takes no memory.
     pub fn end(&mut self, conn: ConnId) -> Result<(), NoSuchConnection>
         ensures { IsEnding conn.number self.old result self.new }
     {
@@ -84,7 +86,8 @@ impl<H> Front<H> {
         }
     }
 
-    /// Takes the connection away, with all that waits on it. It takes no memory.
+    /// Takes the connection away, with all that waits on it. The error comes where it is not open; nothing
+    /// changes then. It takes no memory.
     pub fn forget(&mut self, conn: ConnId) -> Result<(), NoSuchConnection>
         ensures { IsForgetting conn.number self.old result self.new }
     {
@@ -111,7 +114,8 @@ impl<H> Front<H> {
         }
     }
 
-    /// Takes note that so many bytes of those to be written on the connection were. It takes no memory.
+    /// Takes note that so many bytes of those to be written on the connection were. The connection must be
+    /// open, and so many must be there. It takes no memory.
     pub fn taken(&mut self, conn: ConnId, count: usize)
         requires { HasOutput conn.number count self.old.connections }
         ensures change { IsChange conn.number self.old self.new (IsTaking count) }

@@ -3,7 +3,7 @@ ghost use Rattle.std.specs.Fmt.{signed_decimal};
 ghost use Rattle.oai_front.specs.Heads as spec;
 
 use itoa::Buffer;
-use oai_host::Status;
+use oai_host::{DEPOSITS_FRONT, REQUESTS_FRONT, Status};
 
 /// What stands at a target.
 #[derive(Clone, Copy, Debug, PartialEq, Eq)]
@@ -43,9 +43,9 @@ pub const LINE_ROOM: usize = 64;
 pub(crate) fn place_of(target: &[u8]) -> Place
     ensures { result ≡ spec.place_of target.now }
 {
-    if target.starts_with(b"/oai/") {
+    if target.starts_with(REQUESTS_FRONT.as_bytes()) {
         Place::Requests
-    } else if target.starts_with(b"/deposit/") {
+    } else if target.starts_with(DEPOSITS_FRONT.as_bytes()) {
         Place::Deposits
     } else {
         Place::Elsewhere
