@@ -6,7 +6,7 @@ use Rattle.std.proofs.lemmas.Bool.{cases_Bool, cond-true, cond-false}
 use Rattle.std.proofs.lemmas.Grind.{flat_map-append}
 use Rattle.std.proofs.lemmas.List.{map-append}
 use Rattle.std.proofs.lemmas.List.Elements.{filter-append}
-use Rattle.oai_host.proofs.RunLemmas.{answered_last, answered_none}
+use Rattle.oai_host.proofs.RunLemmas.{answered_last, answered_none, exchanged_last}
 use Rattle.oai_host.specs.Hosts.{Hosting}
 use Rattle.oai_host.specs.declared.exchanges.Call.{Call}
 use Rattle.oai_edge.specs.Asked.{AreAsked, AreDone}
@@ -25,7 +25,7 @@ pub ended_none : (host : Hosting) (known : Option (List ℕ)) → AreEnded host 
 ended_none host known = record {
   honest = refl;
   counted = refl;
-  done = record { calls = []; answers = []; read = refl; answered = λ honest. answered_none host.repositories; written = appends_none known };
+  done = record { calls = []; answers = []; read = refl; answered = λ honest. answered_none host.repositories; exchanged = refl; written = appends_none known };
 }
 
 -- an empty line more
@@ -38,6 +38,7 @@ done_empty front line old new Writes empty done = record {
       let none : filter is_filled (line ∷ []) ≡ [] = cond-false (is_filled line) (line ∷ []) [] empty in
       ap (map spelled) (filter-append is_filled front (line ∷ []) ∙ ap (λ (ls : List (List ℕ)). filter is_filled front ++ ls) none ∙ append-nil (filter is_filled front)) ∙ done.read;
   answered = done.answered;
+  exchanged = done.exchanged;
   written = done.written;
 }
 
@@ -56,7 +57,8 @@ done_line front line old mid new from was is full honest done last = record {
       ∙ sym (map-append Some done.calls (last.call ∷ []));
   answered = λ honestly.
       answered_last done.calls done.answers last.call last.answer old.repositories mid.repositories new.repositories (done.answered honestly)
-      (last.answered (subst (λ (b : Bool). IsTrue b) (sym honest) honestly));
+      (last.exchanged.answered (subst (λ (b : Bool). IsTrue b) (sym honest) honestly));
+  exchanged = exchanged_last done.calls done.answers last.call last.answer old mid new done.exchanged last.exchanged;
   written =
       let all : flat_map shown (done.answers ++ last.answer ∷ []) ≡ flat_map shown done.answers ++ shown last.answer =
       flat_map-append shown done.answers (last.answer ∷ []) ∙ ap (λ (xs : List ℕ). flat_map shown done.answers ++ xs) (append-nil (shown last.answer)) in
@@ -174,6 +176,7 @@ done_kept lines old new a b c kept done = record {
   answers = done.answers;
   read = done.read;
   answered = done.answered;
+  exchanged = done.exchanged;
   written = appends_kept a b c (flat_map shown done.answers) done.written kept;
 }
 

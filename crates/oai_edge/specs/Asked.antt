@@ -1,6 +1,7 @@
 -- What comes of an input of lines: the exchanges that it spells, and what is written for them. This repository's own.
 use Rattle.std.specs.Prelude.{◌≡◌, ℕ, true, List, map, filter, Some, Result, Ok, Err, IsTrue}
 use Rattle.std.specs.List.{flat_map}
+use Rattle.oai_host.specs.Exchanged.{AreExchanged}
 use Rattle.oai_host.specs.Hosts.{AreAnswered, Hosting}
 use Rattle.oai_host.specs.declared.exchanges.Answer.{Answer}
 use Rattle.oai_host.specs.declared.exchanges.Call.{Call}
@@ -9,12 +10,13 @@ use Rattle.oai_edge.specs.Places.{AreFirst, IsAt}
 use Rattle.oai_edge.specs.declared.stop.Stop.{Stop}
 use Rattle.oai_edge.specs.declared.stop.Stop.TheVariants.{BadExchange, OutputFault}
 
--- the lines spell exchanges with the host; these were answered, and the answers were written
+-- the lines spell exchanges with the host; these were answered, each of them is what it is over every store, and the answers were written
 pub record AreDone (lines : List (List ℕ)) (old new : Hosting) (Writes : List ℕ → Type 0) : Type 0 where
   pub calls : List Call
   pub answers : List Answer
   pub read : map spelled (filter is_filled lines) ≡ map Some calls
   pub answered : IsTrue old.honest → AreAnswered calls answers old.repositories new.repositories
+  pub exchanged : AreExchanged calls answers old new
   pub written : Writes (flat_map shown answers)
 
 -- what comes of the lines: all were done, or all before the first bad one, or the first of them; where the output failed nothing is said

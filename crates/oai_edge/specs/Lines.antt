@@ -1,10 +1,11 @@
 -- The lines that spell exchanges, and what is written for each. This repository's own.
-use Rattle.std.specs.Prelude.{◌≡◌, ℕ, ◌==◌, ℤ, Bool, false, ◌&&◌, nat_lt, nat_le, List, [], ◌++◌, length, codes, decimal, Option, Some, None, is_none, IsTrue, FitsSigned, if◌then◌else◌}
+use Rattle.std.specs.Prelude.{◌≡◌, ℕ, ◌==◌, ℤ, Bool, false, ◌&&◌, nat_lt, nat_le, List, [], ◌++◌, length, codes, decimal, Option, Some, None, is_none, FitsSigned, if◌then◌else◌}
 use Rattle.std.specs.List.{before_first, after_first, count_by, list_any}
 use Rattle.std.specs.Str.{bytes_eq}
 use Rattle.std.specs.Fmt.{signed_decimal}
 use Rattle.std.specs.Int.{w64}
-use Rattle.oai_host.specs.Hosts.{Hosting, IsAnswered}
+use Rattle.oai_host.specs.Exchanged.{IsExchanged}
+use Rattle.oai_host.specs.Hosts.{Hosting}
 use Rattle.oai_host.specs.Optional.{◌>>=◌, tested}
 use Rattle.oai_host.specs.Statuses.{number_of}
 use Rattle.oai_host.specs.Tasks.{call_of}
@@ -88,5 +89,5 @@ pub record IsLineDone (bytes : List ℕ) (old new : Hosting) (IsWritten : List �
   pub call : Call
   pub answer : Answer
   pub read : spelled bytes ≡ Some call
-  pub answered : IsTrue old.honest → IsAnswered call answer old.repositories new.repositories
+  pub exchanged : IsExchanged call answer old new
   pub written : IsWritten (shown answer)

@@ -1,10 +1,11 @@
 -- What is done with one connection of a front, and what it leaves of the others. This repository's own.
-use Rattle.std.specs.Prelude.{◌≡◌, ◌≢◌, ℕ, ℤ, ◌+◌, ◌<◌, List, [], take, Option, Some, None, Result, Ok, Err}
-use Rattle.std.specs.Option.{option_map}
+use Rattle.std.specs.Prelude.{◌≡◌, ◌≢◌, ℕ, ℤ, ◌+◌, ◌<◌, Bool, false, not, List, [], take, Option, Some, None, Result, Ok, Err}
+use Rattle.std.specs.Option.{option_map, option_map_or}
 use Rattle.oai_front.specs.Connections.{Connection}
 use Rattle.oai_front.specs.Fronts.{HasOutput, IsOpening, IsPiece, State, connection_numbered}
 use Rattle.oai_front.specs.Performing.{Steps}
 use Rattle.oai_front.specs.Runs.{Comes, Coming}
+use Rattle.oai_front.specs.Stages.{is_closing}
 use Rattle.oai_edge.specs.declared.serving.StreamFault.{StreamFault}
 use Rattle.oai_edge.specs.declared.serving.StreamFault.TheVariants.{NotOpened}
 
@@ -27,6 +28,10 @@ abbrev pub IsNext : ℕ → List Connection → Option ℕ → (List ℕ → Typ
 IsNext number connections None Puts = (output_of number connections ≡ []) × Puts []
 IsNext number connections (Some count) Puts =
     (0 < count) × HasOutput number count connections × Puts (take count (output_of number connections))
+
+-- whether what comes on the connection is taken in: it is open, and neither its end nor its last message nor a fault was met
+abbrev pub is_taking : {H : Type 0} → ℕ → State H → Bool
+is_taking number front = option_map_or (λ (c : Connection). not (is_closing c.stage)) (connection_numbered number front.connections) false
 
 -- all that the connection of the number was to put out was taken, and nothing else of it was changed
 abbrev pub IsEmptied : {H : Type 0} → ℕ → State H → State H → Type 0

@@ -14,7 +14,8 @@ use std::fs;
 use std::io::{ErrorKind, Read};
 use std::rt::Files;
 
-/// The configuration that the file tells. The errors are `CannotRead`, `BadConfig` and `NoMemory`.
+/// The configuration that the file tells. The errors are `CannotRead`, also where the file has not ended
+/// within 1,000,000 reads, `BadConfig` and `NoMemory`.
 pub fn read_config(rt: &(impl Files + AllocGlobal), path: &str) -> Result<Config, Stop> {
     let alloc = rt.alloc();
     let mut file = match fs::open(rt, path) {
@@ -26,7 +27,8 @@ pub fn read_config(rt: &(impl Files + AllocGlobal), path: &str) -> Result<Config
     config_in(alloc, &text)
 }
 
-/// The configuration that the text tells.
+/// The configuration that the text tells. The errors are `BadConfig`, with the fault that `Config::read`
+/// tells, and `NoMemory`.
 pub fn config_in(alloc: Global, text: &[u8]) -> Result<Config, Stop>
     ensures { spec.IsConfigIn text.now result }
 {
@@ -61,7 +63,8 @@ fn read_text<R: Read>(alloc: Global, reader: &mut R) -> Result<Vec<u8>, Stop>
     Err(Stop::CannotRead)
 }
 
-/// The host of the configuration, each of its repositories without items, over a store of plain lists.
+/// The host of the configuration, each of its repositories without items and sets, over a store of plain
+/// lists. The error is `NoMemory`.
 pub fn host_of(alloc: Global, config: Config) -> Result<Host<PlainVersions>, Stop>
     ensures begun { IfOk result (λ host. host.repositories ≡ map begun config.repositories) }
     ensures err { IfErr result (λ stop. stop ≡ NoMemory) }

@@ -4,7 +4,7 @@ ghost use Rattle.std.specs.Io.KnownBytes.{Consumes, IsAtEnd};
 ghost use Rattle.std.specs.List.{position};
 ghost use Rattle.oai_host.specs.Bodies.{is_line_end};
 ghost use Rattle.oai_edge.specs.Inputs as spec;
-ghost use Rattle.oai_edge.specs.declared.limits.TheConstants.{MOST_READS};
+ghost use Rattle.oai_edge.specs.declared.limits.TheConstants.{MOST_READS, READ_BYTES};
 ghost use Rattle.oai_edge.specs.declared.stop.Stop.TheVariants.{InputFault, NoMemory};
 
 use crate::limits::{MOST_READS, READ_BYTES};
@@ -32,7 +32,7 @@ pub(crate) struct Lines {
     number: u64,
     ghost ordered: { given ≤ filled },
     ghost within: { filled ≤ vec_len buffer },
-    ghost room: { 0 < vec_len buffer },
+    ghost room: { vec_len buffer ≡ READ_BYTES },
     ghost counted: { reads ≤ MOST_READS },
 }
 

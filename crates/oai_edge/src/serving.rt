@@ -1,9 +1,10 @@
 //! Connections over streams.
-ghost use Rattle.std.specs.Prelude.{◌≡◌, ◌+◌, ◌++◌, None, IfErr, OnOk};
-ghost use Rattle.std.specs.Io.KnownBytes.{Appends};
+ghost use Rattle.std.specs.Prelude.{◌≡◌, ◌⊎◌, ◌+◌, ◌++◌, false, length, None, true, Ok, IfErr, IfOk, OnOk};
+ghost use Rattle.std.specs.Io.KnownBytes.{Appends, IsAtEnd};
 ghost use Rattle.oai_front.specs.Fronts.{IsPiece, connection_numbered};
-ghost use Rattle.oai_edge.specs.Outputs.{IsAnswered, IsApart, IsForgotten, IsUsed, OthersStay};
+ghost use Rattle.oai_edge.specs.Outputs.{IsAnswered, IsApart, IsForgotten, IsUsed, OthersStay, is_taking};
 ghost use Rattle.oai_edge.specs.Workings.{IsOfOpened};
+ghost use Rattle.oai_edge.specs.declared.limits.TheConstants.{READ_BYTES};
 
 use crate::limits::{MOST_READS, READ_BYTES};
 use crate::output::{Gathered, put_out};
@@ -68,6 +69,8 @@ fn serve_connection<H: Handler, S: Read + Write, C: Clock>(
     stream: &mut S,
     clock: &C,
 ) -> Result<(), StreamFault>
+    ensures over { OnOk result ((is_taking conn.number front.new ≡ false)
+        ⊎ IsAtEnd (S.Read.remaining stream.new)) }
     ensures apart { IsApart conn.number front.old front.new }
     ensures used { IsUsed H.step front.old front.new }
     ensures err { IfErr result IsOfOpened }
@@ -95,6 +98,11 @@ fn read_on<H: Handler, S: Read + Write, C: Clock>(
     stream: &mut S,
     clock: &C,
 ) -> Result<bool, StreamFault>
+    requires { length buffer.old ≡ READ_BYTES }
+    ensures buffer { length buffer.new ≡ length buffer.old }
+    ensures more { result ≡ Ok true → is_taking conn.number front.new ≡ true }
+    ensures over { result ≡ Ok false → (is_taking conn.number front.new ≡ false)
+        ⊎ IsAtEnd (S.Read.remaining stream.new) }
     ensures apart { IsApart conn.number front.old front.new }
     ensures used { IsUsed H.step front.old front.new }
     ensures err { IfErr result IsOfOpened }
@@ -121,6 +129,7 @@ fn answer<H: Handler, S: Write>(
     ensures answered { OnOk result (IsAnswered H.step conn.number moment piece.now front.old
         front.new (λ bytes. Appends (S.Write.contents stream.old) (S.Write.contents stream.new)
         (gathered.old.bytes.items ++ bytes))) }
+    ensures more { IfOk result (λ more. more ≡ is_taking conn.number front.new) }
     ensures apart { IsApart conn.number front.old front.new }
     ensures used { IsUsed H.step front.old front.new }
     ensures err { IfErr result IsOfOpened }

@@ -32,7 +32,9 @@ pub enum Stop {
 }
 
 impl Stop {
-    /// The program's exit status: 2 where it did not begin its work, and 1 where it stopped in it.
+    /// The program's exit status: 2 where the arguments are wrong, or the configuration cannot be read or
+    /// has a fault, and 1 for each other cause, also for want of memory before the work, and for a port that
+    /// cannot be listened on.
     pub fn status(self) -> u8
         ensures { result ≡ spec.status_of self }
     {

@@ -59,11 +59,12 @@ impl Clock for MovedClock {
 }
 
 /// Gives its text in reads of at most so many bytes and keeps what is written, until so many reads and
-/// so many writes were made; the next one fails.
+/// so many writes were made; the next one fails. It keeps how much room the last read had.
 #[derive(Drop)]
 struct Wire<'a> {
     text: &'a [u8],
     piece: usize,
+    room: usize,
     reads: usize,
     writes: usize,
     written: Vec<u8>,
@@ -75,6 +76,7 @@ impl Read for Wire<'_> {
             return Err(io::Error::from(ErrorKind::ConnectionReset));
         }
         self.reads -= 1;
+        self.room = buffer.len();
         let most = self.piece.min(self.text.len());
         let mut piece = &self.text[..most];
         let count = piece.read(buffer)?;
@@ -102,6 +104,7 @@ fn wire_of(alloc: Global, text: &[u8], piece: usize) -> Wire<'_> {
     Wire {
         text,
         piece,
+        room: 0,
         reads: 1_000,
         writes: 1_000,
         written: Vec::new(alloc),
@@ -168,18 +171,26 @@ fn two_answers(alloc: Global) -> Result<String, AllocError> {
     Ok(text)
 }
 
-/// However the bytes are cut, the answers are the same, and nothing is read once the connection closes.
+/// However the bytes are cut, the answers are the same; each read has room for 65,536 bytes, and none is
+/// made once the connection closes.
 #[test]
 fn streams_in_pieces(rt: HostRuntime) -> Result<(), Fail> {
     let alloc = rt.alloc();
     let text = three_messages(alloc)?;
     let wanted = two_answers(alloc)?;
+    let read_bytes = text.len().saturating_sub(set_message().len());
     for piece in 1..=text.len() {
         let mut front = new_front(alloc)?;
         let mut stream = wire_of(alloc, text.as_bytes(), piece);
         let served = serve_stream(alloc, &mut front, &mut stream, &StandingClock);
         assert_eq!(rt; served, Ok(()), "{piece}");
         assert_eq!(rt; stream.written.as_slice(), wanted.as_bytes(), "{piece}");
+        assert_eq!(rt;
+            1_000_usize.saturating_sub(stream.reads),
+            read_bytes.div_ceil(piece),
+            "{piece}"
+        );
+        assert_eq!(rt; stream.room, 65_536, "{piece}");
         assert_set(&rt, alloc, &mut front, set_again_answer())?;
     }
     Ok(())

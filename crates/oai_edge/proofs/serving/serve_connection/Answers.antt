@@ -1,5 +1,5 @@
 -- Each turn changes the one connection alone.
-use Rattle.std.proofs.Common.{refl}
+use Rattle.std.proofs.Common.{◌≡◌, false, refl, rules}
 use Rattle.oai_edge.proofs.Apart.{apart_same, apart_then}
 use Rattle.oai_edge.proofs.UsedLemmas.{used_none, used_then}
 use Rattle.oai_edge.proofs.serving.serve_connection.Goals as goal
@@ -24,12 +24,14 @@ pub loop-preserved : goal.loop-preserved
 loop-preserved g c = record {
   apart = apart_then c.args.conn.number c.args.front.now c.loop.front c.read_on.new.front c.loop.invariant.apart c.read_on.ensures.apart;
   used = used_then g.H.Handler.step c.args.front.now c.loop.front c.read_on.new.front c.loop.invariant.used c.read_on.ensures.used;
+  room = search rules;
 }
 
 pub loop-init : goal.loop-init
 loop-init g c = record {
   apart = apart_same c.args.conn.number c.args.front.now;
   used = used_none g.H.Handler.step c.args.front.now c.args.front.now refl;
+  room = search rules;
 }
 
 pub returns-clause-apart : goal.returns-clause-apart
@@ -37,3 +39,8 @@ returns-clause-apart g c = c.loop.invariant.apart
 
 pub returns-clause-used : goal.returns-clause-used
 returns-clause-used g c = c.loop.invariant.used
+
+pub returns-then-not-branch-clause-over : goal.returns-then-not-branch-clause-over
+returns-then-not-branch-clause-over g c =
+    let left : c.in_ok-read_on.field-0 ≡ false = search rules in
+    (rw left at c.in_ok-read_on.ensures.over) refl
