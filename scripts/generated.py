@@ -1,6 +1,6 @@
-"""What interop.py and bench.py share: texts and items that are generated, and the lines that deposit them.
+"""What interop.py, bench.py and idle.py share: a configuration, texts and items that are generated, and the lines that deposit them.
 
-All of it comes from a generator of random numbers that the caller makes from a fixed seed, so it is the same in each run.
+What is generated comes from a generator of random numbers that the caller makes from a fixed seed, so it is the same in each run.
 """
 
 import json

@@ -24,9 +24,9 @@ article prefix = (prefix, record { name = codes "volume"; text = codes "</volume
 abbrev pub first_second : ℤ
 first_second = neg_ℤ (pos 62_167_219_200)
 
--- an item of these records, at the first second of the year 0000 or some seconds later
+-- an item of these records, at a moment so many seconds before 1970
 abbrev pub issue : ℕ → List Metadata → ItemState
-issue later records = live_item (codes "oai:a:1") (neg_ℤ (pos later)) [] records
+issue before records = live_item (codes "oai:a:1") (neg_ℤ (pos before)) [] records
 
 -- the item, told in a format
 abbrev pub told : Granularity → List ℕ → ItemState → Document

@@ -60,8 +60,8 @@ impl Model for Repo {
 
 impl Repo {
     /// A repository without items and sets, its clock at the lower limit of its datestamps, in a new
-    /// version of the store. What grows in it takes its memory from `alloc`. Any fault may come; the
-    /// store then holds what it held.
+    /// version of the store. What grows in it takes its memory from `alloc`. Any fault may come, and
+    /// `TooManyPages` only where the store may lack room for one call; the store then holds what it held.
     pub fn new<V: Versions>(alloc: Global, config: RepoConfig, store: &mut V) -> Result<Repo, Fault>
         ensures new { IfOk result (λ repo. IsNew config (V.lists store.old) repo
             (V.lists store.new)) }
@@ -86,7 +86,7 @@ impl Repo {
     /// Performs a request of OAI-PMH, by the bytes of its query, at the moment, in seconds from 1970
     /// on: it moves the clock and answers a document, or says how long to wait. After a fault everything
     /// is as it was, the clock and the store's lists included. Any fault may come, and `TooManyPages`
-    /// only where the request may begin a list.
+    /// only where the request may begin a list and the store may lack room for one call.
     ///
     /// A request for one item costs one search of the store. The first part of a list costs what the
     /// store needs to count what is selected, to read the part and to freeze a version; each further part
@@ -130,14 +130,16 @@ impl Repo {
         Ok(reply)
     }
 
-    /// Makes a change at the moment, in seconds from 1970 on, and answers its datestamp. A change that
-    /// is refused has moved the clock and nothing else. After a fault everything is as it was, the clock
-    /// and the store's lists included. Any fault may come, and `TooManyPages` only where the store may
-    /// lack room for a few calls, or for a purge for one call more than there are items.
+    /// Makes a change at the moment, and answers its datestamp, both in seconds from 1970 on; the
+    /// datestamp is of the years 0000 to 9999. A change that is refused has moved the clock and nothing
+    /// else. After a fault everything is as it was, the clock and the store's lists included. Any fault
+    /// may come; `TooManyPages` of a deposit or a deletion only where the store may lack room for three
+    /// calls, of a purge only where it may for one call more than there are items, and of a new set never.
     ///
-    /// It looks at no item but the one that it is about. A new item, or a new state at the same
-    /// datestamp, is put into the version that stands; any other new state is made in a frozen version,
-    /// which then takes the old one's place.
+    /// A deposit and a deletion look at no item but the one that they are about; a purge reads each item
+    /// of a datestamp below its bound. A new item, or a new state at the same datestamp, is put into the
+    /// version that stands, and an item that leaves no trace is taken out of it; any other new state, and
+    /// a purge that finds something, is made in a frozen version, which then takes the old one's place.
     pub fn change<V: Versions>(
         &mut self,
         store: &mut V,

@@ -5,22 +5,34 @@ use oai_settings::{FormatSettings, Settings};
 use oai_time::Granularity;
 use std::alloc::{AllocError, Global};
 
-/// What is told of a repository: an address, so often, and the prefixes of its formats of journals,
-/// one after the other with commas between, where it has any.
+/// What is told of a repository.
 #[derive(Clone, Copy)]
 pub struct Told<'a> {
+    /// What the base URL begins with.
     pub base: &'a str,
+    /// The name in the base URL.
     pub name: &'a str,
+    /// The name for people.
     pub repository_name: &'a str,
+    /// An address of those who keep it.
     pub address: &'a str,
+    /// How often that address is told.
     pub addresses: usize,
+    /// The earliest datestamp, as a text.
     pub earliest: &'a str,
+    /// What is kept of deleted records.
     pub deleted: DeletedRecord,
+    /// Days or seconds.
     pub granularity: Granularity,
+    /// The most records of a part of a list; none where what is told is no whole number of 64 bits.
     pub chunk: Option<u64>,
+    /// For how many seconds a list is open, told in the same way.
     pub lifetime: Option<u64>,
+    /// How many lists may be open, told in the same way.
     pub lists: Option<u64>,
+    /// How many items there may be, told in the same way.
     pub items: Option<u64>,
+    /// The prefixes of its formats of journals, with commas between; none where it has no such format.
     pub prefixes: Option<&'a str>,
 }
 
