@@ -64,8 +64,8 @@ AreHonest answers old new = AllByRecursion (λ (answer : Answer). IsHonest (fail
 abbrev pub OnFailed : Answer → Type 0 → Type 0
 OnFailed answer P = IfSome answer.fault (λ fault. unwrap_or answer.done 0 ≡ 0 → P)
 
--- a fault is told as what it is, over every store: of a request as that it failed, of a deposit with the number of lines that were done, which
--- are not all; what is asked of no repository has none
+-- a fault is told as what it is, over every store: of a request as that it failed, of a deposit with a number of lines below that of its lines;
+-- what asks nothing of a repository has none
 abbrev pub TellsFault : Task → Answer → Type 0
 TellsFault (refusing why) answer = IsNone answer.fault
 TellsFault (asking arguments) answer = IfSome answer.fault (λ fault. answer ≡ failed fault None)

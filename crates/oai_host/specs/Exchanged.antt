@@ -8,9 +8,9 @@ use Rattle.oai_host.specs.Tasks.{task_of}
 use Rattle.oai_host.specs.declared.exchanges.Answer.{Answer}
 use Rattle.oai_host.specs.declared.exchanges.Call.{Call}
 
--- over a store that gives back what was written to it, it is answered as `IsAnswered` says; over every store the repositories of others stay, an
--- exchange of none is refused, a deposit that is answered Ok has a line for each of its lines, what failed before anything was done left all as
--- it was, a fault is told as what it is and has its cause, and no more room is used than was asked for
+-- over a store that gives back what was written to it, it is answered as `IsAnswered` says, and needs no more room than what it asks; over every
+-- store the repositories of others stay, an exchange of none is refused, a deposit that is answered Ok has a line for each of its lines, what
+-- failed before anything was done left all repositories as they were, and a fault is told as what it is and has its cause
 pub record IsExchanged (call : Call) (answer : Answer) (before after : Hosting) : Type 0 where
   pub answered : IsTrue before.honest → IsAnswered call answer before.repositories after.repositories
   pub others : LeavesOthers call.target before.repositories after.repositories
