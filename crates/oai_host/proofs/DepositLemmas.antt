@@ -1,12 +1,10 @@
 -- The lines of a deposit, performed one after the other.
-use Rattle.std.proofs.Common.{◌≡◌, ◌∙◌, ◌<◌, ◌≤◌, inl, inr, ℕ, ℤ, suc, ◌+◌, Bool, true, false, List, [], ◌∷◌, ◌++◌, length, take, cond, Option, Some, Ok, IsTrue, refl, sym, ap, subst, arith}
+use Rattle.std.proofs.Common.{◌≡◌, ◌∙◌, ◌<◌, ◌≤◌, inl, inr, ℕ, ℤ, suc, ◌+◌, Bool, List, [], ◌∷◌, ◌++◌, length, take, cond, Some, Ok, IsTrue, refl, sym, ap, subst, arith}
 use Rattle.std.specs.List.{count_by, sum_by}
-use Rattle.std.proofs.lemmas.Bool.{false≢true}
 use Rattle.std.proofs.lemmas.List.Sums.{sum_by-append}
 use Rattle.oai_deposit.specs.Lines.{line_of}
 use Rattle.oai_item.specs.declared.changes.Change.{Change}
 use Rattle.oai_item.specs.declared.faults.Fault.{Fault}
-use Rattle.oai_item.specs.declared.faults.Fault.TheVariants.{Damaged, Device, NoMemory, TooManyPages}
 use Rattle.oai_catalogue.specs.Store.{Lists}
 use Rattle.oai_settings.specs.Config.{Config}
 use Rattle.oai_repo.specs.Held.{Held, IsHeld, StandsIn, numbers_of, state_of}
@@ -14,17 +12,11 @@ use Rattle.oai_repo.specs.Machine.{Outcome, act_at, changing, written}
 use Rattle.oai_repo.specs.State.{State}
 use Rattle.oai_repo.proofs.NumberLemmas.{kept_same, kept_twice}
 use Rattle.oai_host.specs.Alone.{IsTried, after_line, after_lines, with_end}
-use Rattle.oai_host.specs.Answers.{AnswersLines, answered_with, failed}
+use Rattle.oai_host.specs.Answers.{Tells, answered_with, failed}
 use Rattle.oai_host.specs.Bodies.{is_line_end}
-use Rattle.oai_host.specs.Hosts.{refused}
 use Rattle.oai_host.specs.Housed.{IsKept}
-use Rattle.oai_host.specs.Targets.{is_rooted}
-use Rattle.oai_host.specs.Tasks.{Task, asking, depositing, refusing}
+use Rattle.oai_host.specs.Tasks.{depositing}
 use Rattle.oai_host.specs.Workings.{HasMoreLines, IsLineDone}
-use Rattle.oai_host.specs.declared.exchanges.Answer.{Answer}
-use Rattle.oai_host.specs.declared.exchanges.Call.{Call}
-use Rattle.oai_host.specs.declared.statuses.Status.{Status}
-use Rattle.oai_host.specs.declared.statuses.Status.TheVariants as status
 
 -- a change that was performed or refused is a step, of which this is told
 pub told_line : (old : Held) (before : Lists) (moment : ℤ) (change : Change) (outcome : Outcome) (new : Held) (after : Lists) (was is text : List ℕ)
@@ -167,39 +159,7 @@ line_more was text is appended =
     let more : sum_by weight was < sum_by weight is = omega (arith, all, last) in
     more
 
-pub all_answered : (all left : List (List ℕ)) (told : List ℕ) → length all ≤ length left + count_by is_line_end told → left ≡ [] → AnswersLines (depositing all) (answered_with told)
-all_answered all left told each none = λ _.
+pub all_answered : (all left : List (List ℕ)) (told : List ℕ) → length all ≤ length left + count_by is_line_end told → left ≡ [] → Tells (depositing all) (answered_with told)
+all_answered all left told each none =
     let many : length left ≡ 0 = ap (λ (lines : List (List ℕ)). length lines) none in
-    omega (arith, each, many)
-
-abbrev is_ok_status : Status → Bool
-is_ok_status status.Ok = true
-is_ok_status status.BadRequest = false
-is_ok_status status.NotFound = false
-is_ok_status status.MethodNotAllowed = false
-is_ok_status status.ContentTooLarge = false
-is_ok_status status.UnsupportedMediaType = false
-is_ok_status status.InternalServerError = false
-is_ok_status status.NotImplemented = false
-is_ok_status status.ServiceUnavailable = false
-
-not_ok : (s : Status) → is_ok_status s ≡ false → s ≡ status.Ok → ⊥
-not_ok s other is = false≢true (sym other ∙ ap is_ok_status is)
-
--- a deposit that failed is not answered Ok
-pub failed_lines : (lines : List (List ℕ)) (fault : Fault) (many : Option ℕ) → AnswersLines (depositing lines) (failed fault many)
-failed_lines lines NoMemory many = λ is. absurd (not_ok status.ServiceUnavailable refl is)
-failed_lines lines TooManyPages many = λ is. absurd (not_ok status.ServiceUnavailable refl is)
-failed_lines lines Device many = λ is. absurd (not_ok status.InternalServerError refl is)
-failed_lines lines Damaged many = λ is. absurd (not_ok status.InternalServerError refl is)
-
-refused_not : (rooted : Bool) → is_ok_status (cond rooted status.NotFound status.BadRequest) ≡ false
-refused_not true = refl
-refused_not false = refl
-
--- nor is an exchange that is no repository's
-pub refused_lines : (task : Task) (call : Call) (answer : Answer) → answer ≡ refused call → AnswersLines task answer
-refused_lines (refusing why) call answer is = tt
-refused_lines (asking arguments) call answer is = tt
-refused_lines (depositing lines) call answer is = λ ok.
-    absurd (not_ok answer.status (ap (λ (a : Answer). is_ok_status a.status) is ∙ refused_not (is_rooted call.target)) ok)
+    record { so = refl; each = omega (arith, each, many) }

@@ -1,13 +1,13 @@
 -- Faults that answers tell: they have their cause also where more calls came before, or come later.
-use Rattle.std.proofs.Common.{◌≡◌, ◌∙◌, ◌<◌, ◌≤◌, ◌⊎◌, inl, inr, ℕ, Bool, List, [], ◌∷◌, ◌++◌, length, Option, None, Some, is_some, Result, Ok, Err, refl, sym, ap, subst, arith}
-use Rattle.std.specs.Prelude.{IfSome, IsSomeAnd, unwrap_or}
+use Rattle.std.proofs.Common.{◌≡◌, ◌∙◌, ◌<◌, ◌≤◌, ◌⊎◌, inl, inr, ℕ, Bool, List, [], ◌∷◌, ◌++◌, length, Option, None, Some, Result, Ok, Err, refl, sym, subst, arith}
+use Rattle.std.specs.Prelude.{IfSome, unwrap_or}
 use Rattle.std.proofs.lemmas.Bool.{cases_lt}
 use Rattle.oai_item.specs.declared.faults.Fault.{Fault}
 use Rattle.oai_item.specs.declared.faults.Fault.TheVariants.{Damaged, Device, NoMemory, TooManyPages}
 use Rattle.oai_catalogue.specs.Store.{IsCounted, IsHonest}
 use Rattle.oai_catalogue.specs.declared.versions.TheConstants.{MOST_FAILURES}
-use Rattle.oai_host.specs.Answers.{AreCounted, AreHonest, OnFailed, TellsFault, failed, failure_in}
-use Rattle.oai_host.specs.Tasks.{Task, asking, depositing, refusing}
+use Rattle.oai_host.specs.Answers.{AreCounted, AreHonest, OnFailed, Tells, failed, failure_in}
+use Rattle.oai_host.specs.Tasks.{asking, depositing}
 use Rattle.oai_host.specs.declared.exchanges.Answer.{Answer}
 
 -- ---- the count of failures
@@ -89,21 +89,14 @@ deposit_left P Damaged lines left = left
 
 -- ---- what is told of it
 
-pub request_told : (arguments : List ℕ) (fault : Fault) → TellsFault (asking arguments) (failed fault None)
+pub request_told : (arguments : List ℕ) (fault : Fault) → Tells (asking arguments) (failed fault None)
 request_told arguments NoMemory = refl
 request_told arguments TooManyPages = refl
 request_told arguments Device = refl
 request_told arguments Damaged = refl
 
-pub deposit_told : (lines : List (List ℕ)) (fault : Fault) (done : ℕ) → done < length lines → TellsFault (depositing lines) (failed fault (Some done))
-deposit_told lines NoMemory done less = (refl, less)
-deposit_told lines TooManyPages done less = (refl, less)
-deposit_told lines Device done less = (refl, less)
-deposit_told lines Damaged done less = (refl, less)
-
--- an answer without a fault tells none
-pub none_told : (task : Task) (answer : Answer) → answer.fault ≡ None → TellsFault task answer
-none_told (refusing why) answer none = ap (λ (fault : Option Fault). is_some fault) none
-none_told (asking arguments) answer none = subst (λ (fault : Option Fault). IfSome fault (λ f. answer ≡ failed f None)) (sym none) tt
-none_told (depositing lines) answer none =
-    subst (λ (fault : Option Fault). IfSome fault (λ f. IsSomeAnd answer.done (λ done. (answer ≡ failed f (Some done)) × (done < length lines)))) (sym none) tt
+pub deposit_told : (lines : List (List ℕ)) (fault : Fault) (done : ℕ) → done < length lines → Tells (depositing lines) (failed fault (Some done))
+deposit_told lines NoMemory done less = record { so = refl; less = less }
+deposit_told lines TooManyPages done less = record { so = refl; less = less }
+deposit_told lines Device done less = record { so = refl; less = less }
+deposit_told lines Damaged done less = record { so = refl; less = less }

@@ -2,7 +2,7 @@
 use Rattle.std.proofs.Common.{◌≡◌, ◌∙◌, ℕ, zero, suc, true, false, not, List, [], ◌∷◌, ◌++◌, map, None, Some, refl, sym, ap, subst}
 use Rattle.std.specs.List.{AllZip, list_all, list_any, slice_get}
 use Rattle.std.specs.Str.{bytes_eq}
-use Rattle.std.proofs.lemmas.Bool.{and_parts, false_from_ne_true, not-true, or_from, or_parts}
+use Rattle.std.proofs.lemmas.Bool.{and_from, and_parts, false_from_ne_true, not-true, not_from_false, or_from, or_parts}
 use Rattle.oai_catalogue.specs.Store.{Lists}
 use Rattle.oai_item.specs.Rules.{has_repeat}
 use Rattle.oai_host.specs.Configs.{AreNamed, Hosted, names_of}
@@ -59,9 +59,19 @@ owned (x ∷ housed) zero one lists call there leads none =
 owned (x ∷ housed) (suc i) one lists call there leads none =
     owned housed i one lists call there leads (and_parts (not (leads_to_repository x.name call.target)) (is_of_none (repositories_of housed lists) call) none).1
 
+pub owned_there : {P : Type 0} (housed : List Housed) (i : ℕ) (kind : Kind) (lists : Lists) (call : Call) → IsPlace housed i kind call.target → is_of_none (repositories_of housed lists) call ≡ true → P
+owned_there housed i kind lists call place none = owned housed i place.one lists call place.there (leads_there kind place.one.name call.target place.path) none
+
 pub none_there : (housed : List Housed) (i : ℕ) (kind : Kind) (lists : Lists) (call : Call) (answer : Answer) → IsPlace housed i kind call.target
     → is_of_none (repositories_of housed lists) call ≡ true → answer ≡ refused call
-none_there housed i kind lists call answer place none = owned housed i place.one lists call place.there (leads_there kind place.one.name call.target place.path) none
+none_there housed i kind lists call answer place none = owned_there housed i kind lists call place none
+
+-- the exchange is no repository's
+pub none_nowhere : (housed : List Housed) (lists : Lists) (call : Call) → LeadsNowhere housed call.target → is_of_none (repositories_of housed lists) call ≡ true
+none_nowhere [] lists call nowhere = refl
+none_nowhere (x ∷ housed) lists call nowhere =
+    and_from (not (leads_to_repository x.name call.target)) (is_of_none (repositories_of housed lists) call) (not_from_false (leads_to_repository x.name call.target) nowhere.0)
+    (none_nowhere housed lists call nowhere.1)
 
 pub answered_there : (housed : List Housed) (i : ℕ) (kind : Kind) (lists : Lists) (call : Call) (answer : Answer) (after : List Repository) → IsPlace housed i kind call.target
     → AllZip (IsStep call answer) (repositories_of housed lists) after → IsAnswered call answer (repositories_of housed lists) after

@@ -15,7 +15,7 @@ use Rattle.oai_host.specs.Alone.{IsTried}
 use Rattle.oai_item.specs.Rules.{has_repeat}
 use Rattle.oai_host.specs.Configs.{AreNamed, Hosted}
 use Rattle.oai_host.specs.Answers.{OnFailed}
-use Rattle.oai_host.specs.Hosts.{IsStep, LeavesOthers, Repository, begun}
+use Rattle.oai_host.specs.Hosts.{IsLeft, IsStep, LeavesOthers, Repository, begun}
 use Rattle.oai_host.specs.Housed.{AllApart, AllHeld, AllStand, AreApart, AreHoused, IsApart, IsKept, housed_names, repositories_of, repository_of}
 use Rattle.oai_settings.specs.Config.{is_repository_name}
 use Rattle.oai_host.specs.Targets.{front_of, leads_to_repository, path_of}
@@ -40,6 +40,10 @@ state_same other before after same =
     in
     let with : List ItemState → OpenLists → State = λ xs b. record { clock = other.clock; holdings = record { items = xs; sets = other.sets }; begun = b } in
     ap (λ (xs : List ItemState). with xs (begun_of other.clock other.table after)) items ∙ ap (with (items_on other.shelf before)) open_ones
+
+left_same : (target : List ℕ) (one other : Repository) → other ≡ one → IsLeft target one other
+left_same target one other same =
+    record { name = ap (λ (r : Repository). r.name) same; config = ap (λ (r : Repository). r.config) same; other = λ _. same }
 
 module _ (old new : Held) (before after : Lists) (kept : KeepsOthers (numbers_of old) before (numbers_of new) after) where
   same_lists : (other : Held) → StandsIn other before → AreApart other old → (n : ℕ) → has (numbers_of other) n ≡ true → after n ≡ before n
@@ -88,7 +92,7 @@ module _ (old new : Held) (before after : Lists) (kept : KeepsOthers (numbers_of
   rest_others : (target : List ℕ) (others : List Housed) → AllStand others before → IsApart old others → LeavesOthers target (repositories_of others before) (repositories_of others after)
   rest_others target [] stand apart = tt
   rest_others target (x ∷ others) stand apart =
-      (λ _. repository_same x stand.0 (apart_turned old x.repo apart.0), rest_others target others stand.1 apart.1)
+      (left_same target (repository_of before x) (repository_of after x) (repository_same x stand.0 (apart_turned old x.repo apart.0)), rest_others target others stand.1 apart.1)
 
 -- ---- the one at a place
 
@@ -162,17 +166,21 @@ module _ (one : Housed) (new : Held) (before after : Lists) (kept : KeepsOthers 
         set_steps call answer kind housed i there stand.1 apart.1 parts.1 path step,
       )
 
-  set_others : (target : List ℕ) (kind : Kind) (housed : List Housed) (i : ℕ) → slice_get housed i ≡ Some one → AllStand housed before → AllApart housed
+  set_others : (target : List ℕ) (kind : Kind) (housed : List Housed) (i : ℕ) → new.config ≡ one.repo.config → slice_get housed i ≡ Some one → AllStand housed before → AllApart housed
       → path_of target ≡ front_of kind ++ one.name → LeavesOthers target (repositories_of housed before) (repositories_of (slice_set housed i changed) after)
-  set_others target kind [] i there stand apart path = nothing_there one there
-  set_others target kind (x ∷ housed) zero there stand apart path =
+  set_others target kind [] i config there stand apart path = nothing_there one there
+  set_others target kind (x ∷ housed) zero config there stand apart path =
       let same = same_one x one there in (
-        λ elsewhere. clash (leads_to_repository x.name target) (ap (λ (y : Housed). leads_to_repository y.name target) same ∙ leads_there kind one.name target path) elsewhere,
+        record {
+          name = ap (λ (y : Housed). y.name) (sym same);
+          config = config ∙ ap (λ (y : Housed). y.repo.config) (sym same);
+          other = λ elsewhere. clash (leads_to_repository x.name target) (ap (λ (y : Housed). leads_to_repository y.name target) same ∙ leads_there kind one.name target path) elsewhere;
+        },
         rest_others one.repo new before after kept target housed stand.1 (subst (λ (y : Housed). IsApart y.repo housed) same apart.0),
       )
-  set_others target kind (x ∷ housed) (suc i) there stand apart path = (
-    λ _. repository_same one.repo new before after kept x stand.0 (apart_at x.repo housed i one there apart.0),
-    set_others target kind housed i there stand.1 apart.1 path,
+  set_others target kind (x ∷ housed) (suc i) config there stand apart path = (
+    left_same target (repository_of before x) (repository_of after x) (repository_same one.repo new before after kept x stand.0 (apart_at x.repo housed i one there apart.0)),
+    set_others target kind housed i config there stand.1 apart.1 path,
   )
 
 -- all of it
@@ -201,7 +209,7 @@ pub others_set : (was : Bool) (target : List ℕ) (kind : Kind) (housed : List H
     → IsKept was one.repo before new after → path_of target ≡ front_of kind ++ one.name
     → LeavesOthers target (repositories_of housed before) (repositories_of (slice_set housed i (record { name = one.name; repo = new })) after)
 others_set was target kind housed i one new before after there old kept path =
-    set_others one new before after kept.others target kind housed i there old.stand old.apart path
+    set_others one new before after kept.others target kind housed i kept.config there old.stand old.apart path
 
 set_same : (housed : List Housed) (i : ℕ) (one : Housed) (new : Held) → slice_get housed i ≡ Some one → new ≡ one.repo → slice_set housed i (record { name = one.name; repo = new }) ≡ housed
 set_same [] i one new there same = nothing_there one there
@@ -219,7 +227,7 @@ left_set answer housed i one new before after there left =
 
 pub others_same : (target : List ℕ) (repositories : List Repository) → LeavesOthers target repositories repositories
 others_same target [] = tt
-others_same target (x ∷ repositories) = (λ _. refl, others_same target repositories)
+others_same target (x ∷ repositories) = (left_same target x x refl, others_same target repositories)
 
 -- ---- one more
 

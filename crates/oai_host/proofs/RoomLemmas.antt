@@ -1,21 +1,21 @@
 -- Room: what a line, the lines of a deposit and an exchange with one of many repositories need.
-use Rattle.std.proofs.Common.{◌≡◌, ◌+◌, ◌-◌, ◌*◌, ◌≤◌, ◌++◌, ℕ, zero, suc, false, List, [], ◌∷◌, length, Option, Some, Result, Ok, Err, refl, sym, ap, subst, arith}
+use Rattle.std.proofs.Common.{◌≡◌, ◌+◌, ◌≤◌, ◌++◌, ℕ, zero, suc, false, List, [], ◌∷◌, length, Option, Some, Result, Ok, Err, refl, sym, subst, arith}
 use Rattle.std.specs.List.{list_any, slice_get}
 use Rattle.std.specs.Str.{bytes_eq}
-use Rattle.std.proofs.Math.Nat.{add-mul}
 use Rattle.std.proofs.lemmas.Bool.{or_parts}
-use Rattle.std.proofs.lemmas.List.{length-append}
 use Rattle.oai_item.specs.Rules.{has_repeat}
 use Rattle.oai_item.specs.declared.changes.Change.{Change}
 use Rattle.oai_item.specs.declared.changes.Change.TheVariants as change
 use Rattle.oai_item.specs.declared.faults.Fault.{Fault}
 use Rattle.oai_item.specs.declared.faults.Fault.TheVariants.{Damaged, Device, NoMemory, TooManyPages}
 use Rattle.oai_catalogue.specs.Store.{Lists, NeedsRoom}
+use Rattle.oai_deposit.specs.Lines.{line_of}
+use Rattle.oai_settings.specs.Config.{Config}
 use Rattle.oai_repo.specs.Calls.{room_to_change}
 use Rattle.oai_repo.specs.Held.{Held, IsHeld, items_on}
 use Rattle.oai_host.specs.Answers.{failed, failure_in}
 use Rattle.oai_host.specs.Housed.{housed_names, repositories_of}
-use Rattle.oai_host.specs.Room.{FindsRoom, room_for_line, room_for_task}
+use Rattle.oai_host.specs.Room.{FindsRoom, room_for_line, room_for_lines, room_for_task}
 use Rattle.oai_host.specs.Targets.{front_of, leads_to_repository, path_of}
 use Rattle.oai_host.specs.Tasks.{task_in, task_of}
 use Rattle.oai_host.specs.Workings.{LeadsNowhere}
@@ -23,7 +23,6 @@ use Rattle.oai_host.specs.declared.exchanges.Answer.{Answer}
 use Rattle.oai_host.specs.declared.exchanges.Call.{Call}
 use Rattle.oai_host.specs.declared.housed.Housed.{Housed}
 use Rattle.oai_host.specs.declared.routes.Kind.{Kind}
-use Rattle.oai_host.proofs.DepositLemmas.{AreDone, below}
 use Rattle.oai_host.proofs.HousedLemmas.{unused_at}
 use Rattle.oai_host.proofs.PlaceLemmas.{bytes_turned, clash, kind_is, leads_not, nothing_there, same_one}
 
@@ -36,7 +35,7 @@ room_less n m (Err fault) old new more need =
     let used = need.used in record { enough = λ is. let few = need.enough is in omega (arith, more, few); used = omega (arith, more, used) }
 
 -- a change of a repository of which an honest store holds what it has to
-pub room_of_change : (old : Held) (lists : Lists) (made : Change) → IsHeld old lists → room_to_change (length old.shelf.notes) made ≤ room_for_line old.config
+pub room_of_change : (old : Held) (lists : Lists) (made : Change) → IsHeld old lists → room_to_change (length old.shelf.notes) made ≤ room_to_change old.config.items made
 room_of_change old lists (change.Deposit identifier sets records) held = omega arith
 room_of_change old lists (change.Delete identifier) held = omega arith
 room_of_change old lists (change.Purge before) held =
@@ -47,25 +46,19 @@ room_of_change old lists (change.AddSet spec name) held = omega arith
 
 -- ---- lines
 
-pub room_on : (k old mid new done : ℕ) → old ≤ mid + done * k → mid ≤ new + k → old ≤ new + (done + 1) * k
-room_on k old mid new done so_far used = let more = add-mul done 1 k in omega (arith, so_far, used, more)
+one_on : (was this rest mid all is : ℕ) → was + (this + rest) ≤ mid + all → mid ≤ is + this → was + rest ≤ is + all
+one_on was this rest mid all is so_far used = omega (arith, so_far, used)
 
-fewer : (done all k : ℕ) → done ≤ all → done * k ≤ all * k
-fewer done all k within =
-    let rest : all ≡ done + (all - done) = omega (arith, within) in
-    let whole : all * k ≡ (done + (all - done)) * k = ap (λ (n : ℕ). n * k) rest in
-    let parts = add-mul done (all - done) k in
-    omega (arith, whole, parts)
+-- a line more was done
+pub room_on : (config : Config) (text : List ℕ) (left all : List (List ℕ)) (was mid is : ℕ) → was + room_for_lines config (text ∷ left) ≤ mid + room_for_lines config all
+    → mid ≤ is + room_for_line config (line_of text) → was + room_for_lines config left ≤ is + room_for_lines config all
+room_on config text left all was mid is so_far used = one_on was (room_for_line config (line_of text)) (room_for_lines config left) mid (room_for_lines config all) is so_far used
 
 -- all lines were done
-pub room_done : (honest : _) (old new : Held) (before after : Lists) (moment : _) (all left : List (List ℕ)) (told : List ℕ) (done k was is : ℕ)
-    → AreDone honest old before moment all left told done new after → was ≤ is + done * k → NeedsRoom {A = Unit {0}} (length all * k) (Ok tt) was is
-room_done honest old new before after moment all left told done k was is so_far used =
-    let many = so_far.many in
-    let sum = length-append so_far.front left in
-    let whole : length all ≡ length (so_far.front ++ left) = ap (λ (lines : List (List ℕ)). length lines) so_far.whole in
-    let less = fewer done (length all) k (omega (arith, many, sum, whole)) in
-    record { enough = tt; used = omega (arith, used, less) }
+pub room_done : (config : Config) (all left : List (List ℕ)) (was is : ℕ) → left ≡ [] → was + room_for_lines config left ≤ is + room_for_lines config all
+    → NeedsRoom {A = Unit {0}} (room_for_lines config all) (Ok tt) was is
+room_done config all [] was is none so_far = record { enough = tt; used = omega (arith, so_far) }
+room_done config all (text ∷ left) was is none so_far = cc
 
 fault_told : (fault : Fault) (lines : Option ℕ) → failure_in (failed fault lines) ≡ Err fault
 fault_told NoMemory lines = refl
@@ -73,20 +66,19 @@ fault_told TooManyPages lines = refl
 fault_told Device lines = refl
 fault_told Damaged lines = refl
 
+one_failed : (this rest all was mid is : ℕ) (fault : Fault) → was + (this + rest) ≤ mid + all → NeedsRoom {A = Unit {0}} this (Err fault) mid is → NeedsRoom {A = Unit {0}} all (Err fault) was is
+one_failed this rest all was mid is fault so_far need =
+    let last = need.used in record {
+      enough = λ wants. let few = need.enough wants in omega (arith, so_far, few);
+      used = omega (arith, so_far, last);
+    }
+
 -- a line failed
-pub room_failed : (honest : _) (old new : Held) (before after : Lists) (moment : _) (all left : List (List ℕ)) (text told : List ℕ) (done k was mid is : ℕ) (fault : Fault)
-    → AreDone honest old before moment all (text ∷ left) told done new after → was ≤ mid + done * k → NeedsRoom {A = Unit {0}} k (Err fault) mid is
-    → NeedsRoom (length all * k) (failure_in (failed fault (Some done))) was is
-room_failed honest old new before after moment all left text told done k was mid is fault so_far used need =
-    let within = below honest old new before after moment all left text told done so_far in
-    let less = fewer (done + 1) (length all) k (omega (arith, within)) in
-    let more = add-mul done 1 k in
-    let last = need.used in
-    let whole : NeedsRoom {A = Unit {0}} (length all * k) (Err fault) was is = record {
-      enough = λ wants. let few = need.enough wants in omega (arith, used, few, less, more);
-      used = omega (arith, used, last, less, more);
-    } in
-    subst (λ (result : Result (Unit {0}) Fault). NeedsRoom (length all * k) result was is) (sym (fault_told fault (Some done))) whole
+pub room_failed : (config : Config) (text : List ℕ) (left all : List (List ℕ)) (was mid is done : ℕ) (fault : Fault) → was + room_for_lines config (text ∷ left) ≤ mid + room_for_lines config all
+    → NeedsRoom {A = Unit {0}} (room_for_line config (line_of text)) (Err fault) mid is → NeedsRoom (room_for_lines config all) (failure_in (failed fault (Some done))) was is
+room_failed config text left all was mid is done fault so_far need =
+    subst (λ (result : Result (Unit {0}) Fault). NeedsRoom (room_for_lines config all) result was is) (sym (fault_told fault (Some done)))
+    (one_failed (room_for_line config (line_of text)) (room_for_lines config left) (room_for_lines config all) was mid is fault so_far need)
 
 -- ---- one of many repositories
 

@@ -1,5 +1,5 @@
 -- What an exchange is answered: RFC 9110, sections 10.2.3 and 15; that a request is to be made again later, OAI-PMH 2.0, section 3.1.2.2.
-use Rattle.std.specs.Prelude.{◌≡◌, ◌<◌, ◌≤◌, ℕ, ℤ, pos, Bool, List, [], length, Option, None, Some, IfSome, IsNone, IsSomeAnd, unwrap_or, Result, Ok, Err}
+use Rattle.std.specs.Prelude.{◌≡◌, ◌<◌, ◌≤◌, ℕ, ℤ, pos, Bool, List, [], length, Option, None, Some, IfSome, IsSomeAnd, MatchOption, unwrap_or, Result, Ok, Err}
 use Rattle.std.specs.List.{AllByRecursion, count_by}
 use Rattle.oai_catalogue.specs.Store.{IsCounted, IsHonest}
 use Rattle.oai_item.specs.declared.faults.Fault.{Fault}
@@ -64,15 +64,22 @@ AreHonest answers old new = AllByRecursion (λ (answer : Answer). IsHonest (fail
 abbrev pub OnFailed : Answer → Type 0 → Type 0
 OnFailed answer P = IfSome answer.fault (λ fault. unwrap_or answer.done 0 ≡ 0 → P)
 
--- a fault is told as what it is, over every store: of a request as that it failed, of a deposit with a number of lines below that of its lines;
--- what asks nothing of a repository has none
-abbrev pub TellsFault : Task → Answer → Type 0
-TellsFault (refusing why) answer = IsNone answer.fault
-TellsFault (asking arguments) answer = IfSome answer.fault (λ fault. answer ≡ failed fault None)
-TellsFault (depositing lines) answer = IfSome answer.fault (λ fault. IsSomeAnd answer.done (λ done. (answer ≡ failed fault (Some done)) × (done < length lines)))
+-- what a repository replies to a request: a document, or to come again later
+abbrev pub IsReply : Answer → Type 0
+IsReply answer = MatchOption answer.seconds (answer ≡ answered_with answer.body) (λ seconds. answer ≡ asked_to_wait seconds)
 
--- a deposit that was performed is answered with no fewer lines than it has, over every store
-abbrev pub AnswersLines : Task → Answer → Type 0
-AnswersLines (refusing why) answer = Unit {0}
-AnswersLines (asking arguments) answer = Unit {0}
-AnswersLines (depositing lines) answer = answer.status ≡ status.Ok → length lines ≤ count_by is_line_end answer.body
+-- what is told of a deposit that was performed: a line at least for each of its lines
+pub record AnswersLines (lines : List (List ℕ)) (answer : Answer) : Type 0 where
+  pub so : answer ≡ answered_with answer.body
+  pub each : length lines ≤ count_by is_line_end answer.body
+
+-- what is told of a deposit that failed: the fault, and how many of its lines were done, which are not all
+pub record TellsDone (lines : List (List ℕ)) (fault : Fault) (answer : Answer) (done : ℕ) : Type 0 where
+  pub so : answer ≡ failed fault (Some done)
+  pub less : done < length lines
+
+-- what may be told of a task, over every store: why nothing is asked; what is replied to a request, or its fault; what came of a deposit
+abbrev pub Tells : Task → Answer → Type 0
+Tells (refusing why) answer = answer ≡ answered why
+Tells (asking arguments) answer = MatchOption answer.fault (IsReply answer) (λ fault. answer ≡ failed fault None)
+Tells (depositing lines) answer = MatchOption answer.fault (AnswersLines lines answer) (λ fault. IsSomeAnd answer.done (TellsDone lines fault answer))

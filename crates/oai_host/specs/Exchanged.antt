@@ -1,23 +1,23 @@
 -- What holds of an exchange with a host over every store, also over one that does not give back what was written to it. This repository's own.
-use Rattle.std.specs.Prelude.{◌≡◌, true, IsTrue, List, [], ◌∷◌}
+use Rattle.std.specs.Prelude.{◌≡◌, true, false, IsTrue, List, [], ◌∷◌}
 use Rattle.oai_catalogue.specs.Store.{IsCounted, IsHonest}
-use Rattle.oai_host.specs.Answers.{AnswersLines, OnFailed, TellsFault, failure_in}
+use Rattle.oai_host.specs.Answers.{OnFailed, Tells, failure_in}
 use Rattle.oai_host.specs.Hosts.{Hosting, IsAnswered, LeavesOthers, is_of_none, refused}
 use Rattle.oai_host.specs.Room.{FindsRoom}
 use Rattle.oai_host.specs.Tasks.{task_of}
 use Rattle.oai_host.specs.declared.exchanges.Answer.{Answer}
 use Rattle.oai_host.specs.declared.exchanges.Call.{Call}
 
--- over a store that gives back what was written to it, it is answered as `IsAnswered` says, and needs no more room than what it asks; over every
--- store the repositories of others stay, an exchange of none is refused, a deposit that is answered Ok has a line for each of its lines, what
--- failed before anything was done left all repositories as they were, and a fault is told as what it is and has its cause
+-- over a store that gives back what was written to it, it is answered as `IsAnswered` says. Over every store the repositories of others stay; an
+-- exchange of none is refused, and leaves the host as it was; of any other only that is told which may be told of what it asks; what failed
+-- before anything was done left all repositories as they were; a fault has its cause; and no more room is used than was asked for
 pub record IsExchanged (call : Call) (answer : Answer) (before after : Hosting) : Type 0 where
   pub answered : IsTrue before.honest → IsAnswered call answer before.repositories after.repositories
   pub others : LeavesOthers call.target before.repositories after.repositories
   pub none : is_of_none before.repositories call ≡ true → answer ≡ refused call
-  pub lines : AnswersLines (task_of call) answer
+  pub still : is_of_none before.repositories call ≡ true → after ≡ before
+  pub told : is_of_none before.repositories call ≡ false → Tells (task_of call) answer
   pub left : OnFailed answer (after.repositories ≡ before.repositories)
-  pub told : TellsFault (task_of call) answer
   pub room : IsTrue before.honest → FindsRoom call answer before.repositories before.room after.room
   pub device : IsCounted (failure_in answer) before.failures after.failures
   pub honesty : IsHonest (failure_in answer) before.honest after.honest

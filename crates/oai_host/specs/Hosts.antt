@@ -46,9 +46,15 @@ is_of_none repositories call = list_all (λ (repository : Repository). not (lead
 abbrev pub refused : Call → Answer
 refused call = answered (if is_rooted call.target then status.NotFound else status.BadRequest)
 
--- each repository that the target does not lead to is as it was
+-- a repository keeps its name and its configuration, and where the target does not lead to it, its state
+pub record IsLeft (target : List ℕ) (before after : Repository) : Type 0 where
+  pub name : after.name ≡ before.name
+  pub config : after.config ≡ before.config
+  pub other : leads_to_repository before.name target ≡ false → after ≡ before
+
+-- each repository does
 abbrev pub LeavesOthers : List ℕ → List Repository → List Repository → Type 0
-LeavesOthers target before after = AllZip (λ (one other : Repository). leads_to_repository one.name target ≡ false → other ≡ one) before after
+LeavesOthers target before after = AllZip (IsLeft target) before after
 
 -- an exchange with the host
 pub record IsAnswered (call : Call) (answer : Answer) (before after : List Repository) : Type 0 where

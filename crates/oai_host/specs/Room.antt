@@ -1,11 +1,14 @@
 -- For how many calls of its store an exchange needs room: this repository's own.
-use Rattle.std.specs.Prelude.{◌≡◌, ◌+◌, ◌*◌, ℕ, true, List, length}
+use Rattle.std.specs.Prelude.{◌≡◌, ◌+◌, ℕ, true, List, [], ◌∷◌, Result, Ok, Err}
 use Rattle.std.specs.List.{AllByRecursion}
 use Rattle.oai_args.specs.Pairs.{decoded_pairs}
 use Rattle.oai_args.specs.Requests.{request_of}
 use Rattle.oai_catalogue.specs.Store.{NeedsRoom}
+use Rattle.oai_deposit.specs.Lines.{line_of}
+use Rattle.oai_item.specs.declared.changes.Change.{Change}
+use Rattle.oai_item.specs.declared.refusals.LineRefusal.{LineRefusal}
 use Rattle.oai_settings.specs.Config.{Config}
-use Rattle.oai_repo.specs.Calls.{room_to_ask}
+use Rattle.oai_repo.specs.Calls.{room_to_ask, room_to_change}
 use Rattle.oai_host.specs.Answers.{failure_in}
 use Rattle.oai_host.specs.Hosts.{Repository}
 use Rattle.oai_host.specs.Targets.{leads_to_repository}
@@ -13,15 +16,21 @@ use Rattle.oai_host.specs.Tasks.{Task, asking, depositing, refusing, task_of}
 use Rattle.oai_host.specs.declared.exchanges.Answer.{Answer}
 use Rattle.oai_host.specs.declared.exchanges.Call.{Call}
 
--- a line of a deposit, at most: a purge wants room for one call more than there are items, every other change for no more than three
-abbrev pub room_for_line : Config → ℕ
-room_for_line config = config.items + 3
+-- a line of a deposit, as it was read: what its change may want where the repository has as many items as it may; and nothing where it is refused
+abbrev pub room_for_line : Config → Result Change LineRefusal → ℕ
+room_for_line config (Ok change) = room_to_change config.items change
+room_for_line config (Err cause) = 0
+
+-- the lines of a deposit
+abbrev pub room_for_lines : Config → List (List ℕ) → ℕ
+room_for_lines config [] = 0
+room_for_lines config (line ∷ lines) = room_for_line config (line_of line) + room_for_lines config lines
 
 -- what an exchange asks of a repository
 abbrev pub room_for_task : Config → Task → ℕ
 room_for_task config (refusing status) = 0
 room_for_task config (asking arguments) = room_to_ask (request_of config.granularity (decoded_pairs arguments))
-room_for_task config (depositing lines) = length lines * room_for_line config
+room_for_task config (depositing lines) = room_for_lines config lines
 
 -- the exchange needs no more room than what it asks of the repository whose it is
 abbrev pub FindsRoom : Call → Answer → List Repository → ℕ → ℕ → Type 0

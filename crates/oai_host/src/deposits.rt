@@ -7,7 +7,7 @@ ghost use Rattle.oai_catalogue.specs.Store.{IsCounted, IsHonest, NeedsRoom};
 ghost use Rattle.oai_repo.specs.Held.{IsHeld, StandsIn, state_of};
 ghost use Rattle.oai_repo.specs.Machine.{line};
 ghost use Rattle.oai_host.specs.Alone.{IsTried};
-ghost use Rattle.oai_host.specs.Answers.{AnswersLines, OnFailed, TellsFault, failure_in};
+ghost use Rattle.oai_host.specs.Answers.{OnFailed, Tells, failure_in};
 ghost use Rattle.oai_host.specs.Bodies.{lines_in};
 ghost use Rattle.oai_host.specs.Housed.{IsKept};
 ghost use Rattle.oai_host.specs.Room.{room_for_line, room_for_task};
@@ -42,10 +42,9 @@ pub(crate) fn perform_lines<V: Versions>(
     ensures tried { IsTrue (V.honest store.old)
         → IsTried repo.old.config (state_of repo.old (V.lists store.old)) moment
         (depositing (lines_in body.now)) result (state_of repo.new (V.lists store.new)) }
-    ensures lines { AnswersLines (depositing (lines_in body.now)) result }
     ensures left { OnFailed result ((repo.new ≡ repo.old)
         × (V.lists store.new ≡ V.lists store.old)) }
-    ensures told { TellsFault (depositing (lines_in body.now)) result }
+    ensures told { Tells (depositing (lines_in body.now)) result }
     ensures kept { IsKept (V.honest store.old) repo.old (V.lists store.old) repo.new
         (V.lists store.new) }
     ensures room { IsTrue (V.honest store.old) → NeedsRoom (room_for_task repo.old.config
@@ -85,8 +84,8 @@ fn perform_line<V: Versions>(
     ensures err_lists { OnErr result (V.lists store.new ≡ V.lists store.old) }
     ensures kept { IsKept (V.honest store.old) repo.old (V.lists store.old) repo.new
         (V.lists store.new) }
-    ensures room { IsTrue (V.honest store.old) → NeedsRoom (room_for_line repo.old.config)
-        result (V.room store.old) (V.room store.new) }
+    ensures room { IsTrue (V.honest store.old) → NeedsRoom (room_for_line repo.old.config
+        (line_of text.now)) result (V.room store.old) (V.room store.new) }
     ensures device { IsCounted result (V.failures store.old) (V.failures store.new) }
     ensures honesty { IsHonest result (V.honest store.old) (V.honest store.new) }
 {
@@ -121,8 +120,8 @@ fn perform_change<V: Versions>(
     ensures err_lists { OnErr result (V.lists store.new ≡ V.lists store.old) }
     ensures kept { IsKept (V.honest store.old) repo.old (V.lists store.old) repo.new
         (V.lists store.new) }
-    ensures room { IsTrue (V.honest store.old) → NeedsRoom (room_for_line repo.old.config)
-        result (V.room store.old) (V.room store.new) }
+    ensures room { IsTrue (V.honest store.old) → NeedsRoom (room_for_line repo.old.config
+        (Ok change.now)) result (V.room store.old) (V.room store.new) }
     ensures device { IsCounted result (V.failures store.old) (V.failures store.new) }
     ensures honesty { IsHonest result (V.honest store.old) (V.honest store.new) }
 {

@@ -1,11 +1,11 @@
 //! A host of repositories.
-ghost use Rattle.std.specs.Prelude.{◌≡◌, ◌+◌, ◌<◌, ◌≤◌, true, length, map, if◌then◌else◌, IfErr, IfOk, IfSome, IsTrue, OnErr};
+ghost use Rattle.std.specs.Prelude.{◌≡◌, ◌+◌, ◌<◌, ◌≤◌, false, true, length, map, if◌then◌else◌, IfErr, IfOk, IfSome, IsTrue, OnErr};
 ghost use Rattle.std.specs.List.{list_all};
 ghost use Rattle.std.specs.Option.{IfNone};
 ghost use Rattle.oai_settings.specs.Config.{is_repository_name};
 ghost use Rattle.oai_catalogue.specs.Store.{IsCounted, IsHonest};
 ghost use Rattle.oai_item.specs.declared.faults.Fault.TheVariants.{TooManyPages};
-ghost use Rattle.oai_host.specs.Answers.{AnswersLines, AreCounted, AreHonest, OnFailed, TellsFault, failure_in};
+ghost use Rattle.oai_host.specs.Answers.{AreCounted, AreHonest, OnFailed, Tells, failure_in};
 ghost use Rattle.oai_host.specs.Exchanged.{AreExchanged, IsExchanged};
 ghost use Rattle.oai_host.specs.Faults.{HasCause};
 ghost use Rattle.oai_host.specs.Hosts.{AreAnswered, AreAsAlone, IsAnswered, LeavesOthers, begun, is_of_none, none_failed, refused};
@@ -87,9 +87,10 @@ impl<V: Versions + Drop> Host<V> {
     /// memory too, is told inside the answer.
     ///
     /// Over a store that does not give back what was written to it as well, an exchange leaves all
-    /// repositories but its own as they were, one that is no repository's is refused, a request that failed
-    /// and a deposit of which no line was done have left everything as it was, a fault is told as what it is,
-    /// and a deposit that is answered `Ok` has a line for each of its lines.
+    /// repositories but its own as they were, one that is no repository's is refused and leaves the host as
+    /// it was, a request that failed and a deposit of which no line was done have left all repositories as
+    /// they were, a fault is told as what it is, and a deposit that is answered `Ok` has a line for each of
+    /// its lines.
     pub fn exchange(&mut self, moment: i64, exchange: &Exchange<'_>) -> Answer
         ensures answered { IsTrue self.old.honest → IsAnswered (call_of moment exchange.now) result
             self.old.repositories self.new.repositories }
@@ -97,9 +98,11 @@ impl<V: Versions + Drop> Host<V> {
             self.new.repositories }
         ensures none { is_of_none self.old.repositories (call_of moment exchange.now) ≡ true
             → result ≡ refused (call_of moment exchange.now) }
-        ensures lines { AnswersLines (task_of (call_of moment exchange.now)) result }
+        ensures still { is_of_none self.old.repositories (call_of moment exchange.now) ≡ true
+            → self.new ≡ self.old }
+        ensures told { is_of_none self.old.repositories (call_of moment exchange.now) ≡ false
+            → Tells (task_of (call_of moment exchange.now)) result }
         ensures left { OnFailed result (self.new.repositories ≡ self.old.repositories) }
-        ensures told { TellsFault (task_of (call_of moment exchange.now)) result }
         ensures room { IsTrue self.old.honest → FindsRoom (call_of moment exchange.now) result
             self.old.repositories self.old.room self.new.room }
         ensures device { IsCounted (failure_in result) self.old.failures self.new.failures }

@@ -3,7 +3,7 @@ ghost use Rattle.std.specs.Prelude.{◌≡◌, IsTrue};
 ghost use Rattle.oai_catalogue.specs.Store.{IsCounted, IsHonest, NeedsRoom};
 ghost use Rattle.oai_repo.specs.Held.{IsHeld, StandsIn, state_of};
 ghost use Rattle.oai_host.specs.Alone.{IsTried};
-ghost use Rattle.oai_host.specs.Answers.{AnswersLines, OnFailed, TellsFault, failure_in};
+ghost use Rattle.oai_host.specs.Answers.{OnFailed, Tells, failure_in};
 ghost use Rattle.oai_host.specs.Housed.{IsKept};
 ghost use Rattle.oai_host.specs.Room.{room_for_task};
 ghost use Rattle.oai_host.specs.Tasks.{call_of, task_in};
@@ -31,10 +31,9 @@ pub(crate) fn perform<V: Versions>(
     ensures tried { IsTrue (V.honest store.old)
         → IsTried repo.old.config (state_of repo.old (V.lists store.old)) moment
         (task_in kind (call_of moment exchange.now)) result (state_of repo.new (V.lists store.new)) }
-    ensures lines { AnswersLines (task_in kind (call_of moment exchange.now)) result }
     ensures left { OnFailed result ((repo.new ≡ repo.old)
         × (V.lists store.new ≡ V.lists store.old)) }
-    ensures told { TellsFault (task_in kind (call_of moment exchange.now)) result }
+    ensures told { Tells (task_in kind (call_of moment exchange.now)) result }
     ensures kept { IsKept (V.honest store.old) repo.old (V.lists store.old) repo.new
         (V.lists store.new) }
     ensures room { IsTrue (V.honest store.old) → NeedsRoom (room_for_task repo.old.config

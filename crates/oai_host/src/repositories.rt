@@ -3,7 +3,7 @@ ghost use Rattle.std.specs.Prelude.{◌≡◌, ◌<◌, ◌++◌, ℕ, [], ◌�
 ghost use Rattle.std.specs.List.{AllZip, list_any, position, slice_get};
 ghost use Rattle.std.specs.Str.{bytes_eq};
 ghost use Rattle.oai_catalogue.specs.Store.{IsCounted, IsHonest, NeedsRoom};
-ghost use Rattle.oai_host.specs.Answers.{AnswersLines, OnFailed, TellsFault, failure_in};
+ghost use Rattle.oai_host.specs.Answers.{OnFailed, Tells, failure_in};
 ghost use Rattle.oai_host.specs.Hosts.{IsStep, LeavesOthers, begun};
 ghost use Rattle.oai_host.specs.Housed.{AreHoused, housed_names, place_in, repositories_of};
 ghost use Rattle.oai_host.specs.Room.{FindsRoom};
@@ -117,10 +117,9 @@ impl Repositories {
             (repositories_of self.old (V.lists store.old)) (repositories_of self.new (V.lists store.new)) }
         ensures others { LeavesOthers exchange.now.target.now
             (repositories_of self.old (V.lists store.old)) (repositories_of self.new (V.lists store.new)) }
-        ensures lines { AnswersLines (task_in kind (call_of moment exchange.now)) result }
         ensures left { OnFailed result ((self.new ≡ self.old)
             × (V.lists store.new ≡ V.lists store.old)) }
-        ensures told { TellsFault (task_in kind (call_of moment exchange.now)) result }
+        ensures told { Tells (task_in kind (call_of moment exchange.now)) result }
         ensures housed { AreHoused (V.honest store.new) self.new (V.lists store.new) }
         ensures room { IsTrue (V.honest store.old) → FindsRoom (call_of moment exchange.now) result
             (repositories_of self.old (V.lists store.old)) (V.room store.old) (V.room store.new) }

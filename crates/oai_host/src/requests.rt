@@ -3,7 +3,7 @@ ghost use Rattle.std.specs.Prelude.{◌≡◌, ℤ, IsTrue, MatchResult};
 ghost use Rattle.oai_catalogue.specs.Store.{IsCounted, IsHonest, NeedsRoom};
 ghost use Rattle.oai_repo.specs.Held.{IsHeld, StandsIn, state_of};
 ghost use Rattle.oai_host.specs.Alone.{IsTried};
-ghost use Rattle.oai_host.specs.Answers.{OnFailed, TellsFault, failure_in};
+ghost use Rattle.oai_host.specs.Answers.{OnFailed, Tells, failure_in};
 ghost use Rattle.oai_host.specs.Housed.{IsKept};
 ghost use Rattle.oai_host.specs.Room.{room_for_task};
 ghost use Rattle.oai_host.specs.Tasks as spec;
@@ -57,7 +57,7 @@ pub(crate) fn perform_request<V: Versions>(
         (spec.asking arguments.now) result (state_of repo.new (V.lists store.new)) }
     ensures left { OnFailed result ((repo.new ≡ repo.old)
         × (V.lists store.new ≡ V.lists store.old)) }
-    ensures told { TellsFault (spec.asking arguments.now) result }
+    ensures told { Tells (spec.asking arguments.now) result }
     ensures kept { IsKept (V.honest store.old) repo.old (V.lists store.old) repo.new
         (V.lists store.new) }
     ensures room { NeedsRoom (room_for_task repo.old.config (spec.asking arguments.now))

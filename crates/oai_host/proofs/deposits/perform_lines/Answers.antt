@@ -1,11 +1,12 @@
 -- Each line that was performed is one more of those that were, and a fault ends them.
-use Rattle.std.proofs.Common.{◌≡◌, ◌∙◌, ◌∷◌, FitsSigned, w64, Bool, IsTrue, List, ℕ, suc, length, Some, ap, arith, subst, sym, ◌+◌, ◌≤◌, Err}
+use Rattle.std.proofs.Common.{◌≡◌, ◌∙◌, ◌∷◌, FitsSigned, w64, Bool, IsTrue, List, ℕ, suc, length, ap, arith, subst, sym, ◌+◌, ◌≤◌, Err}
 use Rattle.std.proofs.lemmas.Int.{to_z-of_z}
 use Rattle.oai_catalogue.specs.Store.{NeedsRoom}
 use Rattle.oai_settings.specs.Config.{Config}
 use Rattle.oai_host.specs.Bodies.{lines_in}
 use Rattle.oai_host.specs.Housed.{IsKept}
-use Rattle.oai_host.proofs.DepositLemmas.{below, failed_lines, line_failed, one_done, AreDone}
+use Rattle.oai_host.proofs.DepositLemmas.{below, line_failed, one_done}
+use Rattle.oai_deposit.specs.Lines.{line_of}
 use Rattle.oai_host.specs.Room.{room_for_line}
 use Rattle.oai_host.proofs.FaultLemmas.{deposit_left, deposit_told}
 use Rattle.oai_host.proofs.RoomLemmas.{room_failed, room_on}
@@ -34,10 +35,11 @@ loop-text-preserved g c =
           let each = c.loop-text.invariant.each in let more = rw c.in-Ok.is at c.perform_line.ensures.line in omega (arith, each, many, more));
       room = λ honest.
           let need = rw c.in-Ok.is at (c.perform_line.ensures.room (subst (λ (b : Bool). IsTrue b) (sym same) honest)) in
-          let used : V.room c.loop-text.store ≤ V.room c.perform_line.new.store + room_for_line old.config =
-          subst (λ (config : Config). V.room c.loop-text.store ≤ V.room c.perform_line.new.store + room_for_line config) c.loop-text.invariant.lines.kept.config need.used
+          let used : V.room c.loop-text.store ≤ V.room c.perform_line.new.store + room_for_line old.config (line_of c.in-Some.text.now) =
+          subst (λ (config : Config). V.room c.loop-text.store ≤ V.room c.perform_line.new.store + room_for_line config (line_of c.in-Some.text.now)) c.loop-text.invariant.lines.kept.config need.used
           in
-          room_on (room_for_line old.config) (V.room c.args.store.now) (V.room c.loop-text.store) (V.room c.perform_line.new.store) c.loop-text.done (c.loop-text.invariant.room honest) used;
+          room_on old.config c.in-Some.text.now c.next.new.self (lines_in c.args.body.now) (V.room c.args.store.now) (V.room c.loop-text.store) (V.room c.perform_line.new.store)
+          (rw next at (c.loop-text.invariant.room honest)) used;
       count = omega (arith, c.loop-text.invariant.count, c.perform_line.ensures.device.count);
       honesty = c.perform_line.ensures.honesty.same ∙ same;
     }
@@ -53,9 +55,6 @@ returns-in-Err-clause-tried g c = λ honest.
     rw (c.of_fault.ensures, repo, lists)
     (line_failed (V.honest c.args.store.now) c.args.repo.now c.loop-text.repo (V.lists c.args.store.now) (V.lists c.loop-text.store) c.args.moment (lines_in c.args.body.now) c.next.new.self c.in-Some.text.now c.loop-text.told.items c.loop-text.done c.in-Err.fault
     so_far honest)
-
-pub returns-in-Err-clause-lines : goal.returns-in-Err-clause-lines
-returns-in-Err-clause-lines g c = rw c.of_fault.ensures (failed_lines (lines_in c.args.body.now) c.in-Err.fault (Some c.loop-text.done))
 
 pub returns-in-Err-clause-left : goal.returns-in-Err-clause-left
 returns-in-Err-clause-left g c =
@@ -83,11 +82,10 @@ returns-in-Err-clause-room g c = λ honest.
     let fits : FitsSigned w64 c.args.moment = c.ranges.moment in
     let next : c.loop-text.lines ≡ c.in-Some.text.now ∷ c.next.new.self = rw c.in-Some.is at c.next.ensures in
     let so_far = rw next at (simp to_z-of_z at c.loop-text.invariant.lines) in
-    let k = room_for_line c.args.repo.now.config in
     let line = rw c.in-Err.is at (c.perform_line.ensures.room (subst (λ (b : Bool). IsTrue b) (sym c.loop-text.invariant.honesty) honest)) in
-    let need : NeedsRoom {A = Unit {0}} k (Err c.in-Err.fault) (V.room c.loop-text.store) (V.room c.perform_line.new.store) =
-    subst (λ (config : Config). NeedsRoom {A = Unit {0}} (room_for_line config) (Err c.in-Err.fault) (V.room c.loop-text.store) (V.room c.perform_line.new.store)) so_far.kept.config line
+    let need : NeedsRoom {A = Unit {0}} (room_for_line c.args.repo.now.config (line_of c.in-Some.text.now)) (Err c.in-Err.fault) (V.room c.loop-text.store) (V.room c.perform_line.new.store) =
+    subst (λ (config : Config). NeedsRoom {A = Unit {0}} (room_for_line config (line_of c.in-Some.text.now)) (Err c.in-Err.fault) (V.room c.loop-text.store) (V.room c.perform_line.new.store)) so_far.kept.config line
     in
     rw c.of_fault.ensures
-    (room_failed (V.honest c.args.store.now) c.args.repo.now c.loop-text.repo (V.lists c.args.store.now) (V.lists c.loop-text.store) c.args.moment (lines_in c.args.body.now) c.next.new.self c.in-Some.text.now c.loop-text.told.items c.loop-text.done
-    k (V.room c.args.store.now) (V.room c.loop-text.store) (V.room c.perform_line.new.store) c.in-Err.fault so_far (c.loop-text.invariant.room honest) need)
+    (room_failed c.args.repo.now.config c.in-Some.text.now c.next.new.self (lines_in c.args.body.now) (V.room c.args.store.now) (V.room c.loop-text.store) (V.room c.perform_line.new.store) c.loop-text.done c.in-Err.fault
+    (rw next at (c.loop-text.invariant.room honest)) need)

@@ -1,5 +1,5 @@
 -- What the exchange asks for is what is performed.
-use Rattle.std.proofs.Common.{FitsSigned, w64, inl, refl, ◌≡◌, arith}
+use Rattle.std.proofs.Common.{FitsSigned, w64, inl, refl, arith}
 use Rattle.std.proofs.lemmas.Int.{to_z-of_z}
 use Rattle.oai_host.proofs.performances.perform.Goals as goal
 
@@ -13,16 +13,6 @@ pub returns-in-Err-clause-tried : goal.returns-in-Err-clause-tried
 returns-in-Err-clause-tried g c = λ honest.
     let task = rw c.in-Err.is at (c.arguments_of.ensures c.args.moment) in
     rw (c.in-Requests.is, task, c.of_status.ensures) (inl refl)
-
-pub returns-in-Ok-clause-lines : goal.returns-in-Ok-clause-lines
-returns-in-Ok-clause-lines g c =
-    let task = rw c.in-Ok.is at (c.arguments_of.ensures c.args.moment) in
-    rw (c.in-Requests.is, task) tt
-
-pub returns-in-Err-clause-lines : goal.returns-in-Err-clause-lines
-returns-in-Err-clause-lines g c =
-    let task = rw c.in-Err.is at (c.arguments_of.ensures c.args.moment) in
-    rw (c.in-Requests.is, task) tt
 
 pub returns-in-Ok-clause-room : goal.returns-in-Ok-clause-room
 returns-in-Ok-clause-room g c = λ honest.

@@ -1,21 +1,19 @@
 -- An exchange is done by the repository at the place, or is no repository's.
-use Rattle.std.proofs.Common.{◌≡◌, ◌∙◌, Bool, List, FitsSigned, IsTrue, ap, ap₂, subst, sym, true, w64}
+use Rattle.std.proofs.Common.{◌≡◌, ◌∙◌, Bool, List, FitsSigned, IsTrue, ap, ap₂, refl, subst, sym, true, w64}
 use Rattle.std.proofs.lemmas.Int.{to_z-of_z}
 use Rattle.oai_host.specs.Hosts.{Hosting, IsAnswered, LeavesOthers, Repository, is_of_none}
 use Rattle.oai_host.specs.Housed.{AreHoused, repositories_of}
 use Rattle.oai_host.specs.Props.{housed_props}
-use Rattle.oai_host.specs.Answers.{AnswersLines, TellsFault}
-use Rattle.oai_host.specs.Tasks.{call_of, task_in, task_of}
+use Rattle.oai_host.specs.Answers.{Tells}
+use Rattle.oai_host.specs.Tasks.{call_of, task_in}
 use Rattle.oai_host.specs.Room.{FindsRoom}
-use Rattle.oai_host.specs.declared.exchanges.Answer.{Answer}
 use Rattle.oai_host.specs.declared.housed.Housed.{Housed}
 use Rattle.oai_host.specs.declared.routes.Kind.{Kind}
 use Rattle.oai_catalogue.specs.Store.{Lists}
-use Rattle.oai_host.proofs.DepositLemmas.{refused_lines}
-use Rattle.oai_host.proofs.FaultLemmas.{left_then, none_told}
-use Rattle.oai_host.proofs.HostLemmas.{answered_nowhere, answered_there, none_there}
+use Rattle.oai_host.proofs.FaultLemmas.{left_then}
+use Rattle.oai_host.proofs.HostLemmas.{answered_nowhere, answered_there, none_nowhere, none_there, owned_there}
 use Rattle.oai_host.proofs.HousedLemmas.{others_same}
-use Rattle.oai_host.proofs.PlaceLemmas.{kind_is}
+use Rattle.oai_host.proofs.PlaceLemmas.{clash, kind_is}
 use Rattle.oai_host.proofs.RoomLemmas.{room_nowhere}
 use Rattle.oai_host.proofs.hosts.Host.exchange.Goals as goal
 
@@ -91,31 +89,34 @@ returns-in-Some-clause-none g c = λ none.
 pub returns-in-None-clause-none : goal.returns-in-None-clause-none
 returns-in-None-clause-none g c = λ _. rw c.status_of.ensures at c.of_status.ensures
 
-pub returns-in-Some-clause-lines : goal.returns-in-Some-clause-lines
-returns-in-Some-clause-lines g c =
-    let fits : FitsSigned w64 c.args.moment = c.ranges.moment in
-    let place = c.in-Some.ensures.place in
+pub returns-in-Some-clause-still : goal.returns-in-Some-clause-still
+returns-in-Some-clause-still g c = λ none.
+    let V = g.V.Versions in
+    let host = c.self.inside in
     let call = call_of c.args.moment c.args.exchange.now in
-    let lines : AnswersLines (task_in c.in-Some.kind call) c.perform.result = simp to_z-of_z at c.perform.ensures.lines in
-    subst (λ (kind : Kind). AnswersLines (task_in kind call) c.perform.result) (sym (kind_is c.in-Some.kind place.one.name call.target place.path)) lines
+    let before : repositories_of host.repositories (V.lists host.store) ≡ c.args.self.now.repositories = ap (λ (h : Hosting). h.repositories) c.self.view_is in
+    let of_none : is_of_none (repositories_of host.repositories (V.lists host.store)) call ≡ true = ap (λ (rs : List Repository). is_of_none rs call) before ∙ none in
+    owned_there host.repositories c.in-Some.place c.in-Some.kind (V.lists host.store) call c.in-Some.ensures.place of_none
 
-pub returns-in-None-clause-lines : goal.returns-in-None-clause-lines
-returns-in-None-clause-lines g c =
-    let call = call_of c.args.moment c.args.exchange.now in
-    refused_lines (task_of call) call c.of_status.result (rw c.status_of.ensures at c.of_status.ensures)
+pub returns-in-None-clause-still : goal.returns-in-None-clause-still
+returns-in-None-clause-still g c = λ _. refl
 
 pub returns-in-Some-clause-told : goal.returns-in-Some-clause-told
-returns-in-Some-clause-told g c =
+returns-in-Some-clause-told g c = λ _.
     let fits : FitsSigned w64 c.args.moment = c.ranges.moment in
     let place = c.in-Some.ensures.place in
     let call = call_of c.args.moment c.args.exchange.now in
-    let told : TellsFault (task_in c.in-Some.kind call) c.perform.result = simp to_z-of_z at c.perform.ensures.told in
-    subst (λ (kind : Kind). TellsFault (task_in kind call) c.perform.result) (sym (kind_is c.in-Some.kind place.one.name call.target place.path)) told
+    let told : Tells (task_in c.in-Some.kind call) c.perform.result = simp to_z-of_z at c.perform.ensures.told in
+    subst (λ (kind : Kind). Tells (task_in kind call) c.perform.result) (sym (kind_is c.in-Some.kind place.one.name call.target place.path)) told
 
 pub returns-in-None-clause-told : goal.returns-in-None-clause-told
-returns-in-None-clause-told g c =
+returns-in-None-clause-told g c = λ some.
+    let V = g.V.Versions in
+    let host = c.self.inside in
     let call = call_of c.args.moment c.args.exchange.now in
-    none_told (task_of call) c.of_status.result (ap (λ (a : Answer). a.fault) (rw c.status_of.ensures at c.of_status.ensures))
+    let before : repositories_of host.repositories (V.lists host.store) ≡ c.args.self.now.repositories = ap (λ (h : Hosting). h.repositories) c.self.view_is in
+    clash (is_of_none c.args.self.now.repositories call)
+    (ap (λ (rs : List Repository). is_of_none rs call) (sym before) ∙ none_nowhere host.repositories (V.lists host.store) call c.in-None.ensures.nowhere) some
 
 pub returns-in-Some-clause-left : goal.returns-in-Some-clause-left
 returns-in-Some-clause-left g c =
