@@ -68,6 +68,17 @@ few_selected config holdings asked good kept =
     few : (some all most : ℕ) → some ≤ all → all ≤ most → is_items most ≡ true → some < 2 ^ 64
     few some all most part within limit = grind (arith, nat_tests)
 
+-- a part may have some records
+some_in_part : (config : Config) → IsConfig config → 1 ≤ config.chunk
+unfolding are_limits
+some_in_part config good =
+    let limits = and_parts (is_chunk config.chunk && is_lifetime config.lifetime && is_lists config.lists) (is_items config.items) good.limited in
+    let fewer = and_parts (is_chunk config.chunk && is_lifetime config.lifetime) (is_lists config.lists) limits.0 in
+    some config.chunk (and_parts (is_chunk config.chunk) (is_lifetime config.lifetime) fewer.0).0
+  where
+    some : (n : ℕ) → is_chunk n ≡ true → 1 ≤ n
+    some n h = grind (arith, nat_tests)
+
 -- ---- the first request
 
 -- the list that a first request opens
@@ -99,6 +110,7 @@ by_wait config state command wish format None wait good sound verb known is answ
         verb = verb;
         known = ap (λ (p : List ℕ). format_named p config.formats) (named wish.prefix config.formats format known) ∙ known;
         small = few_selected config state.holdings (filter_of wish.prefix wish.from wish.until wish.set) good sound.kept;
+        part = some_in_part config good;
       };
       verb = refl;
       items = refl;
@@ -185,7 +197,8 @@ chain_here config state timed commands wish others good sound part verb is many 
     let exchange : Exchange = performed config state timed in
     let sound_found = sound_moved config timed.moment state sound in
     let begun = first_turn config found timed.command wish good sound_found verb is many answered in
-    let followed = follow config commands exchange.left begun.list 0 exchange others begun.good (sound_act config found timed.command sound_found) begun.stands begun.told begun.lasting part
+    let within : 0 < length begun.list.items = omega (arith, many, ap length begun.items) in
+    let followed = follow config commands exchange.left begun.list 0 exchange others begun.good (sound_act config found timed.command sound_found) begun.stands within begun.told begun.lasting part
     (subst (λ (v : ListVerb). AreNext v exchange others) (sym begun.verb) next)
     in
     whole_list config found wish begun.good.format (exchange ∷ others) sound_found.kept begun.known

@@ -41,6 +41,12 @@ full_part zero xs h = refl
 full_part (suc n) [] h = absurd (omega (arith, h))
 full_part (suc n) (x ∷ xs) h = let rest = full_part n xs (omega (arith, h)) in omega (arith, rest)
 
+-- of some records a part has some
+some_taken : {A : Type 0} (n : ℕ) (xs : List A) → 1 ≤ n → 1 ≤ length xs → take n xs ≡ [] → ⊥
+some_taken zero xs part some h = absurd (omega (arith, part))
+some_taken (suc n) [] part some h = absurd (omega (arith, some))
+some_taken (suc n) (x ∷ xs) part some h = cc
+
 none_behind : {A : Type 0} (n : ℕ) (xs : List A) → length xs ≤ n → drop n xs ≡ []
 none_behind zero [] h = refl
 none_behind zero (x ∷ xs) h = absurd (omega (arith, h))
@@ -94,10 +100,14 @@ part_dated : (config : Config) (list : FrozenList) (cursor : ℕ) → (part_from
 unfolding part_from
 part_dated config list cursor = refl
 
-part_placed : (config : Config) (list : FrozenList) (cursor : ℕ) → IsPlaced config (length list.items) cursor (part_from config list cursor)
+part_placed : (config : Config) (list : FrozenList) (cursor : ℕ) → 1 ≤ config.chunk → cursor < length list.items → IsPlaced config (length list.items) cursor (part_from config list cursor)
 unfolding remain next_at
-part_placed config list cursor = record {
+part_placed config list cursor some within = record {
   extent = ap extent_in (part_ends config list cursor) ∙ extent_told list cursor (next_at config list cursor) (nat_lt (next_at config list cursor) (length list.items));
+  some = λ none.
+      let size = length-drop cursor list.items in
+      let left : 1 ≤ length (drop cursor list.items) = omega (arith, within, size) in
+      some_taken config.chunk (drop cursor list.items) some left (sym (part_items config list cursor) ∙ none);
   full = λ offers.
       let more : cursor + length (items_from config list cursor) < length list.items =
       is_left (cursor + length (items_from config list cursor)) (length list.items) (sym (part_offer config list cursor) ∙ offers)
@@ -130,14 +140,15 @@ nothing_left k n h = grind (arith, nat_tests)
 
 -- one page, and what is behind it
 one_page : (config : Config) (list : FrozenList) (format : Format) (cursor : ℕ) (exchange : Exchange) → answer_told exchange.outcome ≡ Some (told_by list.verb format (part_from config list cursor))
-    → list.end ≡ exchange.found.clock +ℤ pos config.lifetime → IsTold config list.verb format list.items cursor (exchange ∷ []) (part_from config list cursor ∷ [])
+    → list.end ≡ exchange.found.clock +ℤ pos config.lifetime → 1 ≤ config.chunk → cursor < length list.items
+    → IsTold config list.verb format list.items cursor (exchange ∷ []) (part_from config list cursor ∷ [])
 unfolding remain next_at
-one_page config list format cursor exchange told lasting =
+one_page config list format cursor exchange told lasting some within =
     let items : List ItemState = items_from config list cursor in
     let behind : List ItemState = drop (length items) (drop cursor list.items) in
     record {
       told = ap (λ (a : Option Answer). a ∷ []) told;
-      placed = (part_placed config list cursor, tt);
+      placed = (part_placed config list cursor some within, tt);
       lasting = (part_lasting config list cursor exchange lasting, tt);
       others = behind;
       front = ap (λ (xs : List ItemState). (xs ++ []) ++ behind) (part_items config list cursor) ∙ ap (λ (xs : List ItemState). xs ++ behind) (append-nil items) ∙ cut config.chunk (drop cursor list.items);
@@ -149,10 +160,10 @@ one_page config list format cursor exchange told lasting =
 -- one page more, before others
 more_pages : (config : Config) (list : FrozenList) (format : Format) (cursor : ℕ) (exchange : Exchange) (exchanges : List Exchange) (pages : List Page)
     → answer_told exchange.outcome ≡ Some (told_by list.verb format (part_from config list cursor)) → list.end ≡ exchange.found.clock +ℤ pos config.lifetime → remain config list cursor ≡ true
-    → IsTold config list.verb format list.items (next_at config list cursor) exchanges pages
+    → 1 ≤ config.chunk → cursor < length list.items → IsTold config list.verb format list.items (next_at config list cursor) exchanges pages
     → IsTold config list.verb format list.items cursor (exchange ∷ exchanges) (part_from config list cursor ∷ pages)
 unfolding next_at
-more_pages config list format cursor exchange exchanges pages told lasting more later =
+more_pages config list format cursor exchange exchanges pages told lasting more some within later =
     let items : List ItemState = items_from config list cursor in
     let placed_later : ArePlaced config (length list.items) (cursor + length (part_from config list cursor).items) pages =
     subst (λ (xs : List ItemState). ArePlaced config (length list.items) (cursor + length xs) pages) (sym (part_items config list cursor)) later.placed
@@ -161,7 +172,7 @@ more_pages config list format cursor exchange exchanges pages told lasting more 
       told =
           ap (λ (o : Option Answer). o ∷ map (λ (e : Exchange). answer_told e.outcome) exchanges) told
           ∙ ap (λ ps. Some (told_by list.verb format (part_from config list cursor)) ∷ ps) later.told;
-      placed = (part_placed config list cursor, placed_later);
+      placed = (part_placed config list cursor some within, placed_later);
       lasting = (part_lasting config list cursor exchange lasting, later.lasting);
       others = later.others;
       front =
@@ -185,13 +196,14 @@ told_page list.Identifiers format page h = refl
 told_page list.Records format page h = refl
 told_page list.Sets format page h = cc
 
--- what is needed of a list beside that it stands: its verb is one of records, its format is one of the repository, and its size is a number of
--- 64 bits
+-- what is needed of a list beside that it stands: its verb is one of records, its format is one of the repository, its size is a number of
+-- 64 bits, and a part may have some of its records
 pub record IsGood (config : Config) (list : FrozenList) : Type 0 where
   pub format : Format
   pub verb : is_of_records list.verb ≡ true
   pub known : format_named list.prefix config.formats ≡ Some format
   pub small : length list.items < 2 ^ 64
+  pub part : 1 ≤ config.chunk
 
 numbered : (number next last : ℕ) → nat_lt number next ≡ true → next ≤ last → number < last + 1
 numbered number next last below few = grind (arith, nat_tests)
@@ -301,17 +313,17 @@ abbrev pub Followed : Config → ListVerb → Format → List ItemState → ℕ 
 Followed config verb format items cursor exchanges = (pages : List Page) × IsTold config verb format items cursor exchanges pages
 
 pub follow : (config : Config) (commands : List Timed) (state : State) (list : FrozenList) (cursor : ℕ) (before : Exchange) (others : List Exchange)
-    (good : IsGood config list) → IsSound config state → Stands config list state → answer_told before.outcome ≡ Some (told_by list.verb good.format (part_from config list cursor))
-    → list.end ≡ before.found.clock +ℤ pos config.lifetime → IsPart others (run config state commands) → AreNext list.verb before others → Followed config list.verb good.format list.items cursor (before ∷ others)
-follow config [] state list cursor before others good sound stands told lasting none next =
-    subst (λ (es : List Exchange). Followed config list.verb good.format list.items cursor (before ∷ es)) (sym none) (part_from config list cursor ∷ [], one_page config list good.format cursor before told lasting)
-follow config (timed ∷ commands) state list cursor before others good sound stands told lasting (inl part) next =
+    (good : IsGood config list) → IsSound config state → Stands config list state → cursor < length list.items
+    → answer_told before.outcome ≡ Some (told_by list.verb good.format (part_from config list cursor)) → list.end ≡ before.found.clock +ℤ pos config.lifetime → IsPart others (run config state commands) → AreNext list.verb before others → Followed config list.verb good.format list.items cursor (before ∷ others)
+follow config [] state list cursor before others good sound stands within told lasting none next =
+    subst (λ (es : List Exchange). Followed config list.verb good.format list.items cursor (before ∷ es)) (sym none) (part_from config list cursor ∷ [], one_page config list good.format cursor before told lasting good.part within)
+follow config (timed ∷ commands) state list cursor before others good sound stands within told lasting (inl part) next =
     let found : State = moved timed.moment state in
     let sound_found = sound_moved config timed.moment state sound in
     let stands_found = stands_moved config list timed.moment state stands in
     follow config commands (act config found timed.command).1 list cursor before others good (sound_act config found timed.command sound_found)
-    (stands_on config found timed.command list sound_found stands_found) told lasting part next
-follow config (timed ∷ commands) state list cursor before others good sound stands told lasting (inr here) next =
+    (stands_on config found timed.command list sound_found stands_found) within told lasting part next
+follow config (timed ∷ commands) state list cursor before others good sound stands within told lasting (inr here) next =
     let found : State = moved timed.moment state in
     let exchange : Exchange = performed config state timed in
     let sound_found = sound_moved config timed.moment state sound in
@@ -319,10 +331,10 @@ follow config (timed ∷ commands) state list cursor before others good sound st
     let nexts : AreNext list.verb before (exchange ∷ here.0) = subst (AreNext list.verb before) here.1 next in
     let asked = next_asked config list good cursor before exchange told nexts.0 in
     let next' : ℕ = next_at config list cursor in
-    let within : next' < length list.items = ltb-true next' (length list.items) (remains_within config list cursor asked.0) in
-    let turn = turned config found timed.command list next' good sound_found stands_found asked.1 within asked.2 in
-    let later = follow config commands exchange.left (prolonged config found.clock list) next' exchange here.0 (record { format = good.format; verb = good.verb; known = good.known; small = good.small })
-    (sound_act config found timed.command sound_found) turn.1 turn.0 refl here.2 nexts.1
+    let more : next' < length list.items = ltb-true next' (length list.items) (remains_within config list cursor asked.0) in
+    let turn = turned config found timed.command list next' good sound_found stands_found asked.1 more asked.2 in
+    let later = follow config commands exchange.left (prolonged config found.clock list) next' exchange here.0 (record { format = good.format; verb = good.verb; known = good.known; small = good.small; part = good.part })
+    (sound_act config found timed.command sound_found) turn.1 more turn.0 refl here.2 nexts.1
     in
     subst (λ (es : List Exchange). Followed config list.verb good.format list.items cursor (before ∷ es)) (sym here.1)
-    (part_from config list cursor ∷ later.0, more_pages config list good.format cursor before (exchange ∷ here.0) later.0 told lasting asked.0 later.1)
+    (part_from config list cursor ∷ later.0, more_pages config list good.format cursor before (exchange ∷ here.0) later.0 told lasting asked.0 good.part within later.1)

@@ -2,6 +2,7 @@ pub mod EffectLemmas
 pub mod SameLemmas
 pub mod ChangingLemmas
 pub mod WaitingLemmas
+pub mod ToldLemmas
 pub mod StandLemmas
 pub mod FollowLemmas
 pub mod ChainLemmas

@@ -1,5 +1,5 @@
 -- A list that is followed from part to part by its resumption tokens. OAI-PMH 2.0, section 3.5.
-use Rattle.std.specs.Prelude.{◌≡◌, ◌⊎◌, ◌<◌, ◌+◌, ◌+ℤ◌, ℕ, ℤ, pos, int_lt, Bool, true, false, List, [], ◌∷◌, ◌++◌, length, map, Option, Some, None, is_none, option_and_then}
+use Rattle.std.specs.Prelude.{◌≡◌, ◌≢◌, ◌⊎◌, ◌<◌, ◌+◌, ◌+ℤ◌, ℕ, ℤ, pos, int_lt, Bool, true, false, List, [], ◌∷◌, ◌++◌, length, map, Option, Some, None, is_none, option_and_then}
 use Rattle.std.specs.List.{flat_map, list_any}
 use Rattle.oai_names.specs.declared.list_verbs.ListVerb.{ListVerb}
 use Rattle.oai_names.specs.declared.list_verbs.ListVerb.TheVariants as list
@@ -126,10 +126,11 @@ pub record IsChain (config : Config) (exchanges : List Exchange) (wish : Wish) (
 abbrev pub joined : List Page → List ItemState
 joined pages = flat_map (λ (page : Page). page.items) pages
 
--- a page of a list with so many records, and so many before it: it says so; where it offers a token it has `chunk` records; and its
--- datestamps are of the repository's granularity
+-- a page of a list with so many records, and so many before it: it says so; it has some records, and `chunk` of them where it offers a token;
+-- and its datestamps are of the repository's granularity
 pub record IsPlaced (config : Config) (size before : ℕ) (page : Page) : Type 0 where
   pub extent : extent_in page.continuation ≡ Some (record { size = size; cursor = before })
+  pub some : page.items ≢ []
   pub full : is_none (offer_in page.continuation) ≡ false → length page.items ≡ config.chunk
   pub dated : page.granularity ≡ config.granularity
 

@@ -26,7 +26,7 @@ ghost use Rattle.oai_laws.specs.Following.{
   is_of_records,
   selection_in,
 };
-ghost use Rattle.oai_repo.specs.Machine.{Command, accepted, act, asking, changing, refused};
+ghost use Rattle.oai_repo.specs.Machine.{Command, accepted, act, asking, changing, later, refused};
 ghost use Rattle.oai_laws.specs.Runs.{
   Exchange,
   Throughout,
@@ -46,7 +46,7 @@ ghost use Rattle.oai_laws.specs.Shown.{
 };
 ghost use Rattle.oai_repo.specs.Listing.{wait_at};
 ghost use Rattle.oai_repo.specs.State.{OpenLists, State, empty_state, moved, still_open};
-ghost use Rattle.oai_laws.specs.Waiting.{IsWait};
+ghost use Rattle.oai_laws.specs.Waiting.{IsToldToWait, IsWait};
 ghost use Rattle.oai_laws.specs.Worked.{IsWorked, worked_config};
 
 /// What a command can do: in a sound state it leaves the state, puts an item, takes one out, lets the
@@ -56,8 +56,9 @@ ghost use Rattle.oai_laws.specs.Worked.{IsWorked, worked_config};
 /// which the last one of 64 bits never is. A repository begins so, and stays so. A request changes
 /// nothing that is held, and leaves the state where it neither begins a list nor continues one, or where
 /// its token is refused; a change leaves the open lists. A request with a token is answered with a page,
-/// or is told badResumptionToken. And a request that is told to wait is told to wait for a second or more;
-/// where the table was full, a list has ended by then.
+/// or is told badResumptionToken. And a command that is told to wait is a request for which no further list
+/// may begin, since as many are open as may be or no number is left. It leaves the state, and is told to wait
+/// for a second or more; where the table was full, a list has ended by then, and none before.
 pub fn effect_law()
     ensures does { (config : Config) (state : State) (command : Command) → IsSound config state
         → IsEffected config state (act config state command).1 }
@@ -82,6 +83,9 @@ pub fn effect_law()
     ensures waits { (config : Config) (clock seconds : ℤ) (begun : OpenLists) → IsConfig config
         → wait_at config clock (still_open clock begun) ≡ Some seconds
         → IsWait config clock (still_open clock begun) seconds }
+    ensures told { (config : Config) (state : State) (command : Command) (seconds : ℤ)
+        → (let done = act config state command in
+        done.0 ≡ later seconds → IsToldToWait config state seconds done.1) }
 {}
 
 /// What a change does (OAI-PMH 2.0, sections 2.3 to 2.6). One that is accepted is answered with the
@@ -130,12 +134,12 @@ pub fn selected_law()
 /// Following a list (OAI-PMH 2.0, section 3.5). Whatever a repository is asked from its beginning on,
 /// and whenever, and whatever is deposited and deleted meanwhile: a list request that selects more
 /// records than a page has and that is not told to wait, and the requests that follow it, each with the
-/// token of the page before and before this expires, are answered with pages. Each page tells how many
-/// records were selected and how many stand before it, and its token expires a lifetime after the request.
-/// The records of the pages, joined, begin the selection at the first request, and are all of it once a
-/// page has the empty token; each record once, in order. A list request that selects some records, and no
-/// more than a page has, is answered with all of them, and opens no list; one that selects none, with an
-/// error.
+/// token of the page before and before this expires, are answered with pages. Each page has a record at
+/// least, tells how many records were selected and how many stand before it, and its token expires a
+/// lifetime after the request. The records of the pages, joined, begin the selection at the first request,
+/// and are all of it once a page has the empty token; each record once, in order. A list request that
+/// selects some records, and no more than a page has, is answered with all of them, and opens no list; one
+/// that selects none, with an error.
 pub fn following_law()
     ensures followed { (config : Config) (commands : List Timed) (wish : Wish)
         (first : Exchange) (others : List Exchange) → IsConfig config

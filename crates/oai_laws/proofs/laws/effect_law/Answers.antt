@@ -1,5 +1,6 @@
 use Rattle.oai_laws.proofs.EffectLemmas.{effect_of, sound_effected, sound_empty, sound_moved}
 use Rattle.oai_laws.proofs.SameLemmas.{changes_keep, others_keep, requests_keep, tokens_keep}
+use Rattle.oai_laws.proofs.ToldLemmas.{told_to_wait}
 use Rattle.oai_laws.proofs.TokenLemmas.{tokens_shown}
 use Rattle.oai_laws.proofs.WaitingLemmas.{wait_is}
 use Rattle.oai_laws.proofs.laws.effect_law.Goals as goal
@@ -33,3 +34,6 @@ returns-clause-continued c = tokens_shown
 
 pub returns-clause-waits : goal.returns-clause-waits
 returns-clause-waits c = wait_is
+
+pub returns-clause-told : goal.returns-clause-told
+returns-clause-told c = told_to_wait
