@@ -7,5 +7,6 @@ mod NumeralLemmas
 mod ReadLemmas
 mod TraceLemmas
 mod Traced
+mod TurnLemmas
 pub mod UsedLemmas
 mod WrittenLines

@@ -1,11 +1,13 @@
 -- What is done with one connection of a front, and what it leaves of the others. This repository's own.
-use Rattle.std.specs.Prelude.{◌≡◌, ◌≢◌, ℕ, ℤ, ◌+◌, ◌<◌, Bool, false, not, List, [], take, Option, Some, None, Result, Ok, Err}
+use Rattle.std.specs.Prelude.{◌≡◌, ◌≢◌, ◌⊎◌, ℕ, ℤ, ◌+◌, ◌<◌, Bool, false, not, List, [], ◌∷◌, take, Option, Some, None, Result, Ok, Err}
 use Rattle.std.specs.Option.{option_map, option_map_or}
 use Rattle.oai_front.specs.Connections.{Connection}
 use Rattle.oai_front.specs.Fronts.{HasOutput, IsOpening, IsPiece, State, connection_numbered}
 use Rattle.oai_front.specs.Performing.{Steps}
 use Rattle.oai_front.specs.Runs.{Comes, Coming}
 use Rattle.oai_front.specs.Stages.{is_closing}
+use Rattle.oai_front.specs.declared.faults.PieceFault.{PieceFault}
+use Rattle.oai_front.specs.declared.numbers.ConnId.{ConnId}
 use Rattle.oai_edge.specs.declared.serving.StreamFault.{StreamFault}
 use Rattle.oai_edge.specs.declared.serving.StreamFault.TheVariants.{NotOpened}
 
@@ -58,12 +60,39 @@ pub record IsUsed {H : Type 0} (step : Steps H) (old new : State H) : Type 0 whe
 
 -- ---- a stream that was served
 
--- a piece came on the connection at that moment, and all its messages were performed; all that the connection then was to put out was written
-pub record IsAnswered {H : Type 0} (step : Steps H) (number : ℕ) (moment : ℤ) (piece : List ℕ) (old new : State H) (Writes : List ℕ → Type 0) : Type 0 where
+-- a piece came on the connection at that moment, and its messages were performed, all of them where it came to `Ok`; all that the connection then
+-- was to put out was written
+pub record IsAnswered {H : Type 0} (step : Steps H) (number : ℕ) (moment : ℤ) (piece : List ℕ) (old : State H) (came : Result Unit PieceFault) (new : State H) (Writes : List ℕ → Type 0) : Type 0 where
   pub mid : State H
-  pub taken : IsPiece step number moment piece old (Ok tt) mid
+  pub taken : IsPiece step number moment piece old came mid
   pub written : Writes (output_of number mid.connections)
   pub emptied : IsEmptied number mid new
+
+-- a piece, and the moment at which it comes
+pub record Turn : Type 0 where
+  pub moment : ℤ
+  pub piece : List ℕ
+
+-- pieces came on the connection, one after the other; behind each of them all that the connection was to put out was taken
+abbrev pub AreTurned : {H : Type 0} → Steps H → ℕ → State H → List Turn → State H → Type 0
+AreTurned step number old [] new = new ≡ old
+AreTurned {H} step number old (turn ∷ turns) new =
+    (mid : State H) × IsAnswered step number turn.moment turn.piece old (Ok tt) mid (λ output. Unit {0}) × AreTurned step number mid turns new
+
+-- so some pieces came
+pub record IsTurned {H : Type 0} (step : Steps H) (number : ℕ) (old new : State H) : Type 0 where
+  pub turns : List Turn
+  pub run : AreTurned step number old turns new
+
+-- a connection was opened, pieces came on it, up to the end of what is read or of what it takes in, and it was forgotten
+pub record IsServed {H : Type 0} (step : Steps H) (old new : State H) (AtEnd : Type 0) : Type 0 where
+  pub conn : ConnId
+  pub opened : State H
+  pub left : State H
+  pub opens : IsOpening old (Ok conn) opened
+  pub turned : IsTurned step conn.number opened left
+  pub over : (is_taking conn.number left ≡ false) ⊎ AtEnd
+  pub handler : new.handler ≡ left.handler
 
 -- the connection with the next number was opened, and is not open any more; or none was opened, for that cause, and all is as before
 abbrev pub IsForgotten : {H : Type 0} → State H → Result Unit StreamFault → State H → Type 0

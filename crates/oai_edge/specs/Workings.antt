@@ -13,7 +13,7 @@ use Rattle.oai_edge.specs.Places.{count_of, lines_of}
 use Rattle.oai_edge.specs.Traces.{AreFollowed, IsFollowed, IsRefused, Tracing}
 use Rattle.oai_edge.specs.declared.events.Event.{Event}
 use Rattle.oai_edge.specs.declared.serving.StreamFault.{StreamFault}
-use Rattle.oai_edge.specs.declared.serving.StreamFault.TheVariants.{NotOpened}
+use Rattle.oai_edge.specs.declared.serving.StreamFault.TheVariants.{Endless, NotOpened}
 use Rattle.oai_edge.specs.declared.stop.Stop.{Stop}
 use Rattle.oai_edge.specs.declared.stop.Stop.TheVariants.{BadExchange, BadPiece, NoMemory, OutputFault, TooManyConnections}
 
@@ -80,6 +80,12 @@ pub record AreCounted {H : Type 0} (step : Steps H) (old : State H) (new : Traci
   pub followed : AreFollowed step lines old new Writes
 
 -- ---- connections that are served
+
+-- the fault is one of a turn: of a read, of the clock, of a piece, or of a write
+abbrev pub IsOfTurn : StreamFault → Type 0
+IsOfTurn (NotOpened fault) = ⊥
+IsOfTurn Endless = ⊥
+IsOfTurn fault = Unit {0}
 
 -- the fault is one of a connection that was opened
 abbrev pub IsOfOpened : StreamFault → Type 0

@@ -1,5 +1,5 @@
 //! The configuration that the program is called with, and the host that it describes.
-ghost use Rattle.std.specs.Prelude.{◌≡◌, map, IfErr, IfOk, IfSome};
+ghost use Rattle.std.specs.Prelude.{◌≡◌, map, IfErr, IfOk, IfSome, ◌≤◌, ◌+◌, length, true};
 ghost use Rattle.oai_host.specs.Hosts.{begun};
 ghost use Rattle.oai_host.specs.Reading.{IsRead};
 ghost use Rattle.oai_edge.specs.Configurations as spec;
@@ -64,9 +64,13 @@ fn read_text<R: Read>(alloc: Global, reader: &mut R) -> Result<Vec<u8>, Stop>
 }
 
 /// The host of the configuration, each of its repositories without items and sets, over a store of plain
-/// lists. The error is `NoMemory`.
+/// lists: its device is honest, and has room for 18,446,744,073,709,551,614 calls but one for each
+/// repository. The error is `NoMemory`.
 pub fn host_of(alloc: Global, config: Config) -> Result<Host<PlainVersions>, Stop>
     ensures begun { IfOk result (λ host. host.repositories ≡ map begun config.repositories) }
+    ensures honest { IfOk result (λ host. host.honest ≡ true) }
+    ensures room { IfOk result (λ host. 18_446_744_073_709_551_614
+        ≤ host.room + length config.repositories) }
     ensures err { IfErr result (λ stop. stop ≡ NoMemory) }
 {
     Host::new(alloc, config, PlainVersions::new(alloc)).map_err(|_| Stop::NoMemory)

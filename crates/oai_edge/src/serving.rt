@@ -1,9 +1,11 @@
 //! Connections over streams.
-ghost use Rattle.std.specs.Prelude.{◌≡◌, ◌⊎◌, ◌+◌, ◌++◌, false, length, None, true, Ok, IfErr, IfOk, OnOk};
+ghost use Rattle.std.specs.Prelude.{◌≡◌, ◌⊎◌, ◌+◌, ◌++◌, false, length, None, true, Err, Ok, IfErr, IfOk, OnOk};
 ghost use Rattle.std.specs.Io.KnownBytes.{Appends, IsAtEnd};
 ghost use Rattle.oai_front.specs.Fronts.{IsPiece, connection_numbered};
-ghost use Rattle.oai_edge.specs.Outputs.{IsAnswered, IsApart, IsForgotten, IsUsed, OthersStay, is_taking};
-ghost use Rattle.oai_edge.specs.Workings.{IsOfOpened};
+ghost use Rattle.oai_front.specs.declared.faults.PieceFault.{PieceFault};
+ghost use Rattle.oai_edge.specs.Outputs.{IsAnswered, IsApart, IsForgotten, IsServed, IsTurned, IsUsed, OthersStay, is_taking};
+ghost use Rattle.oai_edge.specs.Workings.{IsOfOpened, IsOfTurn};
+ghost use Rattle.oai_edge.specs.declared.serving.StreamFault.TheVariants as fault;
 ghost use Rattle.oai_edge.specs.declared.limits.TheConstants.{READ_BYTES};
 
 use crate::limits::{MOST_READS, READ_BYTES};
@@ -50,6 +52,8 @@ pub fn serve_stream<H: Handler, S: Read + Write, C: Clock>(
     ensures others { OthersStay (front.old.last + 1) front.old front.new }
     ensures limit { front.new.limit ≡ front.old.limit }
     ensures used { IsUsed H.step front.old front.new }
+    ensures served { OnOk result (IsServed H.step front.old front.new
+        (IsAtEnd (S.Read.remaining stream.new))) }
 {
     match front.open() {
         Ok(conn) => {
@@ -71,6 +75,7 @@ fn serve_connection<H: Handler, S: Read + Write, C: Clock>(
 ) -> Result<(), StreamFault>
     ensures over { OnOk result ((is_taking conn.number front.new ≡ false)
         ⊎ IsAtEnd (S.Read.remaining stream.new)) }
+    ensures turned { OnOk result (IsTurned H.step conn.number front.old front.new) }
     ensures apart { IsApart conn.number front.old front.new }
     ensures used { IsUsed H.step front.old front.new }
     ensures err { IfErr result IsOfOpened }
@@ -105,7 +110,8 @@ fn read_on<H: Handler, S: Read + Write, C: Clock>(
         ⊎ IsAtEnd (S.Read.remaining stream.new) }
     ensures apart { IsApart conn.number front.old front.new }
     ensures used { IsUsed H.step front.old front.new }
-    ensures err { IfErr result IsOfOpened }
+    ensures turned { OnOk result (IsTurned H.step conn.number front.old front.new) }
+    ensures err { IfErr result IsOfTurn }
 {
     let Ok(count) = stream.read(buffer) else {
         return Err(StreamFault::ReadFault);
@@ -127,12 +133,16 @@ fn answer<H: Handler, S: Write>(
     stream: &mut S,
 ) -> Result<bool, StreamFault>
     ensures answered { OnOk result (IsAnswered H.step conn.number moment piece.now front.old
-        front.new (λ bytes. Appends (S.Write.contents stream.old) (S.Write.contents stream.new)
-        (gathered.old.bytes.items ++ bytes))) }
+        (Ok tt) front.new (λ bytes. Appends (S.Write.contents stream.old)
+        (S.Write.contents stream.new) (gathered.old.bytes.items ++ bytes))) }
+    ensures unfinished { result ≡ Err fault.NoMemory → (cause : PieceFault)
+        × IsAnswered H.step conn.number moment piece.now front.old (Err cause) front.new
+        (λ bytes. Appends (S.Write.contents stream.old) (S.Write.contents stream.new)
+        (gathered.old.bytes.items ++ bytes)) }
     ensures more { IfOk result (λ more. more ≡ is_taking conn.number front.new) }
     ensures apart { IsApart conn.number front.old front.new }
     ensures used { IsUsed H.step front.old front.new }
-    ensures err { IfErr result IsOfOpened }
+    ensures err { IfErr result (λ cause. (cause ≡ fault.WriteFault) ⊎ (cause ≡ fault.NoMemory)) }
 {
     let taken = take_in(front, conn, moment, piece);
     let written = put_out(front, conn, gathered, stream);
@@ -169,7 +179,7 @@ pub(crate) fn forget_connection<H: Handler>(front: &mut Front<H>, conn: ConnId)
 
 /// The clock's moment, in seconds from 1970 on.
 fn moment_of<C: Clock>(clock: &C) -> Result<i64, StreamFault>
-    ensures { IfErr result IsOfOpened }
+    ensures { IfErr result (λ cause. cause ≡ fault.ClockFault) }
 {
     match clock.since_1970() {
         Ok(time) => Ok(i64::try_from(time.as_secs()).unwrap_or(i64::MAX)),

@@ -28,6 +28,19 @@ pub returns-in-Ok-Ok-clause-used : goal.returns-in-Ok-Ok-clause-used
 returns-in-Ok-Ok-clause-used g c =
     used_then g.H.Handler.step c.args.front.now c.take_in-taken.new.front c.put_out-written.new.front c.take_in-taken.ensures.used c.put_out-written.ensures.used
 
+pub returns-in-Err-Ok-clause-unfinished : goal.returns-in-Err-Ok-clause-unfinished
+returns-in-Err-Ok-clause-unfinished g c = λ _.
+    let fits : FitsSigned w64 c.args.moment = c.ranges.moment in
+    let taken = simp to_z-of_z at c.take_in-taken.ensures.piece in (
+      c.in-Err-Ok.field-0-0,
+      record {
+        mid = c.take_in-taken.new.front;
+        taken = rw c.in-Err-Ok.is-0 at taken;
+        written = rw c.in-Err-Ok.is-1 at c.put_out-written.ensures.written;
+        emptied = rw c.in-Err-Ok.is-1 at c.put_out-written.ensures.emptied;
+      },
+    )
+
 pub returns-in-Ok-Ok-clause-answered : goal.returns-in-Ok-Ok-clause-answered
 returns-in-Ok-Ok-clause-answered g c =
     let fits : FitsSigned w64 c.args.moment = c.ranges.moment in

@@ -1,6 +1,8 @@
 -- Each turn changes the one connection alone.
 use Rattle.std.proofs.Common.{◌≡◌, false, refl, rules}
+use Rattle.std.proofs.lemmas.Result.{err_from_is_err_and}
 use Rattle.oai_edge.proofs.Apart.{apart_same, apart_then}
+use Rattle.oai_edge.proofs.TurnLemmas.{of_turn_opened, turned_none, turned_then}
 use Rattle.oai_edge.proofs.UsedLemmas.{used_none, used_then}
 use Rattle.oai_edge.proofs.serving.serve_connection.Goals as goal
 
@@ -11,6 +13,11 @@ returns-in_err-read_on-clause-apart g c =
 pub returns-in_err-read_on-clause-used : goal.returns-in_err-read_on-clause-used
 returns-in_err-read_on-clause-used g c =
     used_then g.H.Handler.step c.args.front.now c.loop.front c.read_on.new.front c.loop.invariant.used c.read_on.ensures.used
+
+pub returns-in_err-read_on-clause-err : goal.returns-in_err-read_on-clause-err
+returns-in_err-read_on-clause-err g c =
+    let p = err_from_is_err_and c.from_residual.result c.from_residual.ensures.1 in
+    rw (p.1, p.2) (of_turn_opened c.in_err-read_on.field-0.0 c.in_err-read_on.ensures.err)
 
 pub returns-then-not-branch-clause-apart : goal.returns-then-not-branch-clause-apart
 returns-then-not-branch-clause-apart g c =
@@ -24,6 +31,7 @@ pub loop-preserved : goal.loop-preserved
 loop-preserved g c = record {
   apart = apart_then c.args.conn.number c.args.front.now c.loop.front c.read_on.new.front c.loop.invariant.apart c.read_on.ensures.apart;
   used = used_then g.H.Handler.step c.args.front.now c.loop.front c.read_on.new.front c.loop.invariant.used c.read_on.ensures.used;
+  turned = turned_then g.H.Handler.step c.args.conn.number c.args.front.now c.loop.front c.read_on.new.front c.loop.invariant.turned c.in_ok-read_on.ensures.turned;
   room = search rules;
 }
 
@@ -31,6 +39,7 @@ pub loop-init : goal.loop-init
 loop-init g c = record {
   apart = apart_same c.args.conn.number c.args.front.now;
   used = used_none g.H.Handler.step c.args.front.now c.args.front.now refl;
+  turned = turned_none g.H.Handler.step c.args.conn.number c.args.front.now c.args.front.now refl;
   room = search rules;
 }
 
@@ -39,6 +48,10 @@ returns-clause-apart g c = c.loop.invariant.apart
 
 pub returns-clause-used : goal.returns-clause-used
 returns-clause-used g c = c.loop.invariant.used
+
+pub returns-then-not-branch-clause-turned : goal.returns-then-not-branch-clause-turned
+returns-then-not-branch-clause-turned g c =
+    turned_then g.H.Handler.step c.args.conn.number c.args.front.now c.loop.front c.read_on.new.front c.loop.invariant.turned c.in_ok-read_on.ensures.turned
 
 pub returns-then-not-branch-clause-over : goal.returns-then-not-branch-clause-over
 returns-then-not-branch-clause-over g c =

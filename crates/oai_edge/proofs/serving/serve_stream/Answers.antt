@@ -1,8 +1,10 @@
 -- The connection that is opened is forgotten, and what was done was done to it alone.
 use Rattle.std.proofs.Common.{◌≡◌, ◌∙◌, ◌+◌, None, ℕ, subst}
+use Rattle.std.specs.Io.KnownBytes.{IsAtEnd}
 use Rattle.oai_front.specs.Fronts.{connection_numbered}
 use Rattle.oai_edge.specs.Outputs.{OthersStay}
 use Rattle.oai_edge.proofs.Apart.{equal_limit, equal_others, forgotten_so, opened_last, opened_limit, opened_others, others_then}
+use Rattle.oai_edge.proofs.TurnLemmas.{served_so}
 use Rattle.oai_edge.proofs.UsedLemmas.{opening_refused, used_opening, used_then}
 use Rattle.oai_edge.proofs.serving.serve_stream.Goals as goal
 
@@ -35,6 +37,12 @@ returns-in-Ok-clause-used g c =
     (used_opening g.H.Handler.step c.args.front.now c.open.result c.open.new.self c.open.ensures)
     (used_then g.H.Handler.step c.open.new.self c.serve_connection-served.new.front c.forget_connection.new.front c.serve_connection-served.ensures.used
     c.forget_connection.ensures.used)
+
+pub returns-in-Ok-clause-served : goal.returns-in-Ok-clause-served
+returns-in-Ok-clause-served g c =
+    served_so g.H.Handler.step c.in-Ok.conn c.args.front.now c.open.new.self c.serve_connection-served.new.front c.forget_connection.new.front
+    (IsAtEnd (g.S.Read.remaining c.serve_connection-served.new.stream)) c.serve_connection-served.result c.in-Ok.ensures
+    c.serve_connection-served.ensures.turned c.serve_connection-served.ensures.over c.forget_connection.ensures.handler
 
 pub returns-in-Err-clause-used : goal.returns-in-Err-clause-used
 returns-in-Err-clause-used g c = used_opening g.H.Handler.step c.args.front.now c.open.result c.open.new.self c.open.ensures
