@@ -1,4 +1,4 @@
-ghost use Rattle.std.specs.Prelude.{◌≡◌, ◌<◌, ◌++◌, [], ◌∷◌, true, false, find, if◌then◌else◌, None, Some, length, MatchResult};
+ghost use Rattle.std.specs.Prelude.{◌≡◌, ◌<◌, ◌++◌, [], ◌∷◌, true, false, find, if◌then◌else◌, None, Some, length, IfOk, MatchResult};
 ghost use Rattle.std.specs.List.{slice_get};
 ghost use Rattle.std.specs.Option.{option_copied, option_map};
 ghost use Rattle.std.specs.Str.{bytes_eq};
@@ -165,13 +165,21 @@ impl SetTree {
             (λ _. self.new ≡ self.old ++ (spec.now, name.now) ∷ []) (λ _. self.new ≡ self.old) }
     {
         let alloc = *self.sets.allocator();
-        let set = (spec.copy(alloc)?, Text::new(alloc, name)?);
-        let key = String::from_str(alloc, spec.as_str())?;
         self.sets.reserve(1)?;
+        let set = copied(alloc, spec, name)?;
+        let key = String::from_str(alloc, spec.as_str())?;
         self.specs.insert(key)?;
         self.sets.push(set)?;
         Ok(())
     }
+}
+
+/// A set of this setSpec and name.
+fn copied(alloc: Global, spec: &SetSpec, name: &str) -> Result<(SetSpec, Text), AllocError>
+    ensures { IfOk result (λ set. set ≡ (spec.now, name.now)) }
+{
+    let spec = spec.copy(alloc)?;
+    Ok((spec, Text::new(alloc, name)?))
 }
 
 /// The setSpec of the set of that setSpec, where it is among these.

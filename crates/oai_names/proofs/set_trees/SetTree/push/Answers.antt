@@ -11,7 +11,7 @@ invariant_of-self-2 c =
     let spec = c.args.spec.now in
     let name = c.args.name.now in
     let key : string_bytes c.in_ok-key.key ≡ spec = c.in_ok-key.ensures.ok ∙ c.as_str.ensures.text in
-    let items : c.push.new.self.items ≡ old ++ (spec, name) ∷ [] = cc (c.in_ok-push.ensures.items, c.in_ok-reserve.ensures.items, c.in_ok-copy.ensures, c.in_ok-new.ensures) in
+    let items : c.push.new.self.items ≡ old ++ (spec, name) ∷ [] = cc (c.in_ok-push.ensures.items, c.in_ok-reserve.ensures.items, c.in_ok-set.ensures) in
     rw items (
       IsSetTree-push old spec name (ap (λ s. has_set s spec) c.self.view_is ∙ c.requires.apart) (ap (λ s. has_parent s spec) c.self.view_is ∙ c.requires.parent) (rw c.self.view_is c.requires.room) c.self.invariant.0,
       index_push old spec name c.self.inside.specs c.insert.new.self c.in_ok-key.key key c.in_ok-insert.ensures.updates c.self.invariant.1,
