@@ -321,11 +321,12 @@ pub in_use_same : (v : ℕ) (a b : List ℕ) (all : Lists) → b ≡ a → AreIn
 in_use_same v a b all same stands = subst (λ (ns : List ℕ). AreInUse (v ∷ ns) all) (sym same) stands
 
 pub left_renewed : (config : Config) (now end : ℤ) (number v : ℕ) (table : Table) (all : Lists) → int_le end (pos 253_402_300_799) ≡ true → IsKeptTable config table → AreInUse (v ∷ versions_in table) all
-    → IsLeftOpen config v table all (continued_table now end number table) (without_lists (versions_ended now table) all)
+    → IsLeftOpen config now v table all (continued_table now end number table) (without_lists (versions_ended now table) all)
 left_renewed config now end number v table all fits kept stands =
     let after : Lists = without_lists (versions_ended now table) all in
     let same : versions_in (continued_table now end number table) ≡ versions (open_ones now table.lists) = renewed_versions number end (open_ones now table.lists) in
     record {
+      asked = inr (inr (inl (number, end, refl)));
       kept = table_renewed config now end number table fits kept;
       stands = in_use_same v (versions (open_ones now table.lists)) (versions_in (continued_table now end number table)) after same (in_use_dropped now v table.lists all stands);
       others = subst (λ (ns : List ℕ). KeepsOthers (v ∷ versions_in table) all (v ∷ ns) after) (sym same) (kept_dropped now v table.lists all);
@@ -333,12 +334,13 @@ left_renewed config now end number v table all fits kept stands =
     }
 
 -- what is left where nothing is opened
-pub left_same_table : (config : Config) (v : ℕ) (table : Table) (all : Lists) → IsKeptTable config table → AreInUse (v ∷ versions_in table) all → IsLeftOpen config v table all table all
-left_same_table config v table all kept stands = record { kept = kept; stands = stands; others = kept_same (v ∷ versions_in table) all; items = refl }
+pub left_same_table : (config : Config) (now : ℤ) (v : ℕ) (table : Table) (all : Lists) → IsKeptTable config table → AreInUse (v ∷ versions_in table) all → IsLeftOpen config now v table all table all
+left_same_table config now v table all kept stands = record { asked = inl refl; kept = kept; stands = stands; others = kept_same (v ∷ versions_in table) all; items = refl }
 
 pub left_dropped : (config : Config) (now : ℤ) (v : ℕ) (table : Table) (all : Lists) → IsKeptTable config table → AreInUse (v ∷ versions_in table) all
-    → IsLeftOpen config v table all (record table { lists = open_ones now table.lists }) (without_lists (versions_ended now table) all)
+    → IsLeftOpen config now v table all (record table { lists = open_ones now table.lists }) (without_lists (versions_ended now table) all)
 left_dropped config now v table all kept stands = record {
+  asked = inr (inl refl);
   kept = table_dropped config now table kept;
   stands = in_use_dropped now v table.lists all stands;
   others = kept_dropped now v table.lists all;
@@ -383,12 +385,13 @@ counted_opened v table all list items stands free h size =
     (all_counted all after table.lists (λ n there. other_lists v table list.version items all stands free n there) h)
     (eq-eqb list.size (length (selected list.filter (list_at after list.version))) (size ∙ ap (λ (xs : List ItemState). length (selected list.filter xs)) (sym (list_at-with list.version items all))))
 
-pub left_opened : (config : Config) (v : ℕ) (table : Table) (all : Lists) (list : OpenList) (items : List ItemState) → IsKeptTable config table → AreInUse (v ∷ versions_in table) all → all list.version ≡ None
-    → int_le list.end (pos 253_402_300_799) ≡ true → IsLeftOpen config v table all (opening table list) (with_list list.version items all)
-left_opened config v table all list items kept stands free fits =
+pub left_opened : (config : Config) (now : ℤ) (v : ℕ) (table : Table) (all : Lists) (list : OpenList) (items : List ItemState) → IsKeptTable config table → AreInUse (v ∷ versions_in table) all → all list.version ≡ None
+    → int_le list.end (pos 253_402_300_799) ≡ true → list.number ≡ table.next → IsLeftOpen config now v table all (opening table list) (with_list list.version items all)
+left_opened config now v table all list items kept stands free fits numbered =
     let after : Lists = with_list list.version items all in
     let same : versions_in (opening table list) ≡ versions_in table ++ list.version ∷ [] = versions_end table.lists list in
     record {
+      asked = inr (inr (inr (list, numbered, refl)));
       kept = record { limit = kept.limit; ends = all_end has_end table.lists list kept.ends fits };
       stands = subst (λ (ns : List ℕ). AreInUse (v ∷ ns) after) (sym same) (in_use_end (v ∷ versions_in table) list.version items all stands free);
       others = subst (λ (ns : List ℕ). KeepsOthers (v ∷ versions_in table) all (v ∷ ns) after) (sym same) (kept_end (v ∷ versions_in table) list.version items all free);

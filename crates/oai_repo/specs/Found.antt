@@ -75,7 +75,7 @@ pub record IsTold (found : Snapshot) (asked : Attributes) (done : Said × OpenLi
 
 -- what a request leaves of the table and of the lists
 abbrev pub IsLeftFound : Snapshot → Table → Lists → Table → Lists → Type 0
-IsLeftFound found old before new after = IsLeftOpen found.config.now found.shelf.now.version old before new after
+IsLeftFound found old before new after = IsLeftOpen found.config.now found.clock found.shelf.now.version old before new after
 
 -- ---- what a list request selects
 

@@ -1,12 +1,12 @@
 -- What becomes of the open lists of a repository behind its calls: this repository's own.
-use Rattle.std.specs.Prelude.{◌≡◌, ◌+◌, ℕ, ℤ, pos, int_le, nat_lt, Bool, true, ◌&&◌, List, ◌∷◌, filter, map, Option, None, Some, if◌then◌else◌}
+use Rattle.std.specs.Prelude.{◌≡◌, ◌⊎◌, ◌+◌, ℕ, ℤ, pos, int_le, nat_lt, Bool, true, ◌&&◌, List, ◌∷◌, filter, map, Option, None, Some, if◌then◌else◌}
 use Rattle.std.specs.List.{list_all}
 use Rattle.oai_catalogue.specs.Store.{Lists, list_at}
 use Rattle.oai_names.specs.declared.list_verbs.ListVerb.{ListVerb}
 use Rattle.oai_item.specs.Item.{ItemState}
 use Rattle.oai_answers.specs.Answers.{Continuation, Page, completes, remains}
 use Rattle.oai_answers.specs.declared.tokens.Extent.{Extent}
-use Rattle.oai_lists.specs.OpenLists.{Table, has_ended, open_numbered}
+use Rattle.oai_lists.specs.OpenLists.{Table, has_ended, open_numbered, open_ones, renewed, with_opened}
 use Rattle.oai_lists.specs.Tokens.{token_text}
 use Rattle.oai_lists.specs.declared.tokens.Token.{Token}
 use Rattle.oai_lists.specs.declared.open_lists.OpenList.{OpenList}
@@ -43,8 +43,27 @@ pub record IsKept (config : Config) (clock : ℤ) (table : Table) : Type 0 where
 
 -- ---- what a request leaves
 
--- the table is kept, the numbers are in use, of others nothing has changed, and the items stand as they did
-pub record IsLeftOpen (config : Config) (v : ℕ) (old : Table) (before : Lists) (new : Table) (after : Lists) : Type 0 where
+-- the lists that have ended are gone
+abbrev pub dropped_at : ℤ → Table → Table
+dropped_at now table = record table { lists = open_ones now table.lists }
+
+-- what a request makes of the table at that moment: nothing; the lists that have ended go; then one of the open ones may have another end; or a
+-- list begins, with the next number
+abbrev pub IsAskedTable : ℤ → Table → Table → Type 0
+IsAskedTable now old new =
+    (new ≡ old) ⊎ (new ≡ dropped_at now old)
+    ⊎ ((number : ℕ) × (end : ℤ) × (new ≡ record old { lists = renewed number end (open_ones now old.lists) }))
+    ⊎ ((list : OpenList) × (list.number ≡ old.next) × (new ≡ with_opened old list))
+
+-- so it is, and then the lists that have ended are gone
+pub record IsAskedOf (now : ℤ) (old new : Table) : Type 0 where
+  pub made : Table
+  pub asked : IsAskedTable now old made
+  pub dropped : new ≡ dropped_at now made
+
+-- the table is one that a request makes, and is kept, the numbers are in use, of others nothing has changed, and the items stand as they did
+pub record IsLeftOpen (config : Config) (now : ℤ) (v : ℕ) (old : Table) (before : Lists) (new : Table) (after : Lists) : Type 0 where
+  pub asked : IsAskedTable now old new
   pub kept : IsKeptTable config new
   pub stands : AreInUse (v ∷ versions_in new) after
   pub others : KeepsOthers (v ∷ versions_in old) before (v ∷ versions_in new) after

@@ -3,6 +3,8 @@ ghost use Rattle.oai_time.specs.Stamp.{IsWritable};
 ghost use Rattle.oai_args.specs.Pairs.{decoded_pairs};
 ghost use Rattle.oai_args.specs.Requests.{request_of};
 ghost use Rattle.oai_catalogue.specs.Store.{IsCounted, IsHonest, NeedsRoom};
+ghost use Rattle.oai_repo.specs.Changes.{stamp_at};
+ghost use Rattle.oai_repo.specs.Tables.{IsAskedOf, dropped_at};
 ghost use Rattle.oai_repo.specs.Calls.{IsAsked, IsChanged, IsLeft, OnRefused, fault_in, room_to_ask, room_to_change};
 ghost use Rattle.oai_settings.specs.Config.{is_in_years};
 ghost use Rattle.oai_repo.specs.Held.{HoldsOpenLists, IsHeld, IsNew, KeepsOthers, StandsIn, holdings_of, numbers_of, state_of};
@@ -106,6 +108,8 @@ impl Repo {
             (V.lists store.new) }
         ensures kept { holdings_of self.new.shelf self.new.sets (V.lists store.new)
             ≡ holdings_of self.old.shelf self.old.sets (V.lists store.old) }
+        ensures shelf { self.new.shelf ≡ self.old.shelf }
+        ensures table { OnOk result (IsAskedOf self.new.clock self.old.table self.new.table) }
         ensures dropped { OnOk result (HoldsOpenLists self.new) }
         ensures stands { StandsIn self.new (V.lists store.new) }
         ensures held { IsTrue (V.honest store.old) → IsHeld self.new (V.lists store.new) }
@@ -152,10 +156,14 @@ impl Repo {
             → IsChanged self.old (V.lists store.old) moment change.now result self.new
             (V.lists store.new) }
         ensures dated { IfOk result IsWritable }
+        ensures stamp { IfOk result (λ stamp. stamp ≡ stamp_at self.new.config self.new.clock) }
         ensures left { IsLeft (fault_in result) moment self.old (V.lists store.old) self.new
             (V.lists store.new) }
         ensures refused { OnRefused result (state_of self.new (V.lists store.new)
             ≡ moved moment (state_of self.old (V.lists store.old))) }
+        ensures shelf { OnRefused result (self.new.shelf ≡ self.old.shelf) }
+        ensures table { OnOk (fault_in result) (self.new.table
+            ≡ dropped_at self.new.clock self.old.table) }
         ensures dropped { OnOk (fault_in result) (HoldsOpenLists self.new) }
         ensures stands { StandsIn self.new (V.lists store.new) }
         ensures held { IsTrue (V.honest store.old) → IsHeld self.new (V.lists store.new) }
@@ -199,6 +207,8 @@ impl Repo {
         ensures moved { state_of self.new (V.lists store.new)
             ≡ moved moment (state_of self.old (V.lists store.old)) }
         ensures config { self.new.config ≡ self.old.config }
+        ensures shelf { self.new.shelf ≡ self.old.shelf }
+        ensures table { self.new.table ≡ dropped_at self.new.clock self.old.table }
         ensures dropped { HoldsOpenLists self.new }
         ensures stands { StandsIn self.new (V.lists store.new) }
         ensures held { IsTrue (V.honest store.old) → IsHeld self.new (V.lists store.new) }
@@ -223,6 +233,8 @@ impl Repo {
             ≡ at_clock clock (state_of self.old (V.lists store.old)) }
         ensures clock { self.new.clock ≡ clock }
         ensures config { self.new.config ≡ self.old.config }
+        ensures shelf { self.new.shelf ≡ self.old.shelf }
+        ensures table { self.new.table ≡ dropped_at clock self.old.table }
         ensures dropped { HoldsOpenLists self.new }
         ensures stands { StandsIn self.new (V.lists store.new) }
         ensures held { IsTrue (V.honest store.old) → IsHeld self.new (V.lists store.new) }

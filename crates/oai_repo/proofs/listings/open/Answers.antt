@@ -1,5 +1,5 @@
 -- The list stands behind the others, and its version holds the items as they stand.
-use Rattle.std.proofs.Common.{◌≡◌, ◌∙◌, ℤ, ℕ, List, ap, FitsSigned, w64, to_z, of_z}
+use Rattle.std.proofs.Common.{◌≡◌, ◌∙◌, ℤ, ℕ, List, ap, FitsSigned, w64, to_z, of_z, refl}
 use Rattle.std.proofs.lemmas.Int.{to_z-of_z}
 use Rattle.oai_item.specs.Item.{ItemState}
 use Rattle.oai_item.specs.Selection.{selected}
@@ -62,7 +62,7 @@ returns-in-Ok-clause-left g c =
     let unused = rw c.read_part.ensures.same at c.in_ok-frozen.ensures.unused in
     let frozen = rw (c.read_part.ensures.same, c.version-version.ensures) at c.in_ok-frozen.ensures.ok in
     let opened = simp to_z-of_z at c.in-Ok.ensures in
-    rw (opened.2, frozen) (left_opened found.config.now v table all entry (list_at all v) c.requires.table c.requires.stands unused c.end.ensures.last)
+    rw (opened.2, frozen) (left_opened found.config.now found.clock v table all entry (list_at all v) c.requires.table c.requires.stands unused c.end.ensures.last refl)
 
 pub returns-in-Ok-clause-counted : goal.returns-in-Ok-clause-counted
 returns-in-Ok-clause-counted g c = λ honest.
@@ -98,7 +98,7 @@ returns-clause-left g c =
     let all = g.V.Versions.lists c.args.store.now in
     let entry : OpenList = record { number = c.args.lists.now.next; verb = c.args.verb; filter = c.args.long.filter; version = c.in_ok-frozen.frozen; size = c.args.long.size; end = to_z w64 (of_z w64 c.end.result) } in
     let failed = opening_failed c.args.lists.now (to_z w64 (of_z w64 c.args.found.now.clock)) entry c.in-Err.field-0 c.open.new.self c.in-Err.ensures in
-    rw (failed, returns-clause-err_lists g c) (left_same_table found.config.now found.shelf.now.version table all c.requires.table c.requires.stands)
+    rw (failed, returns-clause-err_lists g c) (left_same_table found.config.now found.clock found.shelf.now.version table all c.requires.table c.requires.stands)
 
 pub returns-clause-counted : goal.returns-clause-counted
 returns-clause-counted g c = λ honest.

@@ -74,3 +74,9 @@ returns-clause-others g c =
     rw (← c.self.view_is)
     (kept_twice (inside.shelf.version ∷ versions_in inside.lists) (inside.shelf.version ∷ versions_in c.reply_at.new.lists) (numbers_of c.move_to.new.self) (g.V.Versions.lists c.args.store.now) (g.V.Versions.lists c.reply_at.new.store) (g.V.Versions.lists c.move_to.new.store)
     c.in_ok-reply.ensures.left.others c.move_to.ensures.others)
+
+pub returns-clause-table : goal.returns-clause-table
+returns-clause-table g c =
+    let fits_now : FitsSigned w64 c.now.result = record { sfits = c.now.type_inv } in
+    let asked = rw c.now.ensures at (simp to_z-of_z at c.in_ok-reply.ensures.left.asked) in
+    rw (← c.self.view_is, c.move_to.ensures.clock) (record { made = c.reply_at.new.lists; asked = asked; dropped = c.move_to.ensures.table })

@@ -54,3 +54,9 @@ returns-clause-others g c =
     let released = rw c.now.ensures at (simp to_z-of_z at c.drop_ended.ensures.released) in
     let inside = c.self.inside in
     rw (← c.self.view_is, table, released) (others_dropped inside.config inside.clock c.args.clock inside.shelf inside.sets inside.lists (g.V.Versions.lists c.args.store.now))
+
+pub returns-clause-table : goal.returns-clause-table
+returns-clause-table g c =
+    let fits : FitsSigned w64 c.now.result = record { sfits = c.now.type_inv } in
+    let table = rw c.now.ensures at (simp to_z-of_z at c.drop_ended.ensures.table) in
+    rw (← c.self.view_is) table
