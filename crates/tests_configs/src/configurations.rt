@@ -1,14 +1,15 @@
 //! What texts tell, and how many repositories they may tell of.
 use crate::answers::answer_to;
-use crate::worked::{assert_table, worked, worked_with};
+use crate::worked::{assert_table, worked_with};
 use oai_host::{Config, fault_law, path_law, shape_law};
 use std::alloc::{AllocError, Global};
 use std::process::Abort;
 use std::test::Fail;
+use tests_worked::worked_configuration;
 
 #[test]
-fn worked_configuration(rt: HostRuntime) -> Result<(), Fail> {
-    let config = Config::read(rt.alloc(), worked().as_bytes())?;
+fn what_is_read(rt: HostRuntime) -> Result<(), Fail> {
+    let config = Config::read(rt.alloc(), worked_configuration().as_bytes())?;
     assert_eq!(rt; config.len(), 3);
     assert_eq!(rt; config.cache(), 1);
     shape_law();
@@ -33,7 +34,7 @@ fn bases_of(alloc: Global, text: &str) -> Result<String, Fail> {
 /// They are in the order of the text, each with its own configuration.
 #[test]
 fn repositories_of_the_worked_configuration(rt: HostRuntime) -> Result<(), Fail> {
-    let bases = bases_of(rt.alloc(), worked())?;
+    let bases = bases_of(rt.alloc(), worked_configuration())?;
     let wanted =
         "a http://host.example/oai/a\nb http://host.example/oai/b\nc http://host.example/oai/c\n";
     assert_eq!(rt; bases.as_str(), wanted);
@@ -53,7 +54,7 @@ fn repositories_in_the_order_of_the_text(rt: HostRuntime) -> Result<(), Fail> {
 
 /// What is told of the first repository.
 fn assert_first(rt: &impl Abort, alloc: Global) -> Result<(), Fail> {
-    let config = Config::read(alloc, worked().as_bytes())?;
+    let config = Config::read(alloc, worked_configuration().as_bytes())?;
     for first in config.into_repositories().as_slice().iter().take(1) {
         let told = &first.config;
         assert_eq!(rt; told.repository_name(), "Archive A");

@@ -3,22 +3,7 @@ use crate::answers::answer_to;
 use std::alloc::{AllocError, Global};
 use std::process::Abort;
 use std::test::Fail;
-
-/// Three repositories: of seconds with a format of journals, of days, and of seconds.
-pub fn worked() -> &'static str {
-    r#"{"base":"http://host.example","cache":1,"repositories":[
-{"name":"a","repositoryName":"Archive A","adminEmail":["a@host.example"],
- "earliestDatestamp":"2024-01-01T00:00:00Z","deletedRecord":"persistent",
- "granularity":"seconds","chunk":2,"lifetime":60,"lists":1,"items":1000,
- "formats":[{"prefix":"jnl","schema":"http://host.example/jnl.xsd",
-  "namespace":"http://host.example/jnl/","root":"article","fields":["volume","pages"]}]},
-{"name":"b","repositoryName":"Archive B","adminEmail":["b@host.example"],
- "earliestDatestamp":"2024-01-01","deletedRecord":"no",
- "granularity":"days","chunk":2,"lifetime":60,"lists":1,"items":1000,"formats":[]},
-{"name":"c","repositoryName":"Archive C","adminEmail":["c@host.example"],
- "earliestDatestamp":"2024-01-01T00:00:00Z","deletedRecord":"transient",
- "granularity":"seconds","chunk":2,"lifetime":60,"lists":2,"items":2,"formats":[]}]}"#
-}
+use tests_worked::worked_configuration;
 
 /// The text with another in each place of the words before ` -> `, the words behind it.
 fn changed(rt: &impl Abort, alloc: Global, text: &str, change: &str) -> Result<String, Fail> {
@@ -33,7 +18,7 @@ fn changed(rt: &impl Abort, alloc: Global, text: &str, change: &str) -> Result<S
 
 /// The worked configuration with these changes, between which ` && ` stands.
 pub fn worked_with(rt: &impl Abort, alloc: Global, changes: &str) -> Result<String, Fail> {
-    let mut text = String::from_str(alloc, worked())?;
+    let mut text = String::from_str(alloc, worked_configuration())?;
     for change in changes.split(" && ") {
         text = changed(rt, alloc, text.as_str(), change)?;
     }

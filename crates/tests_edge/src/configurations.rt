@@ -1,9 +1,9 @@
 //! The configuration that a file tells.
-use crate::asking::worked_configuration;
 use oai_edge::{Stop, read_config};
 use std::alloc::{AllocError, Global};
 use std::fs;
 use std::test::Fail;
+use tests_worked::worked_configuration;
 
 /// The file of the test, which lies where it runs.
 const PATH: &str = "configuration-of-many-reads.json";

@@ -1,6 +1,6 @@
 //! How the input is cut into lines, whatever the pieces in which it comes, and what is written
 //! where it, the output or memory fails.
-use crate::asking::{assert_asked, performed, push_wanted, stop_of, written};
+use crate::asking::{assert_asked, performed, stop_of, written};
 use crate::transcripts;
 use oai_edge::{Stop, write_answer};
 use oai_host::{Answer, ReadFault, Status};
@@ -9,6 +9,7 @@ use std::alloc::{AllocError, Global};
 use std::io::{self, ErrorKind, Read, Write};
 use std::process::Abort;
 use std::test::Fail;
+use tests_worked::push_wanted;
 
 /// A deposit, an empty line, a line that is no JSON, and a deposit that has no line end.
 fn script() -> &'static str {

@@ -1,6 +1,5 @@
 //! A store that fails: the exchange that meets the failure is answered 500 and changes nothing, and the
 //! same exchange again is answered as if nothing had happened.
-use crate::asking::{push_wanted, worked_configuration};
 use oai_catalogue::{FaultyVersions, PlainVersions, Versions};
 use oai_edge::{config_in, write_answer};
 use oai_host::{Answer, Exchange, Host};
@@ -8,6 +7,7 @@ use oai_item::Fault;
 use std::alloc::Global;
 use std::process::Abort;
 use std::test::Fail;
+use tests_worked::{push_wanted, worked_configuration};
 
 /// A second, a target, and of a deposit its line.
 type Asked = (i64, &'static str, &'static str);

@@ -1,5 +1,4 @@
 //! Connections over streams: of the tests, and of the system.
-use crate::asking::worked_configuration;
 use crate::tracing::{
     answer_with, but_the_last, later_set_answer, not_found, set_again_answer, set_answer,
     set_message,
@@ -17,6 +16,7 @@ use std::process::Abort;
 use std::rt::Clock;
 use std::test::Fail;
 use std::time::Duration;
+use tests_worked::worked_configuration;
 
 /// The moment 1704067200.
 struct StandingClock;

@@ -1,5 +1,4 @@
 //! Connections whose pieces stand in lines.
-use crate::asking::{push_wanted, worked_configuration};
 use crate::edge::{CountingWriter, EmptyLines};
 use crate::failing::{FailingReader, FailingWriter};
 use crate::transcripts;
@@ -9,6 +8,7 @@ use std::alloc::{AllocError, Global};
 use std::io::{Read, Write};
 use std::process::Abort;
 use std::test::Fail;
+use tests_worked::{push_wanted, worked_configuration};
 
 /// Traces the lines that the reader gives on a new host; why that stopped, if it did.
 fn traced<R: Read, W: Write>(

@@ -1,11 +1,12 @@
 //! The worked exchanges, with the bytes that they are answered.
-use crate::asking::{assert_asked, assert_transcript, performed, push_wanted, stop_of};
+use crate::asking::{assert_asked, assert_transcript, performed, stop_of};
 use crate::failing::{FailingReader, FailingWriter};
 use crate::transcripts;
 use oai_edge::Stop;
 use std::alloc::{AllocError, Global};
 use std::process::Abort;
 use std::test::Fail;
+use tests_worked::push_wanted;
 
 /// Performs each of the lines on a new host; each is answered so.
 fn assert_each(rt: &impl Abort, alloc: Global, lines: &str, answer: &str) -> Result<(), Fail> {

@@ -6,6 +6,7 @@ use oai_host::{Config, Host};
 use std::alloc::{AllocError, Global};
 use std::process::Abort;
 use std::test::Fail;
+use tests_worked::document_head;
 
 /// The first second of 2024.
 const START: i64 = 1_704_067_200;
@@ -185,12 +186,7 @@ fn identify(name: &str) -> &'static [u8] {
     }
 }
 
-/// What stands in front of its document.
-fn document_head() -> &'static str {
-    "<?xml version=\"1.0\" encoding=\"UTF-8\"?>\n<OAI-PMH xmlns=\"http://www.openarchives.org/OAI/2.0/\" xmlns:xsi=\"http://www.w3.org/2001/XMLSchema-instance\" xsi:schemaLocation=\"http://www.openarchives.org/OAI/2.0/ http://www.openarchives.org/OAI/2.0/OAI-PMH.xsd\">"
-}
-
-/// What stands behind it.
+/// Its document, behind what every document begins with.
 fn identified(name: &str) -> &'static str {
     match name {
         "a" =>

@@ -1,5 +1,5 @@
 //! Exchanges one after the other, as one call.
-use crate::transcripts::{Told, body_of, push_wanted, told_in, write_answer};
+use crate::transcripts::{Told, body_of, told_in, write_answer};
 use crate::worked::host;
 use oai_catalogue::{FaultyVersions, PlainVersions, Versions};
 use oai_host::{Answer, Call};
@@ -7,6 +7,7 @@ use oai_names::Sequence;
 use std::alloc::{AllocError, Global};
 use std::process::Abort;
 use std::test::Fail;
+use tests_worked::push_wanted;
 
 // ---- calls
 

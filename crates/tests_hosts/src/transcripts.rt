@@ -11,16 +11,7 @@ use std::alloc::{AllocError, Global};
 use std::io::{self, Write};
 use std::process::Abort;
 use std::test::Fail;
-
-/// What every document begins with.
-fn head() -> &'static str {
-    "<?xml version=\"1.0\" encoding=\"UTF-8\"?>\n<OAI-PMH xmlns=\"http://www.openarchives.org/OAI/2.0/\" xmlns:xsi=\"http://www.w3.org/2001/XMLSchema-instance\" xsi:schemaLocation=\"http://www.openarchives.org/OAI/2.0/ http://www.openarchives.org/OAI/2.0/OAI-PMH.xsd\">"
-}
-
-/// The start tag of a record in oai_dc.
-fn dublin_core() -> &'static str {
-    "<oai_dc:dc xmlns:oai_dc=\"http://www.openarchives.org/OAI/2.0/oai_dc/\" xmlns:dc=\"http://purl.org/dc/elements/1.1/\" xmlns:xsi=\"http://www.w3.org/2001/XMLSchema-instance\" xsi:schemaLocation=\"http://www.openarchives.org/OAI/2.0/oai_dc/ http://www.openarchives.org/OAI/2.0/oai_dc.xsd\">"
-}
+use tests_worked::push_wanted;
 
 // ---- exchanges
 
@@ -115,25 +106,6 @@ fn write_line<V: Versions + Drop>(
 }
 
 // ---- transcripts
-
-/// Adds a line of what is wanted: `DOC` stands for what every document begins with, and `{dc}` for the
-/// start tag of a record in oai_dc.
-pub(crate) fn push_wanted(line: &str, wanted: &mut String) -> Result<(), AllocError> {
-    let line = match line.strip_prefix("DOC ") {
-        Some(rest) => {
-            wanted.push_str(head())?;
-            rest
-        }
-        None => line,
-    };
-    for (place, piece) in line.split("{dc}").enumerate() {
-        if place > 0 {
-            wanted.push_str(dublin_core())?;
-        }
-        wanted.push_str(piece)?;
-    }
-    wanted.push('\n')
-}
 
 /// The host answers the transcript's lines as it says.
 pub(crate) fn assert_answers<V: Versions + Drop>(

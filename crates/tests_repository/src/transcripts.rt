@@ -6,21 +6,12 @@ use oai_deposit::read_line;
 use oai_item::{Change, Fault};
 use oai_repo::{Refusal, Reply};
 use oai_settings::RepoConfig;
-use std::alloc::{AllocError, Global};
+use std::alloc::Global;
 use std::io::Write;
 use std::process::Abort;
 use std::test::Fail;
 use tests_archives::{Stocked, Told, settings_of};
-
-/// What every document begins with.
-fn head() -> &'static str {
-    "<?xml version=\"1.0\" encoding=\"UTF-8\"?>\n<OAI-PMH xmlns=\"http://www.openarchives.org/OAI/2.0/\" xmlns:xsi=\"http://www.w3.org/2001/XMLSchema-instance\" xsi:schemaLocation=\"http://www.openarchives.org/OAI/2.0/ http://www.openarchives.org/OAI/2.0/OAI-PMH.xsd\">"
-}
-
-/// The start tag of a record in oai_dc.
-fn dublin_core() -> &'static str {
-    "<oai_dc:dc xmlns:oai_dc=\"http://www.openarchives.org/OAI/2.0/oai_dc/\" xmlns:dc=\"http://purl.org/dc/elements/1.1/\" xmlns:xsi=\"http://www.w3.org/2001/XMLSchema-instance\" xsi:schemaLocation=\"http://www.openarchives.org/OAI/2.0/oai_dc/ http://www.openarchives.org/OAI/2.0/oai_dc.xsd\">"
-}
+use tests_worked::push_wanted;
 
 /// The repository of which that is told, over the store, with room for two open lists.
 fn repository<V: Versions + Drop>(
@@ -109,25 +100,6 @@ fn write_line<V: Versions + Drop>(
         Some((moment, text)) => write_answer(alloc, repo, moment.parse::<i64>()?, text, output),
         None => panic!(rt; "no moment: {line}"),
     }
-}
-
-/// Adds a line of what is wanted: `DOC` stands for what every document begins with, and `{dc}` for the
-/// start tag of a record in oai_dc.
-fn push_wanted(line: &str, wanted: &mut String) -> Result<(), AllocError> {
-    let line = match line.strip_prefix("DOC ") {
-        Some(rest) => {
-            wanted.push_str(head())?;
-            rest
-        }
-        None => line,
-    };
-    for (place, piece) in line.split("{dc}").enumerate() {
-        if place > 0 {
-            wanted.push_str(dublin_core())?;
-        }
-        wanted.push_str(piece)?;
-    }
-    wanted.push('\n')
 }
 
 /// A new repository of which that is told answers the transcript's lines as it says.
