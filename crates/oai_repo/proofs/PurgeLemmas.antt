@@ -21,7 +21,7 @@ use Rattle.oai_repo.specs.Changes.{is_past, purged}
 use Rattle.oai_repo.specs.Held.{AreNoted, is_dated}
 use Rattle.oai_repo.specs.Notes.{Notes, noted}
 use Rattle.oai_repo.specs.Purges.{AreTaken, below, is_deleted, is_in_core}
-use Rattle.oai_repo.specs.Workings.{IsNoting}
+use Rattle.oai_repo.specs.Notes.{IsNoting}
 use Rattle.oai_repo.proofs.KeptLemmas.{at_most}
 use Rattle.oai_repo.proofs.ShelfLemmas.{taken_out}
 

@@ -27,12 +27,16 @@ use Rattle.oai_repo.specs.Changes.{with_new}
 use Rattle.oai_settings.specs.Config.{Config}
 use Rattle.oai_repo.specs.Held.{AreInUse, AreNoted, IsNew, IsShelved, Shelf, is_dated}
 use Rattle.oai_repo.specs.Kept.{AreKept}
-use Rattle.oai_repo.specs.Notes.{Notes, noted, notes_in}
+use Rattle.oai_repo.specs.Notes.{IsForgetting, IsNoting, Notes, noted, notes_in}
 use Rattle.oai_repo.specs.State.{NamedSet, State, none_begun}
-use Rattle.oai_repo.specs.Workings.{IsMoved, IsNoting}
+use Rattle.oai_repo.specs.Workings.{IsMoved}
 use Rattle.oai_repo.proofs.KeptLemmas.{kept-none, length-placed}
 
 -- ---- answers that succeeded
+
+pub on_both : {A E : Type 0} (r : Result A E) (P Q : Type 0) → OnOk r P → OnOk r Q → OnOk r (P × Q)
+on_both (Ok _) P Q p q = (p, q)
+on_both (Err _) P Q p q = tt
 
 pub on_ok : {A E : Type 0} (r : Result A E) (P Q : Type 0) → (P → Q) → OnOk r P → OnOk r Q
 on_ok (Ok x) P Q f h = f h
@@ -106,6 +110,14 @@ names_noted text stamp old new noting name names q some = by_test (bytes_eq text
     by_test : (b : Bool) → (b ≡ true → text ≡ q) → IsSome (cond b stamp (noted q old)) → may_be_identifier q ≡ true
     by_test true same h = subst (λ (t : List ℕ). may_be_identifier t ≡ true) (same refl) (name h)
     by_test false same h = names q h
+
+-- one more is forgotten
+pub forgotten_too : (old now new : Notes) (text : List ℕ) → IsForgetting old now → IsNoting text None now new → IsForgetting old new
+forgotten_too old now new text so_far noting q some = by_test (bytes_eq text q) (noting q)
+  where
+    by_test : (b : Bool) → noted q new ≡ cond b None (noted q now) → noted q new ≡ noted q old
+    by_test true is = let none : false ≡ true = subst (λ (o : Option ℤ). IsSome o) is some in cc
+    by_test false is = is ∙ so_far q (subst (λ (o : Option ℤ). IsSome o) is some)
 
 -- what was put in and taken out again has left no note
 pub undone : {Y : Type 0} (old put out : BTreeMap (String Y) ℤ) (key : String Y) (text : List ℕ) (stamp : ℤ) → string_bytes key ≡ text → noted text (notes_in old) ≡ None
@@ -191,7 +203,7 @@ later_noted item gone old new items agrees here noting many = record {
 }
 
 -- at the same datestamp the notes say it already
-noted_already : (item : ItemState) (notes : Notes) → noted item.identifier notes ≡ Some item.stamp → IsNoting item.identifier (Some item.stamp) notes notes
+pub noted_already : (item : ItemState) (notes : Notes) → noted item.identifier notes ≡ Some item.stamp → IsNoting item.identifier (Some item.stamp) notes notes
 noted_already item notes is q = by_test (bytes_eq item.identifier q) ((bytes_eq-Decides item.identifier q).0)
   where
     by_test : (b : Bool) → (b ≡ true → item.identifier ≡ q) → noted q notes ≡ cond b (Some item.stamp) (noted q notes)

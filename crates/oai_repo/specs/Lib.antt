@@ -6,6 +6,7 @@ pub mod Changes
 pub mod Answers
 pub mod Listing
 pub mod Machine
+pub mod Noting
 pub mod Calls
 pub mod Inside
 pub mod Tables

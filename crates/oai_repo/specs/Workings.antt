@@ -1,14 +1,12 @@
 -- What the calls behind those of a repository answer and leave, as contracts and proofs say it: this repository's own.
-use Rattle.std.specs.Prelude.{◌≡◌, ◌⊎◌, ℕ, ℤ, List, if◌then◌else◌, Option, None, Some, Result, Ok, Err}
+use Rattle.std.specs.Prelude.{◌≡◌, ◌⊎◌, ℕ, ℤ, Option, None, Some, Result, Ok, Err}
 use Rattle.std.specs.Option.{option_or}
-use Rattle.std.specs.Str.{bytes_eq}
 use Rattle.oai_item.specs.declared.changes.Change.{Change}
 use Rattle.oai_item.specs.declared.refusals.ChangeRefusal.{ChangeRefusal}
 use Rattle.oai_catalogue.specs.Store.{Lists, list_at, with_list, without_list}
 use Rattle.oai_repo.specs.Calls.{early_refusal}
 use Rattle.oai_repo.specs.Changes.{changed, refusal_of}
 use Rattle.oai_settings.specs.Config.{Config}
-use Rattle.oai_repo.specs.Notes.{Notes, noted}
 use Rattle.oai_repo.specs.State.{Holdings}
 use Rattle.oai_repo.specs.declared.refusals.Refusal.{Refusal}
 use Rattle.oai_repo.specs.declared.refusals.Refusal.TheVariants as refusal
@@ -25,10 +23,6 @@ abbrev pub IsDone : {A : Type 0} → Option ChangeRefusal → Option ChangeRefus
 IsDone early late old made (Ok _) new = (option_or early late ≡ None) × (new ≡ made)
 IsDone early late old made (Err (refusal.Refused refused)) new = (option_or early late ≡ Some refused) × (new ≡ old)
 IsDone early late old made (Err (refusal.Fault fault)) new = (early ≡ None) × (new ≡ old)
-
--- the notes where another datestamp, or none, is noted for an identifier
-abbrev pub IsNoting : List ℕ → Option ℤ → Notes → Notes → Type 0
-IsNoting identifier stamp old new = (q : List ℕ) → noted q new ≡ (if bytes_eq identifier q then stamp else noted q old)
 
 -- what becomes of the lists where a version is changed, under its number or under one that was not in use
 pub record IsMoved (v : ℕ) (before : Lists) (w : ℕ) (after : Lists) : Type 0 where

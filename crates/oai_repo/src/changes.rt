@@ -1,10 +1,11 @@
 //! Changes of a repository: deposits, deletions, purges and new sets.
-ghost use Rattle.std.specs.Prelude.{◌≡◌, ◌≤◌, ◌++◌, [], ◌∷◌, None, length, IfErr, IsSome, IsTrue, OnErr};
+ghost use Rattle.std.specs.Prelude.{◌≡◌, ◌≤◌, ◌++◌, [], ◌∷◌, None, length, IfErr, IsSome, IsTrue, OnErr, OnOk};
 ghost use Rattle.oai_item.specs.Item.{IsStamp};
 ghost use Rattle.oai_item.specs.declared.faults.Fault.TheVariants as fault;
 ghost use Rattle.oai_catalogue.specs.Store.{IsCounted, IsHonest, NeedsRoom};
 ghost use Rattle.oai_repo.specs.Calls.{fault_in, room_to_change};
 ghost use Rattle.oai_repo.specs.Changes.{set_refusal};
+ghost use Rattle.oai_repo.specs.Noting.{IsNotedBy, sets_with};
 ghost use Rattle.oai_repo.specs.Held.{IsShelved, holdings_of};
 ghost use Rattle.oai_repo.specs.Workings.{IsDone, IsMade, IsMoved};
 
@@ -39,6 +40,9 @@ pub(crate) fn make<V: Versions>(
         result (holdings_of shelf.new sets.new (V.lists store.new)) }
     ensures held { IsTrue (V.honest store.old) → IsShelved config.now shelf.new sets.new
         (V.lists store.new) }
+    ensures noted { OnOk result (IsNotedBy config.now.deleted stamp change.now shelf.old.notes
+        shelf.new.notes) }
+    ensures sets { OnOk result (sets.new ≡ sets_with change.now sets.old) }
     ensures moved { IsMoved shelf.old.version (V.lists store.old) shelf.new.version
         (V.lists store.new) }
     ensures err { OnErr result (shelf.new ≡ shelf.old) }
@@ -75,6 +79,7 @@ pub(crate) fn make<V: Versions>(
 fn add_set(sets: &mut SetTree, set: &SetSpec, name: &str) -> Result<(), Refusal>
     ensures done { IsDone (set_refusal sets.old set.now) None sets.old
         (sets.old ++ (set.now, name.now) ∷ []) result sets.new }
+    ensures added { OnOk result (sets.new ≡ sets.old ++ (set.now, name.now) ∷ []) }
     ensures err { OnErr result (sets.new ≡ sets.old) }
     ensures memory { IfErr (fault_in result) (λ f. f ≡ fault.NoMemory) }
 {

@@ -6,8 +6,10 @@ ghost use Rattle.oai_item.specs.Items.{item_named};
 ghost use Rattle.oai_catalogue.specs.Store.{IsCounted, IsHonest, NeedsRoom};
 ghost use Rattle.oai_repo.specs.Calls.{fault_in};
 ghost use Rattle.oai_repo.specs.Changes.{after_deletion, dead_refusal, missing_refusal, with_new};
+ghost use Rattle.oai_repo.specs.Noting.{noted_of_deletion};
 ghost use Rattle.oai_repo.specs.Held.{AreNoted, items_on};
 ghost use Rattle.oai_repo.specs.Kept.{is_too_large};
+ghost use Rattle.oai_repo.specs.Notes.{IsNoting, noted};
 ghost use Rattle.oai_repo.specs.Workings.{IsDone, IsMoved};
 
 use crate::refusals::Refusal;
@@ -42,6 +44,9 @@ pub(crate) fn delete<V: Versions>(
         (items_on shelf.new (V.lists store.new))) }
     ensures agrees { IsTrue (V.honest store.old) → AreNoted shelf.new.notes
         (items_on shelf.new (V.lists store.new)) }
+    ensures there { OnOk result (IsSome (noted identifier.now shelf.old.notes)) }
+    ensures noted { OnOk result (IsNoting identifier.now (noted_of_deletion policy stamp)
+        shelf.old.notes shelf.new.notes) }
     ensures moved { IsMoved shelf.old.version (V.lists store.old) shelf.new.version
         (V.lists store.new) }
     ensures err { OnErr result (shelf.new ≡ shelf.old) }
@@ -82,6 +87,8 @@ fn bury<V: Versions>(
         ≡ with_new (tombstone_of stamp item.now) (items_on shelf.old (V.lists store.old))) }
     ensures agrees { OnOk result (IsTrue (V.honest store.old)
         → AreNoted shelf.new.notes (items_on shelf.new (V.lists store.new))) }
+    ensures noted { OnOk result (IsNoting item.now.identifier (Some stamp) shelf.old.notes
+        shelf.new.notes) }
     ensures moved { IsMoved shelf.old.version (V.lists store.old) shelf.new.version
         (V.lists store.new) }
     ensures err { OnErr result (shelf.new ≡ shelf.old) }

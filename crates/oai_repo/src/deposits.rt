@@ -1,5 +1,5 @@
 //! What is deposited: why it is refused, and the item that it makes.
-ghost use Rattle.std.specs.Prelude.{◌≡◌, ◌≤◌, None, Some, codes, length, IsSome, IsTrue, OnErr};
+ghost use Rattle.std.specs.Prelude.{◌≡◌, ◌≤◌, None, Some, codes, length, IsSome, IsTrue, OnErr, OnOk};
 ghost use Rattle.std.specs.List.{list_all};
 ghost use Rattle.std.specs.Option.{option_copied};
 ghost use Rattle.oai_names.specs.Names.{is_among};
@@ -14,6 +14,7 @@ ghost use Rattle.oai_item.specs.Membership.{reduced};
 ghost use Rattle.oai_repo.specs.Calls.{fault_in};
 ghost use Rattle.oai_repo.specs.Changes as spec;
 ghost use Rattle.oai_repo.specs.Held.{AreNoted, items_on};
+ghost use Rattle.oai_repo.specs.Notes.{IsNoting};
 ghost use Rattle.oai_repo.specs.Workings.{IsDone, IsMoved};
 
 use crate::refusals::Refusal;
@@ -59,6 +60,8 @@ pub(crate) fn put_deposit<V: Versions>(
         items (spec.with_new item items) result (items_on shelf.new (V.lists store.new))) }
     ensures agrees { IsTrue (V.honest store.old) → AreNoted shelf.new.notes
         (items_on shelf.new (V.lists store.new)) }
+    ensures noted { OnOk result (IsNoting deposit.now.identifier.now (Some stamp) shelf.old.notes
+        shelf.new.notes) }
     ensures moved { IsMoved shelf.old.version (V.lists store.old) shelf.new.version
         (V.lists store.new) }
     ensures err { OnErr result (shelf.new ≡ shelf.old) }
@@ -100,6 +103,8 @@ fn put_item<V: Versions>(
         items (spec.with_new item.now items) result (items_on shelf.new (V.lists store.new))) }
     ensures agrees { IsTrue (V.honest store.old) → AreNoted shelf.new.notes
         (items_on shelf.new (V.lists store.new)) }
+    ensures noted { OnOk result (IsNoting item.now.identifier (Some item.now.stamp) shelf.old.notes
+        shelf.new.notes) }
     ensures moved { IsMoved shelf.old.version (V.lists store.old) shelf.new.version
         (V.lists store.new) }
     ensures err { OnErr result (shelf.new ≡ shelf.old) }

@@ -11,6 +11,7 @@ ghost use Rattle.oai_catalogue.specs.Store.{IsCounted, IsHonest, NeedsRoom, list
 ghost use Rattle.oai_repo.specs.Calls.{fault_in};
 ghost use Rattle.oai_repo.specs.Changes as spec;
 ghost use Rattle.oai_repo.specs.Held.{AreNoted, is_dated, items_on};
+ghost use Rattle.oai_repo.specs.Notes.{IsForgetting};
 ghost use Rattle.oai_repo.specs.Purges.{below, is_deleted, is_in_core};
 ghost use Rattle.oai_repo.specs.Workings.{IsDone, IsMoved};
 
@@ -52,6 +53,7 @@ pub(crate) fn purge<V: Versions>(
         (items_on shelf.new (V.lists store.new))) }
     ensures agrees { IsTrue (V.honest store.old) → AreNoted shelf.new.notes
         (items_on shelf.new (V.lists store.new)) }
+    ensures forgotten { OnOk result (IsForgetting shelf.old.notes shelf.new.notes) }
     ensures moved { IsMoved shelf.old.version (V.lists store.old) shelf.new.version
         (V.lists store.new) }
     ensures err { OnErr result (shelf.new ≡ shelf.old) }

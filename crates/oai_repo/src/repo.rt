@@ -7,6 +7,7 @@ ghost use Rattle.oai_repo.specs.Changes.{stamp_at};
 ghost use Rattle.oai_repo.specs.Tables.{IsAskedOf, dropped_at};
 ghost use Rattle.oai_repo.specs.Calls.{IsAsked, IsChanged, IsLeft, OnRefused, fault_in, room_to_ask, room_to_change};
 ghost use Rattle.oai_settings.specs.Config.{is_in_years};
+ghost use Rattle.oai_repo.specs.Noting.{IsNotedBy, sets_with};
 ghost use Rattle.oai_repo.specs.Held.{HoldsOpenLists, IsHeld, IsNew, KeepsOthers, StandsIn, holdings_of, numbers_of, state_of};
 ghost use Rattle.oai_repo.specs.State.{at_clock, moved};
 
@@ -157,6 +158,9 @@ impl Repo {
             (V.lists store.new) }
         ensures dated { IfOk result IsWritable }
         ensures stamp { IfOk result (λ stamp. stamp ≡ stamp_at self.new.config self.new.clock) }
+        ensures noted { IfOk result (λ stamp. IsNotedBy self.old.config.deleted stamp change.now
+            self.old.shelf.notes self.new.shelf.notes) }
+        ensures sets { OnOk result (self.new.sets ≡ sets_with change.now self.old.sets) }
         ensures left { IsLeft (fault_in result) moment self.old (V.lists store.old) self.new
             (V.lists store.new) }
         ensures refused { OnRefused result (state_of self.new (V.lists store.new)

@@ -1,6 +1,6 @@
 //! Where the items of a repository stand: in a version of a store, in which they are found by their
 //! datestamps.
-ghost use Rattle.std.specs.Prelude.{◌≡◌, ◌≤◌, ◌+◌, ℕ, List, [], if◌then◌else◌, None, Some, true, is_none, length, IfErr, IfOk, IsSome, IsTrue, OnErr, OnOk};
+ghost use Rattle.std.specs.Prelude.{◌≡◌, ◌≤◌, ◌+◌, ℕ, List, [], if◌then◌else◌, None, Some, true, is_none, length, IfErr, IfOk, IfSome, IsSome, IsTrue, OnErr, OnOk};
 ghost use Rattle.std.specs.BTreeMap.{get_by_text};
 ghost use Rattle.std.specs.Option.{option_copied};
 ghost use Rattle.std.specs.Str.{bytes_eq};
@@ -16,8 +16,8 @@ ghost use Rattle.oai_repo.specs.Purges.{AreTaken, is_in_core};
 ghost use Rattle.oai_time.specs.Stamp.{IsWritable};
 ghost use Rattle.oai_item.specs.Item.{ItemState};
 ghost use Rattle.std.specs.List.{list_all};
-ghost use Rattle.oai_repo.specs.Notes.{noted};
-ghost use Rattle.oai_repo.specs.Workings.{IsMoved, IsNoting};
+ghost use Rattle.oai_repo.specs.Notes.{IsForgetting, IsNoting, noted};
+ghost use Rattle.oai_repo.specs.Workings.{IsMoved};
 
 use crate::purges::deleted_below;
 use oai_catalogue::{Versions, change_item, remove_items};
@@ -84,7 +84,7 @@ impl Shelf {
     }
 
     /// The item of that identifier, if there is one. Any fault but `TooManyPages` may come where it is
-    /// there, and `Damaged` where the store lacks it.
+    /// there, and `Damaged` where the store lacks it or answers another.
     pub(crate) fn find<V: Versions>(
         &self,
         alloc: Global,
@@ -100,6 +100,10 @@ impl Shelf {
             → IsSome (item_named identifier.now (items_on self.now (V.lists store.old)))) }
         ensures there { IfOk result (λ item. IsSome (noted identifier.now self.now.notes)
             → IsSome item) }
+        ensures noted { IfOk result (λ item. IsSome item
+            → IsSome (noted identifier.now self.now.notes)) }
+        ensures named { IfOk result (λ item. IfSome item (λ item. item.identifier
+            ≡ identifier.now)) }
         ensures same { V.lists store.new ≡ V.lists store.old }
         ensures room { NeedsRoom 0 result (V.room store.old) (V.room store.new) }
         ensures device { IsCounted result (V.failures store.old) (V.failures store.new) }
@@ -109,10 +113,13 @@ impl Shelf {
             return Ok(None);
         };
         let name = identifier_of(alloc, identifier)?;
-        match store.find(self.version, stamp, &name)? {
-            Some(item) => Ok(Some(item)),
-            None => Err(Fault::Damaged),
+        let Some(item) = store.find(self.version, stamp, &name)? else {
+            return Err(Fault::Damaged);
+        };
+        if item.identifier().as_str() != identifier {
+            return Err(Fault::Damaged);
         }
+        Ok(Some(item))
     }
 
     /// Puts the item among the others, in place of the one of its identifier, which is given where there
@@ -135,6 +142,8 @@ impl Shelf {
             ≡ with_new item.now (items_on self.old (V.lists store.old))) }
         ensures agrees { OnOk result (IsTrue (V.honest store.old)
             → AreNoted self.new.notes (items_on self.new (V.lists store.new))) }
+        ensures noted { OnOk result (IsNoting item.now.identifier (Some item.now.stamp)
+            self.old.notes self.new.notes) }
         ensures moved { IsMoved self.old.version (V.lists store.old) self.new.version
             (V.lists store.new) }
         ensures err { OnErr result (self.new ≡ self.old) }
@@ -167,6 +176,8 @@ impl Shelf {
             ≡ with_new item.now (items_on self.old (V.lists store.old))) }
         ensures agrees { OnOk result (IsTrue (V.honest store.old)
             → AreNoted self.new.notes (items_on self.new (V.lists store.new))) }
+        ensures noted { OnOk result (IsNoting item.now.identifier (Some item.now.stamp)
+            self.old.notes self.new.notes) }
         ensures moved { IsMoved self.old.version (V.lists store.old) self.new.version
             (V.lists store.new) }
         ensures err { OnErr result (self.new ≡ self.old) }
@@ -199,6 +210,8 @@ impl Shelf {
             ≡ with_new item.now (items_on self.now (V.lists store.old))) }
         ensures agrees { OnOk result (IsTrue (V.honest store.old)
             → AreNoted self.now.notes (items_on self.now (V.lists store.new))) }
+        ensures noted { IsNoting item.now.identifier (Some item.now.stamp) self.now.notes
+            self.now.notes }
         ensures moved { IsMoved self.now.version (V.lists store.old) self.now.version
             (V.lists store.new) }
         ensures err_lists { OnErr result (V.lists store.new ≡ V.lists store.old) }
@@ -229,6 +242,8 @@ impl Shelf {
             ≡ with_new item.now (items_on self.old (V.lists store.old))) }
         ensures agrees { OnOk result (IsTrue (V.honest store.old)
             → AreNoted self.new.notes (items_on self.new (V.lists store.new))) }
+        ensures noted { OnOk result (IsNoting item.now.identifier (Some item.now.stamp)
+            self.old.notes self.new.notes) }
         ensures moved { IsMoved self.old.version (V.lists store.old) self.new.version
             (V.lists store.new) }
         ensures err { OnErr result (self.new ≡ self.old) }
@@ -265,6 +280,8 @@ impl Shelf {
             ≡ without item.now.identifier (items_on self.old (V.lists store.old))) }
         ensures agrees { OnOk result (IsTrue (V.honest store.old)
             → AreNoted self.new.notes (items_on self.new (V.lists store.new))) }
+        ensures noted { OnOk result (IsNoting item.now.identifier None self.old.notes
+            self.new.notes) }
         ensures moved { IsMoved self.old.version (V.lists store.old) self.new.version
             (V.lists store.new) }
         ensures err { OnErr result (self.new ≡ self.old) }
@@ -300,6 +317,7 @@ impl Shelf {
             ≡ purged limit (items_on self.old (V.lists store.old))) }
         ensures agrees { OnOk result (IsTrue (V.honest store.old)
             → AreNoted self.new.notes (items_on self.new (V.lists store.new))) }
+        ensures forgotten { OnOk result (IsForgetting self.old.notes self.new.notes) }
         ensures moved { IsMoved self.old.version (V.lists store.old) self.new.version
             (V.lists store.new) }
         ensures err { OnErr result (self.new ≡ self.old) }
@@ -322,6 +340,7 @@ impl Shelf {
         ensures version { self.new.version ≡ self.old.version }
         ensures agrees { (items : List ItemState) → AreNoted self.old.notes items
             → AreTaken gone.now items → AreNoted self.new.notes (without_each gone.now items) }
+        ensures forgotten { IsForgetting self.old.notes self.new.notes }
     {
         for deleted in gone {
             self.forget(deleted.identifier().as_str());

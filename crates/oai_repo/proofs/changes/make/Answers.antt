@@ -9,6 +9,7 @@ use Rattle.oai_repo.specs.Kept.{is_too_large, is_well_kept}
 use Rattle.oai_repo.specs.Purges.{is_in_core}
 use Rattle.oai_repo.specs.Workings.{IsMade}
 use Rattle.oai_repo.proofs.ChangeLemmas.{dated-made, deletion_done, deposit_done, kept-made, purge_done, set_done}
+use Rattle.oai_repo.proofs.ShelfLemmas.{on_both}
 use Rattle.oai_repo.proofs.changes.make.Goals as goal
 
 pub delete-requires-clause-small : goal.delete-requires-clause-small
@@ -96,3 +97,16 @@ returns-in-AddSet-clause-held g c = λ honest.
       kept = kept-made _ _ _ _ _ _ made (c.requires.held honest).kept;
       dated = dated-made _ _ _ _ _ _ made c.requires.stamped (c.requires.held honest).dated;
     }
+
+pub returns-in-Deposit-clause-noted : goal.returns-in-Deposit-clause-noted
+returns-in-Deposit-clause-noted g c =
+    let fits : FitsSigned w64 c.args.stamp = c.ranges.stamp in
+    rw c.in-Deposit.is (simp to_z-of_z at c.put_deposit.ensures.noted)
+
+pub returns-in-Delete-clause-noted : goal.returns-in-Delete-clause-noted
+returns-in-Delete-clause-noted g c =
+    let fits : FitsSigned w64 c.args.stamp = c.ranges.stamp in
+    rw c.in-Delete.is (on_both _ _ _ c.delete.ensures.there (rw c.deleted.ensures at (simp to_z-of_z at c.delete.ensures.noted)))
+
+pub returns-in-Purge-clause-noted : goal.returns-in-Purge-clause-noted
+returns-in-Purge-clause-noted g c = rw c.in-Purge.is c.purge.ensures.forgotten

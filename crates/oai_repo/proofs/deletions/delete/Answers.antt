@@ -58,3 +58,8 @@ returns-in-No-clause-done g c = λ was.
     let live : c.in-Some.item.live ≡ true = sym c.is_live.ensures ∙ c.if-not-is_live.false in
     let left = rw (c.find.ensures.same, found_name c.args.identifier.now items c.in-Some.item here) at (c.in_ok-remove-in-No.ensures.list honest) in
     (not_refused (item_named c.args.identifier.now items) c.in-Some.item here live, rw c.in-No.is left)
+
+pub returns-in-No-clause-noted : goal.returns-in-No-clause-noted
+returns-in-No-clause-noted g c =
+    let own : c.in-Some.item.identifier ≡ c.args.identifier.now = rw (c.in-Some.is, c.as_str.ensures.text) at c.in_ok-item.ensures.named in
+    rw c.in-No.is (rw own at c.in_ok-remove-in-No.ensures.noted)

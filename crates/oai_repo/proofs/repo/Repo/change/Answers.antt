@@ -4,7 +4,7 @@ use Rattle.std.proofs.lemmas.Int.{to_z-of_z}
 use Rattle.oai_item.specs.Refusals.{in_repository}
 use Rattle.oai_time.specs.Clock.{tick}
 use Rattle.oai_repo.specs.Changes.{stamp_at}
-use Rattle.oai_repo.specs.Held.{begun_of, holdings_of, numbers_of, versions_in}
+use Rattle.oai_repo.specs.Held.{Shelf, begun_of, holdings_of, numbers_of, versions_in}
 use Rattle.oai_repo.specs.Machine.{Outcome, accepted, refused}
 use Rattle.oai_repo.specs.State.{OpenLists, State}
 use Rattle.oai_repo.specs.Workings.{IsMade}
@@ -135,3 +135,8 @@ returns-in-Err-Fault-clause-others g c =
     let stands = rw (← c.self.view_is) at c.requires.stands in
     rw (← c.self.view_is)
     (kept_moved inside.shelf.version after.shelf.version (versions_in inside.lists) (g.V.Versions.lists c.args.store.now) (g.V.Versions.lists after.store) stands c.make-made.ensures.moved)
+
+pub returns-in-Ok-clause-noted : goal.returns-in-Ok-clause-noted
+returns-in-Ok-clause-noted g c =
+    let fits_stamp : FitsSigned w64 c.stamp-stamp.result = record { sfits = c.stamp-stamp.type_inv } in
+    rw (← c.self.view_is) (simp to_z-of_z (rw (← ap (λ (s : Shelf). s.notes) c.move_to.ensures.shelf) at (simp to_z-of_z at c.in-Ok.ensures.noted)))

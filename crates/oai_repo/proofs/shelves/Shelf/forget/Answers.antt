@@ -1,8 +1,7 @@
 -- Without an entry of the map nothing is noted under its key.
 use Rattle.std.proofs.Common.{◌≡◌, ◌∙◌, None, is_some, length, true, sym, ap, subst, arith}
 use Rattle.oai_repo.specs.Held.{Shelf}
-use Rattle.oai_repo.specs.Notes.{noted, notes_in}
-use Rattle.oai_repo.specs.Workings.{IsNoting}
+use Rattle.oai_repo.specs.Notes.{IsNoting, noted, notes_in}
 use Rattle.oai_repo.proofs.ShelfLemmas.{many_view, names_noted, noted_view, updates_noted}
 use Rattle.oai_repo.proofs.shelves.Shelf.forget.Goals as goal
 

@@ -1,13 +1,13 @@
 -- Each turn forgets one of them.
 use Rattle.std.proofs.Common.{◌≡◌, ◌∙◌, ◌+◌, List, None, IsSome, length, refl, subst}
 use Rattle.oai_item.specs.Item.{ItemState}
-use Rattle.oai_repo.specs.Notes.{noted}
-use Rattle.oai_repo.specs.Workings.{IsNoting}
+use Rattle.oai_repo.specs.Notes.{IsNoting, noted}
 use Rattle.oai_repo.proofs.PurgeLemmas.{forgotten_next, forgotten_none}
+use Rattle.oai_repo.proofs.ShelfLemmas.{forgotten_too}
 use Rattle.oai_repo.proofs.shelves.Shelf.forget_each.Goals as goal
 
 pub loop-deleted-init : goal.loop-deleted-init
-loop-deleted-init c = record { version = refl; agrees = forgotten_none c.args.self.now.notes c.args.gone.now }
+loop-deleted-init c = record { version = refl; agrees = forgotten_none c.args.self.now.notes c.args.gone.now; forgotten = λ q some. refl }
 
 pub loop-deleted-preserved : goal.loop-deleted-preserved
 loop-deleted-preserved c =
@@ -23,4 +23,5 @@ loop-deleted-preserved c =
       agrees = forgotten_next c.args.self.now.notes now new gone i one c.loop-deleted-test.true c.loop-deleted.invariant.agrees
           (subst (λ (x : ItemState). IsNoting x.identifier None now new) c.deleted-item.is noting)
           (subst (λ (x : ItemState). IsSome (noted x.identifier now) → length new + 1 ≡ length now) c.deleted-item.is many);
+      forgotten = forgotten_too c.args.self.now.notes now new one.identifier c.loop-deleted.invariant.forgotten noting;
     }

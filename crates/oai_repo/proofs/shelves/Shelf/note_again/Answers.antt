@@ -2,8 +2,7 @@
 use Rattle.std.proofs.Common.{◌∙◌, ℤ, Option, Some, IsSome, sym, ap, subst, FitsSigned, w64}
 use Rattle.std.proofs.lemmas.Int.{to_z-of_z}
 use Rattle.oai_repo.specs.Held.{Shelf}
-use Rattle.oai_repo.specs.Notes.{noted, notes_in}
-use Rattle.oai_repo.specs.Workings.{IsNoting}
+use Rattle.oai_repo.specs.Notes.{IsNoting, noted, notes_in}
 use Rattle.oai_repo.proofs.ShelfLemmas.{names_noted, noted_view, texts_noted}
 use Rattle.oai_repo.proofs.shelves.Shelf.note_again.Goals as goal
 

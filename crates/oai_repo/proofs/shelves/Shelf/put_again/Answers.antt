@@ -4,7 +4,7 @@ use Rattle.oai_item.specs.Items.{with_item}
 use Rattle.oai_catalogue.specs.Store.{list_at}
 use Rattle.oai_repo.specs.Changes.{with_new}
 use Rattle.oai_repo.specs.Held.{AreNoted, Shelf, items_on}
-use Rattle.oai_repo.proofs.ShelfLemmas.{on_ok, put_again}
+use Rattle.oai_repo.proofs.ShelfLemmas.{noted_already, on_ok, put_again}
 use Rattle.oai_repo.proofs.shelves.Shelf.put_again.Goals as goal
 
 pub returns-clause-list : goal.returns-clause-list
@@ -28,3 +28,6 @@ returns-clause-agrees g c =
     → IsTrue (g.V.Versions.honest c.args.store.now) → AreNoted shelf.notes (items_on shelf after) =
     λ put honest. (put_again c.args.item.now shelf.notes (items_on shelf before) (items_on shelf after) (c.requires.agrees honest) c.requires.again (rw here at (put honest))).1 in
     on_ok c.put.result _ _ from c.put.ensures.list
+
+pub returns-clause-noted : goal.returns-clause-noted
+returns-clause-noted g c = noted_already c.args.item.now c.args.self.now.notes c.requires.again

@@ -7,8 +7,7 @@ use Rattle.oai_names.specs.Names.{may_be_identifier}
 use Rattle.oai_item.specs.Items.{with_item}
 use Rattle.oai_catalogue.specs.Store.{list_at}
 use Rattle.oai_repo.specs.Held.{Shelf, items_on}
-use Rattle.oai_repo.specs.Notes.{Notes, noted, notes_in}
-use Rattle.oai_repo.specs.Workings.{IsNoting}
+use Rattle.oai_repo.specs.Notes.{IsNoting, Notes, noted, notes_in}
 use Rattle.oai_repo.proofs.ShelfLemmas.{many_view, names_noted, noted_view, put_first, undone, updates_noted}
 use Rattle.oai_repo.proofs.shelves.Shelf.put_first.Goals as goal
 
@@ -79,6 +78,17 @@ returns-in-Ok-clause-agrees g c = λ honest.
     many_view c.insert.new.self ∙ len ∙ ap (λ (n : ℕ). n + 1) (sym (many_view old) ∙ ap (λ (xs : Notes). length xs) olds) in
     let there : list_at after c.self.inside.version ≡ with_item item (items_on shelf before) = c.in-Ok.ensures.list honest ∙ ap (λ (v : ℕ). with_item item (list_at before v)) here in
     (put_first item shelf.notes new (items_on shelf before) (list_at after c.self.inside.version) (c.requires.agrees honest) c.requires.first (rw olds at noting) more there).1
+
+pub returns-in-Ok-clause-noted : goal.returns-in-Ok-clause-noted
+returns-in-Ok-clause-noted g c =
+    let fits : FitsSigned w64 c.stamp.result = record { sfits = c.stamp.type_inv } in
+    let item = c.args.item.now in
+    let old = c.self.inside.stamps in
+    let key : string_bytes c.in_ok-key.key ≡ item.identifier = c.in_ok-key.ensures.ok ∙ c.as_str-identifier.ensures.text ∙ c.identifier.ensures in
+    let put : IsNoting (string_bytes c.in_ok-key.key) (Some item.stamp) (notes_in old) (notes_in c.insert.new.self) =
+    updates_noted old c.insert.new.self (string_bytes c.in_ok-key.key) (Some item.stamp) (rw c.stamp.ensures.stamp at (simp to_z-of_z at c.in_ok-insert.ensures.updates)) in
+    let noting : IsNoting item.identifier (Some item.stamp) (notes_in old) (notes_in c.insert.new.self) = subst (λ (t : List ℕ). IsNoting t (Some item.stamp) (notes_in old) (notes_in c.insert.new.self)) key put in
+    subst (λ (s : Shelf). IsNoting item.identifier (Some item.stamp) s.notes (notes_in c.insert.new.self)) c.self.view_is noting
 
 pub returns-in-Err-clause-err : goal.returns-in-Err-clause-err
 returns-in-Err-clause-err g c =

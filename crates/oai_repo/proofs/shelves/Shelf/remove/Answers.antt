@@ -4,8 +4,7 @@ use Rattle.std.proofs.lemmas.Int.{to_z-of_z}
 use Rattle.oai_item.specs.Items.{without_at}
 use Rattle.oai_catalogue.specs.Store.{list_at}
 use Rattle.oai_repo.specs.Held.{Shelf, items_on}
-use Rattle.oai_repo.specs.Notes.{noted}
-use Rattle.oai_repo.specs.Workings.{IsNoting}
+use Rattle.oai_repo.specs.Notes.{IsNoting, noted}
 use Rattle.oai_repo.proofs.ShelfLemmas.{taken_out}
 use Rattle.oai_repo.proofs.shelves.Shelf.remove.Goals as goal
 
@@ -36,3 +35,6 @@ returns-clause-agrees g c = λ honest.
     let many : IsSome (noted item.identifier shelf.notes) → length new.notes + 1 ≡ length shelf.notes = rw (c.as_str.ensures.text, c.identifier-2.ensures) at c.forget.ensures.many in
     let out : list_at after new.version ≡ without_at item.stamp item.identifier (items_on shelf before) = ap (list_at after) c.forget.ensures.version ∙ rw (c.stamp.ensures.stamp, c.identifier.ensures, here) at (simp to_z-of_z at (c.in_ok-remove.ensures.list honest)) in
     (taken_out item shelf.notes new.notes (items_on shelf before) (items_on new after) (c.requires.agrees honest) (c.requires.there honest) noting many out).1
+
+pub returns-clause-noted : goal.returns-clause-noted
+returns-clause-noted g c = rw (c.as_str.ensures.text, c.identifier-2.ensures) at c.forget.ensures.notes
