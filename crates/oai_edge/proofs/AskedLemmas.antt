@@ -1,5 +1,5 @@
 -- The lines of an input are performed one after the other, and what comes of it.
-use Rattle.std.proofs.Common.{◌≡◌, ◌∙◌, inl, inr, ℕ, ◌+◌, ◌-◌, ◌^◌, min, Bool, true, false, ◌&&◌, List, [], ◌∷◌, ◌++◌, length, map, filter, Option, Some, IfErr, IfSome, OnOk, Result, Ok, Err, is_none, IsTrue, refl, sym, ap, subst, append-nil}
+use Rattle.std.proofs.Common.{◌≡◌, ◌∙◌, inl, inr, ℕ, ◌+◌, ◌-◌, ◌^◌, min, Bool, true, false, ◌&&◌, List, [], ◌∷◌, ◌++◌, length, map, filter, Option, Some, IfErr, IfSome, OnOk, Result, Ok, Err, is_none, IsTrue, refl, sym, ap, subst, append_assoc, append-nil}
 use Rattle.std.specs.Io.KnownBytes.{Appends, Keeps}
 use Rattle.std.specs.List.{flat_map}
 use Rattle.std.proofs.lemmas.Bool.{cases_Bool, cond-true, cond-false}
@@ -11,13 +11,13 @@ use Rattle.oai_host.specs.Hosts.{Hosting}
 use Rattle.oai_host.specs.declared.exchanges.Call.{Call}
 use Rattle.oai_edge.specs.Asked.{AreAsked, AreDone}
 use Rattle.oai_edge.specs.Inputs.{IsNext, IsUnread, left, unread}
-use Rattle.oai_edge.specs.Lines.{IsLineDone, is_bad, is_filled, shown, spelled}
+use Rattle.oai_edge.specs.Lines.{IsLineDone, IsUnsaid, is_bad, is_filled, shown, spelled}
 use Rattle.oai_edge.specs.Places.{AreFirst, count_of, lines_of}
 use Rattle.oai_edge.specs.Workings.{AreEnded, IsEnded, IsReadSoFar}
 use Rattle.oai_edge.specs.declared.stop.Stop.{Stop}
 use Rattle.oai_edge.specs.declared.stop.Stop.TheVariants.{BadConfig, BadExchange, BadPiece, CannotRead, InputFault, NoMemory, OutputFault, SocketFault, TooManyConnections, Usage}
 use Rattle.oai_edge.proofs.KnownLemmas.{appends_both, appends_kept, appends_none}
-use Rattle.oai_edge.proofs.ReadLemmas.{counted_next, known_all, known_so, number_next, read_front, read_none, read_to, read_whole}
+use Rattle.oai_edge.proofs.ReadLemmas.{counted_next, known_so, number_next, read_front, read_none, read_to, read_whole}
 
 -- ---- lines that are done
 
@@ -43,9 +43,9 @@ done_empty front line old new Writes empty done = record {
 }
 
 -- a line more that spells an exchange
-done_line : (front : List (List ℕ)) (line : List ℕ) (old mid new : Hosting) (from was is : Option (List ℕ)) → is_filled line ≡ true → mid.honest ≡ old.honest
-    → AreDone front old mid (Appends from was) → IsLineDone line mid new (Appends was is) → AreDone (front ++ line ∷ []) old new (Appends from is)
-done_line front line old mid new from was is full honest done last = record {
+done_line : (front : List (List ℕ)) (line : List ℕ) (old mid new : Hosting) (Before Last Writes : List ℕ → Type 0) → ((a b : List ℕ) → Before a → Last b → Writes (a ++ b))
+    → is_filled line ≡ true → mid.honest ≡ old.honest → AreDone front old mid Before → IsLineDone line mid new Last → AreDone (front ++ line ∷ []) old new Writes
+done_line front line old mid new Before Last Writes join full honest done last = record {
   calls = done.calls ++ last.call ∷ [];
   answers = done.answers ++ last.answer ∷ [];
   read =
@@ -62,7 +62,7 @@ done_line front line old mid new from was is full honest done last = record {
   written =
       let all : flat_map shown (done.answers ++ last.answer ∷ []) ≡ flat_map shown done.answers ++ shown last.answer =
       flat_map-append shown done.answers (last.answer ∷ []) ∙ ap (λ (xs : List ℕ). flat_map shown done.answers ++ xs) (append-nil (shown last.answer)) in
-      subst (Appends from is) (sym all) (appends_both from was is (flat_map shown done.answers) (shown last.answer) done.written last.written);
+      subst Writes (sym all) (join (flat_map shown done.answers) (shown last.answer) done.written last.written);
 }
 
 ended_as : (front : List (List ℕ)) (line : List ℕ) (old mid new : Hosting) (was is : ℕ) (Before Writes : List ℕ → Type 0) → is ≡ min (was + 1) (2 ^ 64 - 1) → new.honest ≡ mid.honest
@@ -83,13 +83,18 @@ ended_line : (front : List (List ℕ)) (line : List ℕ) (old mid new : Hosting)
     → AreEnded old new is (Appends from after) (front ++ line ∷ [])
 ended_line front line old mid new was is from before after counted full honest last ended =
     ended_as front line old mid new was is (Appends from before) (Appends from after) counted honest ended
-    (done_line front line old mid new from before after full ended.honest ended.done last)
+    (done_line front line old mid new (Appends from before) (Appends before after) (Appends from after) (appends_both from before after) full ended.honest ended.done last)
+
+-- where nothing is said of what was written
+done_unsaid : (lines : List (List ℕ)) (old new : Hosting) (Writes : List ℕ → Type 0) → AreDone lines old new Writes → AreDone lines old new IsUnsaid
+done_unsaid lines old new Writes done =
+    record { calls = done.calls; answers = done.answers; read = done.read; answered = done.answered; exchanged = done.exchanged; written = tt }
 
 -- a line that is bad, or at which the program stops for another cause
 ended_stopped : (front : List (List ℕ)) (line : List ℕ) (old mid new : Hosting) (was is : ℕ) (from before after : Option (List ℕ)) (stop : Stop) → is ≡ min (was + 1) (2 ^ 64 - 1)
     → is_filled line ≡ true
     → (is_none (spelled line) ≡ true → (stop ≡ BadExchange is) × (new ≡ mid) × (after ≡ before))
-    → (is_none (spelled line) ≡ false → stop ≡ OutputFault)
+    → (is_none (spelled line) ≡ false → (stop ≡ OutputFault) × IsLineDone line mid new IsUnsaid)
     → AreEnded old mid was (Appends from before) front → IsEnded front line old (Err stop) new is (Appends from after)
 ended_stopped front line old mid new was is from before after stop counted full bad good ended = elim (cases_Bool (is_none (spelled line))) [
   | inl none ↦
@@ -100,7 +105,11 @@ ended_stopped front line old mid new was is from before after stop counted full 
       subst (λ (known : Option (List ℕ)). AreDone front old new (Appends from known)) (sym so.2)
       (subst (λ (host : Hosting). AreDone front old host (Appends from before)) (sym so.1) ended.done) in
       subst (λ (s : Stop). IsEnded front line old (Err s) new is (Appends from after)) (sym so.0) (is_so, number, done)
-  | inr some ↦ subst (λ (s : Stop). IsEnded front line old (Err s) new is (Appends from after)) (sym (good some)) refl
+  | inr some ↦
+      let so = good some in
+      let done : AreDone (front ++ line ∷ []) old new IsUnsaid =
+      done_line front line old mid new (Appends from before) IsUnsaid IsUnsaid (λ a b p q. tt) full ended.honest ended.done so.1 in
+      subst (λ (s : Stop). IsEnded front line old (Err s) new is (Appends from after)) (sym so.0) (refl, done)
 ]
 
 abbrev stop_in : Result Unit Stop → Stop
@@ -110,12 +119,14 @@ stop_in (Err stop) = stop
 -- whatever comes of the line
 pub ended_so : (front : List (List ℕ)) (line : List ℕ) (old mid new : Hosting) (was is : ℕ) (from before after : Option (List ℕ)) (result : Result Unit Stop) → is ≡ min (was + 1) (2 ^ 64 - 1)
     → is_filled line ≡ true → (is_none (spelled line) ≡ true → result ≡ Err (BadExchange is)) → (is_none (spelled line) ≡ true → new ≡ mid) → (is_none (spelled line) ≡ true → after ≡ before)
-    → (is_none (spelled line) ≡ false → IfErr result (λ (stop : Stop). stop ≡ OutputFault)) → OnOk result (IsLineDone line mid new (Appends before after)) → new.honest ≡ mid.honest
+    → (is_none (spelled line) ≡ false → IfErr result (λ (stop : Stop). stop ≡ OutputFault)) → OnOk result (IsLineDone line mid new (Appends before after))
+    → (is_none (spelled line) ≡ false → IsLineDone line mid new IsUnsaid) → new.honest ≡ mid.honest
     → AreEnded old mid was (Appends from before) front → IsEnded front line old result new is (Appends from after)
-ended_so front line old mid new was is from before after (Ok done) counted full bad bad_host bad_written good last honest ended =
+ended_so front line old mid new was is from before after (Ok done) counted full bad bad_host bad_written good last performed honest ended =
     ended_line front line old mid new was is from before after counted full honest last ended
-ended_so front line old mid new was is from before after (Err stop) counted full bad bad_host bad_written good last honest ended =
-    ended_stopped front line old mid new was is from before after stop counted full (λ none. (ap stop_in (bad none), bad_host none, bad_written none)) good ended
+ended_so front line old mid new was is from before after (Err stop) counted full bad bad_host bad_written good last performed honest ended =
+    ended_stopped front line old mid new was is from before after stop counted full (λ none. (ap stop_in (bad none), bad_host none, bad_written none))
+    (λ some. (good some, performed some)) ended
 
 -- ---- the whole input
 
@@ -123,15 +134,16 @@ stopped_there : (front lines others : List (List ℕ)) (line : List ℕ) (old ne
     → IsEnded front line old (Err stop) new is Writes → AreAsked lines old (Err stop) new Writes
 stopped_there front lines others line old new is Writes (BadExchange number) cut ended =
     record { front = front; line = line; others = others; cut = cut; numbered = ended.1; so = (ended.0, ended.2) }
-stopped_there front lines others line old new is Writes OutputFault cut ended = tt
-stopped_there front lines others line old new is Writes Usage cut ended = absurd cc
-stopped_there front lines others line old new is Writes CannotRead cut ended = absurd cc
-stopped_there front lines others line old new is Writes (BadConfig fault) cut ended = absurd cc
-stopped_there front lines others line old new is Writes (BadPiece number) cut ended = absurd cc
-stopped_there front lines others line old new is Writes (TooManyConnections number) cut ended = absurd cc
-stopped_there front lines others line old new is Writes InputFault cut ended = absurd cc
-stopped_there front lines others line old new is Writes SocketFault cut ended = absurd cc
-stopped_there front lines others line old new is Writes NoMemory cut ended = absurd cc
+stopped_there front lines others line old new is Writes OutputFault cut ended =
+    record { front = front ++ line ∷ []; others = others; cut = cut ∙ sym (append_assoc front (line ∷ []) others); so = ended.1 }
+stopped_there front lines others line old new is Writes Usage cut ended = let is_so : Usage ≡ OutputFault = ended.0 in absurd cc
+stopped_there front lines others line old new is Writes CannotRead cut ended = let is_so : CannotRead ≡ OutputFault = ended.0 in absurd cc
+stopped_there front lines others line old new is Writes (BadConfig fault) cut ended = let is_so : BadConfig fault ≡ OutputFault = ended.0 in absurd cc
+stopped_there front lines others line old new is Writes (BadPiece number) cut ended = let is_so : BadPiece number ≡ OutputFault = ended.0 in absurd cc
+stopped_there front lines others line old new is Writes (TooManyConnections number) cut ended = let is_so : TooManyConnections number ≡ OutputFault = ended.0 in absurd cc
+stopped_there front lines others line old new is Writes InputFault cut ended = let is_so : InputFault ≡ OutputFault = ended.0 in absurd cc
+stopped_there front lines others line old new is Writes SocketFault cut ended = let is_so : SocketFault ≡ OutputFault = ended.0 in absurd cc
+stopped_there front lines others line old new is Writes NoMemory cut ended = let is_so : NoMemory ≡ OutputFault = ended.0 in absurd cc
 
 -- it stops at a line
 pub asked_stopped : (known : Option (List ℕ)) (lines others : Option (List (List ℕ))) (line : List ℕ) (old mid new : Hosting) (was is : ℕ) (Before Writes : List ℕ → Type 0) (stop : Stop)
@@ -196,7 +208,7 @@ kept_so lines old new a b c (Err (BadExchange number)) kept asked = record {
   numbered = asked.numbered;
   so = (asked.so.0, done_kept asked.front old new a b c kept asked.so.1);
 }
-kept_so lines old new a b c (Err OutputFault) kept asked = tt
+kept_so lines old new a b c (Err OutputFault) kept asked = asked
 kept_so lines old new a b c (Err Usage) kept asked = begun_kept lines old new a b c kept asked
 kept_so lines old new a b c (Err CannotRead) kept asked = begun_kept lines old new a b c kept asked
 kept_so lines old new a b c (Err (BadConfig fault)) kept asked = begun_kept lines old new a b c kept asked
@@ -213,7 +225,31 @@ asked_kept known old new a b c result kept asked =
     known_so known (λ (input : List ℕ). AreAsked (lines_of input) old result new (Appends a b)) (λ (input : List ℕ). AreAsked (lines_of input) old result new (Appends a c))
     (λ input so. kept_so (lines_of input) old new a b c result kept so) asked
 
--- where that fails nothing is said
-pub asked_unwritten : (known : Option (List ℕ)) (old new : Hosting) (Writes : List ℕ → Type 0)
-    → IfSome known (λ (input : List ℕ). AreAsked (lines_of input) old (Err OutputFault) new Writes)
-asked_unwritten known old new Writes = known_all known (λ (input : List ℕ). AreAsked (lines_of input) old (Err OutputFault) new Writes) (λ input. tt)
+-- where that fails the same lines were done, but nothing is said of what was written
+first_unsaid : (lines : List (List ℕ)) (old new : Hosting) (Writes : List ℕ → Type 0) → AreFirst lines (λ front. AreDone front old new Writes)
+    → AreFirst lines (λ front. AreDone front old new IsUnsaid)
+first_unsaid lines old new Writes begun =
+    record { front = begun.front; others = begun.others; cut = begun.cut; so = done_unsaid begun.front old new Writes begun.so }
+
+unsaid_so : (lines : List (List ℕ)) (old new : Hosting) (Writes : List ℕ → Type 0) (result : Result Unit Stop) → AreAsked lines old result new Writes
+    → AreFirst lines (λ front. AreDone front old new IsUnsaid)
+unsaid_so lines old new Writes (Ok done) asked =
+    record { front = lines; others = []; cut = sym (append-nil lines); so = done_unsaid lines old new Writes asked }
+unsaid_so lines old new Writes (Err (BadExchange number)) asked =
+    record { front = asked.front; others = asked.line ∷ asked.others; cut = asked.cut; so = done_unsaid asked.front old new Writes asked.so.1 }
+unsaid_so lines old new Writes (Err OutputFault) asked = asked
+unsaid_so lines old new Writes (Err Usage) asked = first_unsaid lines old new Writes asked
+unsaid_so lines old new Writes (Err CannotRead) asked = first_unsaid lines old new Writes asked
+unsaid_so lines old new Writes (Err (BadConfig fault)) asked = first_unsaid lines old new Writes asked
+unsaid_so lines old new Writes (Err (BadPiece number)) asked = first_unsaid lines old new Writes asked
+unsaid_so lines old new Writes (Err (TooManyConnections number)) asked = first_unsaid lines old new Writes asked
+unsaid_so lines old new Writes (Err InputFault) asked = first_unsaid lines old new Writes asked
+unsaid_so lines old new Writes (Err SocketFault) asked = first_unsaid lines old new Writes asked
+unsaid_so lines old new Writes (Err NoMemory) asked = first_unsaid lines old new Writes asked
+
+pub asked_unwritten : (known : Option (List ℕ)) (old new : Hosting) (Writes Others : List ℕ → Type 0) (result : Result Unit Stop)
+    → IfSome known (λ (input : List ℕ). AreAsked (lines_of input) old result new Writes)
+    → IfSome known (λ (input : List ℕ). AreAsked (lines_of input) old (Err OutputFault) new Others)
+asked_unwritten known old new Writes Others result asked =
+    known_so known (λ (input : List ℕ). AreAsked (lines_of input) old result new Writes) (λ (input : List ℕ). AreAsked (lines_of input) old (Err OutputFault) new Others)
+    (λ input so. unsaid_so (lines_of input) old new Writes result so) asked

@@ -1,5 +1,5 @@
 -- The lines of a trace are followed one after the other, and what comes of it.
-use Rattle.std.proofs.Common.{◌≡◌, ◌∙◌, inl, inr, ℕ, ◌+◌, ◌-◌, ◌^◌, min, true, false, List, [], ◌∷◌, ◌++◌, length, map, filter, Option, None, Some, IfErr, IfSome, OnOk, Result, Ok, Err, refl, sym, ap, subst, append-nil}
+use Rattle.std.proofs.Common.{◌≡◌, ◌∙◌, inl, inr, ℕ, ◌+◌, ◌-◌, ◌^◌, min, true, false, List, [], ◌∷◌, ◌++◌, length, map, filter, Option, None, Some, MatchOption, IfErr, IfSome, OnOk, Result, Ok, Err, refl, sym, ap, subst, append-nil}
 use Rattle.std.specs.BTreeMap.{BTreeMap, get, is_at}
 use Rattle.std.specs.Io.KnownBytes.{Appends, Keeps}
 use Rattle.std.specs.List.{flat_map}
@@ -14,16 +14,35 @@ use Rattle.oai_front.specs.Performing.{Chain, Steps}
 use Rattle.oai_front.specs.declared.numbers.ConnId.{ConnId}
 use Rattle.oai_edge.specs.Events.{IsTold, told}
 use Rattle.oai_edge.specs.Inputs.{IsNext, IsUnread}
-use Rattle.oai_edge.specs.Lines.{is_filled}
-use Rattle.oai_edge.specs.Places.{lines_of}
+use Rattle.oai_edge.specs.Lines.{IsUnsaid, is_filled}
+use Rattle.oai_edge.specs.Outputs.{IsApart, OneChanges, OthersStay}
+use Rattle.oai_edge.specs.Places.{AreFirst, lines_of}
 use Rattle.oai_edge.specs.Stops.{StopsTracing}
-use Rattle.oai_edge.specs.Traces.{AreFollowed, AreTraced, AreTracedTo, IsFollowed, IsFollowedOn, IsOf, IsTraced, Shown, Tracing, shown_on, untold}
+use Rattle.oai_edge.specs.Traces.{AreFollowed, AreTraced, AreTracedTo, IsBrokenOff, IsFirst, IsFollowed, IsFollowedOn, IsOf, IsRefused, IsTraced, Shown, Tracing, shown_on, untold}
 use Rattle.oai_edge.specs.Workings.{AreCounted, IsBroken, IsLine, IsReadSoFar, IsUnopened}
 use Rattle.oai_edge.specs.declared.events.Event.{Event}
 use Rattle.oai_edge.specs.declared.stop.Stop.{Stop}
 use Rattle.oai_edge.specs.declared.stop.Stop.TheVariants.{BadConfig, BadExchange, BadPiece, CannotRead, InputFault, NoMemory, OutputFault, SocketFault, TooManyConnections, Usage}
+use Rattle.oai_edge.proofs.Apart.{equal_others, opened_others, others_then}
 use Rattle.oai_edge.proofs.KnownLemmas.{appends_both, appends_kept, appends_none}
 use Rattle.oai_edge.proofs.ReadLemmas.{counted_next, known_all, known_so, number_next, read_front, read_to, read_whole}
+
+-- ---- one connection
+
+pub one_same : {H : Type 0} (state : State H) → OneChanges state state
+one_same state = (0, equal_others 0 state state refl)
+
+-- the connection of the label was opened, or was known, and no other was changed then
+one_of : {H : Type 0} (label : ℕ) (conn : ConnId) (old mid : Tracing H) (new : State H) → IsOf label old (Some conn) mid → IsApart conn.number mid.front new → OneChanges old.front new
+one_of {H} label conn old mid new of apart = by_name (old.names label) of
+  where
+    by_name : (o : Option (Option ConnId)) → MatchOption o (IsFirst label old (Some conn) mid) (λ (known : Option ConnId). (Some conn ≡ known) × (mid ≡ old)) → OneChanges old.front new
+    by_name None first =
+        let opened = opened_others (old.front.last + 1) (old.front.last + 1) old.front mid.front first.0.3 in
+        let away = subst (λ (number : ℕ). OthersStay number old.front mid.front) (sym first.0.1) opened in
+        (conn.number, others_then conn.number old.front mid.front new away apart.others)
+    by_name (Some known) same =
+        (conn.number, others_then conn.number old.front mid.front new (equal_others conn.number old.front mid.front (ap (λ (t : Tracing H). t.front) same.1)) apart.others)
 
 -- ---- a line
 
@@ -36,28 +55,28 @@ pub line_untold : {H : Type 0} (step : Steps H) (line : List ℕ) (number : ℕ)
     → IsTold line number (Err stop) → IsLine step line number state (Err stop) state (Appends known known)
 line_untold step line number state known (BadPiece at) full said = (said.1, full, said.0, refl, appends_none known)
 line_untold step line number state known (TooManyConnections at) full said = absurd cc
-line_untold step line number state known Usage full said = inr said
-line_untold step line number state known CannotRead full said = inr said
-line_untold step line number state known (BadConfig fault) full said = inr said
-line_untold step line number state known (BadExchange at) full said = inr said
-line_untold step line number state known InputFault full said = inr said
-line_untold step line number state known OutputFault full said = inr said
-line_untold step line number state known SocketFault full said = inr said
-line_untold step line number state known NoMemory full said = inr said
+line_untold step line number state known Usage full said = (inr said, one_same state.front)
+line_untold step line number state known CannotRead full said = (inr said, one_same state.front)
+line_untold step line number state known (BadConfig fault) full said = (inr said, one_same state.front)
+line_untold step line number state known (BadExchange at) full said = (inr said, one_same state.front)
+line_untold step line number state known InputFault full said = (inr said, one_same state.front)
+line_untold step line number state known OutputFault full said = (inr said, one_same state.front)
+line_untold step line number state known SocketFault full said = (inr said, one_same state.front)
+line_untold step line number state known NoMemory full said = (inr said, one_same state.front)
 
 -- no connection stands for its label
 pub line_unopened : {H : Type 0} (step : Steps H) (line : List ℕ) (number : ℕ) (event : Event) (old new : Tracing H) (known : Option (List ℕ)) (stop : Stop) → told line ≡ Some event
     → IsUnopened number event.label old new.front stop → IsLine step line number old (Err stop) new (Appends known known)
 line_unopened step line number event old new known (TooManyConnections at) tells why = (why.0, (event, tells, why.1), appends_none known)
 line_unopened step line number event old new known (BadPiece at) tells why = let is : BadPiece at ≡ NoMemory = why.0 in absurd cc
-line_unopened step line number event old new known Usage tells why = inr why.0
-line_unopened step line number event old new known CannotRead tells why = inr why.0
-line_unopened step line number event old new known (BadConfig fault) tells why = inr why.0
-line_unopened step line number event old new known (BadExchange at) tells why = inr why.0
-line_unopened step line number event old new known InputFault tells why = inr why.0
-line_unopened step line number event old new known OutputFault tells why = inr why.0
-line_unopened step line number event old new known SocketFault tells why = inr why.0
-line_unopened step line number event old new known NoMemory tells why = inr why.0
+line_unopened step line number event old new known Usage tells why = (inr why.0, why.2)
+line_unopened step line number event old new known CannotRead tells why = (inr why.0, why.2)
+line_unopened step line number event old new known (BadConfig fault) tells why = (inr why.0, why.2)
+line_unopened step line number event old new known (BadExchange at) tells why = (inr why.0, why.2)
+line_unopened step line number event old new known InputFault tells why = (inr why.0, why.2)
+line_unopened step line number event old new known OutputFault tells why = (inr why.0, why.2)
+line_unopened step line number event old new known SocketFault tells why = (inr why.0, why.2)
+line_unopened step line number event old new known NoMemory tells why = (inr why.0, why.2)
 
 -- its connection was forgotten
 pub line_forgotten : {H : Type 0} (step : Steps H) (line : List ℕ) (number : ℕ) (event : Event) (old mid : Tracing H) (known : Option (List ℕ)) → is_filled line ≡ true
@@ -67,16 +86,17 @@ line_forgotten step line number event old mid known full tells of =
 
 -- what it tells is followed on its connection, or is not to the end
 line_broken : {H : Type 0} (step : Steps H) (line : List ℕ) (number : ℕ) (old new : Tracing H) (Writes : List ℕ → Type 0) (stop : Stop) → IsBroken stop
-    → IsLine step line number old (Err stop) new Writes
-line_broken step line number old new Writes stop (inl is) = subst (λ (s : Stop). IsLine step line number old (Err s) new Writes) (sym is) (inl refl)
-line_broken step line number old new Writes stop (inr is) = subst (λ (s : Stop). IsLine step line number old (Err s) new Writes) (sym is) (inr refl)
+    → OneChanges old.front new.front → IsLine step line number old (Err stop) new Writes
+line_broken step line number old new Writes stop (inl is) one = subst (λ (s : Stop). IsLine step line number old (Err s) new Writes) (sym is) (inl refl, one)
+line_broken step line number old new Writes stop (inr is) one = subst (λ (s : Stop). IsLine step line number old (Err s) new Writes) (sym is) (inr refl, one)
 
 pub line_followed : {H : Type 0} (step : Steps H) (line : List ℕ) (number : ℕ) (event : Event) (conn : ConnId) (old mid new : Tracing H) (Writes : List ℕ → Type 0)
     (result : Result Unit Stop) → is_filled line ≡ true → told line ≡ Some event → IsOf event.label old (Some conn) mid → OnOk result (IsTraced step event conn mid new Writes)
-    → IfErr result IsBroken → IsLine step line number old result new Writes
-line_followed step line number event conn old mid new Writes (Ok done) full tells of traced broken =
+    → IfErr result IsBroken → IsApart conn.number mid.front new.front → IsLine step line number old result new Writes
+line_followed step line number event conn old mid new Writes (Ok done) full tells of traced broken apart =
     inr (record { filled = full; event = event; tells = tells; followed = record { conn = Some conn; mid = mid; of = of; on = traced } })
-line_followed step line number event conn old mid new Writes (Err stop) full tells of traced broken = line_broken step line number old new Writes stop broken
+line_followed step line number event conn old mid new Writes (Err stop) full tells of traced broken apart =
+    line_broken step line number old new Writes stop broken (one_of event.label conn old mid new.front of apart)
 
 -- ---- lines that are followed
 
@@ -143,6 +163,11 @@ told_more step front line event old mid new from was is full tells last done =
           subst (Appends from is) (sym all) (appends_both from was is (flat_map (λ (e : Shown). e.text) done.events) said.0 done.written said.2);
     }
 
+-- where nothing is said of what was written
+followed_unsaid : {H : Type 0} (step : Steps H) (lines : List (List ℕ)) (old : State H) (new : Tracing H) (Writes : List ℕ → Type 0) → AreFollowed step lines old new Writes
+    → AreFollowed step lines old new IsUnsaid
+followed_unsaid step lines old new Writes done = record { events = done.events; read = done.read; run = done.run; written = tt }
+
 -- what is not written any more
 followed_on : {H : Type 0} (step : Steps H) (lines : List (List ℕ)) (old : State H) (new : Tracing H) (a b c : Option (List ℕ)) → Appends b c []
     → AreFollowed step lines old new (Appends a b) → AreFollowed step lines old new (Appends a c)
@@ -180,23 +205,24 @@ pub line_stops : {H : Type 0} (step : Steps H) (line : List ℕ) (number : ℕ) 
     → IsLine step line number old (Err stop) new Writes → StopsTracing stop
 line_stops step line number old new Writes (BadPiece at) is = tt
 line_stops step line number old new Writes (TooManyConnections at) is = tt
-line_stops step line number old new Writes Usage is = broken_stops Usage is
-line_stops step line number old new Writes CannotRead is = broken_stops CannotRead is
-line_stops step line number old new Writes (BadConfig fault) is = broken_stops (BadConfig fault) is
-line_stops step line number old new Writes (BadExchange at) is = broken_stops (BadExchange at) is
+line_stops step line number old new Writes Usage is = broken_stops Usage is.0
+line_stops step line number old new Writes CannotRead is = broken_stops CannotRead is.0
+line_stops step line number old new Writes (BadConfig fault) is = broken_stops (BadConfig fault) is.0
+line_stops step line number old new Writes (BadExchange at) is = broken_stops (BadExchange at) is.0
 line_stops step line number old new Writes InputFault is = tt
 line_stops step line number old new Writes OutputFault is = tt
-line_stops step line number old new Writes SocketFault is = broken_stops SocketFault is
+line_stops step line number old new Writes SocketFault is = broken_stops SocketFault is.0
 line_stops step line number old new Writes NoMemory is = tt
 
 pub unread_stops : (stop : Stop) → IsUnread stop → StopsTracing stop
 unread_stops stop (inl is) = subst StopsTracing (sym is) tt
 unread_stops stop (inr is) = subst StopsTracing (sym is) tt
 
-broken_traced : {H : Type 0} (step : Steps H) (lines : List (List ℕ)) (old new : State H) (Writes : List ℕ → Type 0) (stop : Stop) → IsBroken stop
-    → AreTraced step lines old (Err stop) new Writes
-broken_traced step lines old new Writes stop (inl is) = subst (λ (s : Stop). AreTraced step lines old (Err s) new Writes) (sym is) tt
-broken_traced step lines old new Writes stop (inr is) = subst (λ (s : Stop). AreTraced step lines old (Err s) new Writes) (sym is) tt
+-- the lines in front were followed, and the next one not to its end
+broken_off : {H : Type 0} (step : Steps H) (front lines others : List (List ℕ)) (old : State H) (mid : Tracing H) (new : State H) (count : ℕ) (Writes : List ℕ → Type 0)
+    → lines ≡ front ++ others → AreCounted step old mid count Writes front → OneChanges mid.front new → AreFirst lines (IsBrokenOff step old new)
+broken_off step front lines others old mid new count Writes cut done one =
+    record { front = front; others = others; cut = cut; so = record { mid = mid; followed = followed_unsaid step front old mid Writes done.followed; one = one } }
 
 stopped_there : {H : Type 0} (step : Steps H) (front lines others : List (List ℕ)) (line : List ℕ) (old : State H) (mid new : Tracing H) (was is : ℕ) (from before after : Option (List ℕ))
     (stop : Stop) → is ≡ min (was + 1) (2 ^ 64 - 1) → lines ≡ front ++ line ∷ others → IsLine step line is mid (Err stop) new (Appends before after)
@@ -227,16 +253,21 @@ stopped_there step front lines others line old mid new was is from before after 
     refused = here.1.2;
   };
 }
-stopped_there step front lines others line old mid new was is from before after Usage counted cut here done = broken_traced step lines old new.front (Appends from after) Usage here
-stopped_there step front lines others line old mid new was is from before after CannotRead counted cut here done = broken_traced step lines old new.front (Appends from after) CannotRead here
+stopped_there step front lines others line old mid new was is from before after Usage counted cut here done =
+    broken_off step front lines (line ∷ others) old mid new.front was (Appends from before) cut done here.1
+stopped_there step front lines others line old mid new was is from before after CannotRead counted cut here done =
+    broken_off step front lines (line ∷ others) old mid new.front was (Appends from before) cut done here.1
 stopped_there step front lines others line old mid new was is from before after (BadConfig fault) counted cut here done =
-    broken_traced step lines old new.front (Appends from after) (BadConfig fault) here
+    broken_off step front lines (line ∷ others) old mid new.front was (Appends from before) cut done here.1
 stopped_there step front lines others line old mid new was is from before after (BadExchange at) counted cut here done =
-    broken_traced step lines old new.front (Appends from after) (BadExchange at) here
-stopped_there step front lines others line old mid new was is from before after InputFault counted cut here done = broken_traced step lines old new.front (Appends from after) InputFault here
-stopped_there step front lines others line old mid new was is from before after OutputFault counted cut here done = tt
-stopped_there step front lines others line old mid new was is from before after SocketFault counted cut here done = broken_traced step lines old new.front (Appends from after) SocketFault here
-stopped_there step front lines others line old mid new was is from before after NoMemory counted cut here done = tt
+    broken_off step front lines (line ∷ others) old mid new.front was (Appends from before) cut done here.1
+stopped_there step front lines others line old mid new was is from before after InputFault counted cut here done = absurd (elim here.0 [ inl is ↦ cc | inr is ↦ cc ])
+stopped_there step front lines others line old mid new was is from before after OutputFault counted cut here done =
+    broken_off step front lines (line ∷ others) old mid new.front was (Appends from before) cut done here.1
+stopped_there step front lines others line old mid new was is from before after SocketFault counted cut here done =
+    broken_off step front lines (line ∷ others) old mid new.front was (Appends from before) cut done here.1
+stopped_there step front lines others line old mid new was is from before after NoMemory counted cut here done =
+    broken_off step front lines (line ∷ others) old mid new.front was (Appends from before) cut done here.1
 
 -- ---- the whole input
 
@@ -259,7 +290,8 @@ unread_so : {H : Type 0} (step : Steps H) (front others lines : List (List ℕ))
     → lines ≡ front ++ others → AreCounted step old new count Writes front → AreTraced step lines old (Err stop) new.front Writes
 unread_so step front others lines old new count Writes stop (inl is) cut done =
     subst (λ (s : Stop). AreTraced step lines old (Err s) new.front Writes) (sym is) (record { front = front; others = others; cut = cut; so = (new.names, done.followed) })
-unread_so step front others lines old new count Writes stop (inr is) cut done = subst (λ (s : Stop). AreTraced step lines old (Err s) new.front Writes) (sym is) tt
+unread_so step front others lines old new count Writes stop (inr is) cut done =
+    subst (λ (s : Stop). AreTraced step lines old (Err s) new.front Writes) (sym is) (broken_off step front lines others old new new.front count Writes cut done (one_same new.front))
 
 pub traced_unread : {H : Type 0} (step : Steps H) (known : Option (List ℕ)) (lines : Option (List (List ℕ))) (old : State H) (new : Tracing H) (count : ℕ) (Writes : List ℕ → Type 0)
     (stop : Stop) → IsUnread stop → IsReadSoFar known lines (AreCounted step old new count Writes)
@@ -269,10 +301,19 @@ traced_unread step known lines old new count Writes stop cause so_far =
     (λ front others all cut done. unread_so step front others all old new count Writes stop cause cut done) so_far
 
 -- nothing of it is read
-pub traced_none : {H : Type 0} (step : Steps H) (known : Option (List ℕ)) (old new : State H) (Writes : List ℕ → Type 0) (stop : Stop) → stop ≡ NoMemory
-    → IfSome known (λ (input : List ℕ). AreTraced step (lines_of input) old (Err stop) new Writes)
-traced_none step known old new Writes stop is =
-    known_all known (λ (input : List ℕ). AreTraced step (lines_of input) old (Err stop) new Writes) (λ input. broken_traced step (lines_of input) old new Writes stop (inr is))
+pub traced_none : {H : Type 0} (step : Steps H) (known : Option (List ℕ)) (front : State H) (Writes : List ℕ → Type 0) (stop : Stop) → stop ≡ NoMemory
+    → IfSome known (λ (input : List ℕ). AreTraced step (lines_of input) front (Err stop) front Writes)
+traced_none {H} step known front Writes stop is =
+    known_all known (λ (input : List ℕ). AreTraced step (lines_of input) front (Err stop) front Writes)
+    (λ input. subst (λ (s : Stop). AreTraced step (lines_of input) front (Err s) front Writes) (sym is) (begun (lines_of input)))
+  where
+    begun : (lines : List (List ℕ)) → AreFirst lines (IsBrokenOff step front front)
+    begun lines = record {
+      front = [];
+      others = lines;
+      cut = refl;
+      so = record { mid = untold front; followed = record { events = []; read = refl; run = refl; written = tt }; one = one_same front };
+    }
 
 -- ---- what was written is kept
 
@@ -312,13 +353,13 @@ kept_so step lines old new a b c (Err (TooManyConnections number)) kept traced =
 }
 kept_so step lines old new a b c (Err InputFault) kept traced =
     record { front = traced.front; others = traced.others; cut = traced.cut; so = to_kept step traced.front old new a b c kept traced.so }
-kept_so step lines old new a b c (Err Usage) kept traced = tt
-kept_so step lines old new a b c (Err CannotRead) kept traced = tt
-kept_so step lines old new a b c (Err (BadConfig fault)) kept traced = tt
-kept_so step lines old new a b c (Err (BadExchange number)) kept traced = tt
-kept_so step lines old new a b c (Err OutputFault) kept traced = tt
-kept_so step lines old new a b c (Err SocketFault) kept traced = tt
-kept_so step lines old new a b c (Err NoMemory) kept traced = tt
+kept_so step lines old new a b c (Err Usage) kept traced = traced
+kept_so step lines old new a b c (Err CannotRead) kept traced = traced
+kept_so step lines old new a b c (Err (BadConfig fault)) kept traced = traced
+kept_so step lines old new a b c (Err (BadExchange number)) kept traced = traced
+kept_so step lines old new a b c (Err OutputFault) kept traced = traced
+kept_so step lines old new a b c (Err SocketFault) kept traced = traced
+kept_so step lines old new a b c (Err NoMemory) kept traced = traced
 
 -- what was traced is flushed
 pub traced_kept : {H : Type 0} (step : Steps H) (known : Option (List ℕ)) (old new : State H) (a b c : Option (List ℕ)) (result : Result Unit Stop) → Keeps b c
@@ -328,7 +369,53 @@ traced_kept step known old new a b c result kept traced =
     known_so known (λ (input : List ℕ). AreTraced step (lines_of input) old result new (Appends a b)) (λ (input : List ℕ). AreTraced step (lines_of input) old result new (Appends a c))
     (λ input so. kept_so step (lines_of input) old new a b c result kept so) traced
 
--- where that fails nothing is said
-pub traced_unwritten : {H : Type 0} (step : Steps H) (known : Option (List ℕ)) (old new : State H) (Writes : List ℕ → Type 0)
-    → IfSome known (λ (input : List ℕ). AreTraced step (lines_of input) old (Err OutputFault) new Writes)
-traced_unwritten step known old new Writes = known_all known (λ (input : List ℕ). AreTraced step (lines_of input) old (Err OutputFault) new Writes) (λ input. tt)
+-- where that fails the same lines were followed, but nothing is said of what was written
+refused_same : {H : Type 0} (label : ℕ) (mid : Tracing H) (new : State H) → IsRefused label mid new → OneChanges mid.front new
+refused_same label mid new refused = elim refused.1 [
+  | inl full ↦ (0, equal_others 0 mid.front new full.1)
+  | inr spent ↦ (0, equal_others 0 mid.front new spent.2)
+]
+
+to_broken : {H : Type 0} (step : Steps H) (old new : State H) (Writes : List ℕ → Type 0) (front : List (List ℕ)) → AreTracedTo step old new Writes front → IsBrokenOff step old new front
+to_broken step old new Writes front to = record {
+  mid = record { front = new; names = to.0 };
+  followed = followed_unsaid step front old (record { front = new; names = to.0 }) Writes to.1;
+  one = one_same new;
+}
+
+unsaid_so : {H : Type 0} (step : Steps H) (lines : List (List ℕ)) (old new : State H) (Writes : List ℕ → Type 0) (result : Result Unit Stop) → AreTraced step lines old result new Writes
+    → AreFirst lines (IsBrokenOff step old new)
+unsaid_so step lines old new Writes (Ok done) traced =
+    record { front = lines; others = []; cut = sym (append-nil lines); so = to_broken step old new Writes lines traced }
+unsaid_so step lines old new Writes (Err (BadPiece number)) traced = record {
+  front = traced.front;
+  others = traced.line ∷ traced.others;
+  cut = traced.cut;
+  so = to_broken step old new Writes traced.front traced.so.2;
+}
+unsaid_so step lines old new Writes (Err (TooManyConnections number)) traced = record {
+  front = traced.front;
+  others = traced.line ∷ traced.others;
+  cut = traced.cut;
+  so = record {
+    mid = traced.so.mid;
+    followed = followed_unsaid step traced.front old traced.so.mid Writes traced.so.followed;
+    one = refused_same traced.so.event.label traced.so.mid new traced.so.refused;
+  };
+}
+unsaid_so step lines old new Writes (Err InputFault) traced =
+    record { front = traced.front; others = traced.others; cut = traced.cut; so = to_broken step old new Writes traced.front traced.so }
+unsaid_so step lines old new Writes (Err Usage) traced = traced
+unsaid_so step lines old new Writes (Err CannotRead) traced = traced
+unsaid_so step lines old new Writes (Err (BadConfig fault)) traced = traced
+unsaid_so step lines old new Writes (Err (BadExchange number)) traced = traced
+unsaid_so step lines old new Writes (Err OutputFault) traced = traced
+unsaid_so step lines old new Writes (Err SocketFault) traced = traced
+unsaid_so step lines old new Writes (Err NoMemory) traced = traced
+
+pub traced_unwritten : {H : Type 0} (step : Steps H) (known : Option (List ℕ)) (old new : State H) (Writes Others : List ℕ → Type 0) (result : Result Unit Stop)
+    → IfSome known (λ (input : List ℕ). AreTraced step (lines_of input) old result new Writes)
+    → IfSome known (λ (input : List ℕ). AreTraced step (lines_of input) old (Err OutputFault) new Others)
+traced_unwritten step known old new Writes Others result traced =
+    known_so known (λ (input : List ℕ). AreTraced step (lines_of input) old result new Writes) (λ (input : List ℕ). AreTraced step (lines_of input) old (Err OutputFault) new Others)
+    (λ input so. unsaid_so step (lines_of input) old new Writes result so) traced

@@ -5,7 +5,7 @@ use Rattle.oai_host.specs.Exchanged.{AreExchanged}
 use Rattle.oai_host.specs.Hosts.{AreAnswered, Hosting}
 use Rattle.oai_host.specs.declared.exchanges.Answer.{Answer}
 use Rattle.oai_host.specs.declared.exchanges.Call.{Call}
-use Rattle.oai_edge.specs.Lines.{is_bad, is_filled, shown, spelled}
+use Rattle.oai_edge.specs.Lines.{IsUnsaid, is_bad, is_filled, shown, spelled}
 use Rattle.oai_edge.specs.Places.{AreFirst, IsAt}
 use Rattle.oai_edge.specs.declared.stop.Stop.{Stop}
 use Rattle.oai_edge.specs.declared.stop.Stop.TheVariants.{BadExchange, OutputFault}
@@ -19,9 +19,10 @@ pub record AreDone (lines : List (List ℕ)) (old new : Hosting) (Writes : List 
   pub exchanged : AreExchanged calls answers old new
   pub written : Writes (flat_map shown answers)
 
--- what comes of the lines: all were done, or all before the first bad one, or the first of them; where the output failed nothing is said
+-- what comes of the lines: all were done, or all before the first bad one, or the first of them; these too where the output failed, but that of
+-- what was written nothing is said
 abbrev pub AreAsked : List (List ℕ) → Hosting → Result Unit Stop → Hosting → (List ℕ → Type 0) → Type 0
 AreAsked lines old (Ok done) new Writes = AreDone lines old new Writes
 AreAsked lines old (Err (BadExchange number)) new Writes = IsAt number lines (λ front line. (is_bad line ≡ true) × AreDone front old new Writes)
-AreAsked lines old (Err OutputFault) new Writes = Unit {0}
+AreAsked lines old (Err OutputFault) new Writes = AreFirst lines (λ front. AreDone front old new IsUnsaid)
 AreAsked lines old (Err stop) new Writes = AreFirst lines (λ front. AreDone front old new Writes)

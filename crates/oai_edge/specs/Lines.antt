@@ -91,3 +91,7 @@ pub record IsLineDone (bytes : List ℕ) (old new : Hosting) (IsWritten : List �
   pub read : spelled bytes ≡ Some call
   pub exchanged : IsExchanged call answer old new
   pub written : IsWritten (shown answer)
+
+-- of what is written nothing is said
+abbrev pub IsUnsaid : List ℕ → Type 0
+IsUnsaid text = Unit {0}

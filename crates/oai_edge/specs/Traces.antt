@@ -11,8 +11,8 @@ use Rattle.oai_front.specs.declared.faults.OpenFault.TheVariants as refusal
 use Rattle.oai_front.specs.declared.faults.PieceFault.{PieceFault}
 use Rattle.oai_front.specs.declared.numbers.ConnId.{ConnId}
 use Rattle.oai_edge.specs.Events.{shown_close, shown_output, told}
-use Rattle.oai_edge.specs.Lines.{is_filled}
-use Rattle.oai_edge.specs.Outputs.{IsApart, output_in, with_output}
+use Rattle.oai_edge.specs.Lines.{IsUnsaid, is_filled}
+use Rattle.oai_edge.specs.Outputs.{IsApart, OneChanges, output_in, with_output}
 use Rattle.oai_edge.specs.Places.{AreFirst, IsAt}
 use Rattle.oai_edge.specs.declared.events.Event.{Event}
 use Rattle.oai_edge.specs.declared.stop.Stop.{Stop}
@@ -131,11 +131,17 @@ pub record IsFullBehind {H : Type 0} (step : Steps H) (old new : State H) (Write
   pub followed : AreFollowed step front old mid Writes
   pub refused : IsRefused event.label mid new
 
+-- those in front were followed, and the next one not to its end: it has changed no connection but one. Of what was written nothing is said
+pub record IsBrokenOff {H : Type 0} (step : Steps H) (old new : State H) (front : List (List ℕ)) : Type 0 where
+  pub mid : Tracing H
+  pub followed : AreFollowed step front old mid IsUnsaid
+  pub one : OneChanges mid.front new
+
 -- what comes of the lines: all were followed, or all before the first that is bad or for which no connection can be opened, or the first of them;
--- where the output failed or memory was refused nothing is said
+-- where the output failed or memory was refused, it may have broken off in the next one
 abbrev pub AreTraced : {H : Type 0} → Steps H → List (List ℕ) → State H → Result Unit Stop → State H → (List ℕ → Type 0) → Type 0
 AreTraced step lines old (Ok done) new Writes = AreTracedTo step old new Writes lines
 AreTraced step lines old (Err (BadPiece number)) new Writes = IsAt number lines (IsBadBehind step old new Writes)
 AreTraced step lines old (Err (TooManyConnections number)) new Writes = IsAt number lines (IsFullBehind step old new Writes)
 AreTraced step lines old (Err InputFault) new Writes = AreFirst lines (AreTracedTo step old new Writes)
-AreTraced step lines old (Err stop) new Writes = Unit {0}
+AreTraced step lines old (Err stop) new Writes = AreFirst lines (IsBrokenOff step old new)

@@ -105,6 +105,8 @@ fn perform_line<V: Versions + Drop, W: Write>(
         ≡ OutputFault) }
     ensures done { OnOk result (spec.IsLineDone line.now host.old host.new
         (Appends (W.Write.contents writer.old) (W.Write.contents writer.new))) }
+    ensures performed { is_none (spec.spelled line.now) ≡ false
+        → spec.IsLineDone line.now host.old host.new spec.IsUnsaid }
     ensures honesty { host.new.honest ≡ host.old.honest }
 {
     let Some((moment, exchange)) = read_exchange(line) else {

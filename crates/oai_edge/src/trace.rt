@@ -125,6 +125,7 @@ fn trace_event<H: Handler, W: Write>(
         (tracing front.old labels.old) (tracing front.new labels.new)
         (Appends (W.Write.contents writer.old) (W.Write.contents writer.new))) }
     ensures err { IfErr result IsBroken }
+    ensures apart { IsApart conn.number front.old front.new }
     ensures used { IsUsed H.step front.old front.new }
 {
     deliver(front, conn, event)?;

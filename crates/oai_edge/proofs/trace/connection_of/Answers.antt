@@ -1,4 +1,7 @@
 -- A connection is opened for a label that is new.
+use Rattle.std.proofs.Common.{◌+◌, Ok, refl}
+use Rattle.oai_front.specs.Fronts.{IsOpening}
+use Rattle.oai_edge.proofs.Apart.{opened_others}
 use Rattle.oai_edge.proofs.UsedLemmas.{used_opening}
 use Rattle.oai_edge.proofs.trace.connection_of.Goals as goal
 
@@ -7,3 +10,9 @@ returns-in-Ok-insert-clause-used g c = used_opening g.H.Handler.step c.args.fron
 
 pub returns-in-Err-insert-clause-used : goal.returns-in-Err-insert-clause-used
 returns-in-Err-insert-clause-used g c = used_opening g.H.Handler.step c.args.front.now c.open.result c.open.new.self c.open.ensures
+
+pub returns-in-Err-insert-clause-refused : goal.returns-in-Err-insert-clause-refused
+returns-in-Err-insert-clause-refused g c =
+    let opened : IsOpening c.args.front.now (Ok c.in-Ok.conn) c.open.new.self = rw c.in-Ok.is at c.open.ensures in
+    let last = c.args.front.now.last in
+    (refl, opened.0, (last + 1, opened_others (last + 1) (last + 1) c.args.front.now c.open.new.self opened.3))

@@ -43,7 +43,7 @@ returns-in_err-lines-clause-traced g c =
     let written = g.W.Write.contents c.args.writer.now in
     let p = err_from_is_err_and c.from_residual.result c.from_residual.ensures.1 in
     rw (p.1, p.2)
-    (traced_none g.H.Handler.step (g.R.Read.remaining c.args.reader.now) c.args.front.now c.args.front.now (Appends written written) c.in_err-lines.field-0.0 c.in_err-lines.ensures.err)
+    (traced_none g.H.Handler.step (g.R.Read.remaining c.args.reader.now) c.args.front.now (Appends written written) c.in_err-lines.field-0.0 c.in_err-lines.ensures.err)
 
 pub returns-in_err-next-clause-traced : goal.returns-in_err-next-clause-traced
 returns-in_err-next-clause-traced g c =

@@ -21,7 +21,7 @@ returns-in-Some-clause-line g c =
     line_followed g.H.Handler.step c.args.line.now c.args.number c.in_ok-event.event c.in-Some.conn (tracing c.args.front.now c.args.labels.now)
     (tracing c.connection_of.new.front c.connection_of.new.labels) (tracing c.trace_event.new.front c.trace_event.new.labels)
     (Appends (g.W.Write.contents c.args.writer.now) (g.W.Write.contents c.trace_event.new.writer)) c.trace_event.result full c.in_ok-event.ensures of c.trace_event.ensures.traced
-    c.trace_event.ensures.err
+    c.trace_event.ensures.err c.trace_event.ensures.apart
 
 pub returns-clause-line : goal.returns-clause-line
 returns-clause-line g c =
