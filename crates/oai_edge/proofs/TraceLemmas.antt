@@ -15,10 +15,10 @@ use Rattle.oai_front.specs.declared.numbers.ConnId.{ConnId}
 use Rattle.oai_edge.specs.Events.{IsTold, told}
 use Rattle.oai_edge.specs.Inputs.{IsNext, IsUnread}
 use Rattle.oai_edge.specs.Lines.{IsUnsaid, is_filled}
-use Rattle.oai_edge.specs.Outputs.{IsApart, OneChanges, OthersStay}
-use Rattle.oai_edge.specs.Places.{AreFirst, lines_of}
+use Rattle.oai_edge.specs.Outputs.{IsApart, OthersStay}
+use Rattle.oai_edge.specs.Places.{lines_of}
 use Rattle.oai_edge.specs.Stops.{StopsTracing}
-use Rattle.oai_edge.specs.Traces.{AreFollowed, AreTraced, AreTracedTo, IsBrokenOff, IsFirst, IsFollowed, IsFollowedOn, IsOf, IsRefused, IsTraced, Shown, Tracing, shown_on, untold}
+use Rattle.oai_edge.specs.Traces.{AreFollowed, AreTraced, AreTracedTo, BeginsOnly, HasBegun, IsBrokenOff, IsFirst, IsFollowed, IsFollowedOn, IsOf, IsRefused, IsTraced, Shown, Tracing, number_or, shown_on, untold}
 use Rattle.oai_edge.specs.Workings.{AreCounted, IsBroken, IsLine, IsReadSoFar, IsUnopened}
 use Rattle.oai_edge.specs.declared.events.Event.{Event}
 use Rattle.oai_edge.specs.declared.stop.Stop.{Stop}
@@ -29,20 +29,31 @@ use Rattle.oai_edge.proofs.ReadLemmas.{counted_next, known_all, known_so, number
 
 -- ---- one connection
 
-pub one_same : {H : Type 0} (state : State H) → OneChanges state state
-one_same state = (0, equal_others 0 state state refl)
-
 -- the connection of the label was opened, or was known, and no other was changed then
-one_of : {H : Type 0} (label : ℕ) (conn : ConnId) (old mid : Tracing H) (new : State H) → IsOf label old (Some conn) mid → IsApart conn.number mid.front new → OneChanges old.front new
-one_of {H} label conn old mid new of apart = by_name (old.names label) of
+own_alone : {H : Type 0} (label : ℕ) (conn : ConnId) (old mid : Tracing H) (new : State H) → IsOf label old (Some conn) mid → IsApart conn.number mid.front new
+    → OthersStay (number_or (old.front.last + 1) (old.names label)) old.front new
+own_alone {H} label conn old mid new of apart = by_name (old.names label) of
   where
-    by_name : (o : Option (Option ConnId)) → MatchOption o (IsFirst label old (Some conn) mid) (λ (known : Option ConnId). (Some conn ≡ known) × (mid ≡ old)) → OneChanges old.front new
+    by_name : (o : Option (Option ConnId)) → MatchOption o (IsFirst label old (Some conn) mid) (λ (known : Option ConnId). (Some conn ≡ known) × (mid ≡ old))
+        → OthersStay (number_or (old.front.last + 1) o) old.front new
     by_name None first =
         let opened = opened_others (old.front.last + 1) (old.front.last + 1) old.front mid.front first.0.3 in
-        let away = subst (λ (number : ℕ). OthersStay number old.front mid.front) (sym first.0.1) opened in
-        (conn.number, others_then conn.number old.front mid.front new away apart.others)
-    by_name (Some known) same =
-        (conn.number, others_then conn.number old.front mid.front new (equal_others conn.number old.front mid.front (ap (λ (t : Tracing H). t.front) same.1)) apart.others)
+        let away = subst (λ (number : ℕ). OthersStay number mid.front new) first.0.1 apart.others in
+        others_then (old.front.last + 1) old.front mid.front new opened away
+    by_name (Some None) same = let is : Some conn ≡ None = same.0 in absurd cc
+    by_name (Some (Some known)) same =
+        let is : Some conn ≡ Some known = same.0 in
+        let own : conn ≡ known = cc in
+        let away = subst (λ (c : ConnId). OthersStay c.number mid.front new) own apart.others in
+        others_then known.number old.front mid.front new (equal_others known.number old.front mid.front (ap (λ (t : Tracing H). t.front) same.1)) away
+
+-- nothing was done
+begins_none : {H : Type 0} (lines : List (List ℕ)) (state : Tracing H) → BeginsOnly lines state state.front
+begins_none [] state = refl
+begins_none (line ∷ lines) state = inl refl
+
+begins_same : {H : Type 0} (line : List ℕ) (lines : List (List ℕ)) (state : Tracing H) (new : State H) → new ≡ state.front → BeginsOnly (line ∷ lines) state new
+begins_same line lines state new same = inl same
 
 -- ---- a line
 
@@ -55,28 +66,28 @@ pub line_untold : {H : Type 0} (step : Steps H) (line : List ℕ) (number : ℕ)
     → IsTold line number (Err stop) → IsLine step line number state (Err stop) state (Appends known known)
 line_untold step line number state known (BadPiece at) full said = (said.1, full, said.0, refl, appends_none known)
 line_untold step line number state known (TooManyConnections at) full said = absurd cc
-line_untold step line number state known Usage full said = (inr said, one_same state.front)
-line_untold step line number state known CannotRead full said = (inr said, one_same state.front)
-line_untold step line number state known (BadConfig fault) full said = (inr said, one_same state.front)
-line_untold step line number state known (BadExchange at) full said = (inr said, one_same state.front)
-line_untold step line number state known InputFault full said = (inr said, one_same state.front)
-line_untold step line number state known OutputFault full said = (inr said, one_same state.front)
-line_untold step line number state known SocketFault full said = (inr said, one_same state.front)
-line_untold step line number state known NoMemory full said = (inr said, one_same state.front)
+line_untold step line number state known Usage full said = (inr said, inl refl)
+line_untold step line number state known CannotRead full said = (inr said, inl refl)
+line_untold step line number state known (BadConfig fault) full said = (inr said, inl refl)
+line_untold step line number state known (BadExchange at) full said = (inr said, inl refl)
+line_untold step line number state known InputFault full said = (inr said, inl refl)
+line_untold step line number state known OutputFault full said = (inr said, inl refl)
+line_untold step line number state known SocketFault full said = (inr said, inl refl)
+line_untold step line number state known NoMemory full said = (inr said, inl refl)
 
 -- no connection stands for its label
 pub line_unopened : {H : Type 0} (step : Steps H) (line : List ℕ) (number : ℕ) (event : Event) (old new : Tracing H) (known : Option (List ℕ)) (stop : Stop) → told line ≡ Some event
     → IsUnopened number event.label old new.front stop → IsLine step line number old (Err stop) new (Appends known known)
 line_unopened step line number event old new known (TooManyConnections at) tells why = (why.0, (event, tells, why.1), appends_none known)
 line_unopened step line number event old new known (BadPiece at) tells why = let is : BadPiece at ≡ NoMemory = why.0 in absurd cc
-line_unopened step line number event old new known Usage tells why = (inr why.0, why.2)
-line_unopened step line number event old new known CannotRead tells why = (inr why.0, why.2)
-line_unopened step line number event old new known (BadConfig fault) tells why = (inr why.0, why.2)
-line_unopened step line number event old new known (BadExchange at) tells why = (inr why.0, why.2)
-line_unopened step line number event old new known InputFault tells why = (inr why.0, why.2)
-line_unopened step line number event old new known OutputFault tells why = (inr why.0, why.2)
-line_unopened step line number event old new known SocketFault tells why = (inr why.0, why.2)
-line_unopened step line number event old new known NoMemory tells why = (inr why.0, why.2)
+line_unopened step line number event old new known Usage tells why = (inr why.0, inr (record { event = event; tells = tells; others = why.2 }))
+line_unopened step line number event old new known CannotRead tells why = (inr why.0, inr (record { event = event; tells = tells; others = why.2 }))
+line_unopened step line number event old new known (BadConfig fault) tells why = (inr why.0, inr (record { event = event; tells = tells; others = why.2 }))
+line_unopened step line number event old new known (BadExchange at) tells why = (inr why.0, inr (record { event = event; tells = tells; others = why.2 }))
+line_unopened step line number event old new known InputFault tells why = (inr why.0, inr (record { event = event; tells = tells; others = why.2 }))
+line_unopened step line number event old new known OutputFault tells why = (inr why.0, inr (record { event = event; tells = tells; others = why.2 }))
+line_unopened step line number event old new known SocketFault tells why = (inr why.0, inr (record { event = event; tells = tells; others = why.2 }))
+line_unopened step line number event old new known NoMemory tells why = (inr why.0, inr (record { event = event; tells = tells; others = why.2 }))
 
 -- its connection was forgotten
 pub line_forgotten : {H : Type 0} (step : Steps H) (line : List ℕ) (number : ℕ) (event : Event) (old mid : Tracing H) (known : Option (List ℕ)) → is_filled line ≡ true
@@ -86,9 +97,9 @@ line_forgotten step line number event old mid known full tells of =
 
 -- what it tells is followed on its connection, or is not to the end
 line_broken : {H : Type 0} (step : Steps H) (line : List ℕ) (number : ℕ) (old new : Tracing H) (Writes : List ℕ → Type 0) (stop : Stop) → IsBroken stop
-    → OneChanges old.front new.front → IsLine step line number old (Err stop) new Writes
-line_broken step line number old new Writes stop (inl is) one = subst (λ (s : Stop). IsLine step line number old (Err s) new Writes) (sym is) (inl refl, one)
-line_broken step line number old new Writes stop (inr is) one = subst (λ (s : Stop). IsLine step line number old (Err s) new Writes) (sym is) (inr refl, one)
+    → HasBegun line old new.front → IsLine step line number old (Err stop) new Writes
+line_broken step line number old new Writes stop (inl is) begun = subst (λ (s : Stop). IsLine step line number old (Err s) new Writes) (sym is) (inl refl, inr begun)
+line_broken step line number old new Writes stop (inr is) begun = subst (λ (s : Stop). IsLine step line number old (Err s) new Writes) (sym is) (inr refl, inr begun)
 
 pub line_followed : {H : Type 0} (step : Steps H) (line : List ℕ) (number : ℕ) (event : Event) (conn : ConnId) (old mid new : Tracing H) (Writes : List ℕ → Type 0)
     (result : Result Unit Stop) → is_filled line ≡ true → told line ≡ Some event → IsOf event.label old (Some conn) mid → OnOk result (IsTraced step event conn mid new Writes)
@@ -96,7 +107,8 @@ pub line_followed : {H : Type 0} (step : Steps H) (line : List ℕ) (number : �
 line_followed step line number event conn old mid new Writes (Ok done) full tells of traced broken apart =
     inr (record { filled = full; event = event; tells = tells; followed = record { conn = Some conn; mid = mid; of = of; on = traced } })
 line_followed step line number event conn old mid new Writes (Err stop) full tells of traced broken apart =
-    line_broken step line number old new Writes stop broken (one_of event.label conn old mid new.front of apart)
+    line_broken step line number old new Writes stop broken
+    (record { event = event; tells = tells; others = own_alone event.label conn old mid new.front of apart })
 
 -- ---- lines that are followed
 
@@ -218,11 +230,11 @@ pub unread_stops : (stop : Stop) → IsUnread stop → StopsTracing stop
 unread_stops stop (inl is) = subst StopsTracing (sym is) tt
 unread_stops stop (inr is) = subst StopsTracing (sym is) tt
 
--- the lines in front were followed, and the next one not to its end
-broken_off : {H : Type 0} (step : Steps H) (front lines others : List (List ℕ)) (old : State H) (mid : Tracing H) (new : State H) (count : ℕ) (Writes : List ℕ → Type 0)
-    → lines ≡ front ++ others → AreCounted step old mid count Writes front → OneChanges mid.front new → AreFirst lines (IsBrokenOff step old new)
-broken_off step front lines others old mid new count Writes cut done one =
-    record { front = front; others = others; cut = cut; so = record { mid = mid; followed = followed_unsaid step front old mid Writes done.followed; one = one } }
+-- the lines in front were followed, and the next one may have begun
+broken_off : {H : Type 0} (step : Steps H) (front lines others : List (List ℕ)) (old : State H) (mid : Tracing H) (new : State H) (Writes : List ℕ → Type 0)
+    → lines ≡ front ++ others → AreFollowed step front old mid Writes → BeginsOnly others mid new → IsBrokenOff step lines old new
+broken_off step front lines others old mid new Writes cut done next =
+    record { front = front; others = others; cut = cut; mid = mid; followed = followed_unsaid step front old mid Writes done; next = next }
 
 stopped_there : {H : Type 0} (step : Steps H) (front lines others : List (List ℕ)) (line : List ℕ) (old : State H) (mid new : Tracing H) (was is : ℕ) (from before after : Option (List ℕ))
     (stop : Stop) → is ≡ min (was + 1) (2 ^ 64 - 1) → lines ≡ front ++ line ∷ others → IsLine step line is mid (Err stop) new (Appends before after)
@@ -254,20 +266,20 @@ stopped_there step front lines others line old mid new was is from before after 
   };
 }
 stopped_there step front lines others line old mid new was is from before after Usage counted cut here done =
-    broken_off step front lines (line ∷ others) old mid new.front was (Appends from before) cut done here.1
+    broken_off step front lines (line ∷ others) old mid new.front (Appends from before) cut done.followed here.1
 stopped_there step front lines others line old mid new was is from before after CannotRead counted cut here done =
-    broken_off step front lines (line ∷ others) old mid new.front was (Appends from before) cut done here.1
+    broken_off step front lines (line ∷ others) old mid new.front (Appends from before) cut done.followed here.1
 stopped_there step front lines others line old mid new was is from before after (BadConfig fault) counted cut here done =
-    broken_off step front lines (line ∷ others) old mid new.front was (Appends from before) cut done here.1
+    broken_off step front lines (line ∷ others) old mid new.front (Appends from before) cut done.followed here.1
 stopped_there step front lines others line old mid new was is from before after (BadExchange at) counted cut here done =
-    broken_off step front lines (line ∷ others) old mid new.front was (Appends from before) cut done here.1
+    broken_off step front lines (line ∷ others) old mid new.front (Appends from before) cut done.followed here.1
 stopped_there step front lines others line old mid new was is from before after InputFault counted cut here done = absurd (elim here.0 [ inl is ↦ cc | inr is ↦ cc ])
 stopped_there step front lines others line old mid new was is from before after OutputFault counted cut here done =
-    broken_off step front lines (line ∷ others) old mid new.front was (Appends from before) cut done here.1
+    broken_off step front lines (line ∷ others) old mid new.front (Appends from before) cut done.followed here.1
 stopped_there step front lines others line old mid new was is from before after SocketFault counted cut here done =
-    broken_off step front lines (line ∷ others) old mid new.front was (Appends from before) cut done here.1
+    broken_off step front lines (line ∷ others) old mid new.front (Appends from before) cut done.followed here.1
 stopped_there step front lines others line old mid new was is from before after NoMemory counted cut here done =
-    broken_off step front lines (line ∷ others) old mid new.front was (Appends from before) cut done here.1
+    broken_off step front lines (line ∷ others) old mid new.front (Appends from before) cut done.followed here.1
 
 -- ---- the whole input
 
@@ -291,7 +303,7 @@ unread_so : {H : Type 0} (step : Steps H) (front others lines : List (List ℕ))
 unread_so step front others lines old new count Writes stop (inl is) cut done =
     subst (λ (s : Stop). AreTraced step lines old (Err s) new.front Writes) (sym is) (record { front = front; others = others; cut = cut; so = (new.names, done.followed) })
 unread_so step front others lines old new count Writes stop (inr is) cut done =
-    subst (λ (s : Stop). AreTraced step lines old (Err s) new.front Writes) (sym is) (broken_off step front lines others old new new.front count Writes cut done (one_same new.front))
+    subst (λ (s : Stop). AreTraced step lines old (Err s) new.front Writes) (sym is) (broken_off step front lines others old new new.front Writes cut done.followed (begins_none others new))
 
 pub traced_unread : {H : Type 0} (step : Steps H) (known : Option (List ℕ)) (lines : Option (List (List ℕ))) (old : State H) (new : Tracing H) (count : ℕ) (Writes : List ℕ → Type 0)
     (stop : Stop) → IsUnread stop → IsReadSoFar known lines (AreCounted step old new count Writes)
@@ -307,12 +319,14 @@ traced_none {H} step known front Writes stop is =
     known_all known (λ (input : List ℕ). AreTraced step (lines_of input) front (Err stop) front Writes)
     (λ input. subst (λ (s : Stop). AreTraced step (lines_of input) front (Err s) front Writes) (sym is) (begun (lines_of input)))
   where
-    begun : (lines : List (List ℕ)) → AreFirst lines (IsBrokenOff step front front)
+    begun : (lines : List (List ℕ)) → IsBrokenOff step lines front front
     begun lines = record {
       front = [];
       others = lines;
       cut = refl;
-      so = record { mid = untold front; followed = record { events = []; read = refl; run = refl; written = tt }; one = one_same front };
+      mid = untold front;
+      followed = record { events = []; read = refl; run = refl; written = tt };
+      next = begins_none lines (untold front);
     }
 
 -- ---- what was written is kept
@@ -370,41 +384,24 @@ traced_kept step known old new a b c result kept traced =
     (λ input so. kept_so step (lines_of input) old new a b c result kept so) traced
 
 -- where that fails the same lines were followed, but nothing is said of what was written
-refused_same : {H : Type 0} (label : ℕ) (mid : Tracing H) (new : State H) → IsRefused label mid new → OneChanges mid.front new
-refused_same label mid new refused = elim refused.1 [
-  | inl full ↦ (0, equal_others 0 mid.front new full.1)
-  | inr spent ↦ (0, equal_others 0 mid.front new spent.2)
-]
+refused_same : {H : Type 0} (label : ℕ) (mid : Tracing H) (new : State H) → IsRefused label mid new → new ≡ mid.front
+refused_same label mid new refused = elim refused.1 [ inl full ↦ full.1 | inr spent ↦ spent.2 ]
 
-to_broken : {H : Type 0} (step : Steps H) (old new : State H) (Writes : List ℕ → Type 0) (front : List (List ℕ)) → AreTracedTo step old new Writes front → IsBrokenOff step old new front
-to_broken step old new Writes front to = record {
-  mid = record { front = new; names = to.0 };
-  followed = followed_unsaid step front old (record { front = new; names = to.0 }) Writes to.1;
-  one = one_same new;
-}
+to_broken : {H : Type 0} (step : Steps H) (front lines others : List (List ℕ)) (old new : State H) (Writes : List ℕ → Type 0) → lines ≡ front ++ others
+    → AreTracedTo step old new Writes front → IsBrokenOff step lines old new
+to_broken {H} step front lines others old new Writes cut to =
+    let mid : Tracing H = record { front = new; names = to.0 } in
+    broken_off step front lines others old mid new Writes cut to.1 (begins_none others mid)
 
 unsaid_so : {H : Type 0} (step : Steps H) (lines : List (List ℕ)) (old new : State H) (Writes : List ℕ → Type 0) (result : Result Unit Stop) → AreTraced step lines old result new Writes
-    → AreFirst lines (IsBrokenOff step old new)
-unsaid_so step lines old new Writes (Ok done) traced =
-    record { front = lines; others = []; cut = sym (append-nil lines); so = to_broken step old new Writes lines traced }
-unsaid_so step lines old new Writes (Err (BadPiece number)) traced = record {
-  front = traced.front;
-  others = traced.line ∷ traced.others;
-  cut = traced.cut;
-  so = to_broken step old new Writes traced.front traced.so.2;
-}
-unsaid_so step lines old new Writes (Err (TooManyConnections number)) traced = record {
-  front = traced.front;
-  others = traced.line ∷ traced.others;
-  cut = traced.cut;
-  so = record {
-    mid = traced.so.mid;
-    followed = followed_unsaid step traced.front old traced.so.mid Writes traced.so.followed;
-    one = refused_same traced.so.event.label traced.so.mid new traced.so.refused;
-  };
-}
-unsaid_so step lines old new Writes (Err InputFault) traced =
-    record { front = traced.front; others = traced.others; cut = traced.cut; so = to_broken step old new Writes traced.front traced.so }
+    → IsBrokenOff step lines old new
+unsaid_so step lines old new Writes (Ok done) traced = to_broken step lines lines [] old new Writes (sym (append-nil lines)) traced
+unsaid_so step lines old new Writes (Err (BadPiece number)) traced =
+    to_broken step traced.front lines (traced.line ∷ traced.others) old new Writes traced.cut traced.so.2
+unsaid_so step lines old new Writes (Err (TooManyConnections number)) traced =
+    broken_off step traced.front lines (traced.line ∷ traced.others) old traced.so.mid new Writes traced.cut traced.so.followed
+    (begins_same traced.line traced.others traced.so.mid new (refused_same traced.so.event.label traced.so.mid new traced.so.refused))
+unsaid_so step lines old new Writes (Err InputFault) traced = to_broken step traced.front lines traced.others old new Writes traced.cut traced.so
 unsaid_so step lines old new Writes (Err Usage) traced = traced
 unsaid_so step lines old new Writes (Err CannotRead) traced = traced
 unsaid_so step lines old new Writes (Err (BadConfig fault)) traced = traced

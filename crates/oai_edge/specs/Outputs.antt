@@ -45,11 +45,7 @@ IsEmptied number old new = connection_numbered number new.connections ≡ option
 abbrev pub OthersStay : {H : Type 0} → ℕ → State H → State H → Type 0
 OthersStay number old new = (other : ℕ) → other ≢ number → connection_numbered other new.connections ≡ connection_numbered other old.connections
 
--- no connection but one is another than before; that one may be new
-abbrev pub OneChanges : {H : Type 0} → State H → State H → Type 0
-OneChanges old new = (number : ℕ) × OthersStay number old new
-
--- no other one is another than before; as many connections may be open as before, and no number was given
+-- so it is; as many connections may be open as before, and no number was given
 pub record IsApart {H : Type 0} (number : ℕ) (old new : State H) : Type 0 where
   pub others : OthersStay number old new
   pub limit : new.limit ≡ old.limit

@@ -1,5 +1,5 @@
 -- What comes of an input of lines that trace connections: what comes on each of them, and what is written for it. This repository's own.
-use Rattle.std.specs.Prelude.{◌≡◌, ◌≢◌, ◌⊎◌, ℕ, ℤ, Bool, true, false, List, [], ◌++◌, map, filter, Option, Some, None, MatchOption, Result, Ok, Err, is_ok, if◌then◌else◌}
+use Rattle.std.specs.Prelude.{◌≡◌, ◌≢◌, ◌⊎◌, ℕ, ℤ, Bool, true, false, ◌+◌, List, [], ◌∷◌, ◌++◌, map, filter, Option, Some, None, MatchOption, Result, Ok, Err, is_ok, if◌then◌else◌}
 use Rattle.std.specs.List.{flat_map}
 use Rattle.std.specs.Option.{option_map}
 use Rattle.oai_front.specs.Connections.{Connection}
@@ -12,7 +12,7 @@ use Rattle.oai_front.specs.declared.faults.PieceFault.{PieceFault}
 use Rattle.oai_front.specs.declared.numbers.ConnId.{ConnId}
 use Rattle.oai_edge.specs.Events.{shown_close, shown_output, told}
 use Rattle.oai_edge.specs.Lines.{IsUnsaid, is_filled}
-use Rattle.oai_edge.specs.Outputs.{IsApart, OneChanges, output_in, with_output}
+use Rattle.oai_edge.specs.Outputs.{IsApart, OthersStay, output_in, with_output}
 use Rattle.oai_edge.specs.Places.{AreFirst, IsAt}
 use Rattle.oai_edge.specs.declared.events.Event.{Event}
 use Rattle.oai_edge.specs.declared.stop.Stop.{Stop}
@@ -131,17 +131,37 @@ pub record IsFullBehind {H : Type 0} (step : Steps H) (old new : State H) (Write
   pub followed : AreFollowed step front old mid Writes
   pub refused : IsRefused event.label mid new
 
--- those in front were followed, and the next one not to its end: it has changed no connection but one. Of what was written nothing is said
-pub record IsBrokenOff {H : Type 0} (step : Steps H) (old new : State H) (front : List (List ℕ)) : Type 0 where
+-- the number of the connection that is so named, or else of the next that is opened
+abbrev pub number_or : ℕ → Option (Option ConnId) → ℕ
+number_or next None = next
+number_or next (Some None) = next
+number_or next (Some (Some conn)) = conn.number
+
+-- the line tells an event, and no connection but that of its label was changed
+pub record HasBegun {H : Type 0} (line : List ℕ) (old : Tracing H) (new : State H) : Type 0 where
+  pub event : Event
+  pub tells : told line ≡ Some event
+  pub others : OthersStay (number_or (old.front.last + 1) (old.names event.label)) old.front new
+
+-- nothing was done, or the first of the lines has begun
+abbrev pub BeginsOnly : {H : Type 0} → List (List ℕ) → Tracing H → State H → Type 0
+BeginsOnly [] old new = new ≡ old.front
+BeginsOnly (line ∷ lines) old new = (new ≡ old.front) ⊎ HasBegun line old new
+
+-- the first of the lines were followed, though of what was written nothing is said; the next one may have begun
+pub record IsBrokenOff {H : Type 0} (step : Steps H) (lines : List (List ℕ)) (old new : State H) : Type 0 where
+  pub front : List (List ℕ)
+  pub others : List (List ℕ)
+  pub cut : lines ≡ front ++ others
   pub mid : Tracing H
   pub followed : AreFollowed step front old mid IsUnsaid
-  pub one : OneChanges mid.front new
+  pub next : BeginsOnly others mid new
 
 -- what comes of the lines: all were followed, or all before the first that is bad or for which no connection can be opened, or the first of them;
--- where the output failed or memory was refused, it may have broken off in the next one
+-- where the output failed or memory was refused, it broke off
 abbrev pub AreTraced : {H : Type 0} → Steps H → List (List ℕ) → State H → Result Unit Stop → State H → (List ℕ → Type 0) → Type 0
 AreTraced step lines old (Ok done) new Writes = AreTracedTo step old new Writes lines
 AreTraced step lines old (Err (BadPiece number)) new Writes = IsAt number lines (IsBadBehind step old new Writes)
 AreTraced step lines old (Err (TooManyConnections number)) new Writes = IsAt number lines (IsFullBehind step old new Writes)
 AreTraced step lines old (Err InputFault) new Writes = AreFirst lines (AreTracedTo step old new Writes)
-AreTraced step lines old (Err stop) new Writes = AreFirst lines (IsBrokenOff step old new)
+AreTraced step lines old (Err stop) new Writes = IsBrokenOff step lines old new

@@ -9,9 +9,9 @@ use Rattle.oai_host.specs.Hosts.{Hosting}
 use Rattle.oai_edge.specs.Asked.{AreDone}
 use Rattle.oai_edge.specs.Events.{told}
 use Rattle.oai_edge.specs.Lines.{IsUnsaid, is_bad, is_filled}
-use Rattle.oai_edge.specs.Outputs.{OneChanges}
+use Rattle.oai_edge.specs.Outputs.{OthersStay}
 use Rattle.oai_edge.specs.Places.{count_of, lines_of}
-use Rattle.oai_edge.specs.Traces.{AreFollowed, IsFollowed, IsRefused, Tracing}
+use Rattle.oai_edge.specs.Traces.{AreFollowed, HasBegun, IsFollowed, IsRefused, Tracing, number_or}
 use Rattle.oai_edge.specs.declared.events.Event.{Event}
 use Rattle.oai_edge.specs.declared.serving.StreamFault.{StreamFault}
 use Rattle.oai_edge.specs.declared.serving.StreamFault.TheVariants.{Endless, NotOpened}
@@ -49,7 +49,8 @@ tracing front labels = record { front = front; names = get nat_cmp labels }
 -- no connection stands for the label of the line of that number, and why; it is not want of memory where too many are open
 abbrev pub IsUnopened : {H : Type 0} → ℕ → ℕ → Tracing H → State H → Stop → Type 0
 IsUnopened number label old new (TooManyConnections at) = (at ≡ number) × IsRefused label old new
-IsUnopened number label old new stop = (stop ≡ NoMemory) × (length old.front.connections < old.front.limit) × OneChanges old.front new
+IsUnopened number label old new stop = (stop ≡ NoMemory) × (length old.front.connections < old.front.limit)
+    × OthersStay (number_or (old.front.last + 1) (old.names label)) old.front new
 
 -- an event was not followed to its end
 abbrev pub IsBroken : Stop → Type 0
@@ -73,7 +74,7 @@ abbrev pub IsLine : {H : Type 0} → Steps H → List ℕ → ℕ → Tracing H 
 IsLine step line number old (Ok done) new Writes = IsPassed line old new Writes ⊎ IsTelling step line old new Writes
 IsLine step line number old (Err (BadPiece at)) new Writes = (at ≡ number) × (is_filled line ≡ true) × (told line ≡ None) × (new ≡ old) × Writes []
 IsLine step line number old (Err (TooManyConnections at)) new Writes = (at ≡ number) × ((event : Event) × (told line ≡ Some event) × IsRefused event.label old new.front) × Writes []
-IsLine step line number old (Err stop) new Writes = IsBroken stop × OneChanges old.front new.front
+IsLine step line number old (Err stop) new Writes = IsBroken stop × ((new.front ≡ old.front) ⊎ HasBegun line old new.front)
 
 -- the lines were followed, and so many were counted
 pub record AreCounted {H : Type 0} (step : Steps H) (old : State H) (new : Tracing H) (count : ℕ) (Writes : List ℕ → Type 0) (lines : List (List ℕ)) : Type 0 where
