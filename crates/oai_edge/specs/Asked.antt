@@ -19,8 +19,8 @@ pub record AreDone (lines : List (List ℕ)) (old new : Hosting) (Writes : List 
   pub exchanged : AreExchanged calls answers old new
   pub written : Writes (flat_map shown answers)
 
--- what comes of the lines: all were done, or all before the first bad one, or the first of them; these too where the output failed, but that of
--- what was written nothing is said
+-- what comes of the lines: all were done, or all before the first bad one, or the first of them; so it is too where the output failed, but what
+-- was written then is not said
 abbrev pub AreAsked : List (List ℕ) → Hosting → Result Unit Stop → Hosting → (List ℕ → Type 0) → Type 0
 AreAsked lines old (Ok done) new Writes = AreDone lines old new Writes
 AreAsked lines old (Err (BadExchange number)) new Writes = IsAt number lines (λ front line. (is_bad line ≡ true) × AreDone front old new Writes)
