@@ -58,13 +58,83 @@ pub(crate) fn delete<V: Versions>(
     let Some(item) = shelf.find(alloc, store, identifier.as_str())? else {
         return Err(Refusal::Refused(ChangeRefusal::NoSuchItem));
     };
+    delete_item(alloc, policy, stamp, store, shelf, &item)
+}
+
+/// Deletes the item, which stands among the others, or refuses it where it is a deleted one.
+fn delete_item<V: Versions>(
+    alloc: Global,
+    policy: DeletedRecord,
+    stamp: i64,
+    store: &mut V,
+    shelf: &mut Shelf,
+    item: &Item,
+) -> Result<(), Refusal>
+    requires stamped { IsStamp stamp }
+    requires stands { IsSome (V.lists store.old shelf.old.version) }
+    requires agrees { IsTrue (V.honest store.old) → AreNoted shelf.old.notes
+        (items_on shelf.old (V.lists store.old)) }
+    requires small { IsTrue (V.honest store.old) → not (is_too_large item.now) ≡ true }
+    requires there { IsTrue (V.honest store.old) → item_named item.now.identifier
+        (items_on shelf.old (V.lists store.old)) ≡ Some item.now }
+    ensures done { IsTrue (V.honest store.old) → (let items = items_on shelf.old (V.lists store.old)
+        in IsDone None (dead_refusal (Some item.now)) items
+        (after_deletion policy stamp item.now.identifier items) result
+        (items_on shelf.new (V.lists store.new))) }
+    ensures agrees { IsTrue (V.honest store.old) → AreNoted shelf.new.notes
+        (items_on shelf.new (V.lists store.new)) }
+    ensures noted { OnOk result (IsNoting item.now.identifier (noted_of_deletion policy stamp)
+        shelf.old.notes shelf.new.notes) }
+    ensures moved { IsMoved shelf.old.version (V.lists store.old) shelf.new.version
+        (V.lists store.new) }
+    ensures err { OnErr result (shelf.new ≡ shelf.old) }
+    ensures err_lists { OnErr result (V.lists store.new ≡ V.lists store.old) }
+    ensures room { NeedsRoom 3 (fault_in result) (V.room store.old) (V.room store.new) }
+    ensures device { IsCounted (fault_in result) (V.failures store.old) (V.failures store.new) }
+    ensures honesty { IsHonest (fault_in result) (V.honest store.old) (V.honest store.new) }
+{
     if !item.is_live() {
         return Err(Refusal::Refused(ChangeRefusal::AlreadyDeleted));
     }
+    Ok(take_out(alloc, policy, stamp, store, shelf, item)?)
+}
+
+/// Takes the item out where nothing is kept of deleted records, and puts what is left of it in its
+/// place elsewhere.
+fn take_out<V: Versions>(
+    alloc: Global,
+    policy: DeletedRecord,
+    stamp: i64,
+    store: &mut V,
+    shelf: &mut Shelf,
+    item: &Item,
+) -> Result<(), Fault>
+    requires stamped { IsStamp stamp }
+    requires stands { IsSome (V.lists store.old shelf.old.version) }
+    requires agrees { IsTrue (V.honest store.old) → AreNoted shelf.old.notes
+        (items_on shelf.old (V.lists store.old)) }
+    requires small { IsTrue (V.honest store.old) → not (is_too_large item.now) ≡ true }
+    requires there { IsTrue (V.honest store.old) → item_named item.now.identifier
+        (items_on shelf.old (V.lists store.old)) ≡ Some item.now }
+    ensures list { OnOk result (IsTrue (V.honest store.old) → items_on shelf.new (V.lists store.new)
+        ≡ after_deletion policy stamp item.now.identifier
+        (items_on shelf.old (V.lists store.old))) }
+    ensures agrees { OnOk result (IsTrue (V.honest store.old)
+        → AreNoted shelf.new.notes (items_on shelf.new (V.lists store.new))) }
+    ensures noted { OnOk result (IsNoting item.now.identifier (noted_of_deletion policy stamp)
+        shelf.old.notes shelf.new.notes) }
+    ensures moved { IsMoved shelf.old.version (V.lists store.old) shelf.new.version
+        (V.lists store.new) }
+    ensures err { OnErr result (shelf.new ≡ shelf.old) }
+    ensures err_lists { OnErr result (V.lists store.new ≡ V.lists store.old) }
+    ensures room { NeedsRoom 3 result (V.room store.old) (V.room store.new) }
+    ensures device { IsCounted result (V.failures store.old) (V.failures store.new) }
+    ensures honesty { IsHonest result (V.honest store.old) (V.honest store.new) }
+{
     match policy {
-        DeletedRecord::No => Ok(shelf.remove(store, &item)?),
-        DeletedRecord::Transient => Ok(bury(alloc, stamp, store, shelf, &item)?),
-        DeletedRecord::Persistent => Ok(bury(alloc, stamp, store, shelf, &item)?),
+        DeletedRecord::No => shelf.remove(store, item),
+        DeletedRecord::Transient => bury(alloc, stamp, store, shelf, item),
+        DeletedRecord::Persistent => bury(alloc, stamp, store, shelf, item),
     }
 }
 

@@ -92,33 +92,40 @@ fn empty_list_is_opened(rt: HostRuntime) -> Result<(), Fail> {
     Ok(())
 }
 
-/// The first list of a table of one is open to its end, which may be moved, and then drops.
+/// An empty table of one opens a list, and no other beside it.
 fn assert_one_list(rt: &impl Abort, alloc: Global, lists: &mut Lists) -> Result<(), Fail> {
-    assert_eq!(rt; lists.earliest_end(), None);
-    assert_eq!(rt; lists.next(0), Ok(1));
+    assert_eq!(rt; (lists.earliest_end(), lists.next(0)), (None, Ok(1)));
     assert_opened(rt, alloc, lists, 0, 60, 7, Ok(1))?;
     assert_eq!(rt; lists.next(59), Err(OpenFault::Full));
-    assert_opened(rt, alloc, lists, 59, 119, 8, Err(OpenFault::Full))?;
+    assert_opened(rt, alloc, lists, 59, 119, 8, Err(OpenFault::Full))
+}
+
+/// The list is found below its end alone, and its end is moved.
+fn assert_renewed(rt: &impl Abort, lists: &mut Lists) {
     assert_eq!(rt; lists.expire(59), None);
-    assert!(rt; lists.find(1, 60).is_none());
-    assert!(rt; lists.find(2, 0).is_none());
+    assert!(rt; lists.find(1, 60).is_none() && lists.find(2, 0).is_none());
     match lists.find(1, 59) {
         Some(list) => assert_eq!(rt; (list.version, list.size, list.end), (7, 3, 60)),
         None => panic!(rt; "no list"),
     }
     lists.renew(1, 61);
+}
+
+/// The list drops at the end to which it was moved.
+fn assert_dropped(rt: &impl Abort, lists: &mut Lists) {
     assert_eq!(rt; lists.expire(60), None);
     assert_eq!(rt; (lists.earliest_end(), lists.len()), (Some(61), 1));
     assert_eq!(rt; lists.next(61), Ok(2));
-    assert_eq!(rt; lists.expire(61), Some(7));
-    assert_eq!(rt; lists.expire(61), None);
-    assert_opened(rt, alloc, lists, 61, 121, 9, Ok(2))
+    assert_eq!(rt; (lists.expire(61), lists.expire(61)), (Some(7), None));
 }
 
 #[test]
 fn a_table_of_one_list(rt: HostRuntime) -> Result<(), Fail> {
     let mut lists = Lists::new(rt.alloc(), 1, 1);
-    assert_one_list(&rt, rt.alloc(), &mut lists)
+    assert_one_list(&rt, rt.alloc(), &mut lists)?;
+    assert_renewed(&rt, &mut lists);
+    assert_dropped(&rt, &mut lists);
+    assert_opened(&rt, rt.alloc(), &mut lists, 61, 121, 9, Ok(2))
 }
 
 #[test]

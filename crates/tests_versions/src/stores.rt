@@ -1,7 +1,7 @@
 //! Stores of versions: what they find and cut, what a filter asks for, a call that fails, a change as a
 //! whole, and a version that was frozen. The helpers speak of any store: a test that names its type
 //! loses what the next call requires.
-ghost use Rattle.std.specs.Prelude.{◌≡◌, IsSome, IfOk, OnOk};
+ghost use Rattle.std.specs.Prelude.{◌≡◌, IsSome, IfOk, OnErr, OnOk};
 
 use oai_catalogue::{FaultyVersions, Filter, PlainVersions, Versions, change_item};
 use oai_item::{Fault, Item};
@@ -37,6 +37,14 @@ fn asked(alloc: Global, prefix: &str, set: &str) -> Result<Filter, Fail> {
     Ok(Filter::new(Prefix::read(alloc, prefix)?, STAMP, STAMP, Some(set)))
 }
 
+/// The items have these identifiers.
+fn assert_identifiers(rt: &impl Abort, items: &[Item], identifiers: &[&str]) {
+    assert_eq!(rt; items.len(), identifiers.len());
+    for (item, identifier) in items.iter().zip(identifiers) {
+        assert_eq!(rt; item.identifier().as_str(), *identifier);
+    }
+}
+
 /// The filter selects items of these identifiers.
 fn assert_selected<V: Versions>(
     rt: &impl Abort,
@@ -48,11 +56,7 @@ fn assert_selected<V: Versions>(
     requires { IsSome (V.lists store.old v) }
     ensures { V.lists store.new ≡ V.lists store.old }
 {
-    let part = store.part(v, filter, 0, 9)?;
-    assert_eq!(rt; part.as_slice().len(), identifiers.len());
-    for (item, identifier) in part.as_slice().iter().zip(identifiers) {
-        assert_eq!(rt; item.identifier().as_str(), *identifier);
-    }
+    assert_identifiers(rt, store.part(v, filter, 0, 9)?.as_slice(), identifiers);
     assert_eq!(rt; store.count(v, filter), Ok(identifiers.len()));
     Ok(())
 }
@@ -72,15 +76,26 @@ fn assert_list<V: Versions>(
     assert_selected(rt, store, v, &all, identifiers)
 }
 
-/// Puts the item of that number into the list.
-fn put<V: Versions>(alloc: Global, store: &mut V, v: u64, number: u8) -> Result<(), Fail>
-    requires { IsSome (V.lists store.old v) }
-    ensures { OnOk result (IsSome (V.lists store.new v)) }
+/// Puts the item into the list of `v`; that of `w` stands.
+fn put_item<V: Versions>(store: &mut V, v: u64, w: u64, item: &Item) -> Result<(), Fail>
+    requires own { IsSome (V.lists store.old v) }
+    requires other { IsSome (V.lists store.old w) }
+    ensures own { OnOk result (IsSome (V.lists store.new v)) }
+    ensures other { OnOk result (IsSome (V.lists store.new w)) }
+{
+    item.encoded_len()?;
+    Ok(store.put(v, item)?)
+}
+
+/// Puts the item of that number into the list of `v`; that of `w` stands.
+fn put<V: Versions>(alloc: Global, store: &mut V, v: u64, w: u64, number: u8) -> Result<(), Fail>
+    requires own { IsSome (V.lists store.old v) }
+    requires other { IsSome (V.lists store.old w) }
+    ensures own { OnOk result (IsSome (V.lists store.new v)) }
+    ensures other { OnOk result (IsSome (V.lists store.new w)) }
 {
     let item = numbered(alloc, number)?;
-    item.encoded_len()?;
-    store.put(v, &item)?;
-    Ok(())
+    put_item(store, v, w, &item)
 }
 
 /// A list of two items.
@@ -88,8 +103,8 @@ fn stored<V: Versions>(alloc: Global, store: &mut V) -> Result<u64, Fail>
     ensures { IfOk result (λ v. IsSome (V.lists store.new v)) }
 {
     let v = store.fresh()?;
-    put(alloc, store, v, 2)?;
-    put(alloc, store, v, 1)?;
+    put(alloc, store, v, v, 2)?;
+    put(alloc, store, v, v, 1)?;
     Ok(v)
 }
 
@@ -162,13 +177,30 @@ fn assert_passes(
     Ok(())
 }
 
+/// Whether the item is asked for by those datestamps.
+fn assert_dated(
+    rt: &impl Abort,
+    alloc: Global,
+    item: &Item,
+    from: u8,
+    until: u8,
+    is_asked: bool,
+) -> Result<(), Fail> {
+    assert_passes(rt, alloc, filter(alloc, from, until)?, item, is_asked)
+}
+
+/// The item of the fifth second is asked for by it, and not by those before or behind it.
+fn assert_bounds(rt: &impl Abort, alloc: Global, item: &Item) -> Result<(), Fail> {
+    assert_dated(rt, alloc, item, 5, 5, true)?;
+    assert_dated(rt, alloc, item, 0, 4, false)?;
+    assert_dated(rt, alloc, item, 6, 9, false)
+}
+
 #[test]
 fn bounds_of_a_filter(rt: HostRuntime) -> Result<(), Fail> {
     let alloc = rt.alloc();
     let item = item(alloc, "oai:a:1", 5, &["x:y"], "T")?;
-    assert_passes(&rt, alloc, filter(alloc, 5, 5)?, &item, true)?;
-    assert_passes(&rt, alloc, filter(alloc, 0, 4)?, &item, false)?;
-    assert_passes(&rt, alloc, filter(alloc, 6, 9)?, &item, false)
+    assert_bounds(&rt, alloc, &item)
 }
 
 /// Whether the item is asked for by its first datestamp, that prefix and that set.
@@ -183,19 +215,23 @@ fn assert_asked(
     assert_passes(rt, alloc, asked(alloc, prefix, set)?, item, is_asked)
 }
 
+/// The item in the set `x:y` that has a record in oai_dc alone is asked for by these.
+fn assert_set_and_prefix(rt: &impl Abort, alloc: Global, item: &Item) -> Result<(), Fail> {
+    assert_asked(rt, alloc, item, "oai_dc", "x", true)?;
+    assert_asked(rt, alloc, item, "oai_dc", "x:y", true)?;
+    assert_asked(rt, alloc, item, "oai_dc", "x:z", false)?;
+    assert_asked(rt, alloc, item, "jnl", "x", false)
+}
+
+/// What is left of `oai:a:1`, deleted at the first datestamp.
+fn tombstone(alloc: Global) -> Result<Item, Fail> {
+    Ok(item(alloc, "oai:a:1", 5, &["x:y"], "T")?.tombstone(alloc, STAMP)?)
+}
+
 #[test]
 fn set_and_prefix_of_a_filter(rt: HostRuntime) -> Result<(), Fail> {
-    let alloc = rt.alloc();
-    let deleted = item(alloc, "oai:a:1", 5, &["x:y"], "T")?.tombstone(alloc, STAMP)?;
-    for (prefix, set, is_asked) in [
-        ("oai_dc", "x", true),
-        ("oai_dc", "x:y", true),
-        ("oai_dc", "x:z", false),
-        ("jnl", "x", false),
-    ] {
-        assert_asked(&rt, alloc, &deleted, prefix, set, is_asked)?;
-    }
-    Ok(())
+    let deleted = tombstone(rt.alloc())?;
+    assert_set_and_prefix(&rt, rt.alloc(), &deleted)
 }
 
 /// Taking the first item out fails for the device.
@@ -223,6 +259,20 @@ fn one_call_fails(rt: HostRuntime) -> Result<(), Fail> {
     assert_list(&rt, alloc, &mut store, v, &["oai:a:1", "oai:a:2"])
 }
 
+/// The version of a change that takes the first item out.
+fn without_first<V: Versions>(
+    alloc: Global,
+    store: &mut V,
+    v: u64,
+) -> Result<Result<u64, Fault>, Fail>
+    requires { IsSome (V.lists store.old v) }
+    ensures made { IfOk result (λ taken. IfOk taken (λ w. IsSome (V.lists store.new w))) }
+    ensures not_made { IfOk result (λ taken. OnErr taken (IsSome (V.lists store.new v))) }
+{
+    let first = numbered(alloc, 1)?;
+    Ok(change_item(store, v, Some(&first), None))
+}
+
 /// A change fails for the device, and the list is as before.
 fn assert_no_change<V: Versions>(
     rt: &impl Abort,
@@ -233,11 +283,8 @@ fn assert_no_change<V: Versions>(
     requires { IsSome (V.lists store.old v) }
     ensures { OnOk result (IsSome (V.lists store.new v)) }
 {
-    let first = numbered(alloc, 1)?;
-    match change_item(store, v, Some(&first), None) {
-        Ok(_) => panic!(rt; "no failure"),
-        Err(fault) => assert_eq!(rt; fault, Fault::Device),
-    }
+    let taken = without_first(alloc, store, v)?;
+    assert_eq!(rt; taken, Err(Fault::Device));
     assert_list(rt, alloc, store, v, &["oai:a:1", "oai:a:2"])
 }
 
@@ -250,8 +297,7 @@ fn assert_change<V: Versions>(
 ) -> Result<(), Fail>
     requires { IsSome (V.lists store.old v) }
 {
-    let first = numbered(alloc, 1)?;
-    let w = change_item(store, v, Some(&first), None)?;
+    let w = without_first(alloc, store, v)??;
     assert_list(rt, alloc, store, w, &["oai:a:2"])
 }
 
@@ -306,12 +352,9 @@ fn exchange<V: Versions>(alloc: Global, store: &mut V, v: u64, w: u64) -> Result
     ensures own { OnOk result (IsSome (V.lists store.new v)) }
     ensures other { OnOk result (IsSome (V.lists store.new w)) }
 {
-    let first = numbered(alloc, 1)?;
-    let third = numbered(alloc, 3)?;
-    third.encoded_len()?;
-    store.remove(v, first.stamp(), first.identifier())?;
-    store.put(v, &third)?;
-    Ok(())
+    let first = Identifier::read(alloc, "oai:a:1")?;
+    store.remove(v, STAMP, &first)?;
+    put(alloc, store, v, w, 3)
 }
 
 /// The two lists have numbers of their own, and that of `w` stands once that of `v` is let go.
