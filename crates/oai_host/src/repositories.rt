@@ -1,5 +1,6 @@
 //! The repositories of a host.
-ghost use Rattle.std.specs.Prelude.{◌≡◌, ◌<◌, ◌++◌, ℕ, [], ◌∷◌, true, false, length, map, get_or, IfSome, IsTrue, OnErr, OnOk};
+ghost use Rattle.std.specs.Prelude.{◌≡◌, ◌<◌, ◌++◌, ℕ, List, [], ◌∷◌, Some, true, false, if◌then◌else◌, length, map, get_or, IfSome, IsTrue, OnErr, OnOk};
+ghost use Rattle.std.specs.BTreeMap.{IsUnchanged, get_by_text};
 ghost use Rattle.std.specs.List.{AllZip, list_any, position, slice_get};
 ghost use Rattle.std.specs.Str.{bytes_eq};
 ghost use Rattle.oai_catalogue.specs.Store.{IsCounted, IsHonest, NeedsRoom};
@@ -36,7 +37,7 @@ pub(crate) struct Repositories {
 
 impl Model for Repositories {
     ghost use Rattle.std.specs.Prelude.{◌≡◌, ℕ, List};
-    ghost use Rattle.std.specs.BTreeMap.{get_by_text};
+    ghost use Rattle.std.specs.BTreeMap.{IsUnchanged, get_by_text};
     ghost use Rattle.oai_host.specs.declared.housed.Housed as declared;
     ghost use Rattle.oai_host.specs.Housed.{housed_names, place_in};
 
@@ -85,20 +86,21 @@ impl Repositories {
     {
         let HostedConfig { name, config } = hosted;
         let repo = Repo::new(self.alloc, config, store)?;
-        self.add(name, repo)?;
+        self.add(Housed { name, repo })?;
         Ok(())
     }
 
-    /// Adds a repository under a name that none has.
-    fn add(&mut self, name: Text, repo: Repo) -> Result<(), AllocError>
-        requires { list_any (bytes_eq name) (housed_names self.old) ≡ false }
-        ensures ok { OnOk result (self.new ≡ self.old ++ record { name = name; repo = repo } ∷ []) }
+    /// Adds a repository under a name that none has. What may fail comes before the first change that
+    /// shows.
+    fn add(&mut self, one: Housed) -> Result<(), AllocError>
+        requires { list_any (bytes_eq one.name) (housed_names self.old) ≡ false }
+        ensures ok { OnOk result (self.new ≡ self.old ++ one ∷ []) }
         ensures err { OnErr result (self.new ≡ self.old) }
     {
-        let key = String::from_str(self.alloc, name.as_str())?;
         self.housed.reserve(1)?;
-        self.places.insert(key, self.housed.len())?;
-        self.housed.push(Housed { name, repo })?;
+        let place = self.housed.len();
+        note_place(self.alloc, &mut self.places, one.name.as_str(), place)?;
+        self.housed.push(one)?;
         Ok(())
     }
 
@@ -129,4 +131,20 @@ impl Repositories {
         let repo = &mut self.housed[place].repo;
         perform(self.alloc, repo, store, moment, kind, exchange)
     }
+}
+
+/// Notes the place under the name.
+fn note_place(
+    alloc: Global,
+    places: &mut BTreeMap<String, usize>,
+    name: &str,
+    place: usize,
+) -> Result<(), AllocError>
+    ensures ok { OnOk result ((other : List ℕ) → get_by_text places.new other
+        ≡ (if bytes_eq name.now other then Some place else get_by_text places.old other)) }
+    ensures err { OnErr result (IsUnchanged places.old places.new) }
+{
+    let key = String::from_str(alloc, name)?;
+    places.insert(key, place)?;
+    Ok(())
 }

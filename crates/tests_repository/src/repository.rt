@@ -67,14 +67,19 @@ fn too_fine_a_bound(rt: HostRuntime) -> Result<(), Fail> {
     assert_page(&rt, &mut repo, query, bad_argument_at_b())
 }
 
-#[test]
-fn clock(rt: HostRuntime) -> Result<(), Fail> {
-    let mut repo = repository_b(rt.alloc())?;
+/// The clock begins at midnight, and goes no further than the last second of the year 9998.
+fn assert_clock(rt: &impl Abort, repo: &mut Archive) {
     assert_eq!(rt; repo.clock(), 1_704_067_200);
     repo.advance(1_704_067_230);
     assert_eq!(rt; repo.clock(), 1_704_067_230);
     repo.advance(999_999_999_999);
     assert_eq!(rt; repo.clock(), 253_370_764_799);
+}
+
+#[test]
+fn clock(rt: HostRuntime) -> Result<(), Fail> {
+    let mut repo = repository_b(rt.alloc())?;
+    assert_clock(&rt, &mut repo);
     Ok(())
 }
 
@@ -121,8 +126,8 @@ fn assert_deposits(
     Ok(())
 }
 
-#[test]
-fn third_item_of_two(rt: HostRuntime) -> Result<(), Fail> {
+/// A third item is refused, and one of the two is deposited again.
+fn assert_third_item(rt: &impl Abort, alloc: Global, repo: &mut Archive) -> Result<(), Fail> {
     let next = 1_704_153_600;
     let lines = [
         (MIDNIGHT + 5, deposit_of(2), Ok(MIDNIGHT)),
@@ -130,10 +135,15 @@ fn third_item_of_two(rt: HostRuntime) -> Result<(), Fail> {
         (next, deposit_of(3), Err("refused 12 too-many-items")),
         (next, deposit_of(2), Ok(next)),
     ];
-    let mut repo = repository_b(rt.alloc())?;
-    assert_deposits(&rt, rt.alloc(), &mut repo, &lines)?;
+    assert_deposits(rt, alloc, repo, &lines)?;
     assert_eq!(rt; repo.clock(), next);
     Ok(())
+}
+
+#[test]
+fn third_item_of_two(rt: HostRuntime) -> Result<(), Fail> {
+    let mut repo = repository_b(rt.alloc())?;
+    assert_third_item(&rt, rt.alloc(), &mut repo)
 }
 
 fn deletion() -> &'static str {
@@ -144,32 +154,35 @@ fn no_such_item_at_b() -> &'static str {
     "<?xml version=\"1.0\" encoding=\"UTF-8\"?>\n<OAI-PMH xmlns=\"http://www.openarchives.org/OAI/2.0/\" xmlns:xsi=\"http://www.w3.org/2001/XMLSchema-instance\" xsi:schemaLocation=\"http://www.openarchives.org/OAI/2.0/ http://www.openarchives.org/OAI/2.0/OAI-PMH.xsd\"><responseDate>2024-01-01T00:00:00Z</responseDate><request verb=\"GetRecord\" identifier=\"oai:b:1\" metadataPrefix=\"oai_dc\">http://host.example/oai/b</request><error code=\"idDoesNotExist\">No item has this identifier.</error></OAI-PMH>\n"
 }
 
-/// Where nothing is kept of deleted records, the item goes.
-#[test]
-fn deletion_without_trace(rt: HostRuntime) -> Result<(), Fail> {
-    let alloc = rt.alloc();
-    let mut repo = repository_b(alloc)?;
+/// An item is deposited and deleted; a second deletion is answered so.
+fn assert_deletion(
+    rt: &impl Abort,
+    alloc: Global,
+    repo: &mut Archive,
+    again: &str,
+) -> Result<(), Fail> {
     let lines = [
         (MIDNIGHT, deposit_of(1), Ok(MIDNIGHT)),
         (MIDNIGHT, deletion(), Ok(MIDNIGHT)),
+        (MIDNIGHT, deletion(), Err(again)),
     ];
-    assert_deposits(&rt, alloc, &mut repo, &lines)?;
+    assert_deposits(rt, alloc, repo, &lines)
+}
+
+/// Where nothing is kept of deleted records, the item goes.
+#[test]
+fn deletion_without_trace(rt: HostRuntime) -> Result<(), Fail> {
+    let mut repo = repository_b(rt.alloc())?;
+    assert_deletion(&rt, rt.alloc(), &mut repo, "refused 13 no-such-item")?;
     let query = b"verb=GetRecord&identifier=oai:b:1&metadataPrefix=oai_dc";
-    assert_page(&rt, &mut repo, query, no_such_item_at_b())?;
-    let again = [(MIDNIGHT, deletion(), Err("refused 13 no-such-item"))];
-    assert_deposits(&rt, alloc, &mut repo, &again)
+    assert_page(&rt, &mut repo, query, no_such_item_at_b())
 }
 
 /// A repository that may forget deleted records keeps them all the same, until they are purged.
 #[test]
 fn deletion_with_a_trace(rt: HostRuntime) -> Result<(), Fail> {
     let mut repo = repository(rt.alloc(), DeletedRecord::Transient)?;
-    let lines = [
-        (MIDNIGHT, deposit_of(1), Ok(MIDNIGHT)),
-        (MIDNIGHT, deletion(), Ok(MIDNIGHT)),
-        (MIDNIGHT, deletion(), Err("refused 14 already-deleted")),
-    ];
-    assert_deposits(&rt, rt.alloc(), &mut repo, &lines)
+    assert_deletion(&rt, rt.alloc(), &mut repo, "refused 14 already-deleted")
 }
 
 #[test]

@@ -11,7 +11,7 @@ use std::io::Write;
 use std::process::Abort;
 use std::test::Fail;
 use tests_archives::{Stocked, Told, settings_of};
-use tests_worked::push_wanted;
+use tests_worked::wanted_in;
 
 /// The repository of which that is told, over the store, with room for two open lists.
 fn repository<V: Versions + Drop>(
@@ -121,14 +121,35 @@ pub(crate) fn assert_transcript_over<V: Versions + Drop>(
     transcript: &str,
 ) -> Result<(), Fail> {
     let mut repo = repository(alloc, told, store)?;
+    assert_answers(rt, alloc, &mut repo, transcript)
+}
+
+/// The repository answers the transcript's lines as it says.
+fn assert_answers<V: Versions + Drop>(
+    rt: &impl Abort,
+    alloc: Global,
+    repo: &mut Stocked<V>,
+    transcript: &str,
+) -> Result<(), Fail> {
     let mut output = Vec::new(alloc);
-    let mut wanted = String::new(alloc);
+    write_answers(rt, alloc, repo, transcript, &mut output)?;
+    let wanted = wanted_in(alloc, transcript)?;
+    assert_eq!(rt; output.as_slice(), wanted.as_bytes(), "{transcript}");
+    Ok(())
+}
+
+/// Performs the transcript's lines that begin with `> `, and writes what they are answered.
+fn write_answers<V: Versions + Drop>(
+    rt: &impl Abort,
+    alloc: Global,
+    repo: &mut Stocked<V>,
+    transcript: &str,
+    output: &mut Vec<u8>,
+) -> Result<(), Fail> {
     for line in transcript.lines() {
-        match line.strip_prefix("> ") {
-            Some(asked) => write_line(rt, alloc, &mut repo, asked, &mut output)?,
-            None => push_wanted(line, &mut wanted)?,
+        if let Some(asked) = line.strip_prefix("> ") {
+            write_line(rt, alloc, repo, asked, output)?;
         }
     }
-    assert_eq!(rt; output.as_slice(), wanted.as_bytes(), "{transcript}");
     Ok(())
 }

@@ -114,6 +114,17 @@ fn no_lies() -> [(Asked, &'static str); 1] {
     [((BEGIN + 7, deposit(1)), "ok")]
 }
 
+/// The record of the first item.
+fn record_of<V: Versions + Drop>(
+    rt: &impl Abort,
+    repo: &mut Stocked<V>,
+) -> Result<Sequence<u8>, Fail> {
+    let Reply::Page(page) = repo.ask(NEXT_DAY, record(1).as_bytes())? else {
+        panic!(rt; "later")
+    };
+    Ok(page)
+}
+
 /// The record of the first item after these exchanges, over a store of which so many answers are lies
 /// at first.
 fn record_after(
@@ -124,10 +135,7 @@ fn record_after(
 ) -> Result<Sequence<u8>, Fail> {
     let mut repo = archive(alloc, 0, lies)?;
     assert_outcomes(rt, alloc, &mut repo, exchanges)?;
-    let Reply::Page(page) = repo.ask(NEXT_DAY, record(1).as_bytes())? else {
-        panic!(rt; "later")
-    };
-    Ok(page)
+    record_of(rt, &mut repo)
 }
 
 /// Once the store lies no more, the item is there as it was.
@@ -172,13 +180,21 @@ fn all_kinds() -> [Asked; 8] {
     ]
 }
 
-/// Each exchange comes to something over a store that lies after so many answers.
-fn assert_returns(alloc: Global, truths: u64) -> Result<(), Fail> {
-    let mut repo = archive(alloc, truths, ALWAYS)?;
+/// Each exchange comes to something.
+fn assert_each_returns<V: Versions + Drop>(
+    alloc: Global,
+    repo: &mut Stocked<V>,
+) -> Result<(), Fail> {
     for asked in all_kinds() {
-        outcome(alloc, &mut repo, asked)?;
+        outcome(alloc, repo, asked)?;
     }
     Ok(())
+}
+
+/// The same over a store that lies after so many answers.
+fn assert_returns(alloc: Global, truths: u64) -> Result<(), Fail> {
+    let mut repo = archive(alloc, truths, ALWAYS)?;
+    assert_each_returns(alloc, &mut repo)
 }
 
 /// Wherever the lies begin, each call returns, with an answer or with damage.

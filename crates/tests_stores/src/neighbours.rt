@@ -96,16 +96,25 @@ fn write_beside<V: Versions + Drop>(
     }
 }
 
-/// What that repository answers where it is alone.
-fn alone(alloc: Global, which: Which) -> Result<Vec<u8>, Fail> {
-    let mut repo = Stocked::new(alloc, config_of(alloc, which)?, PlainVersions::new(alloc))?;
+/// What a repository with a store of its own answers to what that one of the two is asked.
+fn answers_alone<V: Versions + Drop>(
+    alloc: Global,
+    repo: &mut Stocked<V>,
+    which: Which,
+) -> Result<Vec<u8>, Fail> {
     let mut output = Vec::new(alloc);
     for (of, asked) in exchanges() {
         if of == which {
-            write_alone(alloc, &mut repo, asked, &mut output)?;
+            write_alone(alloc, repo, asked, &mut output)?;
         }
     }
     Ok(output)
+}
+
+/// What that repository answers where it is alone.
+fn alone(alloc: Global, which: Which) -> Result<Vec<u8>, Fail> {
+    let mut repo = Stocked::new(alloc, config_of(alloc, which)?, PlainVersions::new(alloc))?;
+    answers_alone(alloc, &mut repo, which)
 }
 
 /// The two repositories in one store.
@@ -131,14 +140,23 @@ fn write_of<V: Versions + Drop>(
     write_beside(alloc, shared, of, asked, &mut unseen)
 }
 
-/// What that repository answers where the other one is asked in turn with it.
-fn beside(alloc: Global, which: Which) -> Result<Vec<u8>, Fail> {
-    let mut shared = neighbours(alloc)?;
+/// What that one of the two answers where they are asked in turn.
+fn answers_beside<V: Versions + Drop>(
+    alloc: Global,
+    shared: &mut Shared<V>,
+    which: Which,
+) -> Result<Vec<u8>, Fail> {
     let mut output = Vec::new(alloc);
     for (of, asked) in exchanges() {
-        write_of(alloc, &mut shared, of, which, asked, &mut output)?;
+        write_of(alloc, shared, of, which, asked, &mut output)?;
     }
     Ok(output)
+}
+
+/// What that repository answers beside the other one.
+fn beside(alloc: Global, which: Which) -> Result<Vec<u8>, Fail> {
+    let mut shared = neighbours(alloc)?;
+    answers_beside(alloc, &mut shared, which)
 }
 
 /// That repository answers beside the other one as it does alone.

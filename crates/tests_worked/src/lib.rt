@@ -2,7 +2,7 @@
 //! transcripts tell documents. It holds no test.
 #![tactic(auto)]
 
-use std::alloc::AllocError;
+use std::alloc::{AllocError, Global};
 
 /// A configuration of three repositories: `a` has seconds, keeps deleted records and has a format of
 /// journals, `b` has days and keeps nothing of deleted records, and `c` has seconds, keeps deleted
@@ -30,6 +30,18 @@ pub fn document_head() -> &'static str {
 /// The start tag of a record in oai_dc.
 fn dublin_core() -> &'static str {
     "<oai_dc:dc xmlns:oai_dc=\"http://www.openarchives.org/OAI/2.0/oai_dc/\" xmlns:dc=\"http://purl.org/dc/elements/1.1/\" xmlns:xsi=\"http://www.w3.org/2001/XMLSchema-instance\" xsi:schemaLocation=\"http://www.openarchives.org/OAI/2.0/oai_dc/ http://www.openarchives.org/OAI/2.0/oai_dc.xsd\">"
+}
+
+/// What a transcript wants: its lines but those that begin with `> `, which are what it asks. The error is
+/// want of memory.
+pub fn wanted_in(alloc: Global, transcript: &str) -> Result<String, AllocError> {
+    let mut wanted = String::new(alloc);
+    for line in transcript.lines() {
+        if !line.starts_with("> ") {
+            push_wanted(line, &mut wanted)?;
+        }
+    }
+    Ok(wanted)
 }
 
 /// Adds a line of what a transcript wants: `DOC ` in front stands for what every document begins with,

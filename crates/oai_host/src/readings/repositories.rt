@@ -54,18 +54,24 @@ fn settings_of(alloc: Global, base: &str, value: &Value) -> Result<Settings, Rea
     if !is_repository(value) {
         return Err(ReadFault::BadShape);
     }
+    let deleted = deleted_at(value)?;
+    let granularity = granularity_at(value)?;
+    let chunk = number_at(value, "chunk")?;
+    let lifetime = number_at(value, "lifetime")?;
+    let lists = number_at(value, "lists")?;
+    let items = number_at(value, "items")?;
     Ok(Settings {
         base: Text::new(alloc, base)?,
         name: copy_at(alloc, value, "name")?,
         repository_name: copy_at(alloc, value, "repositoryName")?,
         addresses: texts_at(alloc, value, "adminEmail")?,
         earliest: copy_at(alloc, value, "earliestDatestamp")?,
-        deleted: deleted_at(value)?,
-        granularity: granularity_at(value)?,
-        chunk: number_at(value, "chunk")?,
-        lifetime: number_at(value, "lifetime")?,
-        lists: number_at(value, "lists")?,
-        items: number_at(value, "items")?,
+        deleted,
+        granularity,
+        chunk,
+        lifetime,
+        lists,
+        items,
         formats: formats_at(alloc, value)?,
     })
 }
