@@ -102,10 +102,19 @@ fn assert_byte_by_byte(
 fn a_deposit_that_lacks_a_byte_is_not_performed(rt: HostRuntime) -> Result<(), Fail> {
     let alloc = rt.alloc();
     let mut front = hosting(alloc, 2)?;
-    let (first, second) = two_opened(&mut front)?;
-    end_too_early(&mut front, first)?;
-    assert_answered(&rt, alloc, &mut front, first, START, b"}", "")?;
-    assert_answered(&rt, alloc, &mut front, second, START, deposit(), added())
+    assert_not_performed(&rt, alloc, &mut front)
+}
+
+/// A deposit lacks its last byte on one connection, and is new on another.
+fn assert_not_performed(
+    rt: &impl Abort,
+    alloc: Global,
+    front: &mut Front<Host<PlainVersions>>,
+) -> Result<(), Fail> {
+    let (first, second) = two_opened(front)?;
+    end_too_early(front, first)?;
+    assert_answered(rt, alloc, front, first, START, b"}", "")?;
+    assert_answered(rt, alloc, front, second, START, deposit(), added())
 }
 
 /// A deposit comes but for its last byte, and then the end of the connection.
@@ -129,9 +138,18 @@ fn refusals() -> &'static str {
 fn a_host_refuses_and_the_connection_stays(rt: HostRuntime) -> Result<(), Fail> {
     let alloc = rt.alloc();
     let mut front = hosting(alloc, 1)?;
+    assert_refused(&rt, alloc, &mut front)
+}
+
+/// Each message is refused by itself, and the last one closes the connection.
+fn assert_refused(
+    rt: &impl Abort,
+    alloc: Global,
+    front: &mut Front<Host<PlainVersions>>,
+) -> Result<(), Fail> {
     let conn = front.open()?;
-    assert_answered(&rt, alloc, &mut front, conn, START, refused(), refusals())?;
-    assert_eq!(&rt; front.closing(conn), Some(true));
+    assert_answered(rt, alloc, front, conn, START, refused(), refusals())?;
+    assert_eq!(rt; front.closing(conn), Some(true));
     Ok(())
 }
 
@@ -149,17 +167,18 @@ fn second_list() -> &'static [u8] {
 fn a_full_table_tells_when_to_come_again(rt: HostRuntime) -> Result<(), Fail> {
     let alloc = rt.alloc();
     let mut front = hosting(alloc, 1)?;
+    assert_full(&rt, alloc, &mut front)
+}
+
+/// A list begins, and ten seconds later no other can.
+fn assert_full(
+    rt: &impl Abort,
+    alloc: Global,
+    front: &mut Front<Host<PlainVersions>>,
+) -> Result<(), Fail> {
     let conn = front.open()?;
-    begin_list(alloc, &mut front, conn)?;
-    assert_answered(
-        &rt,
-        alloc,
-        &mut front,
-        conn,
-        START + 11,
-        second_list(),
-        full(),
-    )
+    begin_list(alloc, front, conn)?;
+    assert_answered(rt, alloc, front, conn, START + 11, second_list(), full())
 }
 
 /// Three items come, and a list of them begins.
@@ -210,10 +229,19 @@ fn whole_answer(alloc: Global, name: &str) -> Result<String, AllocError> {
 fn two_requests_come_byte_by_byte_in_turns(rt: HostRuntime) -> Result<(), Fail> {
     let alloc = rt.alloc();
     let mut front = hosting(alloc, 2)?;
-    let (first, second) = two_opened(&mut front)?;
-    hand_in_turns(&mut front, first, second)?;
-    assert_identified(&rt, alloc, &mut front, second, "b")?;
-    assert_identified(&rt, alloc, &mut front, first, "a")
+    assert_in_turns(&rt, alloc, &mut front)
+}
+
+/// Each connection has the answer of its repository.
+fn assert_in_turns(
+    rt: &impl Abort,
+    alloc: Global,
+    front: &mut Front<Host<PlainVersions>>,
+) -> Result<(), Fail> {
+    let (first, second) = two_opened(front)?;
+    hand_in_turns(front, first, second)?;
+    assert_identified(rt, alloc, front, second, "b")?;
+    assert_identified(rt, alloc, front, first, "a")
 }
 
 /// A request of each repository comes, byte by byte in turns.

@@ -7,7 +7,7 @@ use oai_host::{Answer, Exchange, Host, Status};
 use std::alloc::Global;
 use std::process::Abort;
 use std::test::Fail;
-use tests_worked::push_wanted;
+use tests_worked::wanted_in;
 
 /// A request in the body of a POST is a form, by its type: what stands before any `;`, without spaces
 /// and tabs around it, in letters of either case.
@@ -238,20 +238,20 @@ fn bytes_asked() -> [(Exchange<'static>, Status); 7] {
     ]
 }
 
-/// The answer is that status and nothing else.
-fn assert_status(rt: &impl Abort, answer: &Answer, status: Status) {
+/// The answer is that status and body, and nothing else.
+fn assert_answer(rt: &impl Abort, answer: &Answer, status: Status, body: &str) {
     assert_eq!(rt; answer.status, status);
     assert_eq!(rt; answer.seconds, None);
     assert_eq!(rt; answer.done, None);
     assert_eq!(rt; answer.fault, None);
-    assert_eq!(rt; answer.body.as_slice().len(), 0);
+    assert_eq!(rt; answer.body.as_slice(), body.as_bytes());
 }
 
 /// The host answers each with its status.
 fn assert_statuses<V: Versions + Drop>(rt: &impl Abort, host: &mut Host<V>) {
     for (exchange, status) in bytes_asked() {
         let answer = host.exchange(1_704_067_200, &exchange);
-        assert_status(rt, &answer, status);
+        assert_answer(rt, &answer, status, "");
     }
 }
 
@@ -277,14 +277,9 @@ fn assert_page<V: Versions + Drop>(
         content_type: None,
         body: b"",
     };
+    let wanted = wanted_in(alloc, no_sets())?;
     let answer = host.exchange(-5, &exchange);
-    let mut wanted = String::new(alloc);
-    push_wanted(no_sets(), &mut wanted)?;
-    assert_eq!(rt; answer.status, Status::Ok);
-    assert_eq!(rt; answer.seconds, None);
-    assert_eq!(rt; answer.done, None);
-    assert_eq!(rt; answer.fault, None);
-    assert_eq!(rt; answer.body.as_slice(), wanted.as_bytes());
+    assert_answer(rt, &answer, Status::Ok, wanted.as_str());
     Ok(())
 }
 

@@ -2,12 +2,12 @@
 use crate::transcripts::{Told, body_of, told_in, write_answer};
 use crate::worked::host;
 use oai_catalogue::{FaultyVersions, PlainVersions, Versions};
-use oai_host::{Answer, Call};
+use oai_host::{Answer, Call, Host};
 use oai_names::Sequence;
 use std::alloc::{AllocError, Global};
 use std::process::Abort;
 use std::test::Fail;
-use tests_worked::push_wanted;
+use tests_worked::wanted_in;
 
 // ---- calls
 
@@ -83,30 +83,40 @@ fn written(alloc: Global, answers: &[Answer]) -> Result<Vec<u8>, Fail> {
     Ok(output)
 }
 
-/// What the transcript says of the answers.
-fn wanted_in(alloc: Global, transcript: &str) -> Result<String, AllocError> {
-    let mut wanted = String::new(alloc);
-    for line in transcript.lines() {
-        if !line.starts_with("> ") {
-            push_wanted(line, &mut wanted)?;
-        }
-    }
-    Ok(wanted)
+/// What the host answers to the exchanges of the transcript, as one run.
+fn answers_to_run<V: Versions + Drop>(
+    rt: &impl Abort,
+    alloc: Global,
+    host: &mut Host<V>,
+    transcript: &str,
+) -> Result<Vec<u8>, Fail> {
+    let calls = calls_in(rt, alloc, transcript)?;
+    let answers = host.run(&calls)?;
+    written(alloc, answers.as_slice())
 }
 
-/// A new host over the store answers the exchanges of the transcript, as one run, as it says.
+/// The host answers the exchanges of the transcript, as one run, as it says.
+fn assert_run_of<V: Versions + Drop>(
+    rt: &impl Abort,
+    alloc: Global,
+    host: &mut Host<V>,
+    transcript: &str,
+) -> Result<(), Fail> {
+    let output = answers_to_run(rt, alloc, host, transcript)?;
+    let wanted = wanted_in(alloc, transcript)?;
+    assert_eq!(rt; output.as_slice(), wanted.as_bytes(), "{transcript}");
+    Ok(())
+}
+
+/// A new host over the store does so.
 fn assert_run<V: Versions + Drop>(
     rt: &impl Abort,
     alloc: Global,
     store: V,
     transcript: &str,
 ) -> Result<(), Fail> {
-    let calls = calls_in(rt, alloc, transcript)?;
-    let answers = answers_to(alloc, store, &calls)?;
-    let output = written(alloc, answers.as_slice())?;
-    let wanted = wanted_in(alloc, transcript)?;
-    assert_eq!(rt; output.as_slice(), wanted.as_bytes(), "{transcript}");
-    Ok(())
+    let mut host = host(alloc, store)?;
+    assert_run_of(rt, alloc, &mut host, transcript)
 }
 
 // ---- runs
@@ -179,21 +189,15 @@ fn run_with_a_failure(rt: HostRuntime) -> Result<(), Fail> {
     assert_run(&rt, alloc, store, failing())
 }
 
-/// A run of no exchanges is answered by none, and a run after it begins where it began.
+/// A run of no exchanges is answered by none, and a run after another begins where that ended.
 fn assert_runs_in_turn<V: Versions + Drop>(
     rt: &impl Abort,
     alloc: Global,
-    store: V,
+    host: &mut Host<V>,
 ) -> Result<(), Fail> {
-    let mut host = host(alloc, store)?;
-    assert_eq!(rt; host.run(&[])?.as_slice().len(), 0);
-    let first = host.run(&calls_in(rt, alloc, first_deposit())?)?;
-    assert_eq!(rt; first.as_slice().len(), 2);
-    let second = host.run(&calls_in(rt, alloc, deposited_again())?)?;
-    let output = written(alloc, second.as_slice())?;
-    let wanted = wanted_in(alloc, deposited_again())?;
-    assert_eq!(rt; output.as_slice(), wanted.as_bytes());
-    Ok(())
+    assert_run_of(rt, alloc, host, "")?;
+    assert_run_of(rt, alloc, host, first_deposit())?;
+    assert_run_of(rt, alloc, host, deposited_again())
 }
 
 /// What comes after the first deposit, at an earlier moment.
@@ -208,7 +212,8 @@ refused 14 already-deleted"#
 #[test]
 fn runs_in_turn(rt: HostRuntime) -> Result<(), Fail> {
     let alloc = rt.alloc();
-    assert_runs_in_turn(&rt, alloc, PlainVersions::new(alloc))
+    let mut host = host(alloc, PlainVersions::new(alloc))?;
+    assert_runs_in_turn(&rt, alloc, &mut host)
 }
 
 // ---- many of them

@@ -11,7 +11,7 @@ use std::alloc::{AllocError, Global};
 use std::io::{self, Write};
 use std::process::Abort;
 use std::test::Fail;
-use tests_worked::push_wanted;
+use tests_worked::wanted_in;
 
 // ---- exchanges
 
@@ -107,21 +107,31 @@ fn write_line<V: Versions + Drop>(
 
 // ---- transcripts
 
-/// The host answers the transcript's lines as it says.
+/// What the host answers to the transcript's exchanges.
+fn answers_to_all<V: Versions + Drop>(
+    rt: &impl Abort,
+    alloc: Global,
+    host: &mut Host<V>,
+    transcript: &str,
+) -> Result<Vec<u8>, Fail> {
+    let mut output = Vec::new(alloc);
+    for line in transcript.lines() {
+        if let Some(asked) = line.strip_prefix("> ") {
+            write_line(alloc, host, told_in(rt, asked)?, &mut output)?;
+        }
+    }
+    Ok(output)
+}
+
+/// The host answers the transcript's exchanges as it says.
 pub(crate) fn assert_answers<V: Versions + Drop>(
     rt: &impl Abort,
     alloc: Global,
     host: &mut Host<V>,
     transcript: &str,
 ) -> Result<(), Fail> {
-    let mut output = Vec::new(alloc);
-    let mut wanted = String::new(alloc);
-    for line in transcript.lines() {
-        match line.strip_prefix("> ") {
-            Some(asked) => write_line(alloc, host, told_in(rt, asked)?, &mut output)?,
-            None => push_wanted(line, &mut wanted)?,
-        }
-    }
+    let output = answers_to_all(rt, alloc, host, transcript)?;
+    let wanted = wanted_in(alloc, transcript)?;
     assert_eq!(rt; output.as_slice(), wanted.as_bytes(), "{transcript}");
     Ok(())
 }

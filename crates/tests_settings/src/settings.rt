@@ -40,9 +40,8 @@ fn repeated(alloc: Global, text: &str, times: usize) -> Result<String, AllocErro
     Ok(all)
 }
 
-#[test]
-fn accessors(rt: HostRuntime) -> Result<(), Fail> {
-    let config = config_of_a(rt.alloc())?;
+/// What is told of Archive A.
+fn assert_told(rt: &impl Abort, config: &RepoConfig) {
     assert_eq!(rt; config.base(), "http://host.example/oai/a");
     assert_eq!(rt; config.repository_name(), "Archive A");
     assert_eq!(rt; config.addresses().len(), 1);
@@ -52,12 +51,17 @@ fn accessors(rt: HostRuntime) -> Result<(), Fail> {
     assert_eq!(rt; (config.chunk(), config.lifetime()), (2, 60));
     assert_eq!(rt; (config.lists(), config.items()), (1, 1_000));
     assert_eq!(rt; config.formats().len(), 2);
-    Ok(())
 }
 
 #[test]
-fn declared_format(rt: HostRuntime) -> Result<(), Fail> {
+fn accessors(rt: HostRuntime) -> Result<(), Fail> {
     let config = config_of_a(rt.alloc())?;
+    assert_told(&rt, &config);
+    Ok(())
+}
+
+/// Its second format, which it declares.
+fn assert_declared(rt: &impl Abort, config: &RepoConfig) {
     match config.formats().get(1) {
         Some(format) => {
             assert_eq!(rt; format.prefix.as_str(), "jnl");
@@ -68,6 +72,12 @@ fn declared_format(rt: HostRuntime) -> Result<(), Fail> {
         }
         None => panic!(rt; "no format"),
     }
+}
+
+#[test]
+fn declared_format(rt: HostRuntime) -> Result<(), Fail> {
+    let config = config_of_a(rt.alloc())?;
+    assert_declared(&rt, &config);
     Ok(())
 }
 
@@ -184,6 +194,10 @@ fn names(rt: HostRuntime) -> Result<(), Fail> {
     Ok(())
 }
 
+fn assert_base_is(rt: &impl Abort, config: &RepoConfig, base: &str) {
+    assert_eq!(rt; config.base(), base);
+}
+
 /// The base is no checked URL, and the rest is put behind it as it is.
 #[test]
 fn base_with_a_slash(rt: HostRuntime) -> Result<(), Fail> {
@@ -192,7 +206,7 @@ fn base_with_a_slash(rt: HostRuntime) -> Result<(), Fail> {
         ..archive_b()
     };
     let config = RepoConfig::new(rt.alloc(), settings_of(rt.alloc(), told)?)?;
-    assert_eq!(rt; config.base(), "a b//oai/b");
+    assert_base_is(&rt, &config, "a b//oai/b");
     Ok(())
 }
 
