@@ -1,10 +1,10 @@
 //! Lines that are performed on a new host, and what is written for them.
 use oai_edge::{Stop, ask_lines, config_in, host_of};
-use std::alloc::Global;
+use std::alloc::{AllocError, Global};
 use std::io::{Read, Write};
 use std::process::Abort;
 use std::test::Fail;
-use tests_worked::{push_wanted, worked_configuration};
+use tests_worked::{wanted_in, worked_configuration};
 
 /// Performs the lines that the reader gives on a new host; why that stopped, if it did.
 pub(crate) fn performed<R: Read, W: Write>(
@@ -50,23 +50,25 @@ pub(crate) fn assert_asked(
     Ok(())
 }
 
-/// Performs the lines of the transcript that begin with `> `, and compares what is written with its
-/// other lines.
+/// The lines that the transcript asks: those that begin with `> `.
+fn asked_in(alloc: Global, transcript: &str) -> Result<String, AllocError> {
+    let mut input = String::new(alloc);
+    for line in transcript.lines() {
+        if let Some(asked) = line.strip_prefix("> ") {
+            input.push_str(asked)?;
+            input.push('\n')?;
+        }
+    }
+    Ok(input)
+}
+
+/// The lines that the transcript asks are answered as it wants.
 pub(crate) fn assert_transcript(
     rt: &impl Abort,
     alloc: Global,
     transcript: &str,
 ) -> Result<(), Fail> {
-    let mut input = String::new(alloc);
-    let mut wanted = String::new(alloc);
-    for line in transcript.lines() {
-        match line.strip_prefix("> ") {
-            Some(asked) => {
-                input.push_str(asked)?;
-                input.push('\n')?;
-            }
-            None => push_wanted(line, &mut wanted)?,
-        }
-    }
+    let input = asked_in(alloc, transcript)?;
+    let wanted = wanted_in(alloc, transcript)?;
     assert_asked(rt, alloc, input.as_str(), wanted.as_str())
 }

@@ -7,7 +7,7 @@ use oai_item::Fault;
 use std::alloc::Global;
 use std::process::Abort;
 use std::test::Fail;
-use tests_worked::{push_wanted, worked_configuration};
+use tests_worked::{wanted_in, worked_configuration};
 
 /// A second, a target, and of a deposit its line.
 type Asked = (i64, &'static str, &'static str);
@@ -85,31 +85,47 @@ fn answer<V: Versions + Drop>(
     Ok(true)
 }
 
-/// Performs the exchanges over a store whose k-th call fails, and says whether one did: no more may.
-fn assert_answers(rt: &impl Abort, alloc: Global, k: u64) -> Result<bool, Fail> {
-    let store = FaultyVersions::new(PlainVersions::new(alloc), k);
-    let config = config_in(alloc, worked_configuration().as_bytes())?;
-    let mut host = match Host::new(alloc, config, store) {
-        Ok(host) => host,
-        Err(fault) => {
-            assert_eq!(rt; fault, Fault::Device);
-            return Ok(true);
-        }
-    };
-    let mut output = Vec::new(alloc);
+/// Performs the exchanges, and says whether a call of the store failed: no more may.
+fn answer_all<V: Versions + Drop>(
+    rt: &impl Abort,
+    host: &mut Host<V>,
+    output: &mut Vec<u8>,
+) -> Result<bool, Fail> {
     let mut failed = false;
     for asked in exchanges() {
-        if answer(rt, &mut host, asked, &mut output)? {
+        if answer(rt, host, asked, output)? {
             assert!(rt; !failed);
             failed = true;
         }
     }
-    let mut wanted = String::new(alloc);
-    for line in answers().lines() {
-        push_wanted(line, &mut wanted)?;
-    }
+    Ok(failed)
+}
+
+/// The host answers the exchanges; whether a call of its store, of which the k-th fails, did.
+fn assert_answered<V: Versions + Drop>(
+    rt: &impl Abort,
+    alloc: Global,
+    host: &mut Host<V>,
+    k: u64,
+) -> Result<bool, Fail> {
+    let mut output = Vec::new(alloc);
+    let failed = answer_all(rt, host, &mut output)?;
+    let wanted = wanted_in(alloc, answers())?;
     assert_eq!(rt; output.as_slice(), wanted.as_bytes(), "call {k}");
     Ok(failed)
+}
+
+/// Performs the exchanges over a store whose k-th call fails, and says whether one did: no more may.
+fn assert_answers(rt: &impl Abort, alloc: Global, k: u64) -> Result<bool, Fail> {
+    let store = FaultyVersions::new(PlainVersions::new(alloc), k);
+    let config = config_in(alloc, worked_configuration().as_bytes())?;
+    match Host::new(alloc, config, store) {
+        Ok(mut host) => assert_answered(rt, alloc, &mut host, k),
+        Err(fault) => {
+            assert_eq!(rt; fault, Fault::Device);
+            Ok(true)
+        }
+    }
 }
 
 /// Each call of the store fails once.

@@ -1,4 +1,6 @@
 //! Connections over streams: of the tests, and of the system.
+ghost use Rattle.std.specs.Prelude.{◌≤◌};
+
 use crate::tracing::{
     answer_with, but_the_last, later_set_answer, not_found, set_again_answer, set_answer,
     set_message,
@@ -171,27 +173,59 @@ fn two_answers(alloc: Global) -> Result<String, AllocError> {
     Ok(text)
 }
 
-/// However the bytes are cut, the answers are the same; each read has room for 65,536 bytes, and none is
-/// made once the connection closes.
+/// That is written on the wire; so many bytes were read in pieces of so many, each with room for
+/// 65,536 bytes.
+fn assert_wire(rt: &impl Abort, wire: &Wire<'_>, wanted: &str, bytes: usize, piece: usize)
+    requires { 1 ≤ piece }
+{
+    assert_eq!(rt; wire.written.as_slice(), wanted.as_bytes(), "{piece}");
+    let reads = 1_000_usize.saturating_sub(wire.reads);
+    assert_eq!(rt; reads, bytes.div_ceil(piece), "{piece}");
+    assert_eq!(rt; wire.room, 65_536, "{piece}");
+}
+
+/// The three messages come in pieces of so many bytes, and are not read any more once the connection
+/// closes.
+fn assert_read_in_pieces(
+    rt: &impl Abort,
+    alloc: Global,
+    front: &mut Front<Host<PlainVersions>>,
+    text: &str,
+    wanted: &str,
+    piece: usize,
+)
+    requires { 1 ≤ piece }
+{
+    let mut stream = wire_of(alloc, text.as_bytes(), piece);
+    let served = serve_stream(alloc, front, &mut stream, &StandingClock);
+    assert_eq!(rt; served, Ok(()), "{piece}");
+    let bytes = text.len().saturating_sub(set_message().len());
+    assert_wire(rt, &stream, wanted, bytes, piece);
+}
+
+/// They are answered so, and the next connection is served.
+fn assert_pieces(
+    rt: &impl Abort,
+    alloc: Global,
+    text: &str,
+    wanted: &str,
+    piece: usize,
+) -> Result<(), Fail>
+    requires { 1 ≤ piece }
+{
+    let mut front = new_front(alloc)?;
+    assert_read_in_pieces(rt, alloc, &mut front, text, wanted, piece);
+    assert_set(rt, alloc, &mut front, set_again_answer())
+}
+
+/// However the bytes are cut, the answers are the same.
 #[test]
 fn streams_in_pieces(rt: HostRuntime) -> Result<(), Fail> {
     let alloc = rt.alloc();
     let text = three_messages(alloc)?;
     let wanted = two_answers(alloc)?;
-    let read_bytes = text.len().saturating_sub(set_message().len());
     for piece in 1..=text.len() {
-        let mut front = new_front(alloc)?;
-        let mut stream = wire_of(alloc, text.as_bytes(), piece);
-        let served = serve_stream(alloc, &mut front, &mut stream, &StandingClock);
-        assert_eq!(rt; served, Ok(()), "{piece}");
-        assert_eq!(rt; stream.written.as_slice(), wanted.as_bytes(), "{piece}");
-        assert_eq!(rt;
-            1_000_usize.saturating_sub(stream.reads),
-            read_bytes.div_ceil(piece),
-            "{piece}"
-        );
-        assert_eq!(rt; stream.room, 65_536, "{piece}");
-        assert_set(&rt, alloc, &mut front, set_again_answer())?;
+        assert_pieces(&rt, alloc, text.as_str(), wanted.as_str(), piece)?;
     }
     Ok(())
 }
@@ -209,47 +243,82 @@ fn stream_ends_in_a_body(rt: HostRuntime) -> Result<(), Fail> {
     assert_set(&rt, alloc, &mut front, set_answer())
 }
 
-/// Each read fails in turn. What was performed stays, and the next connection is served.
+/// The message comes a byte a read, and the read behind so many fails; that is written for it.
+fn assert_read_fails(
+    rt: &impl Abort,
+    alloc: Global,
+    front: &mut Front<Host<PlainVersions>>,
+    reads: usize,
+    wanted: &str,
+) {
+    let mut stream = wire_of(alloc, set_message().as_bytes(), 1);
+    stream.reads = reads;
+    let served = serve_stream(alloc, front, &mut stream, &StandingClock);
+    assert_eq!(rt; served, Err(StreamFault::ReadFault), "{reads}");
+    assert_eq!(rt; stream.written.as_slice(), wanted.as_bytes(), "{reads}");
+}
+
+/// What was performed where that read fails stays, and the next connection is served.
+fn assert_served_behind_reads(rt: &impl Abort, alloc: Global, reads: usize) -> Result<(), Fail> {
+    let (wanted, next) = if reads == set_message().len() {
+        (set_answer(), set_again_answer())
+    } else {
+        ("", set_answer())
+    };
+    let mut front = new_front(alloc)?;
+    assert_read_fails(rt, alloc, &mut front, reads, wanted);
+    assert_set(rt, alloc, &mut front, next)
+}
+
+/// Each read fails in turn.
 #[test]
 fn reads_of_a_stream_fail(rt: HostRuntime) -> Result<(), Fail> {
-    let alloc = rt.alloc();
-    let message = set_message().as_bytes();
-    for reads in 0..=message.len() {
-        let mut front = new_front(alloc)?;
-        let mut stream = wire_of(alloc, message, 1);
-        stream.reads = reads;
-        let served = serve_stream(alloc, &mut front, &mut stream, &StandingClock);
-        assert_eq!(rt; served, Err(StreamFault::ReadFault), "{reads}");
-        let is_done = reads == message.len();
-        let wanted = if is_done { set_answer() } else { "" };
-        assert_eq!(rt; stream.written.as_slice(), wanted.as_bytes(), "{reads}");
-        let next = if is_done {
-            set_again_answer()
-        } else {
-            set_answer()
-        };
-        assert_set(&rt, alloc, &mut front, next)?;
+    for reads in 0..=set_message().len() {
+        assert_served_behind_reads(&rt, rt.alloc(), reads)?;
     }
     Ok(())
 }
 
-/// Each write fails in turn. What was performed stays, and the next connection is served.
-#[test]
-fn writes_of_a_stream_fail(rt: HostRuntime) -> Result<(), Fail> {
-    let alloc = rt.alloc();
+/// The messages come, and the write behind so many fails; what is written is a front of that.
+fn assert_write_fails(
+    rt: &impl Abort,
+    alloc: Global,
+    front: &mut Front<Host<PlainVersions>>,
+    text: &str,
+    wanted: &str,
+    writes: usize,
+) {
+    let mut stream = wire_of(alloc, text.as_bytes(), set_message().len());
+    stream.writes = writes;
+    let served = serve_stream(alloc, front, &mut stream, &StandingClock);
+    assert_eq!(rt; served, Err(StreamFault::WriteFault), "{writes}");
+    assert!(rt;
+        wanted.as_bytes().starts_with(stream.written.as_slice()),
+        "{writes}"
+    );
+}
+
+/// What was performed where that write fails stays, and the next connection is served.
+fn assert_served_behind_writes(rt: &impl Abort, alloc: Global, writes: usize) -> Result<(), Fail> {
     let text = three_messages(alloc)?;
     let wanted = two_answers(alloc)?;
-    for writes in 0..2 {
-        let mut front = new_front(alloc)?;
-        let mut stream = wire_of(alloc, text.as_bytes(), set_message().len());
-        stream.writes = writes;
-        let served = serve_stream(alloc, &mut front, &mut stream, &StandingClock);
-        assert_eq!(rt; served, Err(StreamFault::WriteFault), "{writes}");
-        let is_front = wanted.as_bytes().starts_with(stream.written.as_slice());
-        assert!(rt; is_front, "{writes}");
-        assert_set(&rt, alloc, &mut front, set_again_answer())?;
-    }
-    Ok(())
+    let mut front = new_front(alloc)?;
+    assert_write_fails(
+        rt,
+        alloc,
+        &mut front,
+        text.as_str(),
+        wanted.as_str(),
+        writes,
+    );
+    assert_set(rt, alloc, &mut front, set_again_answer())
+}
+
+/// Each write fails in turn.
+#[test]
+fn writes_of_a_stream_fail(rt: HostRuntime) -> Result<(), Fail> {
+    assert_served_behind_writes(&rt, rt.alloc(), 0)?;
+    assert_served_behind_writes(&rt, rt.alloc(), 1)
 }
 
 #[test]
@@ -283,18 +352,31 @@ fn moments_of_a_stream(rt: HostRuntime) -> Result<(), Fail> {
     Ok(())
 }
 
-/// Where as many connections are open as may be, none is opened, and the one that is stays.
-#[test]
-fn no_room_for_a_stream(rt: HostRuntime) -> Result<(), Fail> {
-    let alloc = rt.alloc();
-    let mut front = new_front(alloc)?;
-    let conn = front.open()?;
+/// No connection is opened for a stream.
+fn assert_not_opened(rt: &impl Abort, alloc: Global, front: &mut Front<Host<PlainVersions>>) {
     let mut stream = wire_of(alloc, set_message().as_bytes(), 1_000);
-    let served = serve_stream(alloc, &mut front, &mut stream, &StandingClock);
+    let served = serve_stream(alloc, front, &mut stream, &StandingClock);
     assert!(rt; matches!(served, Err(StreamFault::NotOpened(_))));
+}
+
+/// A connection is opened; none is opened beside it, and it stays.
+fn assert_one_opened(
+    rt: &impl Abort,
+    alloc: Global,
+    front: &mut Front<Host<PlainVersions>>,
+) -> Result<(), Fail> {
+    let conn = front.open()?;
+    assert_not_opened(rt, alloc, front);
     assert_eq!(rt; front.closing(conn), Some(false));
     assert_eq!(rt; front.closing(ConnId { number: 2 }), None);
     Ok(())
+}
+
+/// Where as many connections are open as may be, none is opened.
+#[test]
+fn no_room_for_a_stream(rt: HostRuntime) -> Result<(), Fail> {
+    let mut front = new_front(rt.alloc())?;
+    assert_one_opened(&rt, rt.alloc(), &mut front)
 }
 
 /// A deposit of a record whose title is so many of the letter, a request of it, and one of what is not there.
@@ -371,18 +453,26 @@ fn many_short_outputs(rt: HostRuntime) -> Result<(), Fail> {
     assert_served(&rt, alloc, text.as_str(), wanted.as_str())
 }
 
+/// What comes of the text where so many writes are made and the next one fails.
+fn served_with_writes(
+    alloc: Global,
+    text: &str,
+    writes: usize,
+) -> Result<Result<(), StreamFault>, Fail> {
+    let mut front = new_front(alloc)?;
+    let mut stream = wire_of(alloc, text.as_bytes(), 65_536);
+    stream.writes = writes;
+    Ok(serve_stream(alloc, &mut front, &mut stream, &StandingClock))
+}
+
 /// What is short is written together: an answer, the head of the next, then its long body, and the last.
 #[test]
 fn short_outputs_are_gathered(rt: HostRuntime) -> Result<(), Fail> {
     let alloc = rt.alloc();
     let text = long_record(alloc, "t", 4_096)?;
-    for (writes, wanted) in [(2, Err(StreamFault::WriteFault)), (3, Ok(()))] {
-        let mut front = new_front(alloc)?;
-        let mut stream = wire_of(alloc, text.as_bytes(), 65_536);
-        stream.writes = writes;
-        let served = serve_stream(alloc, &mut front, &mut stream, &StandingClock);
-        assert_eq!(rt; served, wanted, "{writes}");
-    }
+    let fault = Err(StreamFault::WriteFault);
+    assert_eq!(rt; served_with_writes(alloc, text.as_str(), 2)?, fault);
+    assert_eq!(rt; served_with_writes(alloc, text.as_str(), 3)?, Ok(()));
     Ok(())
 }
 
@@ -463,16 +553,25 @@ fn serve_next(
     Ok(())
 }
 
+/// What the client is answered by a new host that listens.
+fn answers_to(
+    alloc: Global,
+    client: &mut TcpStream,
+    listener: &TcpListener,
+) -> Result<Vec<u8>, Fail> {
+    ask(client)?;
+    serve_next(alloc, listener, &mut new_front(alloc)?)?;
+    let mut answers = Vec::new(alloc);
+    client.read_to_end(&mut answers)?;
+    Ok(answers)
+}
+
 /// What a client of the system's sockets is answered by a new host.
 fn answers_over_a_socket(rt: &HostRuntime, alloc: Global) -> Result<Vec<u8>, Fail> {
     let local = SocketAddr::V4(SocketAddrV4::new(Ipv4Addr::LOCALHOST, 0));
     let listener = TcpListener::bind(rt, local)?;
     let mut client = TcpStream::connect(rt, listener.local_addr()?)?;
-    ask(&mut client)?;
-    serve_next(alloc, &listener, &mut new_front(alloc)?)?;
-    let mut answers = Vec::new(alloc);
-    client.read_to_end(&mut answers)?;
-    Ok(answers)
+    answers_to(alloc, &mut client, &listener)
 }
 
 /// A client asks, ends its writing side, and reads the answers.
