@@ -79,12 +79,16 @@ fn item_as_bytes(rt: HostRuntime) -> Result<(), Fail> {
     assert_spelled(&rt, alloc, &item, spelling().as_slice())
 }
 
+/// A copy of that item.
+fn copied(alloc: Global) -> Result<Item, Fail> {
+    let item = item(alloc, "oai:a:1", 0, &[], "T")?;
+    Ok(item.copy(alloc)?)
+}
+
 #[test]
 fn copy_of_an_item_as_bytes(rt: HostRuntime) -> Result<(), Fail> {
-    let alloc = rt.alloc();
-    let item = item(alloc, "oai:a:1", 0, &[], "T")?;
-    let copy = item.copy(alloc)?;
-    assert_spelled(&rt, alloc, &copy, spelling().as_slice())
+    let copy = copied(rt.alloc())?;
+    assert_spelled(&rt, rt.alloc(), &copy, spelling().as_slice())
 }
 
 #[test]

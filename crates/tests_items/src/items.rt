@@ -107,18 +107,28 @@ fn assert_tombstone(rt: &impl Abort, deleted: &Item) {
     assert!(rt; deleted.has_record("oai_dc") && !deleted.has_record("jnl"));
 }
 
+/// A copy of `oai:a:1` in the set `x:y`.
+fn copied(alloc: Global) -> Result<Item, Fail> {
+    let item = titled(alloc, &["x:y"], "T")?;
+    Ok(item.copy(alloc)?)
+}
+
 #[test]
 fn copy_of_an_item(rt: HostRuntime) -> Result<(), Fail> {
-    let item = titled(rt.alloc(), &["x:y"], "T")?;
-    let copy = item.copy(rt.alloc())?;
+    let copy = copied(rt.alloc())?;
     assert_copy(&rt, &copy);
     Ok(())
 }
 
+/// What is left of it where it is deleted a second later.
+fn deleted(alloc: Global) -> Result<Item, Fail> {
+    let item = titled(alloc, &["x:y"], "T")?;
+    Ok(item.tombstone(alloc, STAMP + 1)?)
+}
+
 #[test]
 fn tombstone_of_an_item(rt: HostRuntime) -> Result<(), Fail> {
-    let item = titled(rt.alloc(), &["x:y"], "T")?;
-    let deleted = item.tombstone(rt.alloc(), STAMP + 1)?;
+    let deleted = deleted(rt.alloc())?;
     assert_tombstone(&rt, &deleted);
     Ok(())
 }
