@@ -37,7 +37,7 @@ pub(crate) struct Repositories {
 
 impl Model for Repositories {
     ghost use Rattle.std.specs.Prelude.{◌≡◌, ℕ, List};
-    ghost use Rattle.std.specs.BTreeMap.{IsUnchanged, get_by_text};
+    ghost use Rattle.std.specs.BTreeMap.{get_by_text};
     ghost use Rattle.oai_host.specs.declared.housed.Housed as declared;
     ghost use Rattle.oai_host.specs.Housed.{housed_names, place_in};
 
