@@ -4,7 +4,7 @@ use std::alloc::{AllocError, Global};
 use std::io::{Read, Write};
 use std::process::Abort;
 use std::test::Fail;
-use tests_worked::{wanted_in, worked_configuration};
+use tests_shared::{assert_same_at, wanted_in, worked_configuration};
 
 /// Performs the lines that the reader gives on a new host; why that stopped, if it did.
 pub(crate) fn performed<R: Read, W: Write>(
@@ -46,7 +46,7 @@ pub(crate) fn assert_asked(
 ) -> Result<(), Fail> {
     let mut reader = input.as_bytes();
     let output = written(alloc, &mut reader)?;
-    assert_eq!(rt; output.as_slice(), wanted.as_bytes(), "{input}");
+    assert_same_at(rt, output.as_slice(), wanted.as_bytes(), input);
     Ok(())
 }
 

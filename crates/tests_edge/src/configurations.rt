@@ -3,7 +3,7 @@ use oai_edge::{Stop, read_config};
 use std::alloc::{AllocError, Global};
 use std::fs;
 use std::test::Fail;
-use tests_worked::worked_configuration;
+use tests_shared::{assert_same, worked_configuration};
 
 /// The file of the test, which lies where it runs.
 const PATH: &str = "configuration-of-many-reads.json";
@@ -21,7 +21,7 @@ fn configuration_of_many_reads(rt: HostRuntime) -> Result<(), Fail> {
     let text = long_configuration(rt.alloc())?;
     fs::write(&rt, PATH, text.as_slice())?;
     let config = read_config(&rt, PATH)?;
-    assert_eq!(rt; config.len(), 3);
+    assert_same(&rt, config.len(), 3);
     fs::remove_file(&rt, PATH)?;
     Ok(())
 }
@@ -31,7 +31,7 @@ fn configuration_of_many_reads(rt: HostRuntime) -> Result<(), Fail> {
 fn no_configuration(rt: HostRuntime) -> Result<(), Fail> {
     match read_config(&rt, "no-such-configuration.json") {
         Ok(_) => assert!(rt; false),
-        Err(stop) => assert_eq!(rt; stop, Stop::CannotRead),
+        Err(stop) => assert_same(&rt, stop, Stop::CannotRead),
     }
     Ok(())
 }

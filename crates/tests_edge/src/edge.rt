@@ -9,7 +9,7 @@ use std::alloc::{AllocError, Global};
 use std::io::{self, ErrorKind, Read, Write};
 use std::process::Abort;
 use std::test::Fail;
-use tests_worked::push_wanted;
+use tests_shared::{assert_same, assert_same_at, push_wanted};
 
 /// A deposit, an empty line, a line that is no JSON, and a deposit that has no line end.
 fn script() -> &'static str {
@@ -69,11 +69,7 @@ fn assert_in_pieces(
 ) -> Result<(), Fail> {
     let mut reader = PiecesReader { text, first, later };
     let output = written(alloc, &mut reader)?;
-    assert_eq!(rt;
-        output.as_slice(),
-        script_answer().as_bytes(),
-        "{first}, {later}"
-    );
+    assert_same_at(rt, output.as_slice(), script_answer().as_bytes(), first);
     Ok(())
 }
 
@@ -151,7 +147,7 @@ fn line_of_many_reads(rt: HostRuntime) -> Result<(), Fail> {
         later: 1,
     };
     let output = written(alloc, &mut reader)?;
-    assert_eq!(rt; output.as_slice(), wanted.as_bytes());
+    assert_same(&rt, output.as_slice(), wanted.as_bytes());
     Ok(())
 }
 
@@ -169,7 +165,7 @@ fn assert_bad_line(
         later: length,
     };
     let stop = stop_of(rt, alloc, &mut reader)?;
-    assert_eq!(rt; stop, Stop::BadExchange(number), "in pieces of {length}");
+    assert_same_at(rt, stop, Stop::BadExchange(number), length);
     Ok(())
 }
 
@@ -214,7 +210,7 @@ fn what_is_said(rt: HostRuntime) -> Result<(), Fail> {
         (Stop::NoMemory, "out of memory"),
     ] {
         let said = format!(in rt.alloc(); "{stop}")?;
-        assert_eq!(rt; said.as_str(), text);
+        assert_same(&rt, said.as_str(), text);
     }
     Ok(())
 }
@@ -249,7 +245,7 @@ fn short_answers(rt: HostRuntime) -> Result<(), Fail> {
     ] {
         let mut output = Vec::new(rt.alloc());
         write_answer(&answer(rt.alloc(), status, seconds, done), &mut output)?;
-        assert_eq!(rt; output.as_slice(), text.as_bytes());
+        assert_same(&rt, output.as_slice(), text.as_bytes());
     }
     Ok(())
 }
@@ -286,12 +282,8 @@ fn each_read_fails(rt: HostRuntime) -> Result<(), Fail> {
         let mut reader = ByteReader { text, reads };
         let mut output = Vec::new(alloc);
         let done = performed(alloc, &mut reader, &mut output)?;
-        assert_eq!(rt; done, Err(Stop::InputFault), "{reads}");
-        assert_eq!(rt;
-            output.as_slice(),
-            answer_to_front(reads).as_bytes(),
-            "{reads}"
-        );
+        assert_same_at(&rt, done, Err(Stop::InputFault), reads);
+        assert_same_at(&rt, output.as_slice(), answer_to_front(reads).as_bytes(), reads);
     }
     Ok(())
 }
@@ -337,7 +329,7 @@ fn each_write_fails(rt: HostRuntime) -> Result<(), Fail> {
         let done = performed(alloc, &mut reader, &mut writer)?;
         assert!(rt; wanted.starts_with(writer.taken.as_slice()), "{writes}");
         let is_whole = writer.taken.len() == wanted.len();
-        assert_eq!(rt; done.is_ok(), is_whole, "{writes}");
+        assert_same_at(&rt, done.is_ok(), is_whole, writes);
         assert!(rt; is_whole || done == Err(Stop::OutputFault), "{writes}");
     }
     Ok(())
@@ -354,8 +346,8 @@ fn flush_fails(rt: HostRuntime) -> Result<(), Fail> {
         flushes: false,
     };
     let done = performed(alloc, &mut reader, &mut writer)?;
-    assert_eq!(rt; done, Err(Stop::OutputFault));
-    assert_eq!(rt; writer.taken.as_slice(), script_answer().as_bytes());
+    assert_same(&rt, done, Err(Stop::OutputFault));
+    assert_same(&rt, writer.taken.as_slice(), script_answer().as_bytes());
     Ok(())
 }
 
@@ -381,7 +373,7 @@ fn most_reads(rt: HostRuntime) -> Result<(), Fail> {
     for (lines, wanted) in [(999_999, Ok(())), (1_000_000, Err(Stop::InputFault))] {
         let mut output = Vec::new(alloc);
         let done = performed(alloc, &mut EmptyLines(lines), &mut output)?;
-        assert_eq!(rt; done, wanted, "{lines}");
+        assert_same_at(&rt, done, wanted, lines);
         assert!(rt; output.is_empty());
     }
     Ok(())

@@ -6,7 +6,7 @@ use oai_edge::Stop;
 use std::alloc::{AllocError, Global};
 use std::process::Abort;
 use std::test::Fail;
-use tests_worked::push_wanted;
+use tests_shared::{assert_same, assert_same_at, push_wanted};
 
 /// Performs each of the lines on a new host; each is answered so.
 fn assert_each(rt: &impl Abort, alloc: Global, lines: &str, answer: &str) -> Result<(), Fail> {
@@ -130,7 +130,7 @@ fn bad_exchanges(rt: HostRuntime) -> Result<(), Fail> {
     for line in transcripts::bad_lines().lines() {
         let mut reader = line.as_bytes();
         let stop = stop_of(&rt, rt.alloc(), &mut reader)?;
-        assert_eq!(rt; stop, Stop::BadExchange(1), "{line}");
+        assert_same_at(&rt, stop, Stop::BadExchange(1), line);
     }
     Ok(())
 }
@@ -140,11 +140,8 @@ fn bad_exchanges(rt: HostRuntime) -> Result<(), Fail> {
 fn lines_are_counted(rt: HostRuntime) -> Result<(), Fail> {
     let mut reader: &[u8] = b"\n\n1 GET /?verb=Identify\n \n";
     let stop = stop_of(&rt, rt.alloc(), &mut reader)?;
-    assert_eq!(rt; stop, Stop::BadExchange(4));
-    assert_eq!(rt;
-        format!(in rt.alloc(); "{}", Stop::BadExchange(1))?.as_str(),
-        "line 1: bad exchange"
-    );
+    assert_same(&rt, stop, Stop::BadExchange(4));
+    assert_same(&rt, format!(in rt.alloc(); "{}", Stop::BadExchange(1))?.as_str(), "line 1: bad exchange");
     Ok(())
 }
 
@@ -161,8 +158,8 @@ fn input_fails_in_mid_line(rt: HostRuntime) -> Result<(), Fail> {
     let mut reader = FailingReader(b"1704067200 GET /oai/a?verb=Identify\n1704067200 GE");
     let mut output = Vec::new(alloc);
     let asked = performed(alloc, &mut reader, &mut output)?;
-    assert_eq!(rt; asked, Err(Stop::InputFault));
-    assert_eq!(rt; output.as_slice(), identified(alloc)?.as_bytes());
+    assert_same(&rt, asked, Err(Stop::InputFault));
+    assert_same(&rt, output.as_slice(), identified(alloc)?.as_bytes());
     Ok(())
 }
 
@@ -171,6 +168,6 @@ fn output_fails_in_mid_answer(rt: HostRuntime) -> Result<(), Fail> {
     let mut reader: &[u8] = b"1704067200 GET /oai/a?verb=Identify\n";
     let mut writer = FailingWriter { room: 100 };
     let asked = performed(rt.alloc(), &mut reader, &mut writer)?;
-    assert_eq!(rt; asked, Err(Stop::OutputFault));
+    assert_same(&rt, asked, Err(Stop::OutputFault));
     Ok(())
 }

@@ -6,7 +6,7 @@ use oai_host::{Config, Host};
 use std::alloc::{AllocError, Global};
 use std::process::Abort;
 use std::test::Fail;
-use tests_worked::document_head;
+use tests_shared::{assert_same, document_head};
 
 /// The first second of 2024.
 const START: i64 = 1_704_067_200;
@@ -44,7 +44,7 @@ fn assert_told(
 ) -> Result<(), Fail> {
     let mut all = Vec::new(alloc);
     take_all(front, conn, false, &mut all)?;
-    assert_eq!(rt; std::str::from_utf8(&all)?, wanted);
+    assert_same(rt, std::str::from_utf8(&all)?, wanted);
     Ok(())
 }
 
@@ -149,7 +149,7 @@ fn assert_refused(
 ) -> Result<(), Fail> {
     let conn = front.open()?;
     assert_answered(rt, alloc, front, conn, START, refused(), refusals())?;
-    assert_eq!(rt; front.closing(conn), Some(true));
+    assert_same(rt, front.closing(conn), Some(true));
     Ok(())
 }
 

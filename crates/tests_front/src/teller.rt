@@ -7,6 +7,7 @@ use oai_names::Sequence;
 use std::alloc::{AllocError, Global};
 use std::process::Abort;
 use std::test::Fail;
+use tests_shared::{assert_same, assert_same_at};
 
 /// Counts what it was asked.
 #[derive(Drop)]
@@ -146,7 +147,7 @@ pub(crate) fn assert_waits(
 ) -> Result<(), Fail> {
     let mut all = Vec::new(alloc);
     take_all(front, conn, false, &mut all)?;
-    assert_eq!(rt; all.as_slice(), wanted);
+    assert_same(rt, all.as_slice(), wanted);
     Ok(())
 }
 
@@ -185,7 +186,7 @@ pub(crate) fn assert_answered(
 ) -> Result<(), Fail> {
     let (answer, closes) = answered(rt, alloc, &[bytes.as_bytes()])?;
     let answer = std::str::from_utf8(&answer)?;
-    assert_eq!(rt; answer, wanted, "to {bytes}");
-    assert_eq!(rt; closes, closing, "after {bytes}");
+    assert_same_at(rt, answer, wanted, bytes);
+    assert_same_at(rt, closes, closing, bytes);
     Ok(())
 }

@@ -9,6 +9,7 @@ use oai_item::Fault;
 use std::alloc::Global;
 use std::test::Fail;
 use tests_archives::LyingVersions;
+use tests_shared::assert_same;
 
 // ---- deposits
 
@@ -225,15 +226,9 @@ fn fault_at(alloc: Global, k: u64, want: Want) -> Result<Option<Fault>, Fail> {
 #[test]
 fn new_host_without_room(rt: HostRuntime) -> Result<(), Fail> {
     for k in 1..4 {
-        assert_eq!(rt;
-            fault_at(rt.alloc(), k, Want::Memory)?,
-            Some(Fault::NoMemory)
-        );
-        assert_eq!(rt;
-            fault_at(rt.alloc(), k, Want::Pages)?,
-            Some(Fault::TooManyPages)
-        );
+        assert_same(&rt, fault_at(rt.alloc(), k, Want::Memory)?, Some(Fault::NoMemory));
+        assert_same(&rt, fault_at(rt.alloc(), k, Want::Pages)?, Some(Fault::TooManyPages));
     }
-    assert_eq!(rt; fault_at(rt.alloc(), 4, Want::Pages)?, None);
+    assert_same(&rt, fault_at(rt.alloc(), 4, Want::Pages)?, None);
     Ok(())
 }

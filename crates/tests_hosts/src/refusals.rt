@@ -7,7 +7,7 @@ use oai_host::{Answer, Exchange, Host, Status};
 use std::alloc::Global;
 use std::process::Abort;
 use std::test::Fail;
-use tests_worked::wanted_in;
+use tests_shared::{assert_same, wanted_in};
 
 /// A request in the body of a POST is a form, by its type: what stands before any `;`, without spaces
 /// and tabs around it, in letters of either case.
@@ -240,11 +240,11 @@ fn bytes_asked() -> [(Exchange<'static>, Status); 7] {
 
 /// The answer is that status and body, and nothing else.
 fn assert_answer(rt: &impl Abort, answer: &Answer, status: Status, body: &str) {
-    assert_eq!(rt; answer.status, status);
-    assert_eq!(rt; answer.seconds, None);
-    assert_eq!(rt; answer.done, None);
-    assert_eq!(rt; answer.fault, None);
-    assert_eq!(rt; answer.body.as_slice(), body.as_bytes());
+    assert_same(rt, answer.status, status);
+    assert_same(rt, answer.seconds, None);
+    assert_same(rt, answer.done, None);
+    assert_same(rt, answer.fault, None);
+    assert_same(rt, answer.body.as_slice(), body.as_bytes());
 }
 
 /// The host answers each with its status.

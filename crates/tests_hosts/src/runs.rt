@@ -7,7 +7,7 @@ use oai_names::Sequence;
 use std::alloc::{AllocError, Global};
 use std::process::Abort;
 use std::test::Fail;
-use tests_worked::wanted_in;
+use tests_shared::{assert_same, assert_same_at, wanted_in};
 
 // ---- calls
 
@@ -104,7 +104,7 @@ fn assert_run_of<V: Versions + Drop>(
 ) -> Result<(), Fail> {
     let output = answers_to_run(rt, alloc, host, transcript)?;
     let wanted = wanted_in(alloc, transcript)?;
-    assert_eq!(rt; output.as_slice(), wanted.as_bytes(), "{transcript}");
+    assert_same_at(rt, output.as_slice(), wanted.as_bytes(), transcript);
     Ok(())
 }
 
@@ -233,6 +233,6 @@ fn many_calls(rt: HostRuntime) -> Result<(), Fail> {
     let alloc = rt.alloc();
     let calls = strangers(alloc, 150_000)?;
     let answers = answers_to(alloc, PlainVersions::new(alloc), &calls)?;
-    assert_eq!(rt; answers.as_slice().len(), 150_000);
+    assert_same(&rt, answers.as_slice().len(), 150_000);
     Ok(())
 }

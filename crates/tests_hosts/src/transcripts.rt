@@ -11,7 +11,7 @@ use std::alloc::{AllocError, Global};
 use std::io::{self, Write};
 use std::process::Abort;
 use std::test::Fail;
-use tests_worked::wanted_in;
+use tests_shared::{assert_same_at, wanted_in};
 
 // ---- exchanges
 
@@ -132,7 +132,7 @@ pub(crate) fn assert_answers<V: Versions + Drop>(
 ) -> Result<(), Fail> {
     let output = answers_to_all(rt, alloc, host, transcript)?;
     let wanted = wanted_in(alloc, transcript)?;
-    assert_eq!(rt; output.as_slice(), wanted.as_bytes(), "{transcript}");
+    assert_same_at(rt, output.as_slice(), wanted.as_bytes(), transcript);
     Ok(())
 }
 

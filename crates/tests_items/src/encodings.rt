@@ -6,6 +6,7 @@ use std::alloc::Global;
 use std::process::Abort;
 use std::test::Fail;
 use tests_samples::item;
+use tests_shared::assert_same;
 
 /// The live item `oai:a:1` of 2024-01-01T00:00:00Z, without sets, with the title `T` in oai_dc.
 fn spelling() -> [u8; 56] {
@@ -26,7 +27,7 @@ fn deleted_spelling() -> &'static [u8] {
 fn encoded(rt: &impl Abort, alloc: Global, item: &Item) -> Result<Vec<u8>, Fail> {
     let mut bytes = vec![in alloc; 0xaa; MOST_ITEM_BYTES]?;
     let size = item.encode_into(bytes.as_mut_slice())?;
-    assert_eq!(rt; item.encoded_len(), Ok(size));
+    assert_same(rt, item.encoded_len(), Ok(size));
     assert!(rt; bytes.iter().skip(size).all(|byte| *byte == 0xaa));
     bytes.truncate(size);
     Ok(bytes)
@@ -40,7 +41,7 @@ fn assert_spelled(
     spelling: &[u8],
 ) -> Result<(), Fail> {
     let bytes = encoded(rt, alloc, item)?;
-    assert_eq!(rt; bytes.as_slice(), spelling);
+    assert_same(rt, bytes.as_slice(), spelling);
     Ok(())
 }
 
@@ -49,7 +50,7 @@ fn assert_no_second_spelling(rt: &impl Abort, alloc: Global, bytes: &[u8]) -> Re
     match Item::decode(alloc, bytes) {
         Ok(item) => assert_spelled(rt, alloc, &item, bytes),
         Err(fault) => {
-            assert_eq!(rt; fault, DecodeFault::Damaged);
+            assert_same(rt, fault, DecodeFault::Damaged);
             Ok(())
         }
     }
@@ -58,16 +59,18 @@ fn assert_no_second_spelling(rt: &impl Abort, alloc: Global, bytes: &[u8]) -> Re
 /// Each front of the bytes is Damaged, and so are the bytes and one more.
 fn assert_no_other_length(rt: &impl Abort, alloc: Global, bytes: &[u8]) -> Result<(), Fail> {
     for len in 0..bytes.len() {
-        assert_eq!(rt;
+        assert_same(
+            rt,
             Item::decode(alloc, &bytes[..len]).err(),
-            Some(DecodeFault::Damaged)
+            Some(DecodeFault::Damaged),
         );
     }
     let mut longer = Vec::from_slice(alloc, bytes)?;
     longer.push(0)?;
-    assert_eq!(rt;
+    assert_same(
+        rt,
         Item::decode(alloc, longer.as_slice()).err(),
-        Some(DecodeFault::Damaged)
+        Some(DecodeFault::Damaged),
     );
     Ok(())
 }
@@ -135,9 +138,10 @@ fn fronts_and_bytes_left_over(rt: HostRuntime) -> Result<(), Fail> {
 #[test]
 fn too_many_bytes(rt: HostRuntime) -> Result<(), Fail> {
     let bytes = vec![in rt.alloc(); 0xaa; MOST_ITEM_BYTES + 1]?;
-    assert_eq!(rt;
+    assert_same(
+        &rt,
         Item::decode(rt.alloc(), bytes.as_slice()).err(),
-        Some(DecodeFault::Damaged)
+        Some(DecodeFault::Damaged),
     );
     Ok(())
 }
@@ -146,8 +150,8 @@ fn too_many_bytes(rt: HostRuntime) -> Result<(), Fail> {
 fn texts_of_decode_faults(rt: HostRuntime) -> Result<(), Fail> {
     let alloc = rt.alloc();
     let damaged = format!(in alloc; "{}", DecodeFault::Damaged)?;
-    assert_eq!(rt; damaged.as_str(), "the bytes are not those of an item");
+    assert_same(&rt, damaged.as_str(), "the bytes are not those of an item");
     let refused = format!(in alloc; "{}", DecodeFault::NoMemory)?;
-    assert_eq!(rt; refused.as_str(), "out of memory");
+    assert_same(&rt, refused.as_str(), "out of memory");
     Ok(())
 }

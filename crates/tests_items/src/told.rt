@@ -1,6 +1,7 @@
 //! What tests say of an item that stands elsewhere.
 use oai_item::Item;
 use std::process::Abort;
+use tests_shared::assert_same;
 
 /// The item has that identifier and datestamp, is live or not, and is in so many sets.
 pub(crate) fn assert_told(
@@ -9,15 +10,19 @@ pub(crate) fn assert_told(
     identifier: &str,
     told: (i64, bool, usize),
 ) {
-    assert_eq!(rt; item.identifier().as_str(), identifier);
-    assert_eq!(rt; (item.stamp(), item.is_live(), item.sets().len()), told);
+    assert_same(rt, item.identifier().as_str(), identifier);
+    assert_same(rt, (item.stamp(), item.is_live(), item.sets().len()), told);
 }
 
 /// The item has one field in oai_dc, the title `T`.
 pub(crate) fn assert_title(rt: &impl Abort, item: &Item) {
     match item.fields_in("oai_dc") {
         Some([field]) => {
-            assert_eq!(rt; (field.name.as_str(), field.text.as_str()), ("title", "T"));
+            assert_same(
+                rt,
+                (field.name.as_str(), field.text.as_str()),
+                ("title", "T"),
+            );
         }
         _ => panic!(rt; "not one field"),
     }

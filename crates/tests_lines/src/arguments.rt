@@ -6,6 +6,7 @@ use oai_time::Granularity;
 use std::alloc::{AllocError, Global};
 use std::process::Abort;
 use std::test::Fail;
+use tests_shared::{assert_same, assert_same_at};
 
 /// Adds a part of a request.
 fn push_part(words: &mut String, part: Option<&str>) -> Result<(), AllocError> {
@@ -89,7 +90,7 @@ fn assert_answer(
     wanted: &str,
 ) -> Result<(), Fail> {
     let answer = answer_to(alloc, query, granularity)?;
-    assert_eq!(rt; answer.as_str(), wanted, "at {query}");
+    assert_same_at(rt, answer.as_str(), wanted, query);
     Ok(())
 }
 
@@ -188,7 +189,7 @@ fn padded(alloc: Global, front: &str, len: usize, back: &str) -> Result<String, 
 fn long_queries_are_read(rt: HostRuntime) -> Result<(), Fail> {
     let alloc = rt.alloc();
     let query = padded(alloc, "verb=ListSets&resumptionToken=", 8_001, "")?;
-    assert_eq!(rt; query.len(), 8_001);
+    assert_same(&rt, query.len(), 8_001);
     let wanted = padded(alloc, "resumed [ListSets] [", 7_991, "]")?;
     assert_answer(
         &rt,
@@ -226,7 +227,11 @@ fn text_of(fault: ArgFault) -> &'static str {
 #[test]
 fn faults_are_told(rt: HostRuntime) -> Result<(), Fail> {
     for fault in [ArgFault::BadVerb, ArgFault::BadArgument, ArgFault::NoMemory] {
-        assert_eq!(rt; format!(in rt.alloc(); "{fault}")?.as_str(), text_of(fault));
+        assert_same(
+            &rt,
+            format!(in rt.alloc(); "{fault}")?.as_str(),
+            text_of(fault),
+        );
     }
     Ok(())
 }

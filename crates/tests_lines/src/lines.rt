@@ -1,9 +1,11 @@
 //! What deposit lines are read as, and which are refused.
 use oai_deposit::{LineFault, read_line};
-use oai_item::{Change, LineRefusal};
+use oai_item::{Change, Field, LineRefusal};
+use oai_names::{Sequence, SetSpec, Text};
 use std::alloc::{AllocError, Global};
 use std::process::Abort;
 use std::test::Fail;
+use tests_shared::{assert_same, assert_same_at};
 
 /// What a line is answered that is read, or refused; want of memory fails the test.
 fn answer_to(alloc: Global, line: &[u8]) -> Result<&'static str, AllocError> {
@@ -16,7 +18,7 @@ fn answer_to(alloc: Global, line: &[u8]) -> Result<&'static str, AllocError> {
 
 /// The line is answered so.
 fn assert_answer(rt: &impl Abort, alloc: Global, line: &str, want: &str) -> Result<(), Fail> {
-    assert_eq!(rt; answer_to(alloc, line.as_bytes())?, want, "at {line}");
+    assert_same_at(rt, answer_to(alloc, line.as_bytes())?, want, line);
     Ok(())
 }
 
@@ -43,6 +45,40 @@ fn a_deposit() -> &'static str {
     r#"{"sets":["b","a"],"records":{"x":[],"oai_dc":[["title","Grüße"]]},"deposit":"oai:x:1"}"#
 }
 
+/// The one field is the title `Grüße`.
+fn assert_title(rt: &impl Abort, fields: &[Field]) {
+    match fields {
+        [title] => {
+            assert_same(rt, title.name.as_str(), "title");
+            assert_same(rt, title.text.as_str(), "Grüße");
+        }
+        _ => panic!(rt; "not one field"),
+    }
+}
+
+/// The sets are `b` and `a`.
+fn assert_b_and_a(rt: &impl Abort, sets: &[SetSpec]) {
+    match sets {
+        [first, second] => {
+            assert_same(rt, first.as_str(), "b");
+            assert_same(rt, second.as_str(), "a");
+        }
+        _ => panic!(rt; "not two sets"),
+    }
+}
+
+/// The records are one in oai_dc, with a title, and one in `x`.
+fn assert_two_records(rt: &impl Abort, records: &[(Text, Sequence<Field>)]) {
+    match records {
+        [first, second] => {
+            assert_same(rt, first.0.as_str(), "oai_dc");
+            assert_title(rt, first.1.as_slice());
+            assert_same(rt, second.0.as_str(), "x");
+        }
+        _ => panic!(rt; "not two records"),
+    }
+}
+
 /// The sets are in the order of the line, the records in that of their prefixes.
 #[test]
 fn reads_a_deposit(rt: HostRuntime) -> Result<(), Fail> {
@@ -55,17 +91,9 @@ fn reads_a_deposit(rt: HostRuntime) -> Result<(), Fail> {
     else {
         panic!(rt; "no deposit")
     };
-    assert_eq!(rt; identifier.as_str(), "oai:x:1");
-    assert_eq!(rt; sets.as_slice().len(), 2);
-    assert_eq!(rt; sets.as_slice()[0].as_str(), "b");
-    assert_eq!(rt; sets.as_slice()[1].as_str(), "a");
-    assert_eq!(rt; records.as_slice().len(), 2);
-    let (prefix, fields) = &records.as_slice()[0];
-    assert_eq!(rt; prefix.as_str(), "oai_dc");
-    assert_eq!(rt; fields.as_slice().len(), 1);
-    assert_eq!(rt; fields.as_slice()[0].name.as_str(), "title");
-    assert_eq!(rt; fields.as_slice()[0].text.as_str(), "Grüße");
-    assert_eq!(rt; records.as_slice()[1].0.as_str(), "x");
+    assert_same(&rt, identifier.as_str(), "oai:x:1");
+    assert_b_and_a(&rt, sets.as_slice());
+    assert_two_records(&rt, records.as_slice());
     Ok(())
 }
 
@@ -75,7 +103,7 @@ fn reads_a_deletion(rt: HostRuntime) -> Result<(), Fail> {
     let Change::Delete { identifier } = &change else {
         panic!(rt; "no deletion")
     };
-    assert_eq!(rt; identifier.as_str(), "oai:a:1");
+    assert_same(&rt, identifier.as_str(), "oai:a:1");
     Ok(())
 }
 
@@ -86,7 +114,7 @@ fn reads_a_purge(rt: HostRuntime) -> Result<(), Fail> {
     let Change::Purge { before } = &change else {
         panic!(rt; "no purge")
     };
-    assert_eq!(rt; before.as_str(), "2024-02-30");
+    assert_same(&rt, before.as_str(), "2024-02-30");
     Ok(())
 }
 
@@ -96,7 +124,7 @@ fn reads_a_new_set(rt: HostRuntime) -> Result<(), Fail> {
     let Change::AddSet { spec, name } = &change else {
         panic!(rt; "no new set")
     };
-    assert_eq!(rt; (spec.as_str(), name.as_str()), ("x:y", "X & Y"));
+    assert_same(&rt, (spec.as_str(), name.as_str()), ("x:y", "X & Y"));
     Ok(())
 }
 
@@ -107,7 +135,7 @@ fn last_member_of_a_name_counts(rt: HostRuntime) -> Result<(), Fail> {
     let Change::AddSet { spec, name } = &change else {
         panic!(rt; "no new set")
     };
-    assert_eq!(rt; (spec.as_str(), name.as_str()), ("y", "X"));
+    assert_same(&rt, (spec.as_str(), name.as_str()), ("y", "X"));
     Ok(())
 }
 
@@ -156,7 +184,7 @@ fn refuses_by_the_first_cause(rt: HostRuntime) -> Result<(), Fail> {
 
 #[test]
 fn refuses_what_is_not_utf_8(rt: HostRuntime) -> Result<(), Fail> {
-    assert_eq!(rt; answer_to(rt.alloc(), &[0xFF])?, "refused 1 bad-json");
+    assert_same(&rt, answer_to(rt.alloc(), &[0xFF])?, "refused 1 bad-json");
     Ok(())
 }
 
@@ -227,7 +255,7 @@ fn tells_why_a_line_was_not_read(rt: HostRuntime) -> Result<(), Fail> {
             "the line is refused: the line is not JSON",
         ),
     ] {
-        assert_eq!(rt; format!(in alloc; "{fault}")?.as_str(), want);
+        assert_same(&rt, format!(in alloc; "{fault}")?.as_str(), want);
     }
     Ok(())
 }

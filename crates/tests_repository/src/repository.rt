@@ -9,6 +9,7 @@ use std::alloc::{AllocError, Global};
 use std::process::Abort;
 use std::test::Fail;
 use tests_archives::{Stocked, Told, archive_b, settings_of};
+use tests_shared::{assert_same, assert_same_at};
 
 /// A repository over a store of plain lists.
 type Archive = Stocked<PlainVersions>;
@@ -41,7 +42,7 @@ fn assert_page(
     let Reply::Page(page) = repo.ask(MIDNIGHT, query)? else {
         panic!(rt; "later")
     };
-    assert_eq!(rt; page.as_slice(), wanted.as_bytes());
+    assert_same(rt, page.as_slice(), wanted.as_bytes());
     Ok(())
 }
 
@@ -69,11 +70,11 @@ fn too_fine_a_bound(rt: HostRuntime) -> Result<(), Fail> {
 
 /// The clock begins at midnight, and goes no further than the last second of the year 9998.
 fn assert_clock(rt: &impl Abort, repo: &mut Archive) {
-    assert_eq!(rt; repo.clock(), 1_704_067_200);
+    assert_same(rt, repo.clock(), 1_704_067_200);
     repo.advance(1_704_067_230);
-    assert_eq!(rt; repo.clock(), 1_704_067_230);
+    assert_same(rt, repo.clock(), 1_704_067_230);
     repo.advance(999_999_999_999);
-    assert_eq!(rt; repo.clock(), 253_370_764_799);
+    assert_same(rt, repo.clock(), 253_370_764_799);
 }
 
 #[test]
@@ -121,7 +122,7 @@ fn assert_deposits(
 ) -> Result<(), Fail> {
     for (moment, line, wanted) in lines {
         let answer = deposited(alloc, repo, *moment, line)?;
-        assert_eq!(rt; answer, *wanted, "{line}");
+        assert_same_at(rt, answer, *wanted, line);
     }
     Ok(())
 }
@@ -136,7 +137,7 @@ fn assert_third_item(rt: &impl Abort, alloc: Global, repo: &mut Archive) -> Resu
         (next, deposit_of(2), Ok(next)),
     ];
     assert_deposits(rt, alloc, repo, &lines)?;
-    assert_eq!(rt; repo.clock(), next);
+    assert_same(rt, repo.clock(), next);
     Ok(())
 }
 
@@ -194,7 +195,7 @@ fn refusals_are_told(rt: HostRuntime) -> Result<(), Fail> {
         ),
         (Refusal::Fault(Fault::Device), "the device failed"),
     ] {
-        assert_eq!(rt; format!(in rt.alloc(); "{refusal}")?.as_str(), text);
+        assert_same(&rt, format!(in rt.alloc(); "{refusal}")?.as_str(), text);
     }
     Ok(())
 }

@@ -11,7 +11,7 @@ use std::io::Write;
 use std::process::Abort;
 use std::test::Fail;
 use tests_archives::{Stocked, Told, settings_of};
-use tests_worked::wanted_in;
+use tests_shared::{assert_same_at, wanted_in};
 
 /// The repository of which that is told, over the store, with room for two open lists.
 fn repository<V: Versions + Drop>(
@@ -134,7 +134,7 @@ fn assert_answers<V: Versions + Drop>(
     let mut output = Vec::new(alloc);
     write_answers(rt, alloc, repo, transcript, &mut output)?;
     let wanted = wanted_in(alloc, transcript)?;
-    assert_eq!(rt; output.as_slice(), wanted.as_bytes(), "{transcript}");
+    assert_same_at(rt, output.as_slice(), wanted.as_bytes(), transcript);
     Ok(())
 }
 

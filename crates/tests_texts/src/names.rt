@@ -6,6 +6,7 @@ use oai_names::{
 use std::alloc::{AllocError, Global};
 use std::process::Abort;
 use std::test::Fail;
+use tests_shared::{assert_same, assert_same_at};
 
 /// `front`, and then so many letters.
 fn with_letters(alloc: Global, front: &str, letters: usize) -> Result<String, AllocError> {
@@ -18,7 +19,7 @@ fn with_letters(alloc: Global, front: &str, letters: usize) -> Result<String, Al
 
 fn assert_read(rt: &impl Abort, read: Result<Prefix, NameFault>, text: &str) {
     match read {
-        Ok(prefix) => assert_eq!(rt; prefix.as_str(), text),
+        Ok(prefix) => assert_same(rt, prefix.as_str(), text),
         Err(fault) => panic!(rt; "{text}: {fault}"),
     }
 }
@@ -26,7 +27,7 @@ fn assert_read(rt: &impl Abort, read: Result<Prefix, NameFault>, text: &str) {
 fn assert_refused<T: Drop>(rt: &impl Abort, read: Result<T, NameFault>, fault: NameFault) {
     match read {
         Ok(_) => panic!(rt; "a name was read"),
-        Err(found) => assert_eq!(rt; found, fault),
+        Err(found) => assert_same(rt, found, fault),
     }
 }
 
@@ -44,7 +45,7 @@ fn prefixes_are_read(rt: HostRuntime) -> Result<(), Fail> {
 fn bad_prefixes_are_refused(rt: HostRuntime) -> Result<(), Fail> {
     let alloc = rt.alloc();
     let spaces = "                                                                 ";
-    assert_eq!(rt; spaces.len(), 65);
+    assert_same(&rt, spaces.len(), 65);
     for text in ["", "a b", "a:b", "é", "a/b", spaces] {
         assert_refused(&rt, Prefix::read(alloc, text), NameFault::Syntax);
     }
@@ -64,7 +65,7 @@ fn identifiers_are_read(rt: HostRuntime) -> Result<(), Fail> {
         most.as_str(),
     ] {
         match Identifier::read(alloc, text) {
-            Ok(identifier) => assert_eq!(rt; identifier.as_str(), text),
+            Ok(identifier) => assert_same(&rt, identifier.as_str(), text),
             Err(fault) => panic!(rt; "{text}: {fault}"),
         }
     }
@@ -90,13 +91,13 @@ fn bad_identifiers_are_refused(rt: HostRuntime) -> Result<(), Fail> {
 
 fn assert_prefix_is_copied(rt: &impl Abort, alloc: Global, text: &str) -> Result<(), Fail> {
     let prefix = Prefix::read(alloc, text)?;
-    assert_eq!(rt; prefix.copy(alloc)?.as_str(), text);
+    assert_same(rt, prefix.copy(alloc)?.as_str(), text);
     Ok(())
 }
 
 fn assert_identifier_is_copied(rt: &impl Abort, alloc: Global, text: &str) -> Result<(), Fail> {
     let identifier = Identifier::read(alloc, text)?;
-    assert_eq!(rt; identifier.copy(alloc)?.as_str(), text);
+    assert_same(rt, identifier.copy(alloc)?.as_str(), text);
     Ok(())
 }
 
@@ -105,18 +106,18 @@ fn copies_are_equal(rt: HostRuntime) -> Result<(), Fail> {
     let alloc = rt.alloc();
     assert_prefix_is_copied(&rt, alloc, "oai_dc")?;
     assert_identifier_is_copied(&rt, alloc, "oai:a:1")?;
-    assert_eq!(rt; Text::new(alloc, "é\n")?.copy(alloc)?.as_str(), "é\n");
+    assert_same(&rt, Text::new(alloc, "é\n")?.copy(alloc)?.as_str(), "é\n");
     Ok(())
 }
 
 #[test]
 fn texts_keep_their_strings(rt: HostRuntime) -> Result<(), Fail> {
     let mut text = Text::from_string(String::from_str(rt.alloc(), "é\n")?);
-    assert_eq!(rt; text.as_str(), "é\n");
+    assert_same(&rt, text.as_str(), "é\n");
     let mut string = text.into_string();
     string.push('x')?;
     text = Text::from_string(string);
-    assert_eq!(rt; text.as_str(), "é\nx");
+    assert_same(&rt, text.as_str(), "é\nx");
     Ok(())
 }
 
@@ -140,9 +141,10 @@ fn text_of_set_fault(fault: SetFault) -> &'static str {
 #[test]
 fn faults_are_told(rt: HostRuntime) -> Result<(), Fail> {
     for fault in [NameFault::Syntax, NameFault::TooLong, NameFault::NoMemory] {
-        assert_eq!(rt;
+        assert_same(
+            &rt,
             format!(in rt.alloc(); "{fault}")?.as_str(),
-            text_of_name_fault(fault)
+            text_of_name_fault(fault),
         );
     }
     for fault in [
@@ -151,9 +153,10 @@ fn faults_are_told(rt: HostRuntime) -> Result<(), Fail> {
         SetFault::TooMany,
         SetFault::NoMemory,
     ] {
-        assert_eq!(rt;
+        assert_same(
+            &rt,
             format!(in rt.alloc(); "{fault}")?.as_str(),
-            text_of_set_fault(fault)
+            text_of_set_fault(fault),
         );
     }
     Ok(())
@@ -162,8 +165,8 @@ fn faults_are_told(rt: HostRuntime) -> Result<(), Fail> {
 #[test]
 fn sequences_keep_their_values(rt: HostRuntime) -> Result<(), Fail> {
     let sequence = Sequence::new(vec![in rt.alloc(); 3, 1, 2]?);
-    assert_eq!(rt; sequence.as_slice(), [3, 1, 2].as_slice());
-    assert_eq!(rt; sequence.into_vec().as_slice(), [3, 1, 2].as_slice());
+    assert_same(&rt, sequence.as_slice(), [3, 1, 2].as_slice());
+    assert_same(&rt, sequence.into_vec().as_slice(), [3, 1, 2].as_slice());
     Ok(())
 }
 
@@ -194,7 +197,7 @@ fn characters_of_a_document(rt: HostRuntime) {
 fn assert_text(rt: &impl Abort, alloc: Global, text: &str, wanted: &str) -> Result<(), Fail> {
     let mut out = vec![in alloc; b'-']?;
     escape_text(text, &mut out)?;
-    assert_eq!(rt; out.as_slice(), wanted.as_bytes());
+    assert_same(rt, out.as_slice(), wanted.as_bytes());
     Ok(())
 }
 
@@ -202,7 +205,7 @@ fn assert_text(rt: &impl Abort, alloc: Global, text: &str, wanted: &str) -> Resu
 fn assert_attr(rt: &impl Abort, alloc: Global, text: &str, wanted: &str) -> Result<(), Fail> {
     let mut out = vec![in alloc; b'-']?;
     escape_attr(text, &mut out)?;
-    assert_eq!(rt; out.as_slice(), wanted.as_bytes());
+    assert_same(rt, out.as_slice(), wanted.as_bytes());
     Ok(())
 }
 
@@ -240,8 +243,8 @@ fn set_specs_are_read(rt: HostRuntime) -> Result<(), Fail> {
     let most = with_letters(alloc, "", 256)?;
     for text in ["x", "x:y", "a-_.!~*'()Z9:b:c", most.as_str()] {
         let spec = set_spec(&rt, alloc, text);
-        assert_eq!(rt; spec.as_str(), text);
-        assert_eq!(rt; spec.copy(alloc)?.as_str(), text);
+        assert_same(&rt, spec.as_str(), text);
+        assert_same(&rt, spec.copy(alloc)?.as_str(), text);
     }
     Ok(())
 }
@@ -271,15 +274,15 @@ fn sets_cover(rt: HostRuntime) {
         ("b", "ab:b", false),
     ] {
         let covers = set_spec(&rt, alloc, set).covers(&set_spec(&rt, alloc, spec));
-        assert_eq!(rt; covers, covered, "{set} and {spec}");
+        assert_same_at(&rt, covers, covered, spec);
     }
 }
 
 fn assert_shows(rt: &impl Abort, sets: &SetTree, i: usize, spec: &str, name: &str) {
     match sets.get(i) {
         Some((found_spec, found_name)) => {
-            assert_eq!(rt; found_spec.as_str(), spec);
-            assert_eq!(rt; found_name, name);
+            assert_same(rt, found_spec.as_str(), spec);
+            assert_same(rt, found_name, name);
         }
         None => panic!(rt; "no set {i}"),
     }
@@ -287,58 +290,76 @@ fn assert_shows(rt: &impl Abort, sets: &SetTree, i: usize, spec: &str, name: &st
 
 #[test]
 fn parents_of_sets(rt: HostRuntime) {
-    assert_eq!(rt; parent_of("a:b:c"), Some("a:b"));
-    assert_eq!(rt; parent_of("a"), None);
+    assert_same(&rt, parent_of("a:b:c"), Some("a:b"));
+    assert_same(&rt, parent_of("a"), None);
+}
+
+/// A set of this setSpec and name is added, or refused so.
+fn assert_added(
+    rt: &impl Abort,
+    alloc: Global,
+    sets: &mut SetTree,
+    (spec, name): (&str, &str),
+    answer: Result<(), SetFault>,
+) {
+    assert_same_at(rt, sets.add(&set_spec(rt, alloc, spec), name), answer, spec);
+}
+
+/// The tree has the sets `x`, `x:y` and `x:y:z`, and no other.
+fn assert_three_sets(rt: &impl Abort, alloc: Global, sets: &SetTree) {
+    assert_same(rt, sets.len(), 3);
+    assert_shows(rt, sets, 0, "x", "X");
+    assert_shows(rt, sets, 1, "x:y", "Y");
+    assert_shows(rt, sets, 2, "x:y:z", "");
+    assert!(rt; sets.get(3).is_none());
+    assert!(rt; sets.has(&set_spec(rt, alloc, "x:y")));
+    assert!(rt; !sets.has(&set_spec(rt, alloc, "y")));
 }
 
 #[test]
 fn sets_are_added(rt: HostRuntime) {
     let alloc = rt.alloc();
     let mut sets = SetTree::new(alloc);
-    for (spec, name, answer) in [
-        ("x", "X", Ok(())),
-        ("x", "Again", Err(SetFault::Exists)),
-        ("q:r", "R", Err(SetFault::NoParent)),
-        ("x:y", "Y", Ok(())),
-        ("x:y:z", "", Ok(())),
-        ("x:z:z", "Z", Err(SetFault::NoParent)),
-    ] {
-        assert_eq!(rt;
-            sets.add(&set_spec(&rt, alloc, spec), name),
-            answer,
-            "{spec}"
-        );
+    assert_added(&rt, alloc, &mut sets, ("x", "X"), Ok(()));
+    assert_added(&rt, alloc, &mut sets, ("x", "Again"), Err(SetFault::Exists));
+    assert_added(&rt, alloc, &mut sets, ("q:r", "R"), Err(SetFault::NoParent));
+    assert_added(&rt, alloc, &mut sets, ("x:y", "Y"), Ok(()));
+    assert_added(&rt, alloc, &mut sets, ("x:y:z", ""), Ok(()));
+    assert_added(
+        &rt,
+        alloc,
+        &mut sets,
+        ("x:z:z", "Z"),
+        Err(SetFault::NoParent),
+    );
+    assert_three_sets(&rt, alloc, &sets);
+}
+
+/// Adds the sets `0`, `1` and so on, so many.
+fn add_numbered(rt: &impl Abort, alloc: Global, sets: &mut SetTree, many: u32) -> Result<(), Fail> {
+    for i in 0..many {
+        let spec = format!(in alloc; "{i}")?;
+        assert_added(rt, alloc, sets, (spec.as_str(), "A set"), Ok(()));
     }
-    assert_eq!(rt; sets.len(), 3);
-    assert_shows(&rt, &sets, 0, "x", "X");
-    assert_shows(&rt, &sets, 1, "x:y", "Y");
-    assert_shows(&rt, &sets, 2, "x:y:z", "");
-    assert!(rt; sets.get(3).is_none());
-    assert!(rt; sets.has(&set_spec(&rt, alloc, "x:y")));
-    assert!(rt; !sets.has(&set_spec(&rt, alloc, "y")));
+    Ok(())
 }
 
 #[test]
 fn sets_are_at_most_10000(rt: HostRuntime) -> Result<(), Fail> {
     let alloc = rt.alloc();
     let mut sets = SetTree::new(alloc);
-    for i in 0u32..10_000 {
-        let spec = set_spec(&rt, alloc, format!(in alloc; "{i}")?.as_str());
-        assert_eq!(rt; sets.add(&spec, "A set"), Ok(()), "{i}");
-    }
-    for (spec, fault) in [
-        ("777", SetFault::Exists),
-        ("x:y", SetFault::NoParent),
-        ("777:x", SetFault::TooMany),
-        ("x", SetFault::TooMany),
-    ] {
-        assert_eq!(rt;
-            sets.add(&set_spec(&rt, alloc, spec), "X"),
-            Err(fault),
-            "{spec}"
-        );
-    }
-    assert_eq!(rt; sets.len(), 10_000);
+    add_numbered(&rt, alloc, &mut sets, 10_000)?;
+    assert_added(&rt, alloc, &mut sets, ("777", "X"), Err(SetFault::Exists));
+    assert_added(&rt, alloc, &mut sets, ("x:y", "X"), Err(SetFault::NoParent));
+    assert_added(
+        &rt,
+        alloc,
+        &mut sets,
+        ("777:x", "X"),
+        Err(SetFault::TooMany),
+    );
+    assert_added(&rt, alloc, &mut sets, ("x", "X"), Err(SetFault::TooMany));
+    assert_same(&rt, sets.len(), 10_000);
     assert_shows(&rt, &sets, 9_999, "9999", "A set");
     Ok(())
 }

@@ -1,6 +1,4 @@
-//! What tests of several crates speak of: the worked configuration, and the shorthand in which
-//! transcripts tell documents. It holds no test.
-#![tactic(auto)]
+//! The worked configuration, and the shorthand in which transcripts tell documents.
 
 use std::alloc::{AllocError, Global};
 
