@@ -76,7 +76,11 @@ fn first_repository(rt: HostRuntime) -> Result<(), Fail> {
 fn member_that_stands_twice(rt: HostRuntime) -> Result<(), Fail> {
     let changes = r#""cache":1 -> "cache":"x","cache":7,"cache":65536"#;
     let text = worked_with(&rt, rt.alloc(), changes)?;
-    assert_same(&rt, Config::read(rt.alloc(), text.as_bytes())?.cache(), 65_536);
+    assert_same(
+        &rt,
+        Config::read(rt.alloc(), text.as_bytes())?.cache(),
+        65_536,
+    );
     Ok(())
 }
 

@@ -5,7 +5,7 @@ use oai_host::ReadFault;
 use std::alloc::{AllocError, Global};
 use std::process::Abort;
 use std::test::Fail;
-use tests_shared::{assert_same, assert_same_at};
+use tests_shared::{assert_same, assert_same_at, assert_shown};
 
 fn all_faults() -> [(ReadFault, u8, &'static str); 9] {
     [
@@ -26,7 +26,7 @@ fn faults_are_told(rt: HostRuntime) -> Result<(), Fail> {
     for (fault, number, text) in all_faults() {
         assert_same(&rt, fault.number(), number);
         assert_same(&rt, fault.answer(), text);
-        assert_same(&rt, fault.to_string(rt.alloc())?.as_str(), text);
+        assert_shown(&rt, rt.alloc(), fault, text)?;
     }
     Ok(())
 }

@@ -9,7 +9,7 @@ use std::alloc::{AllocError, Global};
 use std::io::{self, ErrorKind, Read, Write};
 use std::process::Abort;
 use std::test::Fail;
-use tests_shared::{assert_same, assert_same_at, push_wanted};
+use tests_shared::{assert_same, assert_same_at, assert_shown, push_wanted};
 
 /// A deposit, an empty line, a line that is no JSON, and a deposit that has no line end.
 fn script() -> &'static str {
@@ -209,8 +209,7 @@ fn what_is_said(rt: HostRuntime) -> Result<(), Fail> {
         (Stop::OutputFault, "output fault"),
         (Stop::NoMemory, "out of memory"),
     ] {
-        let said = format!(in rt.alloc(); "{stop}")?;
-        assert_same(&rt, said.as_str(), text);
+        assert_shown(&rt, rt.alloc(), stop, text)?;
     }
     Ok(())
 }
@@ -283,7 +282,12 @@ fn each_read_fails(rt: HostRuntime) -> Result<(), Fail> {
         let mut output = Vec::new(alloc);
         let done = performed(alloc, &mut reader, &mut output)?;
         assert_same_at(&rt, done, Err(Stop::InputFault), reads);
-        assert_same_at(&rt, output.as_slice(), answer_to_front(reads).as_bytes(), reads);
+        assert_same_at(
+            &rt,
+            output.as_slice(),
+            answer_to_front(reads).as_bytes(),
+            reads,
+        );
     }
     Ok(())
 }

@@ -18,7 +18,7 @@ use std::process::Abort;
 use std::rt::Clock;
 use std::test::Fail;
 use std::time::Duration;
-use tests_shared::{assert_same, assert_same_at, worked_configuration};
+use tests_shared::{assert_same, assert_same_at, assert_shown, worked_configuration};
 
 /// The moment 1704067200.
 struct StandingClock;
@@ -345,7 +345,11 @@ fn moments_of_a_stream(rt: HostRuntime) -> Result<(), Fail> {
     };
     let served = serve_stream(alloc, &mut front, &mut stream, &clock);
     assert_same(&rt, served, Ok(()));
-    assert_same(&rt, stream.wire.written.as_slice(), later_set_answer().as_bytes());
+    assert_same(
+        &rt,
+        stream.wire.written.as_slice(),
+        later_set_answer().as_bytes(),
+    );
     Ok(())
 }
 
@@ -525,8 +529,7 @@ fn faults_of_streams(rt: HostRuntime) -> Result<(), Fail> {
         (StreamFault::ClockFault, "the clock could not be read"),
         (StreamFault::Endless, "the stream has not ended"),
     ] {
-        let said = format!(in rt.alloc(); "{fault}")?;
-        assert_same(&rt, said.as_str(), text);
+        assert_shown(&rt, rt.alloc(), fault, text)?;
     }
     Ok(())
 }

@@ -141,7 +141,11 @@ fn lines_are_counted(rt: HostRuntime) -> Result<(), Fail> {
     let mut reader: &[u8] = b"\n\n1 GET /?verb=Identify\n \n";
     let stop = stop_of(&rt, rt.alloc(), &mut reader)?;
     assert_same(&rt, stop, Stop::BadExchange(4));
-    assert_same(&rt, format!(in rt.alloc(); "{}", Stop::BadExchange(1))?.as_str(), "line 1: bad exchange");
+    assert_same(
+        &rt,
+        format!(in rt.alloc(); "{}", Stop::BadExchange(1))?.as_str(),
+        "line 1: bad exchange",
+    );
     Ok(())
 }
 

@@ -4,7 +4,7 @@ use oai_front::{ConnId, Front, NoSuchConnection, OpenFault, PieceFault};
 use std::alloc::Global;
 use std::process::Abort;
 use std::test::Fail;
-use tests_shared::assert_same;
+use tests_shared::{assert_same, assert_shown};
 
 /// The end of a message that begins with `GET / `, and what it is answered.
 fn last_piece() -> (&'static [u8], &'static [u8]) {
@@ -77,7 +77,11 @@ fn what_is_not_whole_at_the_end_is_dropped(rt: HostRuntime) -> Result<(), Fail> 
 
 /// No call finds the connection.
 fn assert_gone(rt: &impl Abort, front: &mut Front<Teller>, conn: ConnId) {
-    assert_same(rt, front.piece(conn, 0, b""), Err(PieceFault::NoSuchConnection));
+    assert_same(
+        rt,
+        front.piece(conn, 0, b""),
+        Err(PieceFault::NoSuchConnection),
+    );
     assert_same(rt, front.end(conn), Err(NoSuchConnection));
     assert_same(rt, front.forget(conn), Err(NoSuchConnection));
 }
@@ -127,7 +131,7 @@ fn faults_of_opening_are_told(rt: HostRuntime) -> Result<(), Fail> {
             "no number is left for a connection",
         ),
     ] {
-        assert_same(&rt, format!(in rt.alloc(); "{fault}")?.as_str(), text);
+        assert_shown(&rt, rt.alloc(), fault, text)?;
     }
     Ok(())
 }
@@ -142,7 +146,7 @@ fn faults_of_pieces_are_told(rt: HostRuntime) -> Result<(), Fail> {
             "out of memory before all was performed",
         ),
     ] {
-        assert_same(&rt, format!(in rt.alloc(); "{fault}")?.as_str(), text);
+        assert_shown(&rt, rt.alloc(), fault, text)?;
     }
     Ok(())
 }

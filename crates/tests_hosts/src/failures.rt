@@ -226,8 +226,16 @@ fn fault_at(alloc: Global, k: u64, want: Want) -> Result<Option<Fault>, Fail> {
 #[test]
 fn new_host_without_room(rt: HostRuntime) -> Result<(), Fail> {
     for k in 1..4 {
-        assert_same(&rt, fault_at(rt.alloc(), k, Want::Memory)?, Some(Fault::NoMemory));
-        assert_same(&rt, fault_at(rt.alloc(), k, Want::Pages)?, Some(Fault::TooManyPages));
+        assert_same(
+            &rt,
+            fault_at(rt.alloc(), k, Want::Memory)?,
+            Some(Fault::NoMemory),
+        );
+        assert_same(
+            &rt,
+            fault_at(rt.alloc(), k, Want::Pages)?,
+            Some(Fault::TooManyPages),
+        );
     }
     assert_same(&rt, fault_at(rt.alloc(), 4, Want::Pages)?, None);
     Ok(())

@@ -5,7 +5,7 @@ use std::alloc::{AllocError, Global};
 use std::process::Abort;
 use std::test::Fail;
 use tests_samples::letters;
-use tests_shared::assert_same;
+use tests_shared::{assert_same, assert_shown};
 
 const URI: &str = "http://host.example/jnl/";
 
@@ -344,11 +344,7 @@ fn texts_of_faults(rt: HostRuntime) -> Result<(), Fail> {
         FormatFault::TooMany,
         FormatFault::NoMemory,
     ] {
-        assert_same(
-            &rt,
-            format!(in rt.alloc(); "{fault}")?.as_str(),
-            text_of(fault),
-        );
+        assert_shown(&rt, rt.alloc(), fault, text_of(fault))?;
     }
     Ok(())
 }

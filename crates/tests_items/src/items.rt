@@ -11,7 +11,7 @@ use std::cmp::Ordering;
 use std::process::Abort;
 use std::test::Fail;
 use tests_samples::{STAMP, item, letters, title_field};
-use tests_shared::assert_same;
+use tests_shared::{assert_same, assert_shown};
 
 /// `oai:a:1` in these sets, with this title.
 fn titled(alloc: Global, specs: &[&str], title: &str) -> Result<Item, Fail> {
@@ -200,7 +200,7 @@ fn texts_of_faults(rt: HostRuntime) -> Result<(), Fail> {
         Fault::Damaged,
         Fault::TooManyPages,
     ] {
-        assert_same(&rt, format!(in alloc; "{fault}")?.as_str(), text_of(fault));
+        assert_shown(&rt, alloc, fault, text_of(fault))?;
     }
     Ok(())
 }

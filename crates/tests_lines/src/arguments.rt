@@ -6,7 +6,7 @@ use oai_time::Granularity;
 use std::alloc::{AllocError, Global};
 use std::process::Abort;
 use std::test::Fail;
-use tests_shared::{assert_same, assert_same_at};
+use tests_shared::{assert_same, assert_same_at, assert_shown};
 
 /// Adds a part of a request.
 fn push_part(words: &mut String, part: Option<&str>) -> Result<(), AllocError> {
@@ -227,11 +227,7 @@ fn text_of(fault: ArgFault) -> &'static str {
 #[test]
 fn faults_are_told(rt: HostRuntime) -> Result<(), Fail> {
     for fault in [ArgFault::BadVerb, ArgFault::BadArgument, ArgFault::NoMemory] {
-        assert_same(
-            &rt,
-            format!(in rt.alloc(); "{fault}")?.as_str(),
-            text_of(fault),
-        );
+        assert_shown(&rt, rt.alloc(), fault, text_of(fault))?;
     }
     Ok(())
 }

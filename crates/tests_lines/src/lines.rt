@@ -5,7 +5,7 @@ use oai_names::{Sequence, SetSpec, Text};
 use std::alloc::{AllocError, Global};
 use std::process::Abort;
 use std::test::Fail;
-use tests_shared::{assert_same, assert_same_at};
+use tests_shared::{assert_same, assert_same_at, assert_shown};
 
 /// What a line is answered that is read, or refused; want of memory fails the test.
 fn answer_to(alloc: Global, line: &[u8]) -> Result<&'static str, AllocError> {
@@ -255,7 +255,7 @@ fn tells_why_a_line_was_not_read(rt: HostRuntime) -> Result<(), Fail> {
             "the line is refused: the line is not JSON",
         ),
     ] {
-        assert_same(&rt, format!(in alloc; "{fault}")?.as_str(), want);
+        assert_shown(&rt, alloc, fault, want)?;
     }
     Ok(())
 }

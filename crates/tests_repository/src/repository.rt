@@ -9,7 +9,7 @@ use std::alloc::{AllocError, Global};
 use std::process::Abort;
 use std::test::Fail;
 use tests_archives::{Stocked, Told, archive_b, settings_of};
-use tests_shared::{assert_same, assert_same_at};
+use tests_shared::{assert_same, assert_same_at, assert_shown};
 
 /// A repository over a store of plain lists.
 type Archive = Stocked<PlainVersions>;
@@ -195,7 +195,7 @@ fn refusals_are_told(rt: HostRuntime) -> Result<(), Fail> {
         ),
         (Refusal::Fault(Fault::Device), "the device failed"),
     ] {
-        assert_same(&rt, format!(in rt.alloc(); "{refusal}")?.as_str(), text);
+        assert_shown(&rt, rt.alloc(), refusal, text)?;
     }
     Ok(())
 }

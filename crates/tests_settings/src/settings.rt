@@ -6,7 +6,7 @@ use std::alloc::{AllocError, Global};
 use std::process::Abort;
 use std::test::Fail;
 use tests_archives::{Told, archive_a, archive_b, settings_of};
-use tests_shared::{assert_same, assert_same_at};
+use tests_shared::{assert_same, assert_same_at, assert_shown};
 
 /// The configuration of Archive A.
 fn config_of_a(alloc: Global) -> Result<RepoConfig, Fail> {
@@ -93,7 +93,7 @@ fn faults_are_told(rt: HostRuntime) -> Result<(), Fail> {
         (ConfigFault::NoMemory, "9 NoMemory"),
     ] {
         assert_same(&rt, fault.answer(), text);
-        assert_same(&rt, fault.to_string(rt.alloc())?.as_str(), text);
+        assert_shown(&rt, rt.alloc(), fault, text)?;
     }
     Ok(())
 }

@@ -1,5 +1,6 @@
-//! Two values that must be equal. Each of these does what `assert_eq!` does, as a function: what that macro
-//! writes is proved anew in every test that it stands in, and takes most of the test's proof.
+//! Two values, or texts, that must be equal. Each of these does what `assert_eq!` does, as a function: what
+//! that macro writes is proved anew in every test that it stands in, and takes most of the test's proof.
+use std::alloc::{AllocError, Global};
 use std::fmt::{Debug, Display};
 use std::process::Abort;
 
@@ -16,4 +17,16 @@ pub fn assert_same_at<T: PartialEq + Debug + Drop, P: Display + Drop>(
     place: P,
 ) {
     assert_eq!(rt; found, wanted, "at {place}");
+}
+
+/// Fails the test, and shows both texts, where the value is not told as the one that is wanted. The error is
+/// want of memory.
+pub fn assert_shown<T: Display + Drop>(
+    rt: &impl Abort,
+    alloc: Global,
+    value: T,
+    wanted: &str,
+) -> Result<(), AllocError> {
+    assert_eq!(rt; value.to_string(alloc)?.as_str(), wanted);
+    Ok(())
 }

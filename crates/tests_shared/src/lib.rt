@@ -1,9 +1,9 @@
-//! What tests of several crates share: two assertions, the worked configuration, and the shorthand in
-//! which transcripts tell documents. It holds no test.
+//! What tests of several crates share: assertions, the worked configuration, and the shorthand in which
+//! transcripts tell documents. It holds no test.
 #![tactic(auto)]
 
 mod assertions;
 mod worked;
 
-pub use assertions::{assert_same, assert_same_at};
+pub use assertions::{assert_same, assert_same_at, assert_shown};
 pub use worked::{document_head, push_wanted, wanted_in, worked_configuration};

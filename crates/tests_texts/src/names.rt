@@ -6,7 +6,7 @@ use oai_names::{
 use std::alloc::{AllocError, Global};
 use std::process::Abort;
 use std::test::Fail;
-use tests_shared::{assert_same, assert_same_at};
+use tests_shared::{assert_same, assert_same_at, assert_shown};
 
 /// `front`, and then so many letters.
 fn with_letters(alloc: Global, front: &str, letters: usize) -> Result<String, AllocError> {
@@ -141,11 +141,7 @@ fn text_of_set_fault(fault: SetFault) -> &'static str {
 #[test]
 fn faults_are_told(rt: HostRuntime) -> Result<(), Fail> {
     for fault in [NameFault::Syntax, NameFault::TooLong, NameFault::NoMemory] {
-        assert_same(
-            &rt,
-            format!(in rt.alloc(); "{fault}")?.as_str(),
-            text_of_name_fault(fault),
-        );
+        assert_shown(&rt, rt.alloc(), fault, text_of_name_fault(fault))?;
     }
     for fault in [
         SetFault::Exists,
@@ -153,11 +149,7 @@ fn faults_are_told(rt: HostRuntime) -> Result<(), Fail> {
         SetFault::TooMany,
         SetFault::NoMemory,
     ] {
-        assert_same(
-            &rt,
-            format!(in rt.alloc(); "{fault}")?.as_str(),
-            text_of_set_fault(fault),
-        );
+        assert_shown(&rt, rt.alloc(), fault, text_of_set_fault(fault))?;
     }
     Ok(())
 }

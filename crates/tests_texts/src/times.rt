@@ -4,7 +4,7 @@ use oai_time::{
     write_datestamp, write_day, write_second,
 };
 use std::test::Fail;
-use tests_shared::{assert_same, assert_same_at};
+use tests_shared::{assert_same, assert_same_at, assert_shown};
 
 #[test]
 fn writes_seconds(rt: HostRuntime) {
@@ -47,11 +47,12 @@ fn granularities_are_compared(rt: HostRuntime) {
 #[test]
 fn faults_are_told(rt: HostRuntime) -> Result<(), Fail> {
     let fault = BadDate;
-    assert_same(
+    assert_shown(
         &rt,
-        format!(in rt.alloc(); "{fault}")?.as_str(),
+        rt.alloc(),
+        fault,
         "not a date of the form YYYY-MM-DD or YYYY-MM-DDThh:mm:ssZ",
-    );
+    )?;
     Ok(())
 }
 

@@ -5,7 +5,7 @@ use oai_names::{ListVerb, Prefix};
 use std::alloc::Global;
 use std::process::Abort;
 use std::test::Fail;
-use tests_shared::assert_same;
+use tests_shared::{assert_same, assert_shown};
 
 /// A list of that version and end is opened at `now`, or not.
 fn assert_opened(
@@ -52,7 +52,7 @@ fn tokens_are_displayed(rt: HostRuntime) -> Result<(), Fail> {
         list: 2,
         cursor: 1_000_000,
     };
-    assert_same(&rt, format!(in rt.alloc(); "{token}")?.as_str(), "2.1000000");
+    assert_shown(&rt, rt.alloc(), token, "2.1000000")?;
     Ok(())
 }
 
@@ -182,7 +182,7 @@ fn texts_of_faults(rt: HostRuntime) -> Result<(), Fail> {
         OpenFault::NumbersSpent,
         OpenFault::NoMemory,
     ] {
-        assert_same(&rt, format!(in rt.alloc(); "{fault}")?.as_str(), text_of(fault));
+        assert_shown(&rt, rt.alloc(), fault, text_of(fault))?;
     }
     Ok(())
 }
