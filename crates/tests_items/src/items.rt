@@ -3,7 +3,7 @@
 ghost use Rattle.std.specs.Prelude.{◌≡◌, true};
 ghost use Rattle.oai_item.specs.Order.{are_in_order};
 
-use crate::told::{assert_title, assert_told};
+use crate::told::{assert_title, assert_title_field, assert_told};
 use oai_item::{Fault, Item, TooLarge, is_in, order_law, place_of, selection_law, set_law};
 use oai_names::SetSpec;
 use std::alloc::Global;
@@ -59,12 +59,7 @@ fn item_is_its_parts(rt: HostRuntime) -> Result<(), Fail> {
 fn field_is_copied(rt: HostRuntime) -> Result<(), Fail> {
     let alloc = rt.alloc();
     let field = title_field(alloc, "T")?;
-    let copy = field.copy(alloc)?;
-    assert_same(
-        &rt,
-        (copy.name.as_str(), copy.text.as_str()),
-        ("title", "T"),
-    );
+    assert_title_field(&rt, &field.copy(alloc)?);
     Ok(())
 }
 
@@ -152,11 +147,8 @@ fn items_in_order(rt: HostRuntime) -> Result<(), Fail> {
     let alloc = rt.alloc();
     let item = titled(alloc, &["x:y"], "T")?;
     let later = item.tombstone(alloc, STAMP + 1)?;
-    assert_same(&rt, item.order(&later), Ordering::Less);
-    let mut items = Vec::new(alloc);
-    items.push(item)?;
-    items.push(later)?;
-    assert_places(&rt, items.as_slice());
+    assert!(rt; item.order(&later) == Ordering::Less);
+    assert_places(&rt, &[item, later]);
     Ok(())
 }
 

@@ -1,5 +1,5 @@
 //! What tests say of an item that stands elsewhere.
-use oai_item::Item;
+use oai_item::{Field, Item};
 use std::process::Abort;
 use tests_shared::assert_same;
 
@@ -14,16 +14,16 @@ pub(crate) fn assert_told(
     assert_same(rt, (item.stamp(), item.is_live(), item.sets().len()), told);
 }
 
+/// The field is the title `T`.
+pub(crate) fn assert_title_field(rt: &impl Abort, field: &Field) {
+    assert_same(rt, field.name.as_str(), "title");
+    assert_same(rt, field.text.as_str(), "T");
+}
+
 /// The item has one field in oai_dc, the title `T`.
 pub(crate) fn assert_title(rt: &impl Abort, item: &Item) {
     match item.fields_in("oai_dc") {
-        Some([field]) => {
-            assert_same(
-                rt,
-                (field.name.as_str(), field.text.as_str()),
-                ("title", "T"),
-            );
-        }
+        Some([field]) => assert_title_field(rt, field),
         _ => panic!(rt; "not one field"),
     }
 }
