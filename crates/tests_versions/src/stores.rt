@@ -285,7 +285,7 @@ fn assert_no_change<V: Versions>(
     ensures { OnOk result (IsSome (V.lists store.new v)) }
 {
     let taken = without_first(alloc, store, v)?;
-    assert_same(rt, taken, Err(Fault::Device));
+    assert!(rt; taken == Err(Fault::Device));
     assert_list(rt, alloc, store, v, &["oai:a:1", "oai:a:2"])
 }
 
