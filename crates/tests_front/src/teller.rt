@@ -6,6 +6,7 @@ use oai_host::{Answer, Exchange, Status};
 use oai_names::Sequence;
 use std::alloc::{AllocError, Global};
 use std::process::Abort;
+use std::str::from_utf8;
 use std::test::Fail;
 use tests_shared::{assert_same, assert_same_at};
 
@@ -21,7 +22,7 @@ impl Handler for Teller {
 
     fn exchange(&mut self, moment: i64, exchange: &Exchange<'_>) -> Answer {
         self.asked = self.asked.wrapping_add(1);
-        match planned(exchange.target) {
+        match planned(from_utf8(exchange.target).unwrap_or("")) {
             Some((status, seconds, done)) => told_only(self.alloc, status, seconds, done),
             None => self.told(moment, exchange),
         }
@@ -30,16 +31,16 @@ impl Handler for Teller {
 
 /// The status, the seconds and the number of lines that a target is answered, where it is not told what
 /// was asked.
-fn planned(target: &[u8]) -> Option<(Status, Option<i64>, Option<u64>)> {
+fn planned(target: &str) -> Option<(Status, Option<i64>, Option<u64>)> {
     match target {
-        b"/oai/a" | b"/deposit/a" => None,
-        b"/oai/later" => Some((Status::ServiceUnavailable, Some(50), None)),
-        b"/deposit/later" => Some((Status::ServiceUnavailable, Some(60), Some(2))),
-        b"/deposit/failed" => Some((Status::InternalServerError, None, Some(1))),
-        b"/oai/failed" => Some((Status::InternalServerError, None, None)),
-        b"/oai/put" | b"/deposit/put" => Some((Status::MethodNotAllowed, None, None)),
-        b"/oai/type" => Some((Status::UnsupportedMediaType, None, None)),
-        b"*" => Some((Status::BadRequest, None, None)),
+        "/oai/a" | "/deposit/a" => None,
+        "/oai/later" => Some((Status::ServiceUnavailable, Some(50), None)),
+        "/deposit/later" => Some((Status::ServiceUnavailable, Some(60), Some(2))),
+        "/deposit/failed" => Some((Status::InternalServerError, None, Some(1))),
+        "/oai/failed" => Some((Status::InternalServerError, None, None)),
+        "/oai/put" | "/deposit/put" => Some((Status::MethodNotAllowed, None, None)),
+        "/oai/type" => Some((Status::UnsupportedMediaType, None, None)),
+        "*" => Some((Status::BadRequest, None, None)),
         _ => Some((Status::NotFound, None, None)),
     }
 }
