@@ -4,6 +4,8 @@
 
 mod answers;
 #[cfg(test)]
+mod assertions;
+#[cfg(test)]
 mod configurations;
 #[cfg(test)]
 mod faults;

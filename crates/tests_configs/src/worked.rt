@@ -1,9 +1,10 @@
 //! The worked configuration, and others that are like it but for a few words.
 use crate::answers::answer_to;
+use crate::assertions::Assert;
 use std::alloc::{AllocError, Global};
 use std::process::Abort;
 use std::test::Fail;
-use tests_shared::{assert_same_at, worked_configuration};
+use tests_shared::worked_configuration;
 
 /// The text with another in each place of the words before ` -> `, the words behind it.
 fn changed(rt: &impl Abort, alloc: Global, text: &str, change: &str) -> Result<String, Fail> {
@@ -31,7 +32,7 @@ pub fn assert_table(rt: &impl Abort, alloc: Global, rows: &str) -> Result<(), Fa
         match row.split_once(" => ") {
             Some((changes, wanted)) => {
                 let text = worked_with(rt, alloc, changes)?;
-                assert_same_at(rt, answer_to(alloc, text.as_bytes())?, wanted, row);
+                Assert::same_at(rt, answer_to(alloc, text.as_bytes())?, wanted, row);
             }
             None => panic!(rt; "no answer in {row}"),
         }

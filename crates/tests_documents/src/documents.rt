@@ -6,6 +6,7 @@ ghost use Rattle.oai_answers.specs.Borrowed.{answer_of, continuation_of, documen
 
 mod expected;
 
+use crate::assertions::Assert;
 use oai_answers::{
     Asked, Body, DeletedRecord, Doc, ErrorCode, Extent, Identity, Listed, Offered, Record,
     Remaining, Resumption, write_document,
@@ -16,7 +17,6 @@ use oai_time::Granularity;
 use std::alloc::{AllocError, Global};
 use std::process::Abort;
 use std::test::Fail;
-use tests_shared::{assert_same, assert_same_at};
 
 /// 2024-01-01T00:00:00Z.
 const DATE: i64 = 1_704_067_200;
@@ -34,7 +34,7 @@ fn assert_document(rt: &impl Abort, alloc: Global, doc: &Doc<'_>, wanted: &str) 
     let mut written = Vec::new(alloc);
     write_document(alloc, doc, &mut written)?;
     let wanted = wanted.replace(alloc, '→', "\t")?;
-    assert_same_at(rt, written.as_slice(), wanted.as_bytes(), wanted.as_str());
+    Assert::same_at(rt, written.as_slice(), wanted.as_bytes(), wanted.as_str());
     Ok(())
 }
 
@@ -377,7 +377,7 @@ fn document_behind_much(rt: HostRuntime) -> Result<(), Fail> {
     };
     let mut written = bytes(alloc, MUCH)?;
     write_document(alloc, &doc, &mut written)?;
-    assert_same(&rt, written.get(MUCH..), Some(expected::sets().as_bytes()));
+    Assert::same(&rt, written.get(MUCH..), Some(expected::sets().as_bytes()));
     Ok(())
 }
 
@@ -654,6 +654,6 @@ fn front_of_the_buffer_stays(rt: HostRuntime) -> Result<(), Fail> {
     write_document(alloc, &doc, &mut written)?;
     let mut wanted = String::from_str(alloc, "front")?;
     wanted.push_str(expected::bad_verb())?;
-    assert_same(&rt, written.as_slice(), wanted.as_bytes());
+    Assert::same(&rt, written.as_slice(), wanted.as_bytes());
     Ok(())
 }

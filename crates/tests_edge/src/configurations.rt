@@ -1,9 +1,10 @@
 //! The configuration that a file tells.
+use crate::assertions::Assert;
 use oai_edge::{Stop, read_config};
 use std::alloc::{AllocError, Global};
 use std::fs;
 use std::test::Fail;
-use tests_shared::{assert_same, worked_configuration};
+use tests_shared::worked_configuration;
 
 /// The file of the test, which lies where it runs.
 const PATH: &str = "configuration-of-many-reads.json";
@@ -21,7 +22,7 @@ fn configuration_of_many_reads(rt: HostRuntime) -> Result<(), Fail> {
     let text = long_configuration(rt.alloc())?;
     fs::write(&rt, PATH, text.as_slice())?;
     let config = read_config(&rt, PATH)?;
-    assert_same(&rt, config.len(), 3);
+    Assert::same(&rt, config.len(), 3);
     fs::remove_file(&rt, PATH)?;
     Ok(())
 }
@@ -31,7 +32,7 @@ fn configuration_of_many_reads(rt: HostRuntime) -> Result<(), Fail> {
 fn no_configuration(rt: HostRuntime) -> Result<(), Fail> {
     match read_config(&rt, "no-such-configuration.json") {
         Ok(_) => assert!(rt; false),
-        Err(stop) => assert_same(&rt, stop, Stop::CannotRead),
+        Err(stop) => Assert::same(&rt, stop, Stop::CannotRead),
     }
     Ok(())
 }

@@ -4,6 +4,8 @@
 #[cfg(test)]
 mod asking;
 #[cfg(test)]
+mod assertions;
+#[cfg(test)]
 mod configurations;
 #[cfg(test)]
 mod edge;

@@ -1,9 +1,9 @@
 //! The longest heads and bodies, and those that are longer by one.
+use crate::assertions::Assert;
 use crate::teller::answered;
 use std::alloc::{AllocError, Global};
 use std::process::Abort;
 use std::test::Fail;
-use tests_shared::assert_same;
 
 const FOUND: &str = "HTTP/1.1 404 Not Found\r\nContent-Length: 0\r\n\r\n";
 
@@ -31,7 +31,7 @@ fn fields_of(alloc: Global, count: usize) -> Result<Vec<u8>, AllocError> {
 
 fn assert_found(rt: &impl Abort, alloc: Global, bytes: &[u8], wanted: &str) -> Result<(), Fail> {
     let (answer, _) = answered(rt, alloc, &[bytes])?;
-    assert_same(rt, answer.as_slice(), wanted.as_bytes());
+    Assert::same(rt, answer.as_slice(), wanted.as_bytes());
     Ok(())
 }
 
@@ -106,7 +106,7 @@ fn assert_all_found(
 ) -> Result<(), Fail> {
     let (answer, _) = answered(rt, alloc, &[piece])?;
     let wanted = times(alloc, FOUND.as_bytes(), count)?;
-    assert_same(rt, answer.as_slice(), wanted.as_slice());
+    Assert::same(rt, answer.as_slice(), wanted.as_slice());
     Ok(())
 }
 

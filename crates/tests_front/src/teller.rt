@@ -1,6 +1,7 @@
 //! A handler that tells what it was asked, and what a front over it answers.
 ghost use Rattle.std.specs.Prelude.{⊤};
 
+use crate::assertions::Assert;
 use oai_front::{ConnId, Front, Handler, OpenFault, PieceFault};
 use oai_host::{Answer, Exchange, Status};
 use oai_names::Sequence;
@@ -8,7 +9,6 @@ use std::alloc::{AllocError, Global};
 use std::process::Abort;
 use std::str::from_utf8;
 use std::test::Fail;
-use tests_shared::{assert_same, assert_same_at};
 
 /// Counts what it was asked.
 #[derive(Drop)]
@@ -148,7 +148,7 @@ pub(crate) fn assert_waits(
 ) -> Result<(), Fail> {
     let mut all = Vec::new(alloc);
     take_all(front, conn, false, &mut all)?;
-    assert_same(rt, all.as_slice(), wanted);
+    Assert::same(rt, all.as_slice(), wanted);
     Ok(())
 }
 
@@ -187,7 +187,7 @@ pub(crate) fn assert_answered(
 ) -> Result<(), Fail> {
     let (answer, closes) = answered(rt, alloc, &[bytes.as_bytes()])?;
     let answer = std::str::from_utf8(&answer)?;
-    assert_same_at(rt, answer, wanted, bytes);
-    assert_same_at(rt, closes, closing, bytes);
+    Assert::same_at(rt, answer, wanted, bytes);
+    Assert::same_at(rt, closes, closing, bytes);
     Ok(())
 }

@@ -2,6 +2,8 @@
 //! holds nothing else.
 #![tactic(auto)]
 
+#[cfg(test)]
+mod assertions;
 mod cramped;
 #[cfg(test)]
 mod deposits;

@@ -1,7 +1,7 @@
 //! What tests say of an item that stands elsewhere.
+use crate::assertions::Assert;
 use oai_item::{Field, Item};
 use std::process::Abort;
-use tests_shared::assert_same;
 
 /// The item has that identifier and datestamp, is live or not, and is in so many sets.
 pub(crate) fn assert_told(
@@ -10,14 +10,14 @@ pub(crate) fn assert_told(
     identifier: &str,
     told: (i64, bool, usize),
 ) {
-    assert_same(rt, item.identifier().as_str(), identifier);
-    assert_same(rt, (item.stamp(), item.is_live(), item.sets().len()), told);
+    Assert::same(rt, item.identifier().as_str(), identifier);
+    Assert::same(rt, (item.stamp(), item.is_live(), item.sets().len()), told);
 }
 
 /// The field is the title `T`.
 pub(crate) fn assert_title_field(rt: &impl Abort, field: &Field) {
-    assert_same(rt, field.name.as_str(), "title");
-    assert_same(rt, field.text.as_str(), "T");
+    Assert::same(rt, field.name.as_str(), "title");
+    Assert::same(rt, field.text.as_str(), "T");
 }
 
 /// The item has one field in oai_dc, the title `T`.

@@ -5,4 +5,6 @@
 #[cfg(test)]
 mod arguments;
 #[cfg(test)]
+mod assertions;
+#[cfg(test)]
 mod lines;

@@ -1,11 +1,11 @@
 //! What deposit lines are read as, and which are refused.
+use crate::assertions::Assert;
 use oai_deposit::{LineFault, read_line};
 use oai_item::{Change, Field, LineRefusal};
 use oai_names::{Sequence, SetSpec, Text};
 use std::alloc::{AllocError, Global};
 use std::process::Abort;
 use std::test::Fail;
-use tests_shared::{assert_same, assert_same_at, assert_shown};
 
 /// What a line is answered that is read, or refused; want of memory fails the test.
 fn answer_to(alloc: Global, line: &[u8]) -> Result<&'static str, AllocError> {
@@ -18,7 +18,7 @@ fn answer_to(alloc: Global, line: &[u8]) -> Result<&'static str, AllocError> {
 
 /// The line is answered so.
 fn assert_answer(rt: &impl Abort, alloc: Global, line: &str, want: &str) -> Result<(), Fail> {
-    assert_same_at(rt, answer_to(alloc, line.as_bytes())?, want, line);
+    Assert::same_at(rt, answer_to(alloc, line.as_bytes())?, want, line);
     Ok(())
 }
 
@@ -49,8 +49,8 @@ fn a_deposit() -> &'static str {
 fn assert_title(rt: &impl Abort, fields: &[Field]) {
     match fields {
         [title] => {
-            assert_same(rt, title.name.as_str(), "title");
-            assert_same(rt, title.text.as_str(), "Grüße");
+            Assert::same(rt, title.name.as_str(), "title");
+            Assert::same(rt, title.text.as_str(), "Grüße");
         }
         _ => panic!(rt; "not one field"),
     }
@@ -60,8 +60,8 @@ fn assert_title(rt: &impl Abort, fields: &[Field]) {
 fn assert_b_and_a(rt: &impl Abort, sets: &[SetSpec]) {
     match sets {
         [first, second] => {
-            assert_same(rt, first.as_str(), "b");
-            assert_same(rt, second.as_str(), "a");
+            Assert::same(rt, first.as_str(), "b");
+            Assert::same(rt, second.as_str(), "a");
         }
         _ => panic!(rt; "not two sets"),
     }
@@ -71,9 +71,9 @@ fn assert_b_and_a(rt: &impl Abort, sets: &[SetSpec]) {
 fn assert_two_records(rt: &impl Abort, records: &[(Text, Sequence<Field>)]) {
     match records {
         [first, second] => {
-            assert_same(rt, first.0.as_str(), "oai_dc");
+            Assert::same(rt, first.0.as_str(), "oai_dc");
             assert_title(rt, first.1.as_slice());
-            assert_same(rt, second.0.as_str(), "x");
+            Assert::same(rt, second.0.as_str(), "x");
         }
         _ => panic!(rt; "not two records"),
     }
@@ -91,7 +91,7 @@ fn reads_a_deposit(rt: HostRuntime) -> Result<(), Fail> {
     else {
         panic!(rt; "no deposit")
     };
-    assert_same(&rt, identifier.as_str(), "oai:x:1");
+    Assert::same(&rt, identifier.as_str(), "oai:x:1");
     assert_b_and_a(&rt, sets.as_slice());
     assert_two_records(&rt, records.as_slice());
     Ok(())
@@ -103,7 +103,7 @@ fn reads_a_deletion(rt: HostRuntime) -> Result<(), Fail> {
     let Change::Delete { identifier } = &change else {
         panic!(rt; "no deletion")
     };
-    assert_same(&rt, identifier.as_str(), "oai:a:1");
+    Assert::same(&rt, identifier.as_str(), "oai:a:1");
     Ok(())
 }
 
@@ -114,7 +114,7 @@ fn reads_a_purge(rt: HostRuntime) -> Result<(), Fail> {
     let Change::Purge { before } = &change else {
         panic!(rt; "no purge")
     };
-    assert_same(&rt, before.as_str(), "2024-02-30");
+    Assert::same(&rt, before.as_str(), "2024-02-30");
     Ok(())
 }
 
@@ -124,7 +124,7 @@ fn reads_a_new_set(rt: HostRuntime) -> Result<(), Fail> {
     let Change::AddSet { spec, name } = &change else {
         panic!(rt; "no new set")
     };
-    assert_same(&rt, (spec.as_str(), name.as_str()), ("x:y", "X & Y"));
+    Assert::same(&rt, (spec.as_str(), name.as_str()), ("x:y", "X & Y"));
     Ok(())
 }
 
@@ -135,7 +135,7 @@ fn last_member_of_a_name_counts(rt: HostRuntime) -> Result<(), Fail> {
     let Change::AddSet { spec, name } = &change else {
         panic!(rt; "no new set")
     };
-    assert_same(&rt, (spec.as_str(), name.as_str()), ("y", "X"));
+    Assert::same(&rt, (spec.as_str(), name.as_str()), ("y", "X"));
     Ok(())
 }
 
@@ -184,7 +184,7 @@ fn refuses_by_the_first_cause(rt: HostRuntime) -> Result<(), Fail> {
 
 #[test]
 fn refuses_what_is_not_utf_8(rt: HostRuntime) -> Result<(), Fail> {
-    assert_same(&rt, answer_to(rt.alloc(), &[0xFF])?, "refused 1 bad-json");
+    Assert::same(&rt, answer_to(rt.alloc(), &[0xFF])?, "refused 1 bad-json");
     Ok(())
 }
 
@@ -255,7 +255,7 @@ fn tells_why_a_line_was_not_read(rt: HostRuntime) -> Result<(), Fail> {
             "the line is refused: the line is not JSON",
         ),
     ] {
-        assert_shown(&rt, alloc, fault, want)?;
+        Assert::shown(&rt, alloc, fault, want)?;
     }
     Ok(())
 }

@@ -1,4 +1,5 @@
 //! A repository of days: its clock, the most items that it holds, and what it keeps of deleted ones.
+use crate::assertions::Assert;
 use oai_answers::DeletedRecord;
 use oai_catalogue::PlainVersions;
 use oai_deposit::{LineFault, read_line};
@@ -9,7 +10,6 @@ use std::alloc::{AllocError, Global};
 use std::process::Abort;
 use std::test::Fail;
 use tests_archives::{Stocked, Told, archive_b, settings_of};
-use tests_shared::{assert_same, assert_same_at, assert_shown};
 
 /// A repository over a store of plain lists.
 type Archive = Stocked<PlainVersions>;
@@ -42,7 +42,7 @@ fn assert_page(
     let Reply::Page(page) = repo.ask(MIDNIGHT, query)? else {
         panic!(rt; "later")
     };
-    assert_same(rt, page.as_slice(), wanted.as_bytes());
+    Assert::same(rt, page.as_slice(), wanted.as_bytes());
     Ok(())
 }
 
@@ -70,11 +70,11 @@ fn too_fine_a_bound(rt: HostRuntime) -> Result<(), Fail> {
 
 /// The clock begins at midnight, and goes no further than the last second of the year 9998.
 fn assert_clock(rt: &impl Abort, repo: &mut Archive) {
-    assert_same(rt, repo.clock(), 1_704_067_200);
+    Assert::same(rt, repo.clock(), 1_704_067_200);
     repo.advance(1_704_067_230);
-    assert_same(rt, repo.clock(), 1_704_067_230);
+    Assert::same(rt, repo.clock(), 1_704_067_230);
     repo.advance(999_999_999_999);
-    assert_same(rt, repo.clock(), 253_370_764_799);
+    Assert::same(rt, repo.clock(), 253_370_764_799);
 }
 
 #[test]
@@ -122,7 +122,7 @@ fn assert_deposits(
 ) -> Result<(), Fail> {
     for (moment, line, wanted) in lines {
         let answer = deposited(alloc, repo, *moment, line)?;
-        assert_same_at(rt, answer, *wanted, line);
+        Assert::same_at(rt, answer, *wanted, line);
     }
     Ok(())
 }
@@ -137,7 +137,7 @@ fn assert_third_item(rt: &impl Abort, alloc: Global, repo: &mut Archive) -> Resu
         (next, deposit_of(2), Ok(next)),
     ];
     assert_deposits(rt, alloc, repo, &lines)?;
-    assert_same(rt, repo.clock(), next);
+    Assert::same(rt, repo.clock(), next);
     Ok(())
 }
 
@@ -195,7 +195,7 @@ fn refusals_are_told(rt: HostRuntime) -> Result<(), Fail> {
         ),
         (Refusal::Fault(Fault::Device), "the device failed"),
     ] {
-        assert_shown(&rt, rt.alloc(), refusal, text)?;
+        Assert::shown(&rt, rt.alloc(), refusal, text)?;
     }
     Ok(())
 }

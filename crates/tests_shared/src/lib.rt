@@ -5,5 +5,4 @@
 mod assertions;
 mod worked;
 
-pub use assertions::{assert_same, assert_same_at, assert_shown};
 pub use worked::{document_head, push_wanted, wanted_in, worked_configuration};

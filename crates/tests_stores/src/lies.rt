@@ -1,5 +1,6 @@
 //! A repository over a store that lies, and says that there is nothing: each call returns, and one
 //! that finds an item missing changes nothing.
+use crate::assertions::Assert;
 use crate::samples::{
     Asked, BEGIN, NEXT_DAY, change_in, deletion, deposit, formats, headers, next_records, record,
     records,
@@ -13,7 +14,6 @@ use std::alloc::Global;
 use std::process::Abort;
 use std::test::Fail;
 use tests_archives::{LyingVersions, Stocked, archive_a, settings_of};
-use tests_shared::{assert_same, assert_same_at};
 
 /// More lies than are asked for.
 const ALWAYS: u64 = 1_000;
@@ -68,9 +68,9 @@ fn assert_outcomes<V: Versions + Drop>(
     for (asked, wanted) in exchanges {
         let (moment, text) = *asked;
         let before = repo.clock();
-        assert_same_at(rt, outcome(alloc, repo, *asked)?, *wanted, text);
+        Assert::same_at(rt, outcome(alloc, repo, *asked)?, *wanted, text);
         let clock = if *wanted == "damaged" { before } else { moment };
-        assert_same_at(rt, repo.clock(), clock, text);
+        Assert::same_at(rt, repo.clock(), clock, text);
     }
     Ok(())
 }
@@ -144,7 +144,7 @@ fn record_after(
 fn damage_changes_nothing(rt: HostRuntime) -> Result<(), Fail> {
     let page = record_after(&rt, rt.alloc(), 4, &four_lies())?;
     let wanted = record_after(&rt, rt.alloc(), 0, &no_lies())?;
-    assert_same(&rt, page.as_slice(), wanted.as_slice());
+    Assert::same(&rt, page.as_slice(), wanted.as_slice());
     Ok(())
 }
 

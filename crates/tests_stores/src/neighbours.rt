@@ -1,5 +1,6 @@
 //! Two repositories in one store, of whose items some have one identifier: each answers as it does
 //! alone.
+use crate::assertions::Assert;
 use crate::samples::{
     Asked, BEGIN, NEXT_DAY, change_in, deletion, deposit, headers, next_records, record, records,
 };
@@ -12,7 +13,6 @@ use std::io::Write;
 use std::process::Abort;
 use std::test::Fail;
 use tests_archives::{Shared, Stocked, Which, archive_a, archive_b, settings_of};
-use tests_shared::assert_same;
 
 /// The configuration of Archive A, which keeps what is deleted, or of Archive B, which does not.
 fn config_of(alloc: Global, which: Which) -> Result<RepoConfig, Fail> {
@@ -163,7 +163,7 @@ fn beside(alloc: Global, which: Which) -> Result<Vec<u8>, Fail> {
 /// That repository answers beside the other one as it does alone.
 fn assert_alone(rt: &impl Abort, alloc: Global, which: Which) -> Result<(), Fail> {
     let wanted = alone(alloc, which)?;
-    assert_same(rt, beside(alloc, which)?.as_slice(), wanted.as_slice());
+    Assert::same(rt, beside(alloc, which)?.as_slice(), wanted.as_slice());
     Ok(())
 }
 

@@ -1,4 +1,5 @@
 //! Names and their grammars, characters and escapes, and the sets of a repository.
+use crate::assertions::Assert;
 use oai_names::{
     Identifier, NameFault, Prefix, Sequence, SetFault, SetSpec, SetTree, Text, escape_attr,
     escape_text, is_set_spec, is_xml_text, parent_of,
@@ -6,7 +7,6 @@ use oai_names::{
 use std::alloc::{AllocError, Global};
 use std::process::Abort;
 use std::test::Fail;
-use tests_shared::{assert_same, assert_same_at, assert_shown};
 
 /// `front`, and then so many letters.
 fn with_letters(alloc: Global, front: &str, letters: usize) -> Result<String, AllocError> {
@@ -19,7 +19,7 @@ fn with_letters(alloc: Global, front: &str, letters: usize) -> Result<String, Al
 
 fn assert_read(rt: &impl Abort, read: Result<Prefix, NameFault>, text: &str) {
     match read {
-        Ok(prefix) => assert_same(rt, prefix.as_str(), text),
+        Ok(prefix) => Assert::same(rt, prefix.as_str(), text),
         Err(fault) => panic!(rt; "{text}: {fault}"),
     }
 }
@@ -27,7 +27,7 @@ fn assert_read(rt: &impl Abort, read: Result<Prefix, NameFault>, text: &str) {
 fn assert_refused<T: Drop>(rt: &impl Abort, read: Result<T, NameFault>, fault: NameFault) {
     match read {
         Ok(_) => panic!(rt; "a name was read"),
-        Err(found) => assert_same(rt, found, fault),
+        Err(found) => Assert::same(rt, found, fault),
     }
 }
 
@@ -45,7 +45,7 @@ fn prefixes_are_read(rt: HostRuntime) -> Result<(), Fail> {
 fn bad_prefixes_are_refused(rt: HostRuntime) -> Result<(), Fail> {
     let alloc = rt.alloc();
     let spaces = "                                                                 ";
-    assert_same(&rt, spaces.len(), 65);
+    Assert::same(&rt, spaces.len(), 65);
     for text in ["", "a b", "a:b", "é", "a/b", spaces] {
         assert_refused(&rt, Prefix::read(alloc, text), NameFault::Syntax);
     }
@@ -65,7 +65,7 @@ fn identifiers_are_read(rt: HostRuntime) -> Result<(), Fail> {
         most.as_str(),
     ] {
         match Identifier::read(alloc, text) {
-            Ok(identifier) => assert_same(&rt, identifier.as_str(), text),
+            Ok(identifier) => Assert::same(&rt, identifier.as_str(), text),
             Err(fault) => panic!(rt; "{text}: {fault}"),
         }
     }
@@ -91,13 +91,13 @@ fn bad_identifiers_are_refused(rt: HostRuntime) -> Result<(), Fail> {
 
 fn assert_prefix_is_copied(rt: &impl Abort, alloc: Global, text: &str) -> Result<(), Fail> {
     let prefix = Prefix::read(alloc, text)?;
-    assert_same(rt, prefix.copy(alloc)?.as_str(), text);
+    Assert::same(rt, prefix.copy(alloc)?.as_str(), text);
     Ok(())
 }
 
 fn assert_identifier_is_copied(rt: &impl Abort, alloc: Global, text: &str) -> Result<(), Fail> {
     let identifier = Identifier::read(alloc, text)?;
-    assert_same(rt, identifier.copy(alloc)?.as_str(), text);
+    Assert::same(rt, identifier.copy(alloc)?.as_str(), text);
     Ok(())
 }
 
@@ -106,18 +106,18 @@ fn copies_are_equal(rt: HostRuntime) -> Result<(), Fail> {
     let alloc = rt.alloc();
     assert_prefix_is_copied(&rt, alloc, "oai_dc")?;
     assert_identifier_is_copied(&rt, alloc, "oai:a:1")?;
-    assert_same(&rt, Text::new(alloc, "é\n")?.copy(alloc)?.as_str(), "é\n");
+    Assert::same(&rt, Text::new(alloc, "é\n")?.copy(alloc)?.as_str(), "é\n");
     Ok(())
 }
 
 #[test]
 fn texts_keep_their_strings(rt: HostRuntime) -> Result<(), Fail> {
     let mut text = Text::from_string(String::from_str(rt.alloc(), "é\n")?);
-    assert_same(&rt, text.as_str(), "é\n");
+    Assert::same(&rt, text.as_str(), "é\n");
     let mut string = text.into_string();
     string.push('x')?;
     text = Text::from_string(string);
-    assert_same(&rt, text.as_str(), "é\nx");
+    Assert::same(&rt, text.as_str(), "é\nx");
     Ok(())
 }
 
@@ -141,7 +141,7 @@ fn text_of_set_fault(fault: SetFault) -> &'static str {
 #[test]
 fn faults_are_told(rt: HostRuntime) -> Result<(), Fail> {
     for fault in [NameFault::Syntax, NameFault::TooLong, NameFault::NoMemory] {
-        assert_shown(&rt, rt.alloc(), fault, text_of_name_fault(fault))?;
+        Assert::shown(&rt, rt.alloc(), fault, text_of_name_fault(fault))?;
     }
     for fault in [
         SetFault::Exists,
@@ -149,7 +149,7 @@ fn faults_are_told(rt: HostRuntime) -> Result<(), Fail> {
         SetFault::TooMany,
         SetFault::NoMemory,
     ] {
-        assert_shown(&rt, rt.alloc(), fault, text_of_set_fault(fault))?;
+        Assert::shown(&rt, rt.alloc(), fault, text_of_set_fault(fault))?;
     }
     Ok(())
 }
@@ -157,8 +157,8 @@ fn faults_are_told(rt: HostRuntime) -> Result<(), Fail> {
 #[test]
 fn sequences_keep_their_values(rt: HostRuntime) -> Result<(), Fail> {
     let sequence = Sequence::new(vec![in rt.alloc(); 3, 1, 2]?);
-    assert_same(&rt, sequence.as_slice(), [3, 1, 2].as_slice());
-    assert_same(&rt, sequence.into_vec().as_slice(), [3, 1, 2].as_slice());
+    Assert::same(&rt, sequence.as_slice(), [3, 1, 2].as_slice());
+    Assert::same(&rt, sequence.into_vec().as_slice(), [3, 1, 2].as_slice());
     Ok(())
 }
 
@@ -189,7 +189,7 @@ fn characters_of_a_document(rt: HostRuntime) {
 fn assert_text(rt: &impl Abort, alloc: Global, text: &str, wanted: &str) -> Result<(), Fail> {
     let mut out = vec![in alloc; b'-']?;
     escape_text(text, &mut out)?;
-    assert_same(rt, out.as_slice(), wanted.as_bytes());
+    Assert::same(rt, out.as_slice(), wanted.as_bytes());
     Ok(())
 }
 
@@ -197,7 +197,7 @@ fn assert_text(rt: &impl Abort, alloc: Global, text: &str, wanted: &str) -> Resu
 fn assert_attr(rt: &impl Abort, alloc: Global, text: &str, wanted: &str) -> Result<(), Fail> {
     let mut out = vec![in alloc; b'-']?;
     escape_attr(text, &mut out)?;
-    assert_same(rt, out.as_slice(), wanted.as_bytes());
+    Assert::same(rt, out.as_slice(), wanted.as_bytes());
     Ok(())
 }
 
@@ -235,8 +235,8 @@ fn set_specs_are_read(rt: HostRuntime) -> Result<(), Fail> {
     let most = with_letters(alloc, "", 256)?;
     for text in ["x", "x:y", "a-_.!~*'()Z9:b:c", most.as_str()] {
         let spec = set_spec(&rt, alloc, text);
-        assert_same(&rt, spec.as_str(), text);
-        assert_same(&rt, spec.copy(alloc)?.as_str(), text);
+        Assert::same(&rt, spec.as_str(), text);
+        Assert::same(&rt, spec.copy(alloc)?.as_str(), text);
     }
     Ok(())
 }
@@ -266,15 +266,15 @@ fn sets_cover(rt: HostRuntime) {
         ("b", "ab:b", false),
     ] {
         let covers = set_spec(&rt, alloc, set).covers(&set_spec(&rt, alloc, spec));
-        assert_same_at(&rt, covers, covered, spec);
+        Assert::same_at(&rt, covers, covered, spec);
     }
 }
 
 fn assert_shows(rt: &impl Abort, sets: &SetTree, i: usize, spec: &str, name: &str) {
     match sets.get(i) {
         Some((found_spec, found_name)) => {
-            assert_same(rt, found_spec.as_str(), spec);
-            assert_same(rt, found_name, name);
+            Assert::same(rt, found_spec.as_str(), spec);
+            Assert::same(rt, found_name, name);
         }
         None => panic!(rt; "no set {i}"),
     }
@@ -282,8 +282,8 @@ fn assert_shows(rt: &impl Abort, sets: &SetTree, i: usize, spec: &str, name: &st
 
 #[test]
 fn parents_of_sets(rt: HostRuntime) {
-    assert_same(&rt, parent_of("a:b:c"), Some("a:b"));
-    assert_same(&rt, parent_of("a"), None);
+    Assert::same(&rt, parent_of("a:b:c"), Some("a:b"));
+    Assert::same(&rt, parent_of("a"), None);
 }
 
 /// A set of this setSpec and name is added, or refused so.
@@ -294,12 +294,12 @@ fn assert_added(
     (spec, name): (&str, &str),
     answer: Result<(), SetFault>,
 ) {
-    assert_same_at(rt, sets.add(&set_spec(rt, alloc, spec), name), answer, spec);
+    Assert::same_at(rt, sets.add(&set_spec(rt, alloc, spec), name), answer, spec);
 }
 
 /// The tree has the sets `x`, `x:y` and `x:y:z`, and no other.
 fn assert_three_sets(rt: &impl Abort, alloc: Global, sets: &SetTree) {
-    assert_same(rt, sets.len(), 3);
+    Assert::same(rt, sets.len(), 3);
     assert_shows(rt, sets, 0, "x", "X");
     assert_shows(rt, sets, 1, "x:y", "Y");
     assert_shows(rt, sets, 2, "x:y:z", "");
@@ -351,7 +351,7 @@ fn sets_are_at_most_10000(rt: HostRuntime) -> Result<(), Fail> {
         Err(SetFault::TooMany),
     );
     assert_added(&rt, alloc, &mut sets, ("x", "X"), Err(SetFault::TooMany));
-    assert_same(&rt, sets.len(), 10_000);
+    Assert::same(&rt, sets.len(), 10_000);
     assert_shows(&rt, &sets, 9_999, "9999", "A set");
     Ok(())
 }
