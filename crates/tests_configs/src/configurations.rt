@@ -1,18 +1,18 @@
 //! What texts tell, and how many repositories they may tell of.
 use crate::answers::answer_to;
-use crate::assertions::Assert;
+use crate::assertions::{assert_same, assert_same_at};
 use crate::worked::{assert_table, worked_with};
 use oai_host::{Config, fault_law, path_law, shape_law};
 use std::alloc::{AllocError, Global};
 use std::process::Abort;
 use std::test::Fail;
-use tests_shared::worked_configuration;
+use tests_worked::worked_configuration;
 
 #[test]
 fn what_is_read(rt: HostRuntime) -> Result<(), Fail> {
     let config = Config::read(rt.alloc(), worked_configuration().as_bytes())?;
-    Assert::same(&rt, config.len(), 3);
-    Assert::same(&rt, config.cache(), 1);
+    assert_same(&rt, config.len(), 3);
+    assert_same(&rt, config.cache(), 1);
     shape_law();
     fault_law();
     path_law();
@@ -38,7 +38,7 @@ fn repositories_of_the_worked_configuration(rt: HostRuntime) -> Result<(), Fail>
     let bases = bases_of(rt.alloc(), worked_configuration())?;
     let wanted =
         "a http://host.example/oai/a\nb http://host.example/oai/b\nc http://host.example/oai/c\n";
-    Assert::same(&rt, bases.as_str(), wanted);
+    assert_same(&rt, bases.as_str(), wanted);
     Ok(())
 }
 
@@ -49,7 +49,7 @@ fn repositories_in_the_order_of_the_text(rt: HostRuntime) -> Result<(), Fail> {
     let text = worked_with(&rt, rt.alloc(), changes)?;
     let bases = bases_of(rt.alloc(), text.as_str())?;
     let wanted = "z x y//oai/z\nb x y//oai/b\nc x y//oai/c\n";
-    Assert::same(&rt, bases.as_str(), wanted);
+    assert_same(&rt, bases.as_str(), wanted);
     Ok(())
 }
 
@@ -58,11 +58,11 @@ fn assert_first(rt: &impl Abort, alloc: Global) -> Result<(), Fail> {
     let config = Config::read(alloc, worked_configuration().as_bytes())?;
     for first in config.into_repositories().as_slice().iter().take(1) {
         let told = &first.config;
-        Assert::same(rt, told.repository_name(), "Archive A");
-        Assert::same(rt, told.earliest(), 1_704_067_200);
-        Assert::same(rt, (told.chunk(), told.lifetime()), (2, 60));
-        Assert::same(rt, (told.lists(), told.items()), (1, 1_000));
-        Assert::same(rt, told.formats().len(), 2);
+        assert_same(rt, told.repository_name(), "Archive A");
+        assert_same(rt, told.earliest(), 1_704_067_200);
+        assert_same(rt, (told.chunk(), told.lifetime()), (2, 60));
+        assert_same(rt, (told.lists(), told.items()), (1, 1_000));
+        assert_same(rt, told.formats().len(), 2);
     }
     Ok(())
 }
@@ -77,7 +77,7 @@ fn first_repository(rt: HostRuntime) -> Result<(), Fail> {
 fn member_that_stands_twice(rt: HostRuntime) -> Result<(), Fail> {
     let changes = r#""cache":1 -> "cache":"x","cache":7,"cache":65536"#;
     let text = worked_with(&rt, rt.alloc(), changes)?;
-    Assert::same(
+    assert_same(
         &rt,
         Config::read(rt.alloc(), text.as_bytes())?.cache(),
         65_536,
@@ -148,7 +148,7 @@ fn assert_many(
     wanted: &str,
 ) -> Result<(), Fail> {
     let text = many(alloc, number, last, chunk)?;
-    Assert::same_at(rt, answer_to(alloc, text.as_bytes())?, wanted, last);
+    assert_same_at(rt, answer_to(alloc, text.as_bytes())?, wanted, last);
     Ok(())
 }
 

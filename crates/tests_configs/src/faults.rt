@@ -1,6 +1,6 @@
 //! Why texts are no configurations: one cause, and of several the one of the lowest number.
 use crate::answers::answer_to;
-use crate::assertions::Assert;
+use crate::assertions::{assert_same, assert_same_at, assert_shown};
 use crate::worked::{assert_table, repeated, worked_with};
 use oai_host::ReadFault;
 use std::alloc::{AllocError, Global};
@@ -24,9 +24,9 @@ fn all_faults() -> [(ReadFault, u8, &'static str); 9] {
 #[test]
 fn faults_are_told(rt: HostRuntime) -> Result<(), Fail> {
     for (fault, number, text) in all_faults() {
-        Assert::same(&rt, fault.number(), number);
-        Assert::same(&rt, fault.answer(), text);
-        Assert::shown(&rt, rt.alloc(), fault, text)?;
+        assert_same(&rt, fault.number(), number);
+        assert_same(&rt, fault.answer(), text);
+        assert_shown(&rt, rt.alloc(), fault, text)?;
     }
     Ok(())
 }
@@ -34,7 +34,7 @@ fn faults_are_told(rt: HostRuntime) -> Result<(), Fail> {
 /// Each of these texts, one a line, is answered so.
 fn assert_each(rt: &impl Abort, alloc: Global, texts: &str, wanted: &str) -> Result<(), Fail> {
     for text in texts.lines() {
-        Assert::same_at(rt, answer_to(alloc, text.as_bytes())?, wanted, text);
+        assert_same_at(rt, answer_to(alloc, text.as_bytes())?, wanted, text);
     }
     Ok(())
 }
@@ -67,8 +67,8 @@ null
 fn texts_of_another_kind(rt: HostRuntime) -> Result<(), Fail> {
     assert_each(&rt, rt.alloc(), no_json(), "1 BadJson")?;
     assert_each(&rt, rt.alloc(), other_json(), "2 BadShape")?;
-    Assert::same(&rt, answer_to(rt.alloc(), b"")?, "1 BadJson");
-    Assert::same(&rt, answer_to(rt.alloc(), b"\"\xff\"")?, "1 BadJson");
+    assert_same(&rt, answer_to(rt.alloc(), b"")?, "1 BadJson");
+    assert_same(&rt, answer_to(rt.alloc(), b"\"\xff\"")?, "1 BadJson");
     Ok(())
 }
 
@@ -188,7 +188,7 @@ fn assert_long(
     let long = repeated(alloc, text, times)?;
     let change = format!(in alloc; "\"{old}\" -> \"{}\"", long.as_str())?;
     let config = worked_with(rt, alloc, change.as_str())?;
-    Assert::same_at(rt, answer_to(alloc, config.as_bytes())?, wanted, times);
+    assert_same_at(rt, answer_to(alloc, config.as_bytes())?, wanted, times);
     Ok(())
 }
 
@@ -244,7 +244,7 @@ fn assert_listed(
 ) -> Result<(), Fail> {
     let change = format!(in alloc; "{old} -> \"{name}\":[{texts}]")?;
     let config = worked_with(rt, alloc, change.as_str())?;
-    Assert::same_at(rt, answer_to(alloc, config.as_bytes())?, wanted, change);
+    assert_same_at(rt, answer_to(alloc, config.as_bytes())?, wanted, change);
     Ok(())
 }
 

@@ -1,10 +1,10 @@
 //! The worked configuration, and others that are like it but for a few words.
 use crate::answers::answer_to;
-use crate::assertions::Assert;
+use crate::assertions::assert_same_at;
 use std::alloc::{AllocError, Global};
 use std::process::Abort;
 use std::test::Fail;
-use tests_shared::worked_configuration;
+use tests_worked::worked_configuration;
 
 /// The text with another in each place of the words before ` -> `, the words behind it.
 fn changed(rt: &impl Abort, alloc: Global, text: &str, change: &str) -> Result<String, Fail> {
@@ -32,7 +32,7 @@ pub fn assert_table(rt: &impl Abort, alloc: Global, rows: &str) -> Result<(), Fa
         match row.split_once(" => ") {
             Some((changes, wanted)) => {
                 let text = worked_with(rt, alloc, changes)?;
-                Assert::same_at(rt, answer_to(alloc, text.as_bytes())?, wanted, row);
+                assert_same_at(rt, answer_to(alloc, text.as_bytes())?, wanted, row);
             }
             None => panic!(rt; "no answer in {row}"),
         }

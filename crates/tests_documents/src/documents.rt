@@ -6,7 +6,7 @@ ghost use Rattle.oai_answers.specs.Borrowed.{answer_of, continuation_of, documen
 
 mod expected;
 
-use crate::assertions::Assert;
+use crate::assertions::{assert_same, assert_same_at};
 use oai_answers::{
     Asked, Body, DeletedRecord, Doc, ErrorCode, Extent, Identity, Listed, Offered, Record,
     Remaining, Resumption, write_document,
@@ -34,7 +34,7 @@ fn assert_document(rt: &impl Abort, alloc: Global, doc: &Doc<'_>, wanted: &str) 
     let mut written = Vec::new(alloc);
     write_document(alloc, doc, &mut written)?;
     let wanted = wanted.replace(alloc, '→', "\t")?;
-    Assert::same_at(rt, written.as_slice(), wanted.as_bytes(), wanted.as_str());
+    assert_same_at(rt, written.as_slice(), wanted.as_bytes(), wanted.as_str());
     Ok(())
 }
 
@@ -377,7 +377,7 @@ fn document_behind_much(rt: HostRuntime) -> Result<(), Fail> {
     };
     let mut written = bytes(alloc, MUCH)?;
     write_document(alloc, &doc, &mut written)?;
-    Assert::same(&rt, written.get(MUCH..), Some(expected::sets().as_bytes()));
+    assert_same(&rt, written.get(MUCH..), Some(expected::sets().as_bytes()));
     Ok(())
 }
 
@@ -654,6 +654,6 @@ fn front_of_the_buffer_stays(rt: HostRuntime) -> Result<(), Fail> {
     write_document(alloc, &doc, &mut written)?;
     let mut wanted = String::from_str(alloc, "front")?;
     wanted.push_str(expected::bad_verb())?;
-    Assert::same(&rt, written.as_slice(), wanted.as_bytes());
+    assert_same(&rt, written.as_slice(), wanted.as_bytes());
     Ok(())
 }

@@ -1,11 +1,11 @@
 //! Lines that are performed on a new host, and what is written for them.
-use crate::assertions::Assert;
+use crate::assertions::assert_same_at;
 use oai_edge::{Stop, ask_lines, config_in, host_of};
 use std::alloc::{AllocError, Global};
 use std::io::{Read, Write};
 use std::process::Abort;
 use std::test::Fail;
-use tests_shared::{wanted_in, worked_configuration};
+use tests_worked::{wanted_in, worked_configuration};
 
 /// Performs the lines that the reader gives on a new host; why that stopped, if it did.
 pub(crate) fn performed<R: Read, W: Write>(
@@ -47,7 +47,7 @@ pub(crate) fn assert_asked(
 ) -> Result<(), Fail> {
     let mut reader = input.as_bytes();
     let output = written(alloc, &mut reader)?;
-    Assert::same_at(rt, output.as_slice(), wanted.as_bytes(), input);
+    assert_same_at(rt, output.as_slice(), wanted.as_bytes(), input);
     Ok(())
 }
 

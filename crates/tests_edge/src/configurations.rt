@@ -1,10 +1,10 @@
 //! The configuration that a file tells.
-use crate::assertions::Assert;
+use crate::assertions::assert_same;
 use oai_edge::{Stop, read_config};
 use std::alloc::{AllocError, Global};
 use std::fs;
 use std::test::Fail;
-use tests_shared::worked_configuration;
+use tests_worked::worked_configuration;
 
 /// The file of the test, which lies where it runs.
 const PATH: &str = "configuration-of-many-reads.json";
@@ -22,7 +22,7 @@ fn configuration_of_many_reads(rt: HostRuntime) -> Result<(), Fail> {
     let text = long_configuration(rt.alloc())?;
     fs::write(&rt, PATH, text.as_slice())?;
     let config = read_config(&rt, PATH)?;
-    Assert::same(&rt, config.len(), 3);
+    assert_same(&rt, config.len(), 3);
     fs::remove_file(&rt, PATH)?;
     Ok(())
 }
@@ -32,7 +32,7 @@ fn configuration_of_many_reads(rt: HostRuntime) -> Result<(), Fail> {
 fn no_configuration(rt: HostRuntime) -> Result<(), Fail> {
     match read_config(&rt, "no-such-configuration.json") {
         Ok(_) => assert!(rt; false),
-        Err(stop) => Assert::same(&rt, stop, Stop::CannotRead),
+        Err(stop) => assert_same(&rt, stop, Stop::CannotRead),
     }
     Ok(())
 }

@@ -1,7 +1,7 @@
 //! How the input is cut into lines, whatever the pieces in which it comes, and what is written
 //! where it, the output or memory fails.
 use crate::asking::{assert_asked, performed, stop_of, written};
-use crate::assertions::Assert;
+use crate::assertions::{assert_same, assert_same_at, assert_shown};
 use crate::transcripts;
 use oai_edge::{Stop, write_answer};
 use oai_host::{Answer, ReadFault, Status};
@@ -10,7 +10,7 @@ use std::alloc::{AllocError, Global};
 use std::io::{self, ErrorKind, Read, Write};
 use std::process::Abort;
 use std::test::Fail;
-use tests_shared::push_wanted;
+use tests_worked::push_wanted;
 
 /// A deposit, an empty line, a line that is no JSON, and a deposit that has no line end.
 fn script() -> &'static str {
@@ -70,7 +70,7 @@ fn assert_in_pieces(
 ) -> Result<(), Fail> {
     let mut reader = PiecesReader { text, first, later };
     let output = written(alloc, &mut reader)?;
-    Assert::same_at(rt, output.as_slice(), script_answer().as_bytes(), first);
+    assert_same_at(rt, output.as_slice(), script_answer().as_bytes(), first);
     Ok(())
 }
 
@@ -148,7 +148,7 @@ fn line_of_many_reads(rt: HostRuntime) -> Result<(), Fail> {
         later: 1,
     };
     let output = written(alloc, &mut reader)?;
-    Assert::same(&rt, output.as_slice(), wanted.as_bytes());
+    assert_same(&rt, output.as_slice(), wanted.as_bytes());
     Ok(())
 }
 
@@ -166,7 +166,7 @@ fn assert_bad_line(
         later: length,
     };
     let stop = stop_of(rt, alloc, &mut reader)?;
-    Assert::same_at(rt, stop, Stop::BadExchange(number), length);
+    assert_same_at(rt, stop, Stop::BadExchange(number), length);
     Ok(())
 }
 
@@ -210,7 +210,7 @@ fn what_is_said(rt: HostRuntime) -> Result<(), Fail> {
         (Stop::OutputFault, "output fault"),
         (Stop::NoMemory, "out of memory"),
     ] {
-        Assert::shown(&rt, rt.alloc(), stop, text)?;
+        assert_shown(&rt, rt.alloc(), stop, text)?;
     }
     Ok(())
 }
@@ -245,7 +245,7 @@ fn short_answers(rt: HostRuntime) -> Result<(), Fail> {
     ] {
         let mut output = Vec::new(rt.alloc());
         write_answer(&answer(rt.alloc(), status, seconds, done), &mut output)?;
-        Assert::same(&rt, output.as_slice(), text.as_bytes());
+        assert_same(&rt, output.as_slice(), text.as_bytes());
     }
     Ok(())
 }
@@ -282,8 +282,8 @@ fn each_read_fails(rt: HostRuntime) -> Result<(), Fail> {
         let mut reader = ByteReader { text, reads };
         let mut output = Vec::new(alloc);
         let done = performed(alloc, &mut reader, &mut output)?;
-        Assert::same_at(&rt, done, Err(Stop::InputFault), reads);
-        Assert::same_at(
+        assert_same_at(&rt, done, Err(Stop::InputFault), reads);
+        assert_same_at(
             &rt,
             output.as_slice(),
             answer_to_front(reads).as_bytes(),
@@ -334,7 +334,7 @@ fn each_write_fails(rt: HostRuntime) -> Result<(), Fail> {
         let done = performed(alloc, &mut reader, &mut writer)?;
         assert!(rt; wanted.starts_with(writer.taken.as_slice()), "{writes}");
         let is_whole = writer.taken.len() == wanted.len();
-        Assert::same_at(&rt, done.is_ok(), is_whole, writes);
+        assert_same_at(&rt, done.is_ok(), is_whole, writes);
         assert!(rt; is_whole || done == Err(Stop::OutputFault), "{writes}");
     }
     Ok(())
@@ -351,8 +351,8 @@ fn flush_fails(rt: HostRuntime) -> Result<(), Fail> {
         flushes: false,
     };
     let done = performed(alloc, &mut reader, &mut writer)?;
-    Assert::same(&rt, done, Err(Stop::OutputFault));
-    Assert::same(&rt, writer.taken.as_slice(), script_answer().as_bytes());
+    assert_same(&rt, done, Err(Stop::OutputFault));
+    assert_same(&rt, writer.taken.as_slice(), script_answer().as_bytes());
     Ok(())
 }
 
@@ -378,7 +378,7 @@ fn most_reads(rt: HostRuntime) -> Result<(), Fail> {
     for (lines, wanted) in [(999_999, Ok(())), (1_000_000, Err(Stop::InputFault))] {
         let mut output = Vec::new(alloc);
         let done = performed(alloc, &mut EmptyLines(lines), &mut output)?;
-        Assert::same_at(&rt, done, wanted, lines);
+        assert_same_at(&rt, done, wanted, lines);
         assert!(rt; output.is_empty());
     }
     Ok(())

@@ -1,6 +1,6 @@
 //! A store that fails: the exchange that meets the failure is answered 500 and changes nothing, and the
 //! same exchange again is answered as if nothing had happened.
-use crate::assertions::Assert;
+use crate::assertions::{assert_same, assert_same_at};
 use oai_catalogue::{FaultyVersions, PlainVersions, Versions};
 use oai_edge::{config_in, write_answer};
 use oai_host::{Answer, Exchange, Host};
@@ -8,7 +8,7 @@ use oai_item::Fault;
 use std::alloc::Global;
 use std::process::Abort;
 use std::test::Fail;
-use tests_shared::{wanted_in, worked_configuration};
+use tests_worked::{wanted_in, worked_configuration};
 
 /// A second, a target, and of a deposit its line.
 type Asked = (i64, &'static str, &'static str);
@@ -80,8 +80,8 @@ fn answer<V: Versions + Drop>(
         write_answer(&first, output)?;
         return Ok(false);
     };
-    Assert::same(rt, fault, Fault::Device);
-    Assert::same(rt, first.status.number(), 500);
+    assert_same(rt, fault, Fault::Device);
+    assert_same(rt, first.status.number(), 500);
     write_answer(&answer_of(host, asked), output)?;
     Ok(true)
 }
@@ -112,7 +112,7 @@ fn assert_answered<V: Versions + Drop>(
     let mut output = Vec::new(alloc);
     let failed = answer_all(rt, host, &mut output)?;
     let wanted = wanted_in(alloc, answers())?;
-    Assert::same_at(rt, output.as_slice(), wanted.as_bytes(), k);
+    assert_same_at(rt, output.as_slice(), wanted.as_bytes(), k);
     Ok(failed)
 }
 
@@ -123,7 +123,7 @@ fn assert_answers(rt: &impl Abort, alloc: Global, k: u64) -> Result<bool, Fail> 
     match Host::new(alloc, config, store) {
         Ok(mut host) => assert_answered(rt, alloc, &mut host, k),
         Err(fault) => {
-            Assert::same(rt, fault, Fault::Device);
+            assert_same(rt, fault, Fault::Device);
             Ok(true)
         }
     }

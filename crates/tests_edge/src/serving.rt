@@ -1,7 +1,7 @@
 //! Connections over streams: of the tests, and of the system.
 ghost use Rattle.std.specs.Prelude.{◌≤◌};
 
-use crate::assertions::Assert;
+use crate::assertions::{assert_same, assert_same_at, assert_shown};
 use crate::tracing::{
     answer_with, but_the_last, later_set_answer, not_found, set_again_answer, set_answer,
     set_message,
@@ -19,7 +19,7 @@ use std::process::Abort;
 use std::rt::Clock;
 use std::test::Fail;
 use std::time::Duration;
-use tests_shared::worked_configuration;
+use tests_worked::worked_configuration;
 
 /// The moment 1704067200.
 struct StandingClock;
@@ -154,8 +154,8 @@ fn assert_set(
 ) -> Result<(), Fail> {
     let mut stream = wire_of(alloc, set_message().as_bytes(), 1_000);
     let served = serve_stream(alloc, front, &mut stream, &StandingClock);
-    Assert::same(rt, served, Ok(()));
-    Assert::same(rt, stream.written.as_slice(), wanted.as_bytes());
+    assert_same(rt, served, Ok(()));
+    assert_same(rt, stream.written.as_slice(), wanted.as_bytes());
     Ok(())
 }
 
@@ -179,10 +179,10 @@ fn two_answers(alloc: Global) -> Result<String, AllocError> {
 fn assert_wire(rt: &impl Abort, wire: &Wire<'_>, wanted: &str, bytes: usize, piece: usize)
     requires { 1 ≤ piece }
 {
-    Assert::same_at(rt, wire.written.as_slice(), wanted.as_bytes(), piece);
+    assert_same_at(rt, wire.written.as_slice(), wanted.as_bytes(), piece);
     let reads = 1_000_usize.saturating_sub(wire.reads);
-    Assert::same_at(rt, reads, bytes.div_ceil(piece), piece);
-    Assert::same_at(rt, wire.room, 65_536, piece);
+    assert_same_at(rt, reads, bytes.div_ceil(piece), piece);
+    assert_same_at(rt, wire.room, 65_536, piece);
 }
 
 /// The three messages come in pieces of so many bytes, and are not read any more once the connection
@@ -199,7 +199,7 @@ fn assert_read_in_pieces(
 {
     let mut stream = wire_of(alloc, text.as_bytes(), piece);
     let served = serve_stream(alloc, front, &mut stream, &StandingClock);
-    Assert::same_at(rt, served, Ok(()), piece);
+    assert_same_at(rt, served, Ok(()), piece);
     let bytes = text.len().saturating_sub(set_message().len());
     assert_wire(rt, &stream, wanted, bytes, piece);
 }
@@ -239,7 +239,7 @@ fn stream_ends_in_a_body(rt: HostRuntime) -> Result<(), Fail> {
     let message = set_message().as_bytes();
     let mut stream = wire_of(alloc, but_the_last(message), 1_000);
     let served = serve_stream(alloc, &mut front, &mut stream, &StandingClock);
-    Assert::same(&rt, served, Ok(()));
+    assert_same(&rt, served, Ok(()));
     assert!(rt; stream.written.is_empty());
     assert_set(&rt, alloc, &mut front, set_answer())
 }
@@ -255,8 +255,8 @@ fn assert_read_fails(
     let mut stream = wire_of(alloc, set_message().as_bytes(), 1);
     stream.reads = reads;
     let served = serve_stream(alloc, front, &mut stream, &StandingClock);
-    Assert::same_at(rt, served, Err(StreamFault::ReadFault), reads);
-    Assert::same_at(rt, stream.written.as_slice(), wanted.as_bytes(), reads);
+    assert_same_at(rt, served, Err(StreamFault::ReadFault), reads);
+    assert_same_at(rt, stream.written.as_slice(), wanted.as_bytes(), reads);
 }
 
 /// What was performed where that read fails stays, and the next connection is served.
@@ -292,7 +292,7 @@ fn assert_write_fails(
     let mut stream = wire_of(alloc, text.as_bytes(), set_message().len());
     stream.writes = writes;
     let served = serve_stream(alloc, front, &mut stream, &StandingClock);
-    Assert::same_at(rt, served, Err(StreamFault::WriteFault), writes);
+    assert_same_at(rt, served, Err(StreamFault::WriteFault), writes);
     assert!(rt;
         wanted.as_bytes().starts_with(stream.written.as_slice()),
         "{writes}"
@@ -328,7 +328,7 @@ fn clock_of_a_stream_fails(rt: HostRuntime) -> Result<(), Fail> {
     let mut front = new_front(alloc)?;
     let mut stream = wire_of(alloc, set_message().as_bytes(), 1_000);
     let served = serve_stream(alloc, &mut front, &mut stream, &StoppedClock);
-    Assert::same(&rt, served, Err(StreamFault::ClockFault));
+    assert_same(&rt, served, Err(StreamFault::ClockFault));
     assert!(rt; stream.written.is_empty());
     assert_set(&rt, alloc, &mut front, set_answer())
 }
@@ -345,8 +345,8 @@ fn moments_of_a_stream(rt: HostRuntime) -> Result<(), Fail> {
         clock: &clock,
     };
     let served = serve_stream(alloc, &mut front, &mut stream, &clock);
-    Assert::same(&rt, served, Ok(()));
-    Assert::same(
+    assert_same(&rt, served, Ok(()));
+    assert_same(
         &rt,
         stream.wire.written.as_slice(),
         later_set_answer().as_bytes(),
@@ -369,8 +369,8 @@ fn assert_one_opened(
 ) -> Result<(), Fail> {
     let conn = front.open()?;
     assert_not_opened(rt, alloc, front);
-    Assert::same(rt, front.closing(conn), Some(false));
-    Assert::same(rt, front.closing(ConnId { number: 2 }), None);
+    assert_same(rt, front.closing(conn), Some(false));
+    assert_same(rt, front.closing(ConnId { number: 2 }), None);
     Ok(())
 }
 
@@ -419,8 +419,8 @@ fn assert_served(rt: &impl Abort, alloc: Global, text: &str, wanted: &str) -> Re
     let mut front = new_front(alloc)?;
     let mut stream = wire_of(alloc, text.as_bytes(), 65_536);
     let served = serve_stream(alloc, &mut front, &mut stream, &StandingClock);
-    Assert::same(rt, served, Ok(()));
-    Assert::same(rt, stream.written.as_slice(), wanted.as_bytes());
+    assert_same(rt, served, Ok(()));
+    assert_same(rt, stream.written.as_slice(), wanted.as_bytes());
     Ok(())
 }
 
@@ -473,8 +473,8 @@ fn short_outputs_are_gathered(rt: HostRuntime) -> Result<(), Fail> {
     let alloc = rt.alloc();
     let text = long_record(alloc, "t", 4_096)?;
     let fault = Err(StreamFault::WriteFault);
-    Assert::same(&rt, served_with_writes(alloc, text.as_str(), 2)?, fault);
-    Assert::same(&rt, served_with_writes(alloc, text.as_str(), 3)?, Ok(()));
+    assert_same(&rt, served_with_writes(alloc, text.as_str(), 2)?, fault);
+    assert_same(&rt, served_with_writes(alloc, text.as_str(), 3)?, Ok(()));
     Ok(())
 }
 
@@ -515,8 +515,8 @@ fn endless_streams(rt: HostRuntime) -> Result<(), Fail> {
         reads: 0,
     };
     let served = serve_stream(alloc, &mut front, &mut stream, &StandingClock);
-    Assert::same(&rt, served, Err(StreamFault::Endless));
-    Assert::same(&rt, stream.reads, 1_000_000);
+    assert_same(&rt, served, Err(StreamFault::Endless));
+    assert_same(&rt, stream.reads, 1_000_000);
     assert_set(&rt, alloc, &mut front, set_answer())
 }
 
@@ -530,7 +530,7 @@ fn faults_of_streams(rt: HostRuntime) -> Result<(), Fail> {
         (StreamFault::ClockFault, "the clock could not be read"),
         (StreamFault::Endless, "the stream has not ended"),
     ] {
-        Assert::shown(&rt, rt.alloc(), fault, text)?;
+        assert_shown(&rt, rt.alloc(), fault, text)?;
     }
     Ok(())
 }
@@ -583,6 +583,6 @@ fn sockets(rt: HostRuntime) -> Result<(), Fail> {
     let mut wanted = String::from_str(alloc, set_answer())?;
     let document = answer_with(alloc, transcripts::identify())?;
     wanted.push_str(document.as_str())?;
-    Assert::same(&rt, answers.as_slice(), wanted.as_bytes());
+    assert_same(&rt, answers.as_slice(), wanted.as_bytes());
     Ok(())
 }

@@ -1,5 +1,5 @@
 //! Connections whose pieces stand in lines.
-use crate::assertions::Assert;
+use crate::assertions::{assert_same, assert_same_at};
 use crate::edge::{CountingWriter, EmptyLines};
 use crate::failing::{FailingReader, FailingWriter};
 use crate::transcripts;
@@ -9,7 +9,7 @@ use std::alloc::{AllocError, Global};
 use std::io::{Read, Write};
 use std::process::Abort;
 use std::test::Fail;
-use tests_shared::{push_wanted, worked_configuration};
+use tests_worked::{push_wanted, worked_configuration};
 
 /// Traces the lines that the reader gives on a new host; why that stopped, if it did.
 fn traced<R: Read, W: Write>(
@@ -33,8 +33,8 @@ fn assert_traced(
     let mut output = Vec::new(alloc);
     let mut reader = lines.as_bytes();
     let done = traced(alloc, &mut reader, &mut output)?;
-    Assert::same_at(rt, output.as_slice(), wanted.as_bytes(), lines);
-    Assert::same_at(rt, done, end, lines);
+    assert_same_at(rt, output.as_slice(), wanted.as_bytes(), lines);
+    assert_same_at(rt, done, end, lines);
     Ok(())
 }
 
@@ -405,8 +405,8 @@ fn input_of_a_trace_fails(rt: HostRuntime) -> Result<(), Fail> {
         let mut reader = FailingReader(&text[..length]);
         let mut output = Vec::new(rt.alloc());
         let done = traced(rt.alloc(), &mut reader, &mut output)?;
-        Assert::same_at(&rt, done, Err(Stop::InputFault), length);
-        Assert::same_at(&rt, output.as_slice(), wanted.as_bytes(), length);
+        assert_same_at(&rt, done, Err(Stop::InputFault), length);
+        assert_same_at(&rt, output.as_slice(), wanted.as_bytes(), length);
     }
     Ok(())
 }
@@ -420,7 +420,7 @@ fn output_of_a_trace_fails(rt: HostRuntime) -> Result<(), Fail> {
         let mut reader = lines.as_bytes();
         let mut writer = FailingWriter { room };
         let done = traced(rt.alloc(), &mut reader, &mut writer)?;
-        Assert::same_at(&rt, done, Err(Stop::OutputFault), room);
+        assert_same_at(&rt, done, Err(Stop::OutputFault), room);
     }
     Ok(())
 }
@@ -435,8 +435,8 @@ fn flush_of_a_trace_fails(rt: HostRuntime) -> Result<(), Fail> {
         flushes: false,
     };
     let done = traced(rt.alloc(), &mut reader, &mut writer)?;
-    Assert::same(&rt, done, Err(Stop::OutputFault));
-    Assert::same(&rt, writer.taken.as_slice(), b"1 close\n".as_slice());
+    assert_same(&rt, done, Err(Stop::OutputFault));
+    assert_same(&rt, writer.taken.as_slice(), b"1 close\n".as_slice());
     Ok(())
 }
 
@@ -446,7 +446,7 @@ fn most_reads_of_a_trace(rt: HostRuntime) -> Result<(), Fail> {
     for (lines, wanted) in [(999_999, Ok(())), (1_000_000, Err(Stop::InputFault))] {
         let mut output = Vec::new(rt.alloc());
         let done = traced(rt.alloc(), &mut EmptyLines(lines), &mut output)?;
-        Assert::same_at(&rt, done, wanted, lines);
+        assert_same_at(&rt, done, wanted, lines);
         assert!(rt; output.is_empty());
     }
     Ok(())

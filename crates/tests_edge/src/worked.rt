@@ -1,13 +1,13 @@
 //! The worked exchanges, with the bytes that they are answered.
 use crate::asking::{assert_asked, assert_transcript, performed, stop_of};
-use crate::assertions::Assert;
+use crate::assertions::{assert_same, assert_same_at};
 use crate::failing::{FailingReader, FailingWriter};
 use crate::transcripts;
 use oai_edge::Stop;
 use std::alloc::{AllocError, Global};
 use std::process::Abort;
 use std::test::Fail;
-use tests_shared::push_wanted;
+use tests_worked::push_wanted;
 
 /// Performs each of the lines on a new host; each is answered so.
 fn assert_each(rt: &impl Abort, alloc: Global, lines: &str, answer: &str) -> Result<(), Fail> {
@@ -131,7 +131,7 @@ fn bad_exchanges(rt: HostRuntime) -> Result<(), Fail> {
     for line in transcripts::bad_lines().lines() {
         let mut reader = line.as_bytes();
         let stop = stop_of(&rt, rt.alloc(), &mut reader)?;
-        Assert::same_at(&rt, stop, Stop::BadExchange(1), line);
+        assert_same_at(&rt, stop, Stop::BadExchange(1), line);
     }
     Ok(())
 }
@@ -141,8 +141,8 @@ fn bad_exchanges(rt: HostRuntime) -> Result<(), Fail> {
 fn lines_are_counted(rt: HostRuntime) -> Result<(), Fail> {
     let mut reader: &[u8] = b"\n\n1 GET /?verb=Identify\n \n";
     let stop = stop_of(&rt, rt.alloc(), &mut reader)?;
-    Assert::same(&rt, stop, Stop::BadExchange(4));
-    Assert::same(
+    assert_same(&rt, stop, Stop::BadExchange(4));
+    assert_same(
         &rt,
         format!(in rt.alloc(); "{}", Stop::BadExchange(1))?.as_str(),
         "line 1: bad exchange",
@@ -163,8 +163,8 @@ fn input_fails_in_mid_line(rt: HostRuntime) -> Result<(), Fail> {
     let mut reader = FailingReader(b"1704067200 GET /oai/a?verb=Identify\n1704067200 GE");
     let mut output = Vec::new(alloc);
     let asked = performed(alloc, &mut reader, &mut output)?;
-    Assert::same(&rt, asked, Err(Stop::InputFault));
-    Assert::same(&rt, output.as_slice(), identified(alloc)?.as_bytes());
+    assert_same(&rt, asked, Err(Stop::InputFault));
+    assert_same(&rt, output.as_slice(), identified(alloc)?.as_bytes());
     Ok(())
 }
 
@@ -173,6 +173,6 @@ fn output_fails_in_mid_answer(rt: HostRuntime) -> Result<(), Fail> {
     let mut reader: &[u8] = b"1704067200 GET /oai/a?verb=Identify\n";
     let mut writer = FailingWriter { room: 100 };
     let asked = performed(rt.alloc(), &mut reader, &mut writer)?;
-    Assert::same(&rt, asked, Err(Stop::OutputFault));
+    assert_same(&rt, asked, Err(Stop::OutputFault));
     Ok(())
 }

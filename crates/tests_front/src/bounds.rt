@@ -1,5 +1,5 @@
 //! The longest heads and bodies, and those that are longer by one.
-use crate::assertions::Assert;
+use crate::assertions::assert_same;
 use crate::teller::answered;
 use std::alloc::{AllocError, Global};
 use std::process::Abort;
@@ -31,7 +31,7 @@ fn fields_of(alloc: Global, count: usize) -> Result<Vec<u8>, AllocError> {
 
 fn assert_found(rt: &impl Abort, alloc: Global, bytes: &[u8], wanted: &str) -> Result<(), Fail> {
     let (answer, _) = answered(rt, alloc, &[bytes])?;
-    Assert::same(rt, answer.as_slice(), wanted.as_bytes());
+    assert_same(rt, answer.as_slice(), wanted.as_bytes());
     Ok(())
 }
 
@@ -106,7 +106,7 @@ fn assert_all_found(
 ) -> Result<(), Fail> {
     let (answer, _) = answered(rt, alloc, &[piece])?;
     let wanted = times(alloc, FOUND.as_bytes(), count)?;
-    Assert::same(rt, answer.as_slice(), wanted.as_slice());
+    assert_same(rt, answer.as_slice(), wanted.as_slice());
     Ok(())
 }
 

@@ -1,5 +1,5 @@
 //! Connections beside each other, their ends and their numbers.
-use crate::assertions::Assert;
+use crate::assertions::{assert_same, assert_shown};
 use crate::teller::{Teller, assert_waits, front, two_opened};
 use oai_front::{ConnId, Front, NoSuchConnection, OpenFault, PieceFault};
 use std::alloc::Global;
@@ -56,9 +56,9 @@ fn pieces_of_two_connections_do_not_mix(rt: HostRuntime) -> Result<(), Fail> {
 /// The connection ends, and is closing; what comes behind is not answered.
 fn assert_closes(rt: &impl Abort, front: &mut Front<Teller>, conn: ConnId) -> Result<(), Fail> {
     front.end(conn)?;
-    Assert::same(rt, front.closing(conn), Some(true));
+    assert_same(rt, front.closing(conn), Some(true));
     front.piece(conn, 0, b"y")?;
-    Assert::same(rt, front.output(conn).map(|bytes| bytes.len()), Some(0));
+    assert_same(rt, front.output(conn).map(|bytes| bytes.len()), Some(0));
     Ok(())
 }
 
@@ -71,32 +71,32 @@ fn what_is_not_whole_at_the_end_is_dropped(rt: HostRuntime) -> Result<(), Fail> 
         0,
         b"POST /oai/a HTTP/1.1\r\nHost: h\r\nContent-Length: 2\r\n\r\nx",
     )?;
-    Assert::same(&rt, front.closing(conn), Some(false));
+    assert_same(&rt, front.closing(conn), Some(false));
     assert_closes(&rt, &mut front, conn)
 }
 
 /// No call finds the connection.
 fn assert_gone(rt: &impl Abort, front: &mut Front<Teller>, conn: ConnId) {
-    Assert::same(
+    assert_same(
         rt,
         front.piece(conn, 0, b""),
         Err(PieceFault::NoSuchConnection),
     );
-    Assert::same(rt, front.end(conn), Err(NoSuchConnection));
-    Assert::same(rt, front.forget(conn), Err(NoSuchConnection));
+    assert_same(rt, front.end(conn), Err(NoSuchConnection));
+    assert_same(rt, front.forget(conn), Err(NoSuchConnection));
 }
 
 /// Nothing is told of the connection.
 fn assert_untold(rt: &impl Abort, front: &Front<Teller>, conn: ConnId) {
     assert!(rt; front.output(conn).is_none());
-    Assert::same(rt, front.closing(conn), None);
+    assert_same(rt, front.closing(conn), None);
 }
 
 /// The one connection that may be open.
 fn only_opened(rt: &impl Abort, front: &mut Front<Teller>) -> Result<ConnId, Fail> {
     let conn = front.open()?;
-    Assert::same(rt, conn.number, 1);
-    Assert::same(rt, front.open(), Err(OpenFault::Full));
+    assert_same(rt, conn.number, 1);
+    assert_same(rt, front.open(), Err(OpenFault::Full));
     Ok(conn)
 }
 
@@ -107,7 +107,7 @@ fn a_forgotten_connection_is_gone(rt: HostRuntime) -> Result<(), Fail> {
     front.forget(conn)?;
     assert_gone(&rt, &mut front, conn);
     assert_untold(&rt, &front, conn);
-    Assert::same(&rt, front.open(), Ok(ConnId { number: 2 }));
+    assert_same(&rt, front.open(), Ok(ConnId { number: 2 }));
     Ok(())
 }
 
@@ -115,9 +115,9 @@ fn a_forgotten_connection_is_gone(rt: HostRuntime) -> Result<(), Fail> {
 fn as_many_connections_are_open_as_may_be(rt: HostRuntime) -> Result<(), Fail> {
     let mut front = front(rt.alloc(), 1_024);
     for number in 1..=1_024 {
-        Assert::same(&rt, front.open(), Ok(ConnId { number }));
+        assert_same(&rt, front.open(), Ok(ConnId { number }));
     }
-    Assert::same(&rt, front.open(), Err(OpenFault::Full));
+    assert_same(&rt, front.open(), Err(OpenFault::Full));
     Ok(())
 }
 
@@ -131,7 +131,7 @@ fn faults_of_opening_are_told(rt: HostRuntime) -> Result<(), Fail> {
             "no number is left for a connection",
         ),
     ] {
-        Assert::shown(&rt, rt.alloc(), fault, text)?;
+        assert_shown(&rt, rt.alloc(), fault, text)?;
     }
     Ok(())
 }
@@ -146,7 +146,7 @@ fn faults_of_pieces_are_told(rt: HostRuntime) -> Result<(), Fail> {
             "out of memory before all was performed",
         ),
     ] {
-        Assert::shown(&rt, rt.alloc(), fault, text)?;
+        assert_shown(&rt, rt.alloc(), fault, text)?;
     }
     Ok(())
 }

@@ -1,5 +1,5 @@
 //! A host of two repositories behind connections.
-use crate::assertions::Assert;
+use crate::assertions::assert_same;
 use crate::teller::{take_all, two_opened};
 use oai_catalogue::PlainVersions;
 use oai_front::{ConnId, Front};
@@ -7,7 +7,7 @@ use oai_host::{Config, Host};
 use std::alloc::{AllocError, Global};
 use std::process::Abort;
 use std::test::Fail;
-use tests_shared::document_head;
+use tests_worked::document_head;
 
 /// The first second of 2024.
 const START: i64 = 1_704_067_200;
@@ -45,7 +45,7 @@ fn assert_told(
 ) -> Result<(), Fail> {
     let mut all = Vec::new(alloc);
     take_all(front, conn, false, &mut all)?;
-    Assert::same(rt, std::str::from_utf8(&all)?, wanted);
+    assert_same(rt, std::str::from_utf8(&all)?, wanted);
     Ok(())
 }
 
@@ -150,7 +150,7 @@ fn assert_refused(
 ) -> Result<(), Fail> {
     let conn = front.open()?;
     assert_answered(rt, alloc, front, conn, START, refused(), refusals())?;
-    Assert::same(rt, front.closing(conn), Some(true));
+    assert_same(rt, front.closing(conn), Some(true));
     Ok(())
 }
 

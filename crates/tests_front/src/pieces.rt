@@ -1,5 +1,5 @@
 //! Bytes that come in pieces.
-use crate::assertions::Assert;
+use crate::assertions::assert_same;
 use crate::teller::{Teller, answered, assert_waits, front, hand_on, take_all};
 use oai_front::{ConnId, Front, PieceFault};
 use std::alloc::Global;
@@ -33,7 +33,7 @@ fn assert_cut(rt: &impl Abort, alloc: Global, first: &[u8], second: &[u8]) -> Re
     let conn = front.open()?;
     hand_both(&mut front, conn, first, second)?;
     assert_waits(rt, alloc, &mut front, conn, answers())?;
-    Assert::same(rt, front.closing(conn), Some(true));
+    assert_same(rt, front.closing(conn), Some(true));
     Ok(())
 }
 
@@ -53,7 +53,7 @@ fn single_bytes_give_the_same_answers(rt: HostRuntime) -> Result<(), Fail> {
     let mut front = front(rt.alloc(), 1);
     let conn = front.open()?;
     let all = slowly_answered(rt.alloc(), &mut front, conn)?;
-    Assert::same(&rt, all.as_slice(), answers());
+    assert_same(&rt, all.as_slice(), answers());
     Ok(())
 }
 
@@ -86,7 +86,7 @@ fn a_message_is_performed_at_the_moment_of_its_last_byte(rt: HostRuntime) -> Res
     let (answer, closing) = answered(&rt, rt.alloc(), &slow_message())?;
     let wanted: &[u8] =
         b"HTTP/1.1 200 OK\r\nContent-Type: text/xml\r\nContent-Length: 15\r\n\r\n1 3 POST [-] xy";
-    Assert::same(&rt, answer.as_slice(), wanted);
-    Assert::same(&rt, closing, false);
+    assert_same(&rt, answer.as_slice(), wanted);
+    assert_same(&rt, closing, false);
     Ok(())
 }

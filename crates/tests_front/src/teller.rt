@@ -1,7 +1,7 @@
 //! A handler that tells what it was asked, and what a front over it answers.
 ghost use Rattle.std.specs.Prelude.{⊤};
 
-use crate::assertions::Assert;
+use crate::assertions::{assert_same, assert_same_at};
 use oai_front::{ConnId, Front, Handler, OpenFault, PieceFault};
 use oai_host::{Answer, Exchange, Status};
 use oai_names::Sequence;
@@ -148,7 +148,7 @@ pub(crate) fn assert_waits(
 ) -> Result<(), Fail> {
     let mut all = Vec::new(alloc);
     take_all(front, conn, false, &mut all)?;
-    Assert::same(rt, all.as_slice(), wanted);
+    assert_same(rt, all.as_slice(), wanted);
     Ok(())
 }
 
@@ -187,7 +187,7 @@ pub(crate) fn assert_answered(
 ) -> Result<(), Fail> {
     let (answer, closes) = answered(rt, alloc, &[bytes.as_bytes()])?;
     let answer = std::str::from_utf8(&answer)?;
-    Assert::same_at(rt, answer, wanted, bytes);
-    Assert::same_at(rt, closes, closing, bytes);
+    assert_same_at(rt, answer, wanted, bytes);
+    assert_same_at(rt, closes, closing, bytes);
     Ok(())
 }

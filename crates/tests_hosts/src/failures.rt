@@ -1,6 +1,6 @@
 //! Stores that fail, want room or are damaged: what the exchange that meets it is answered, and that the
 //! next is answered as if what failed had not come.
-use crate::assertions::Assert;
+use crate::assertions::assert_same;
 use crate::transcripts::assert_transcript_over;
 use crate::worked::config;
 use crate::{CrampedVersions, Want};
@@ -226,17 +226,17 @@ fn fault_at(alloc: Global, k: u64, want: Want) -> Result<Option<Fault>, Fail> {
 #[test]
 fn new_host_without_room(rt: HostRuntime) -> Result<(), Fail> {
     for k in 1..4 {
-        Assert::same(
+        assert_same(
             &rt,
             fault_at(rt.alloc(), k, Want::Memory)?,
             Some(Fault::NoMemory),
         );
-        Assert::same(
+        assert_same(
             &rt,
             fault_at(rt.alloc(), k, Want::Pages)?,
             Some(Fault::TooManyPages),
         );
     }
-    Assert::same(&rt, fault_at(rt.alloc(), 4, Want::Pages)?, None);
+    assert_same(&rt, fault_at(rt.alloc(), 4, Want::Pages)?, None);
     Ok(())
 }

@@ -2,7 +2,7 @@
 //! others get none.
 ghost use Rattle.std.specs.Prelude.{◌≤◌};
 
-use crate::assertions::Assert;
+use crate::assertions::assert_same;
 use crate::runs::{answers_to, call};
 use crate::transcripts::write_answer;
 use oai_catalogue::PlainVersions;
@@ -102,7 +102,7 @@ fn written(alloc: Global, answers: &[Answer], of: usize, by: usize) -> Result<Ve
 fn beside(rt: &impl Abort, alloc: Global, of: u8) -> Result<Vec<u8>, Fail> {
     let calls = calls(alloc, None)?;
     let answers = answers_to(alloc, PlainVersions::new(alloc), &calls)?;
-    Assert::same(rt, answers.as_slice().len(), 200);
+    assert_same(rt, answers.as_slice().len(), 200);
     written(alloc, answers.as_slice(), usize::from(of), 3)
 }
 
@@ -117,7 +117,7 @@ fn alone(alloc: Global, of: u8) -> Result<Vec<u8>, Fail> {
 fn assert_alone(rt: &impl Abort, alloc: Global, of: u8, part: &str) -> Result<(), Fail> {
     let beside = beside(rt, alloc, of)?;
     let alone = alone(alloc, of)?;
-    Assert::same(rt, beside.as_slice(), alone.as_slice());
+    assert_same(rt, beside.as_slice(), alone.as_slice());
     assert!(rt; str::from_utf8(&alone)?.contains(part), "no {part}");
     Ok(())
 }

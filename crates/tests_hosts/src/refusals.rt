@@ -1,6 +1,6 @@
 //! Exchanges that are not performed, and why: of the causes that apply the first of 400, 404, 405 and
 //! 415 is told. None of them has a body, nor moves a clock.
-use crate::assertions::Assert;
+use crate::assertions::assert_same;
 use crate::transcripts::assert_transcript;
 use crate::worked::host;
 use oai_catalogue::{PlainVersions, Versions};
@@ -8,7 +8,7 @@ use oai_host::{Answer, Exchange, Host, Status};
 use std::alloc::Global;
 use std::process::Abort;
 use std::test::Fail;
-use tests_shared::wanted_in;
+use tests_worked::wanted_in;
 
 /// A request in the body of a POST is a form, by its type: what stands before any `;`, without spaces
 /// and tabs around it, in letters of either case.
@@ -241,11 +241,11 @@ fn bytes_asked() -> [(Exchange<'static>, Status); 7] {
 
 /// The answer is that status and body, and nothing else.
 fn assert_answer(rt: &impl Abort, answer: &Answer, status: Status, body: &str) {
-    Assert::same(rt, answer.status, status);
-    Assert::same(rt, answer.seconds, None);
-    Assert::same(rt, answer.done, None);
-    Assert::same(rt, answer.fault, None);
-    Assert::same(rt, answer.body.as_slice(), body.as_bytes());
+    assert_same(rt, answer.status, status);
+    assert_same(rt, answer.seconds, None);
+    assert_same(rt, answer.done, None);
+    assert_same(rt, answer.fault, None);
+    assert_same(rt, answer.body.as_slice(), body.as_bytes());
 }
 
 /// The host answers each with its status.

@@ -1,5 +1,5 @@
 //! Exchanges one after the other, as one call.
-use crate::assertions::Assert;
+use crate::assertions::{assert_same, assert_same_at};
 use crate::transcripts::{Told, body_of, told_in, write_answer};
 use crate::worked::host;
 use oai_catalogue::{FaultyVersions, PlainVersions, Versions};
@@ -8,7 +8,7 @@ use oai_names::Sequence;
 use std::alloc::{AllocError, Global};
 use std::process::Abort;
 use std::test::Fail;
-use tests_shared::wanted_in;
+use tests_worked::wanted_in;
 
 // ---- calls
 
@@ -105,7 +105,7 @@ fn assert_run_of<V: Versions + Drop>(
 ) -> Result<(), Fail> {
     let output = answers_to_run(rt, alloc, host, transcript)?;
     let wanted = wanted_in(alloc, transcript)?;
-    Assert::same_at(rt, output.as_slice(), wanted.as_bytes(), transcript);
+    assert_same_at(rt, output.as_slice(), wanted.as_bytes(), transcript);
     Ok(())
 }
 
@@ -234,6 +234,6 @@ fn many_calls(rt: HostRuntime) -> Result<(), Fail> {
     let alloc = rt.alloc();
     let calls = strangers(alloc, 150_000)?;
     let answers = answers_to(alloc, PlainVersions::new(alloc), &calls)?;
-    Assert::same(&rt, answers.as_slice().len(), 150_000);
+    assert_same(&rt, answers.as_slice().len(), 150_000);
     Ok(())
 }

@@ -3,7 +3,7 @@
 //! the body, `-` where there is none, and the body; `¶` in a body is a line end. An answer is the number of
 //! its status, what else it has, each with a word before it, a line end, and its body. 1704067200 is
 //! 2024-01-01T00:00:00Z.
-use crate::assertions::Assert;
+use crate::assertions::assert_same_at;
 use crate::worked::host;
 use oai_catalogue::{PlainVersions, Versions};
 use oai_host::{Answer, Exchange, Host};
@@ -12,7 +12,7 @@ use std::alloc::{AllocError, Global};
 use std::io::{self, Write};
 use std::process::Abort;
 use std::test::Fail;
-use tests_shared::wanted_in;
+use tests_worked::wanted_in;
 
 // ---- exchanges
 
@@ -133,7 +133,7 @@ pub(crate) fn assert_answers<V: Versions + Drop>(
 ) -> Result<(), Fail> {
     let output = answers_to_all(rt, alloc, host, transcript)?;
     let wanted = wanted_in(alloc, transcript)?;
-    Assert::same_at(rt, output.as_slice(), wanted.as_bytes(), transcript);
+    assert_same_at(rt, output.as_slice(), wanted.as_bytes(), transcript);
     Ok(())
 }
 

@@ -3,7 +3,7 @@ use oai_catalogue::Versions;
 use oai_host::{Config, Host};
 use std::alloc::Global;
 use std::test::Fail;
-use tests_shared::worked_configuration;
+use tests_worked::worked_configuration;
 
 /// The worked configuration.
 pub(crate) fn config(alloc: Global) -> Result<Config, Fail> {

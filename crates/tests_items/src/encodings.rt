@@ -1,6 +1,6 @@
 //! Items as bytes: the spelling of an item, and bytes that are none. The bytes are typed from the
 //! description of the spelling, and not taken from the program.
-use crate::assertions::Assert;
+use crate::assertions::assert_same;
 use crate::told::{assert_title, assert_told};
 use oai_item::{DecodeFault, Item, MOST_ITEM_BYTES, encoding_law};
 use std::alloc::Global;
@@ -27,7 +27,7 @@ fn deleted_spelling() -> &'static [u8] {
 fn encoded(rt: &impl Abort, alloc: Global, item: &Item) -> Result<Vec<u8>, Fail> {
     let mut bytes = vec![in alloc; 0xaa; MOST_ITEM_BYTES]?;
     let size = item.encode_into(bytes.as_mut_slice())?;
-    Assert::same(rt, item.encoded_len(), Ok(size));
+    assert_same(rt, item.encoded_len(), Ok(size));
     assert!(rt; bytes.iter().skip(size).all(|byte| *byte == 0xaa));
     bytes.truncate(size);
     Ok(bytes)
@@ -41,7 +41,7 @@ fn assert_spelled(
     spelling: &[u8],
 ) -> Result<(), Fail> {
     let bytes = encoded(rt, alloc, item)?;
-    Assert::same(rt, bytes.as_slice(), spelling);
+    assert_same(rt, bytes.as_slice(), spelling);
     Ok(())
 }
 
@@ -50,7 +50,7 @@ fn assert_no_second_spelling(rt: &impl Abort, alloc: Global, bytes: &[u8]) -> Re
     match Item::decode(alloc, bytes) {
         Ok(item) => assert_spelled(rt, alloc, &item, bytes),
         Err(fault) => {
-            Assert::same(rt, fault, DecodeFault::Damaged);
+            assert_same(rt, fault, DecodeFault::Damaged);
             Ok(())
         }
     }
@@ -59,7 +59,7 @@ fn assert_no_second_spelling(rt: &impl Abort, alloc: Global, bytes: &[u8]) -> Re
 /// Each front of the bytes is Damaged, and so are the bytes and one more.
 fn assert_no_other_length(rt: &impl Abort, alloc: Global, bytes: &[u8]) -> Result<(), Fail> {
     for len in 0..bytes.len() {
-        Assert::same(
+        assert_same(
             rt,
             Item::decode(alloc, &bytes[..len]).err(),
             Some(DecodeFault::Damaged),
@@ -67,7 +67,7 @@ fn assert_no_other_length(rt: &impl Abort, alloc: Global, bytes: &[u8]) -> Resul
     }
     let mut longer = Vec::from_slice(alloc, bytes)?;
     longer.push(0)?;
-    Assert::same(
+    assert_same(
         rt,
         Item::decode(alloc, longer.as_slice()).err(),
         Some(DecodeFault::Damaged),
@@ -138,7 +138,7 @@ fn fronts_and_bytes_left_over(rt: HostRuntime) -> Result<(), Fail> {
 #[test]
 fn too_many_bytes(rt: HostRuntime) -> Result<(), Fail> {
     let bytes = vec![in rt.alloc(); 0xaa; MOST_ITEM_BYTES + 1]?;
-    Assert::same(
+    assert_same(
         &rt,
         Item::decode(rt.alloc(), bytes.as_slice()).err(),
         Some(DecodeFault::Damaged),
@@ -150,8 +150,8 @@ fn too_many_bytes(rt: HostRuntime) -> Result<(), Fail> {
 fn texts_of_decode_faults(rt: HostRuntime) -> Result<(), Fail> {
     let alloc = rt.alloc();
     let damaged = format!(in alloc; "{}", DecodeFault::Damaged)?;
-    Assert::same(&rt, damaged.as_str(), "the bytes are not those of an item");
+    assert_same(&rt, damaged.as_str(), "the bytes are not those of an item");
     let refused = format!(in alloc; "{}", DecodeFault::NoMemory)?;
-    Assert::same(&rt, refused.as_str(), "out of memory");
+    assert_same(&rt, refused.as_str(), "out of memory");
     Ok(())
 }

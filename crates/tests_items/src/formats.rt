@@ -1,5 +1,5 @@
 //! Metadata formats: oai_dc, those that are declared, and why one is not.
-use crate::assertions::Assert;
+use crate::assertions::{assert_same, assert_shown};
 use oai_item::{Format, FormatFault, Formats};
 use oai_names::{Prefix, Sequence, Text};
 use std::alloc::{AllocError, Global};
@@ -71,10 +71,10 @@ fn with_fields(alloc: Global, fields: Vec<Text>) -> Result<Format, Fail> {
 /// Beside oai_dc the format of that prefix stands, or, where the answer is a fault, none.
 fn assert_last(rt: &impl Abort, formats: &Formats, prefix: &str, answer: Result<(), FormatFault>) {
     match formats.get(1) {
-        Some(last) => Assert::same(rt, last.prefix.as_str(), prefix),
+        Some(last) => assert_same(rt, last.prefix.as_str(), prefix),
         None => assert!(rt; answer.is_err()),
     }
-    Assert::same(rt, formats.len(), if answer.is_ok() { 2 } else { 1 });
+    assert_same(rt, formats.len(), if answer.is_ok() { 2 } else { 1 });
 }
 
 /// Declares the format beside oai_dc. It stands at the end, or nothing changed.
@@ -86,7 +86,7 @@ fn assert_declared(
 ) -> Result<(), Fail> {
     let mut formats = Formats::dc(alloc)?;
     let prefix = format.prefix.copy(alloc)?;
-    Assert::same(rt, formats.declare(format), answer);
+    assert_same(rt, formats.declare(format), answer);
     assert_last(rt, &formats, prefix.as_str(), answer);
     Ok(())
 }
@@ -158,7 +158,7 @@ fn assert_fields(
 /// Of these formats one is found so, and it has so many fields.
 fn assert_found(rt: &impl Abort, formats: &Formats, prefix: &Prefix, fields: usize) {
     match formats.find(prefix) {
-        Some(format) => Assert::same(rt, format.fields.as_slice().len(), fields),
+        Some(format) => assert_same(rt, format.fields.as_slice().len(), fields),
         None => panic!(rt; "not found"),
     }
 }
@@ -168,7 +168,7 @@ fn dublin_core_stands_alone(rt: HostRuntime) -> Result<(), Fail> {
     let alloc = rt.alloc();
     let prefix = Prefix::read(alloc, "oai_dc")?;
     let formats = Formats::dc(alloc)?;
-    Assert::same(&rt, formats.len(), 1);
+    assert_same(&rt, formats.len(), 1);
     assert!(rt; formats.get(1).is_none());
     assert!(rt; formats.find_named("jnl").is_none());
     assert_found(&rt, &formats, &prefix, 15);
@@ -188,14 +188,14 @@ fn assert_prefix(
         ..journal()
     };
     let format = format_of(alloc, told)?;
-    Assert::same(rt, formats.declare(format), answer);
+    assert_same(rt, formats.declare(format), answer);
     Ok(())
 }
 
 /// The journal stands beside oai_dc.
 fn assert_journal(rt: &impl Abort, formats: &Formats) {
     match formats.get(1) {
-        Some(format) => Assert::same(rt, format.root.as_str(), "article"),
+        Some(format) => assert_same(rt, format.root.as_str(), "article"),
         None => panic!(rt; "no jnl"),
     }
 }
@@ -214,7 +214,7 @@ fn a_format_is_declared_once(rt: HostRuntime) -> Result<(), Fail> {
             Err(FormatFault::Duplicate),
         )?;
     }
-    Assert::same(&rt, formats.len(), 2);
+    assert_same(&rt, formats.len(), 2);
     assert_prefix(&rt, alloc, &mut formats, "oai_dC", Ok(()))?;
     assert_journal(&rt, &formats);
     Ok(())
@@ -290,7 +290,7 @@ fn formats_of_a_repository(rt: HostRuntime) -> Result<(), Fail> {
         assert_prefix(&rt, alloc, &mut formats, prefix.as_str(), Ok(()))?;
     }
     assert_prefix(&rt, alloc, &mut formats, "jnl", Err(FormatFault::TooMany))?;
-    Assert::same(&rt, formats.len(), 64);
+    assert_same(&rt, formats.len(), 64);
     Ok(())
 }
 
@@ -344,7 +344,7 @@ fn texts_of_faults(rt: HostRuntime) -> Result<(), Fail> {
         FormatFault::TooMany,
         FormatFault::NoMemory,
     ] {
-        Assert::shown(&rt, rt.alloc(), fault, text_of(fault))?;
+        assert_shown(&rt, rt.alloc(), fault, text_of(fault))?;
     }
     Ok(())
 }

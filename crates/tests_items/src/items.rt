@@ -3,7 +3,7 @@
 ghost use Rattle.std.specs.Prelude.{◌≡◌, true};
 ghost use Rattle.oai_item.specs.Order.{are_in_order};
 
-use crate::assertions::Assert;
+use crate::assertions::{assert_same, assert_shown};
 use crate::told::{assert_title, assert_title_field, assert_told};
 use oai_item::{Fault, Item, TooLarge, is_in, order_law, place_of, selection_law, set_law};
 use oai_names::SetSpec;
@@ -27,15 +27,15 @@ fn assert_length(
     answer: Result<usize, TooLarge>,
 ) -> Result<(), Fail> {
     let item = titled(alloc, specs, title)?;
-    Assert::same(rt, item.encoded_len(), answer);
+    assert_same(rt, item.encoded_len(), answer);
     Ok(())
 }
 
 /// The sets are those of these setSpecs.
 fn assert_sets(rt: &impl Abort, sets: &[SetSpec], specs: &[&str]) {
-    Assert::same(rt, sets.len(), specs.len());
+    assert_same(rt, sets.len(), specs.len());
     for (set, spec) in sets.iter().zip(specs) {
-        Assert::same(rt, set.as_str(), *spec);
+        assert_same(rt, set.as_str(), *spec);
     }
 }
 
@@ -51,7 +51,7 @@ fn item_is_its_parts(rt: HostRuntime) -> Result<(), Fail> {
     let alloc = rt.alloc();
     let item = titled(alloc, &["x"], "T")?;
     assert_told(&rt, &item, "oai:a:1", (1_704_067_200, true, 1));
-    Assert::same(&rt, item.formats().len(), 1);
+    assert_same(&rt, item.formats().len(), 1);
     Ok(())
 }
 
@@ -86,15 +86,15 @@ fn bytes_of_an_item(rt: HostRuntime) -> Result<(), Fail> {
 /// The item is `oai:a:1`, live and in one set, with the title `T`.
 fn assert_copy(rt: &impl Abort, copy: &Item) {
     assert_told(rt, copy, "oai:a:1", (STAMP, true, 1));
-    Assert::same(rt, copy.encoded_len(), Ok(63));
+    assert_same(rt, copy.encoded_len(), Ok(63));
     assert_title(rt, copy);
 }
 
 /// The item has a record in oai_dc alone, and it is empty.
 fn assert_emptied(rt: &impl Abort, deleted: &Item) {
-    Assert::same(rt, deleted.formats().len(), 1);
+    assert_same(rt, deleted.formats().len(), 1);
     match deleted.fields_in("oai_dc") {
-        Some(fields) => Assert::same(rt, fields.len(), 0),
+        Some(fields) => assert_same(rt, fields.len(), 0),
         None => panic!(rt; "no oai_dc"),
     }
     assert!(rt; deleted.fields_in("jnl").is_none());
@@ -137,9 +137,9 @@ fn tombstone_of_an_item(rt: HostRuntime) -> Result<(), Fail> {
 fn assert_places(rt: &impl Abort, items: &[Item])
     requires { are_in_order items.now ≡ true }
 {
-    Assert::same(rt, place_of(items, STAMP + 1, "oai:a:1"), Ok(1));
-    Assert::same(rt, place_of(items, STAMP + 1, "oai:a:0"), Err(1));
-    Assert::same(rt, place_of(items, STAMP + 2, "oai:a:1"), Err(2));
+    assert_same(rt, place_of(items, STAMP + 1, "oai:a:1"), Ok(1));
+    assert_same(rt, place_of(items, STAMP + 1, "oai:a:0"), Err(1));
+    assert_same(rt, place_of(items, STAMP + 2, "oai:a:1"), Err(2));
 }
 
 #[test]
@@ -155,7 +155,7 @@ fn items_in_order(rt: HostRuntime) -> Result<(), Fail> {
 #[test]
 fn item_in_order_to_a_place(rt: HostRuntime) -> Result<(), Fail> {
     let item = titled(rt.alloc(), &["x:y"], "T")?;
-    Assert::same(&rt, item.order_to(STAMP, "oai:a:0"), Ordering::Greater);
+    assert_same(&rt, item.order_to(STAMP, "oai:a:0"), Ordering::Greater);
     Ok(())
 }
 
@@ -192,7 +192,7 @@ fn texts_of_faults(rt: HostRuntime) -> Result<(), Fail> {
         Fault::Damaged,
         Fault::TooManyPages,
     ] {
-        Assert::shown(&rt, alloc, fault, text_of(fault))?;
+        assert_shown(&rt, alloc, fault, text_of(fault))?;
     }
     Ok(())
 }
@@ -201,7 +201,7 @@ fn texts_of_faults(rt: HostRuntime) -> Result<(), Fail> {
 fn text_of_an_item_too_large(rt: HostRuntime) -> Result<(), Fail> {
     let alloc = rt.alloc();
     let large = format!(in alloc; "{TooLarge}")?;
-    Assert::same(
+    assert_same(
         &rt,
         large.as_str(),
         "the encoded item has more than 16,000 bytes",

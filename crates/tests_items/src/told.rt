@@ -1,5 +1,5 @@
 //! What tests say of an item that stands elsewhere.
-use crate::assertions::Assert;
+use crate::assertions::assert_same;
 use oai_item::{Field, Item};
 use std::process::Abort;
 
@@ -10,14 +10,14 @@ pub(crate) fn assert_told(
     identifier: &str,
     told: (i64, bool, usize),
 ) {
-    Assert::same(rt, item.identifier().as_str(), identifier);
-    Assert::same(rt, (item.stamp(), item.is_live(), item.sets().len()), told);
+    assert_same(rt, item.identifier().as_str(), identifier);
+    assert_same(rt, (item.stamp(), item.is_live(), item.sets().len()), told);
 }
 
 /// The field is the title `T`.
 pub(crate) fn assert_title_field(rt: &impl Abort, field: &Field) {
-    Assert::same(rt, field.name.as_str(), "title");
-    Assert::same(rt, field.text.as_str(), "T");
+    assert_same(rt, field.name.as_str(), "title");
+    assert_same(rt, field.text.as_str(), "T");
 }
 
 /// The item has one field in oai_dc, the title `T`.

@@ -1,6 +1,6 @@
 //! What queries ask for. Each row of a table is a query and, behind ` => `, its answer in words: the
 //! fault, or the request with each of its parts in brackets, and `-` for a part that was not given.
-use crate::assertions::Assert;
+use crate::assertions::{assert_same, assert_same_at, assert_shown};
 use oai_args::{ArgFault, Ask, read_request};
 use oai_names::{ListVerb, Text};
 use oai_time::Granularity;
@@ -90,7 +90,7 @@ fn assert_answer(
     wanted: &str,
 ) -> Result<(), Fail> {
     let answer = answer_to(alloc, query, granularity)?;
-    Assert::same_at(rt, answer.as_str(), wanted, query);
+    assert_same_at(rt, answer.as_str(), wanted, query);
     Ok(())
 }
 
@@ -189,7 +189,7 @@ fn padded(alloc: Global, front: &str, len: usize, back: &str) -> Result<String, 
 fn long_queries_are_read(rt: HostRuntime) -> Result<(), Fail> {
     let alloc = rt.alloc();
     let query = padded(alloc, "verb=ListSets&resumptionToken=", 8_001, "")?;
-    Assert::same(&rt, query.len(), 8_001);
+    assert_same(&rt, query.len(), 8_001);
     let wanted = padded(alloc, "resumed [ListSets] [", 7_991, "]")?;
     assert_answer(
         &rt,
@@ -227,7 +227,7 @@ fn text_of(fault: ArgFault) -> &'static str {
 #[test]
 fn faults_are_told(rt: HostRuntime) -> Result<(), Fail> {
     for fault in [ArgFault::BadVerb, ArgFault::BadArgument, ArgFault::NoMemory] {
-        Assert::shown(&rt, rt.alloc(), fault, text_of(fault))?;
+        assert_shown(&rt, rt.alloc(), fault, text_of(fault))?;
     }
     Ok(())
 }

@@ -1,5 +1,5 @@
 //! What deposit lines are read as, and which are refused.
-use crate::assertions::Assert;
+use crate::assertions::{assert_same, assert_same_at, assert_shown};
 use oai_deposit::{LineFault, read_line};
 use oai_item::{Change, Field, LineRefusal};
 use oai_names::{Sequence, SetSpec, Text};
@@ -18,7 +18,7 @@ fn answer_to(alloc: Global, line: &[u8]) -> Result<&'static str, AllocError> {
 
 /// The line is answered so.
 fn assert_answer(rt: &impl Abort, alloc: Global, line: &str, want: &str) -> Result<(), Fail> {
-    Assert::same_at(rt, answer_to(alloc, line.as_bytes())?, want, line);
+    assert_same_at(rt, answer_to(alloc, line.as_bytes())?, want, line);
     Ok(())
 }
 
@@ -49,8 +49,8 @@ fn a_deposit() -> &'static str {
 fn assert_title(rt: &impl Abort, fields: &[Field]) {
     match fields {
         [title] => {
-            Assert::same(rt, title.name.as_str(), "title");
-            Assert::same(rt, title.text.as_str(), "Grüße");
+            assert_same(rt, title.name.as_str(), "title");
+            assert_same(rt, title.text.as_str(), "Grüße");
         }
         _ => panic!(rt; "not one field"),
     }
@@ -60,8 +60,8 @@ fn assert_title(rt: &impl Abort, fields: &[Field]) {
 fn assert_b_and_a(rt: &impl Abort, sets: &[SetSpec]) {
     match sets {
         [first, second] => {
-            Assert::same(rt, first.as_str(), "b");
-            Assert::same(rt, second.as_str(), "a");
+            assert_same(rt, first.as_str(), "b");
+            assert_same(rt, second.as_str(), "a");
         }
         _ => panic!(rt; "not two sets"),
     }
@@ -71,9 +71,9 @@ fn assert_b_and_a(rt: &impl Abort, sets: &[SetSpec]) {
 fn assert_two_records(rt: &impl Abort, records: &[(Text, Sequence<Field>)]) {
     match records {
         [first, second] => {
-            Assert::same(rt, first.0.as_str(), "oai_dc");
+            assert_same(rt, first.0.as_str(), "oai_dc");
             assert_title(rt, first.1.as_slice());
-            Assert::same(rt, second.0.as_str(), "x");
+            assert_same(rt, second.0.as_str(), "x");
         }
         _ => panic!(rt; "not two records"),
     }
@@ -91,7 +91,7 @@ fn reads_a_deposit(rt: HostRuntime) -> Result<(), Fail> {
     else {
         panic!(rt; "no deposit")
     };
-    Assert::same(&rt, identifier.as_str(), "oai:x:1");
+    assert_same(&rt, identifier.as_str(), "oai:x:1");
     assert_b_and_a(&rt, sets.as_slice());
     assert_two_records(&rt, records.as_slice());
     Ok(())
@@ -103,7 +103,7 @@ fn reads_a_deletion(rt: HostRuntime) -> Result<(), Fail> {
     let Change::Delete { identifier } = &change else {
         panic!(rt; "no deletion")
     };
-    Assert::same(&rt, identifier.as_str(), "oai:a:1");
+    assert_same(&rt, identifier.as_str(), "oai:a:1");
     Ok(())
 }
 
@@ -114,7 +114,7 @@ fn reads_a_purge(rt: HostRuntime) -> Result<(), Fail> {
     let Change::Purge { before } = &change else {
         panic!(rt; "no purge")
     };
-    Assert::same(&rt, before.as_str(), "2024-02-30");
+    assert_same(&rt, before.as_str(), "2024-02-30");
     Ok(())
 }
 
@@ -124,7 +124,7 @@ fn reads_a_new_set(rt: HostRuntime) -> Result<(), Fail> {
     let Change::AddSet { spec, name } = &change else {
         panic!(rt; "no new set")
     };
-    Assert::same(&rt, (spec.as_str(), name.as_str()), ("x:y", "X & Y"));
+    assert_same(&rt, (spec.as_str(), name.as_str()), ("x:y", "X & Y"));
     Ok(())
 }
 
@@ -135,7 +135,7 @@ fn last_member_of_a_name_counts(rt: HostRuntime) -> Result<(), Fail> {
     let Change::AddSet { spec, name } = &change else {
         panic!(rt; "no new set")
     };
-    Assert::same(&rt, (spec.as_str(), name.as_str()), ("y", "X"));
+    assert_same(&rt, (spec.as_str(), name.as_str()), ("y", "X"));
     Ok(())
 }
 
@@ -184,7 +184,7 @@ fn refuses_by_the_first_cause(rt: HostRuntime) -> Result<(), Fail> {
 
 #[test]
 fn refuses_what_is_not_utf_8(rt: HostRuntime) -> Result<(), Fail> {
-    Assert::same(&rt, answer_to(rt.alloc(), &[0xFF])?, "refused 1 bad-json");
+    assert_same(&rt, answer_to(rt.alloc(), &[0xFF])?, "refused 1 bad-json");
     Ok(())
 }
 
@@ -255,7 +255,7 @@ fn tells_why_a_line_was_not_read(rt: HostRuntime) -> Result<(), Fail> {
             "the line is refused: the line is not JSON",
         ),
     ] {
-        Assert::shown(&rt, alloc, fault, want)?;
+        assert_shown(&rt, alloc, fault, want)?;
     }
     Ok(())
 }

@@ -1,5 +1,5 @@
 //! A repository of days: its clock, the most items that it holds, and what it keeps of deleted ones.
-use crate::assertions::Assert;
+use crate::assertions::{assert_same, assert_same_at, assert_shown};
 use oai_answers::DeletedRecord;
 use oai_catalogue::PlainVersions;
 use oai_deposit::{LineFault, read_line};
@@ -42,7 +42,7 @@ fn assert_page(
     let Reply::Page(page) = repo.ask(MIDNIGHT, query)? else {
         panic!(rt; "later")
     };
-    Assert::same(rt, page.as_slice(), wanted.as_bytes());
+    assert_same(rt, page.as_slice(), wanted.as_bytes());
     Ok(())
 }
 
@@ -70,11 +70,11 @@ fn too_fine_a_bound(rt: HostRuntime) -> Result<(), Fail> {
 
 /// The clock begins at midnight, and goes no further than the last second of the year 9998.
 fn assert_clock(rt: &impl Abort, repo: &mut Archive) {
-    Assert::same(rt, repo.clock(), 1_704_067_200);
+    assert_same(rt, repo.clock(), 1_704_067_200);
     repo.advance(1_704_067_230);
-    Assert::same(rt, repo.clock(), 1_704_067_230);
+    assert_same(rt, repo.clock(), 1_704_067_230);
     repo.advance(999_999_999_999);
-    Assert::same(rt, repo.clock(), 253_370_764_799);
+    assert_same(rt, repo.clock(), 253_370_764_799);
 }
 
 #[test]
@@ -122,7 +122,7 @@ fn assert_deposits(
 ) -> Result<(), Fail> {
     for (moment, line, wanted) in lines {
         let answer = deposited(alloc, repo, *moment, line)?;
-        Assert::same_at(rt, answer, *wanted, line);
+        assert_same_at(rt, answer, *wanted, line);
     }
     Ok(())
 }
@@ -137,7 +137,7 @@ fn assert_third_item(rt: &impl Abort, alloc: Global, repo: &mut Archive) -> Resu
         (next, deposit_of(2), Ok(next)),
     ];
     assert_deposits(rt, alloc, repo, &lines)?;
-    Assert::same(rt, repo.clock(), next);
+    assert_same(rt, repo.clock(), next);
     Ok(())
 }
 
@@ -195,7 +195,7 @@ fn refusals_are_told(rt: HostRuntime) -> Result<(), Fail> {
         ),
         (Refusal::Fault(Fault::Device), "the device failed"),
     ] {
-        Assert::shown(&rt, rt.alloc(), refusal, text)?;
+        assert_shown(&rt, rt.alloc(), refusal, text)?;
     }
     Ok(())
 }

@@ -1,7 +1,7 @@
 //! Transcripts of one repository: lines that begin with `> ` are a moment and what is asked at it, the
 //! others are answered. 1704067200 is 2024-01-01T00:00:00Z; the repositories tell two records in an
 //! answer, and keep two lists open, each for a minute.
-use crate::assertions::Assert;
+use crate::assertions::assert_same_at;
 use oai_catalogue::{PlainVersions, Versions};
 use oai_deposit::read_line;
 use oai_item::{Change, Fault};
@@ -12,7 +12,7 @@ use std::io::Write;
 use std::process::Abort;
 use std::test::Fail;
 use tests_archives::{Stocked, Told, settings_of};
-use tests_shared::wanted_in;
+use tests_worked::wanted_in;
 
 /// The repository of which that is told, over the store, with room for two open lists.
 fn repository<V: Versions + Drop>(
@@ -135,7 +135,7 @@ fn assert_answers<V: Versions + Drop>(
     let mut output = Vec::new(alloc);
     write_answers(rt, alloc, repo, transcript, &mut output)?;
     let wanted = wanted_in(alloc, transcript)?;
-    Assert::same_at(rt, output.as_slice(), wanted.as_bytes(), transcript);
+    assert_same_at(rt, output.as_slice(), wanted.as_bytes(), transcript);
     Ok(())
 }
 

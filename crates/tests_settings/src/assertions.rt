@@ -1,6 +1,31 @@
-//! What the tests of this crate compare with.
+//! What the tests of this crate compare with, as functions: what `assert_eq!` writes is proved wherever it stands.
+use std::alloc::{AllocError, Global};
+use std::fmt::{Debug, Display};
+use std::process::Abort;
 
-/// Has the functions by which tests compare.
-pub(crate) struct Assert;
+/// Fails the test, and shows both values, where they are not equal.
+pub(crate) fn assert_same<T: PartialEq + Debug + Drop>(rt: &impl Abort, found: T, wanted: T) {
+    assert_eq!(rt; found, wanted);
+}
 
-tests_shared::assertions!(Assert);
+/// Fails the test, and shows both values and the place, where the values are not equal.
+pub(crate) fn assert_same_at<T: PartialEq + Debug + Drop, P: Display + Drop>(
+    rt: &impl Abort,
+    found: T,
+    wanted: T,
+    place: P,
+) {
+    assert_eq!(rt; found, wanted, "at {place}");
+}
+
+/// Fails the test, and shows both texts, where the value is not told as the one that is wanted. The error is
+/// want of memory.
+pub(crate) fn assert_shown<T: Display + Drop>(
+    rt: &impl Abort,
+    alloc: Global,
+    value: T,
+    wanted: &str,
+) -> Result<(), AllocError> {
+    assert_eq!(rt; value.to_string(alloc)?.as_str(), wanted);
+    Ok(())
+}

@@ -1,5 +1,5 @@
 //! What settings make a configuration, why others make none, and what is told of each fault.
-use crate::assertions::Assert;
+use crate::assertions::{assert_same, assert_same_at, assert_shown};
 use oai_answers::DeletedRecord;
 use oai_settings::{ConfigFault, RepoConfig};
 use oai_time::Granularity;
@@ -28,7 +28,7 @@ fn assert_fault(
     place: &str,
 ) -> Result<(), AllocError> {
     let fault = fault_of(alloc, told)?;
-    Assert::same_at(rt, fault, wanted, place);
+    assert_same_at(rt, fault, wanted, place);
     Ok(())
 }
 
@@ -43,15 +43,15 @@ fn repeated(alloc: Global, text: &str, times: usize) -> Result<String, AllocErro
 
 /// What is told of Archive A.
 fn assert_told(rt: &impl Abort, config: &RepoConfig) {
-    Assert::same(rt, config.base(), "http://host.example/oai/a");
-    Assert::same(rt, config.repository_name(), "Archive A");
-    Assert::same(rt, config.addresses().len(), 1);
-    Assert::same(rt, config.earliest(), 1_704_067_200);
-    Assert::same(rt, config.deleted(), DeletedRecord::Persistent);
-    Assert::same(rt, config.granularity(), Granularity::Second);
-    Assert::same(rt, (config.chunk(), config.lifetime()), (2, 60));
-    Assert::same(rt, (config.lists(), config.items()), (1, 1_000));
-    Assert::same(rt, config.formats().len(), 2);
+    assert_same(rt, config.base(), "http://host.example/oai/a");
+    assert_same(rt, config.repository_name(), "Archive A");
+    assert_same(rt, config.addresses().len(), 1);
+    assert_same(rt, config.earliest(), 1_704_067_200);
+    assert_same(rt, config.deleted(), DeletedRecord::Persistent);
+    assert_same(rt, config.granularity(), Granularity::Second);
+    assert_same(rt, (config.chunk(), config.lifetime()), (2, 60));
+    assert_same(rt, (config.lists(), config.items()), (1, 1_000));
+    assert_same(rt, config.formats().len(), 2);
 }
 
 #[test]
@@ -65,11 +65,11 @@ fn accessors(rt: HostRuntime) -> Result<(), Fail> {
 fn assert_declared(rt: &impl Abort, config: &RepoConfig) {
     match config.formats().get(1) {
         Some(format) => {
-            Assert::same(rt, format.prefix.as_str(), "jnl");
-            Assert::same(rt, format.schema.as_str(), "http://host.example/jnl.xsd");
-            Assert::same(rt, format.namespace.as_str(), "http://host.example/jnl/");
-            Assert::same(rt, format.root.as_str(), "article");
-            Assert::same(rt, format.fields.as_slice().len(), 2);
+            assert_same(rt, format.prefix.as_str(), "jnl");
+            assert_same(rt, format.schema.as_str(), "http://host.example/jnl.xsd");
+            assert_same(rt, format.namespace.as_str(), "http://host.example/jnl/");
+            assert_same(rt, format.root.as_str(), "article");
+            assert_same(rt, format.fields.as_slice().len(), 2);
         }
         None => panic!(rt; "no format"),
     }
@@ -92,8 +92,8 @@ fn faults_are_told(rt: HostRuntime) -> Result<(), Fail> {
         (ConfigFault::BadNumber, "7 BadNumber"),
         (ConfigFault::NoMemory, "9 NoMemory"),
     ] {
-        Assert::same(&rt, fault.answer(), text);
-        Assert::shown(&rt, rt.alloc(), fault, text)?;
+        assert_same(&rt, fault.answer(), text);
+        assert_shown(&rt, rt.alloc(), fault, text)?;
     }
     Ok(())
 }
@@ -196,7 +196,7 @@ fn names(rt: HostRuntime) -> Result<(), Fail> {
 }
 
 fn assert_base_is(rt: &impl Abort, config: &RepoConfig, base: &str) {
-    Assert::same(rt, config.base(), base);
+    assert_same(rt, config.base(), base);
 }
 
 /// The base is no checked URL, and the rest is put behind it as it is.

@@ -1,6 +1,18 @@
-//! What the tests of this crate compare with.
+//! What the tests of this crate compare with, as functions: what `assert_eq!` writes is proved wherever it stands.
+use std::fmt::{Debug, Display};
+use std::process::Abort;
 
-/// Has the functions by which tests compare.
-pub(crate) struct Assert;
+/// Fails the test, and shows both values, where they are not equal.
+pub(crate) fn assert_same<T: PartialEq + Debug + Drop>(rt: &impl Abort, found: T, wanted: T) {
+    assert_eq!(rt; found, wanted);
+}
 
-tests_shared::assertions!(Assert);
+/// Fails the test, and shows both values and the place, where the values are not equal.
+pub(crate) fn assert_same_at<T: PartialEq + Debug + Drop, P: Display + Drop>(
+    rt: &impl Abort,
+    found: T,
+    wanted: T,
+    place: P,
+) {
+    assert_eq!(rt; found, wanted, "at {place}");
+}

@@ -1,6 +1,6 @@
 //! A repository over a store that lies, and says that there is nothing: each call returns, and one
 //! that finds an item missing changes nothing.
-use crate::assertions::Assert;
+use crate::assertions::{assert_same, assert_same_at};
 use crate::samples::{
     Asked, BEGIN, NEXT_DAY, change_in, deletion, deposit, formats, headers, next_records, record,
     records,
@@ -68,9 +68,9 @@ fn assert_outcomes<V: Versions + Drop>(
     for (asked, wanted) in exchanges {
         let (moment, text) = *asked;
         let before = repo.clock();
-        Assert::same_at(rt, outcome(alloc, repo, *asked)?, *wanted, text);
+        assert_same_at(rt, outcome(alloc, repo, *asked)?, *wanted, text);
         let clock = if *wanted == "damaged" { before } else { moment };
-        Assert::same_at(rt, repo.clock(), clock, text);
+        assert_same_at(rt, repo.clock(), clock, text);
     }
     Ok(())
 }
@@ -144,7 +144,7 @@ fn record_after(
 fn damage_changes_nothing(rt: HostRuntime) -> Result<(), Fail> {
     let page = record_after(&rt, rt.alloc(), 4, &four_lies())?;
     let wanted = record_after(&rt, rt.alloc(), 0, &no_lies())?;
-    Assert::same(&rt, page.as_slice(), wanted.as_slice());
+    assert_same(&rt, page.as_slice(), wanted.as_slice());
     Ok(())
 }
 

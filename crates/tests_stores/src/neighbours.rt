@@ -1,6 +1,6 @@
 //! Two repositories in one store, of whose items some have one identifier: each answers as it does
 //! alone.
-use crate::assertions::Assert;
+use crate::assertions::assert_same;
 use crate::samples::{
     Asked, BEGIN, NEXT_DAY, change_in, deletion, deposit, headers, next_records, record, records,
 };
@@ -163,7 +163,7 @@ fn beside(alloc: Global, which: Which) -> Result<Vec<u8>, Fail> {
 /// That repository answers beside the other one as it does alone.
 fn assert_alone(rt: &impl Abort, alloc: Global, which: Which) -> Result<(), Fail> {
     let wanted = alone(alloc, which)?;
-    Assert::same(rt, beside(alloc, which)?.as_slice(), wanted.as_slice());
+    assert_same(rt, beside(alloc, which)?.as_slice(), wanted.as_slice());
     Ok(())
 }
 

@@ -1,5 +1,5 @@
 //! Names and their grammars, characters and escapes, and the sets of a repository.
-use crate::assertions::Assert;
+use crate::assertions::{assert_same, assert_same_at, assert_shown};
 use oai_names::{
     Identifier, NameFault, Prefix, Sequence, SetFault, SetSpec, SetTree, Text, escape_attr,
     escape_text, is_set_spec, is_xml_text, parent_of,
@@ -19,7 +19,7 @@ fn with_letters(alloc: Global, front: &str, letters: usize) -> Result<String, Al
 
 fn assert_read(rt: &impl Abort, read: Result<Prefix, NameFault>, text: &str) {
     match read {
-        Ok(prefix) => Assert::same(rt, prefix.as_str(), text),
+        Ok(prefix) => assert_same(rt, prefix.as_str(), text),
         Err(fault) => panic!(rt; "{text}: {fault}"),
     }
 }
@@ -27,7 +27,7 @@ fn assert_read(rt: &impl Abort, read: Result<Prefix, NameFault>, text: &str) {
 fn assert_refused<T: Drop>(rt: &impl Abort, read: Result<T, NameFault>, fault: NameFault) {
     match read {
         Ok(_) => panic!(rt; "a name was read"),
-        Err(found) => Assert::same(rt, found, fault),
+        Err(found) => assert_same(rt, found, fault),
     }
 }
 
@@ -45,7 +45,7 @@ fn prefixes_are_read(rt: HostRuntime) -> Result<(), Fail> {
 fn bad_prefixes_are_refused(rt: HostRuntime) -> Result<(), Fail> {
     let alloc = rt.alloc();
     let spaces = "                                                                 ";
-    Assert::same(&rt, spaces.len(), 65);
+    assert_same(&rt, spaces.len(), 65);
     for text in ["", "a b", "a:b", "é", "a/b", spaces] {
         assert_refused(&rt, Prefix::read(alloc, text), NameFault::Syntax);
     }
@@ -65,7 +65,7 @@ fn identifiers_are_read(rt: HostRuntime) -> Result<(), Fail> {
         most.as_str(),
     ] {
         match Identifier::read(alloc, text) {
-            Ok(identifier) => Assert::same(&rt, identifier.as_str(), text),
+            Ok(identifier) => assert_same(&rt, identifier.as_str(), text),
             Err(fault) => panic!(rt; "{text}: {fault}"),
         }
     }
@@ -91,13 +91,13 @@ fn bad_identifiers_are_refused(rt: HostRuntime) -> Result<(), Fail> {
 
 fn assert_prefix_is_copied(rt: &impl Abort, alloc: Global, text: &str) -> Result<(), Fail> {
     let prefix = Prefix::read(alloc, text)?;
-    Assert::same(rt, prefix.copy(alloc)?.as_str(), text);
+    assert_same(rt, prefix.copy(alloc)?.as_str(), text);
     Ok(())
 }
 
 fn assert_identifier_is_copied(rt: &impl Abort, alloc: Global, text: &str) -> Result<(), Fail> {
     let identifier = Identifier::read(alloc, text)?;
-    Assert::same(rt, identifier.copy(alloc)?.as_str(), text);
+    assert_same(rt, identifier.copy(alloc)?.as_str(), text);
     Ok(())
 }
 
@@ -106,18 +106,18 @@ fn copies_are_equal(rt: HostRuntime) -> Result<(), Fail> {
     let alloc = rt.alloc();
     assert_prefix_is_copied(&rt, alloc, "oai_dc")?;
     assert_identifier_is_copied(&rt, alloc, "oai:a:1")?;
-    Assert::same(&rt, Text::new(alloc, "é\n")?.copy(alloc)?.as_str(), "é\n");
+    assert_same(&rt, Text::new(alloc, "é\n")?.copy(alloc)?.as_str(), "é\n");
     Ok(())
 }
 
 #[test]
 fn texts_keep_their_strings(rt: HostRuntime) -> Result<(), Fail> {
     let mut text = Text::from_string(String::from_str(rt.alloc(), "é\n")?);
-    Assert::same(&rt, text.as_str(), "é\n");
+    assert_same(&rt, text.as_str(), "é\n");
     let mut string = text.into_string();
     string.push('x')?;
     text = Text::from_string(string);
-    Assert::same(&rt, text.as_str(), "é\nx");
+    assert_same(&rt, text.as_str(), "é\nx");
     Ok(())
 }
 
@@ -141,7 +141,7 @@ fn text_of_set_fault(fault: SetFault) -> &'static str {
 #[test]
 fn faults_are_told(rt: HostRuntime) -> Result<(), Fail> {
     for fault in [NameFault::Syntax, NameFault::TooLong, NameFault::NoMemory] {
-        Assert::shown(&rt, rt.alloc(), fault, text_of_name_fault(fault))?;
+        assert_shown(&rt, rt.alloc(), fault, text_of_name_fault(fault))?;
     }
     for fault in [
         SetFault::Exists,
@@ -149,7 +149,7 @@ fn faults_are_told(rt: HostRuntime) -> Result<(), Fail> {
         SetFault::TooMany,
         SetFault::NoMemory,
     ] {
-        Assert::shown(&rt, rt.alloc(), fault, text_of_set_fault(fault))?;
+        assert_shown(&rt, rt.alloc(), fault, text_of_set_fault(fault))?;
     }
     Ok(())
 }
@@ -157,8 +157,8 @@ fn faults_are_told(rt: HostRuntime) -> Result<(), Fail> {
 #[test]
 fn sequences_keep_their_values(rt: HostRuntime) -> Result<(), Fail> {
     let sequence = Sequence::new(vec![in rt.alloc(); 3, 1, 2]?);
-    Assert::same(&rt, sequence.as_slice(), [3, 1, 2].as_slice());
-    Assert::same(&rt, sequence.into_vec().as_slice(), [3, 1, 2].as_slice());
+    assert_same(&rt, sequence.as_slice(), [3, 1, 2].as_slice());
+    assert_same(&rt, sequence.into_vec().as_slice(), [3, 1, 2].as_slice());
     Ok(())
 }
 
@@ -189,7 +189,7 @@ fn characters_of_a_document(rt: HostRuntime) {
 fn assert_text(rt: &impl Abort, alloc: Global, text: &str, wanted: &str) -> Result<(), Fail> {
     let mut out = vec![in alloc; b'-']?;
     escape_text(text, &mut out)?;
-    Assert::same(rt, out.as_slice(), wanted.as_bytes());
+    assert_same(rt, out.as_slice(), wanted.as_bytes());
     Ok(())
 }
 
@@ -197,7 +197,7 @@ fn assert_text(rt: &impl Abort, alloc: Global, text: &str, wanted: &str) -> Resu
 fn assert_attr(rt: &impl Abort, alloc: Global, text: &str, wanted: &str) -> Result<(), Fail> {
     let mut out = vec![in alloc; b'-']?;
     escape_attr(text, &mut out)?;
-    Assert::same(rt, out.as_slice(), wanted.as_bytes());
+    assert_same(rt, out.as_slice(), wanted.as_bytes());
     Ok(())
 }
 
@@ -235,8 +235,8 @@ fn set_specs_are_read(rt: HostRuntime) -> Result<(), Fail> {
     let most = with_letters(alloc, "", 256)?;
     for text in ["x", "x:y", "a-_.!~*'()Z9:b:c", most.as_str()] {
         let spec = set_spec(&rt, alloc, text);
-        Assert::same(&rt, spec.as_str(), text);
-        Assert::same(&rt, spec.copy(alloc)?.as_str(), text);
+        assert_same(&rt, spec.as_str(), text);
+        assert_same(&rt, spec.copy(alloc)?.as_str(), text);
     }
     Ok(())
 }
@@ -266,15 +266,15 @@ fn sets_cover(rt: HostRuntime) {
         ("b", "ab:b", false),
     ] {
         let covers = set_spec(&rt, alloc, set).covers(&set_spec(&rt, alloc, spec));
-        Assert::same_at(&rt, covers, covered, spec);
+        assert_same_at(&rt, covers, covered, spec);
     }
 }
 
 fn assert_shows(rt: &impl Abort, sets: &SetTree, i: usize, spec: &str, name: &str) {
     match sets.get(i) {
         Some((found_spec, found_name)) => {
-            Assert::same(rt, found_spec.as_str(), spec);
-            Assert::same(rt, found_name, name);
+            assert_same(rt, found_spec.as_str(), spec);
+            assert_same(rt, found_name, name);
         }
         None => panic!(rt; "no set {i}"),
     }
@@ -282,8 +282,8 @@ fn assert_shows(rt: &impl Abort, sets: &SetTree, i: usize, spec: &str, name: &st
 
 #[test]
 fn parents_of_sets(rt: HostRuntime) {
-    Assert::same(&rt, parent_of("a:b:c"), Some("a:b"));
-    Assert::same(&rt, parent_of("a"), None);
+    assert_same(&rt, parent_of("a:b:c"), Some("a:b"));
+    assert_same(&rt, parent_of("a"), None);
 }
 
 /// A set of this setSpec and name is added, or refused so.
@@ -294,12 +294,12 @@ fn assert_added(
     (spec, name): (&str, &str),
     answer: Result<(), SetFault>,
 ) {
-    Assert::same_at(rt, sets.add(&set_spec(rt, alloc, spec), name), answer, spec);
+    assert_same_at(rt, sets.add(&set_spec(rt, alloc, spec), name), answer, spec);
 }
 
 /// The tree has the sets `x`, `x:y` and `x:y:z`, and no other.
 fn assert_three_sets(rt: &impl Abort, alloc: Global, sets: &SetTree) {
-    Assert::same(rt, sets.len(), 3);
+    assert_same(rt, sets.len(), 3);
     assert_shows(rt, sets, 0, "x", "X");
     assert_shows(rt, sets, 1, "x:y", "Y");
     assert_shows(rt, sets, 2, "x:y:z", "");
@@ -351,7 +351,7 @@ fn sets_are_at_most_10000(rt: HostRuntime) -> Result<(), Fail> {
         Err(SetFault::TooMany),
     );
     assert_added(&rt, alloc, &mut sets, ("x", "X"), Err(SetFault::TooMany));
-    Assert::same(&rt, sets.len(), 10_000);
+    assert_same(&rt, sets.len(), 10_000);
     assert_shows(&rt, &sets, 9_999, "9999", "A set");
     Ok(())
 }

@@ -1,5 +1,5 @@
 //! Times as texts, the clock, and the bounds of a list request.
-use crate::assertions::Assert;
+use crate::assertions::{assert_same, assert_same_at, assert_shown};
 use oai_time::{
     BadDate, Bound, Clock, Granularity, is_no_finer_than, lower, read_bound, stamp, upper,
     write_datestamp, write_day, write_second,
@@ -8,28 +8,28 @@ use std::test::Fail;
 
 #[test]
 fn writes_seconds(rt: HostRuntime) {
-    Assert::same(&rt, &write_second(0), b"1970-01-01T00:00:00Z");
-    Assert::same(&rt, &write_second(253_402_300_799), b"9999-12-31T23:59:59Z");
-    Assert::same(&rt, &write_second(-62_167_219_200), b"0000-01-01T00:00:00Z");
-    Assert::same(&rt, &write_second(1_704_067_200), b"2024-01-01T00:00:00Z");
-    Assert::same(&rt, &write_second(1_709_251_199), b"2024-02-29T23:59:59Z");
-    Assert::same(&rt, &write_second(-1), b"1969-12-31T23:59:59Z");
+    assert_same(&rt, &write_second(0), b"1970-01-01T00:00:00Z");
+    assert_same(&rt, &write_second(253_402_300_799), b"9999-12-31T23:59:59Z");
+    assert_same(&rt, &write_second(-62_167_219_200), b"0000-01-01T00:00:00Z");
+    assert_same(&rt, &write_second(1_704_067_200), b"2024-01-01T00:00:00Z");
+    assert_same(&rt, &write_second(1_709_251_199), b"2024-02-29T23:59:59Z");
+    assert_same(&rt, &write_second(-1), b"1969-12-31T23:59:59Z");
 }
 
 #[test]
 fn writes_days(rt: HostRuntime) {
-    Assert::same(&rt, &write_day(1_709_251_199), b"2024-02-29");
-    Assert::same(&rt, &write_day(1_709_251_200), b"2024-03-01");
-    Assert::same(&rt, &write_day(-1), b"1969-12-31");
-    Assert::same(&rt, &write_day(253_402_300_799), b"9999-12-31");
+    assert_same(&rt, &write_day(1_709_251_199), b"2024-02-29");
+    assert_same(&rt, &write_day(1_709_251_200), b"2024-03-01");
+    assert_same(&rt, &write_day(-1), b"1969-12-31");
+    assert_same(&rt, &write_day(253_402_300_799), b"9999-12-31");
 }
 
 #[test]
 fn writes_datestamps(rt: HostRuntime) {
     let day = write_datestamp(Granularity::Day, 1_709_251_199);
-    Assert::same(&rt, day.as_bytes(), b"2024-02-29".as_slice());
+    assert_same(&rt, day.as_bytes(), b"2024-02-29".as_slice());
     let second = write_datestamp(Granularity::Second, 1_709_251_199);
-    Assert::same(&rt, second.as_bytes(), b"2024-02-29T23:59:59Z".as_slice());
+    assert_same(&rt, second.as_bytes(), b"2024-02-29T23:59:59Z".as_slice());
 }
 
 #[test]
@@ -40,14 +40,14 @@ fn granularities_are_compared(rt: HostRuntime) {
         (Bound::Second(0), Granularity::Day, false),
         (Bound::Second(0), Granularity::Second, true),
     ] {
-        Assert::same(&rt, is_no_finer_than(bound, granularity), passes);
+        assert_same(&rt, is_no_finer_than(bound, granularity), passes);
     }
 }
 
 #[test]
 fn faults_are_told(rt: HostRuntime) -> Result<(), Fail> {
     let fault = BadDate;
-    Assert::shown(
+    assert_shown(
         &rt,
         rt.alloc(),
         fault,
@@ -58,20 +58,20 @@ fn faults_are_told(rt: HostRuntime) -> Result<(), Fail> {
 
 #[test]
 fn stamps(rt: HostRuntime) {
-    Assert::same(
+    assert_same(
         &rt,
         stamp(Granularity::Second, 1_709_251_199),
         1_709_251_199,
     );
-    Assert::same(&rt, stamp(Granularity::Day, 1_709_251_199), 1_709_164_800);
-    Assert::same(&rt, stamp(Granularity::Day, 1_709_164_800), 1_709_164_800);
-    Assert::same(&rt, stamp(Granularity::Day, -1), -86_400);
+    assert_same(&rt, stamp(Granularity::Day, 1_709_251_199), 1_709_164_800);
+    assert_same(&rt, stamp(Granularity::Day, 1_709_164_800), 1_709_164_800);
+    assert_same(&rt, stamp(Granularity::Day, -1), -86_400);
 }
 
 #[test]
 fn ticks(rt: HostRuntime) {
     let mut clock = Clock::start(1_704_067_200);
-    Assert::same(&rt, clock.now(), 1_704_067_200);
+    assert_same(&rt, clock.now(), 1_704_067_200);
     for (moment, shown) in [
         (1_704_067_210, 1_704_067_210),
         (1_704_067_205, 1_704_067_210),
@@ -81,7 +81,7 @@ fn ticks(rt: HostRuntime) {
         (0, 253_370_764_799),
     ] {
         clock.tick(moment);
-        Assert::same_at(&rt, clock.now(), shown, moment);
+        assert_same_at(&rt, clock.now(), shown, moment);
     }
 }
 
@@ -97,7 +97,7 @@ fn reads_bounds(rt: HostRuntime) {
         ("1970-01-01T00:00:00Z", Bound::Second(0)),
         ("9999-12-31T23:59:59Z", Bound::Second(253_402_300_799)),
     ] {
-        Assert::same_at(&rt, read_bound(text), Ok(bound), text);
+        assert_same_at(&rt, read_bound(text), Ok(bound), text);
     }
 }
 
@@ -132,16 +132,16 @@ fn texts_that_are_no_bounds() -> &'static str {
 #[test]
 fn refuses_what_is_no_bound(rt: HostRuntime) {
     for text in texts_that_are_no_bounds().lines() {
-        Assert::same_at(&rt, read_bound(text), Err(BadDate), text);
+        assert_same_at(&rt, read_bound(text), Err(BadDate), text);
     }
 }
 
 #[test]
 fn bounds_have_ends(rt: HostRuntime) {
     let day = Bound::Day(1_709_164_800);
-    Assert::same(&rt, lower(day), 1_709_164_800);
-    Assert::same(&rt, upper(day), 1_709_251_199);
+    assert_same(&rt, lower(day), 1_709_164_800);
+    assert_same(&rt, upper(day), 1_709_251_199);
     let second = Bound::Second(1_709_164_801);
-    Assert::same(&rt, lower(second), 1_709_164_801);
-    Assert::same(&rt, upper(second), 1_709_164_801);
+    assert_same(&rt, lower(second), 1_709_164_801);
+    assert_same(&rt, upper(second), 1_709_164_801);
 }

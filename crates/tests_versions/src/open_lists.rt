@@ -1,5 +1,5 @@
 //! The texts of resumption tokens, and the table of the lists that are open.
-use crate::assertions::Assert;
+use crate::assertions::{assert_same, assert_shown};
 use oai_catalogue::Filter;
 use oai_lists::{LAST_NUMBER, Lists, OpenFault, Token};
 use oai_names::{ListVerb, Prefix};
@@ -19,13 +19,13 @@ fn assert_opened(
 ) -> Result<(), Fail> {
     let filter = Filter::new(Prefix::read(alloc, "oai_dc")?, 0, 9, None);
     let opened = lists.open(now, ListVerb::Records, filter, version, 3, end);
-    Assert::same(rt, opened, answer);
+    assert_same(rt, opened, answer);
     Ok(())
 }
 
 fn assert_token(rt: &impl Abort, alloc: Global, text: &str, token: Token) -> Result<(), Fail> {
-    Assert::same(rt, Token::read(text), Some(token));
-    Assert::same(rt, token.write(alloc)?.as_slice(), text.as_bytes());
+    assert_same(rt, Token::read(text), Some(token));
+    assert_same(rt, token.write(alloc)?.as_slice(), text.as_bytes());
     Ok(())
 }
 
@@ -52,7 +52,7 @@ fn tokens_are_displayed(rt: HostRuntime) -> Result<(), Fail> {
         list: 2,
         cursor: 1_000_000,
     };
-    Assert::shown(&rt, rt.alloc(), token, "2.1000000")?;
+    assert_shown(&rt, rt.alloc(), token, "2.1000000")?;
     Ok(())
 }
 
@@ -89,24 +89,24 @@ fn empty_list_is_opened(rt: HostRuntime) -> Result<(), Fail> {
     let mut lists = Lists::new(rt.alloc(), 1, 1);
     let filter = Filter::new(Prefix::read(rt.alloc(), "oai_dc")?, 0, 9, None);
     let opened = lists.open(0, ListVerb::Records, filter, 1, 0, 60);
-    Assert::same(&rt, opened, Ok(1));
+    assert_same(&rt, opened, Ok(1));
     Ok(())
 }
 
 /// An empty table of one opens a list, and no other beside it.
 fn assert_one_list(rt: &impl Abort, alloc: Global, lists: &mut Lists) -> Result<(), Fail> {
-    Assert::same(rt, (lists.earliest_end(), lists.next(0)), (None, Ok(1)));
+    assert_same(rt, (lists.earliest_end(), lists.next(0)), (None, Ok(1)));
     assert_opened(rt, alloc, lists, 0, 60, 7, Ok(1))?;
-    Assert::same(rt, lists.next(59), Err(OpenFault::Full));
+    assert_same(rt, lists.next(59), Err(OpenFault::Full));
     assert_opened(rt, alloc, lists, 59, 119, 8, Err(OpenFault::Full))
 }
 
 /// The list is found below its end alone, and its end is moved.
 fn assert_renewed(rt: &impl Abort, lists: &mut Lists) {
-    Assert::same(rt, lists.expire(59), None);
+    assert_same(rt, lists.expire(59), None);
     assert!(rt; lists.find(1, 60).is_none() && lists.find(2, 0).is_none());
     match lists.find(1, 59) {
-        Some(list) => Assert::same(rt, (list.version, list.size, list.end), (7, 3, 60)),
+        Some(list) => assert_same(rt, (list.version, list.size, list.end), (7, 3, 60)),
         None => panic!(rt; "no list"),
     }
     lists.renew(1, 61);
@@ -114,10 +114,10 @@ fn assert_renewed(rt: &impl Abort, lists: &mut Lists) {
 
 /// The list drops at the end to which it was moved.
 fn assert_dropped(rt: &impl Abort, lists: &mut Lists) {
-    Assert::same(rt, lists.expire(60), None);
-    Assert::same(rt, (lists.earliest_end(), lists.len()), (Some(61), 1));
-    Assert::same(rt, lists.next(61), Ok(2));
-    Assert::same(rt, (lists.expire(61), lists.expire(61)), (Some(7), None));
+    assert_same(rt, lists.expire(60), None);
+    assert_same(rt, (lists.earliest_end(), lists.len()), (Some(61), 1));
+    assert_same(rt, lists.next(61), Ok(2));
+    assert_same(rt, (lists.expire(61), lists.expire(61)), (Some(7), None));
 }
 
 #[test]
@@ -134,7 +134,7 @@ fn the_last_number(rt: HostRuntime) -> Result<(), Fail> {
     let alloc = rt.alloc();
     let spent = Err(OpenFault::NumbersSpent);
     let mut lists = Lists::new(alloc, 1, LAST_NUMBER);
-    Assert::same(&rt, lists.next(0), spent);
+    assert_same(&rt, lists.next(0), spent);
     assert_opened(&rt, alloc, &mut lists, 0, 60, 1, spent)
 }
 
@@ -153,10 +153,10 @@ fn assert_three_lists(rt: &impl Abort, alloc: Global, lists: &mut Lists) -> Resu
     assert_opened(rt, alloc, lists, 0, 60, 11, Ok(1))?;
     assert_opened(rt, alloc, lists, 0, 70, 12, Ok(2))?;
     assert_opened(rt, alloc, lists, 0, 50, 13, Ok(3))?;
-    Assert::same(rt, lists.earliest_end(), Some(50));
-    Assert::same(rt, lists.expire(60), Some(11));
-    Assert::same(rt, lists.expire(60), Some(13));
-    Assert::same(rt, (lists.expire(60), lists.len()), (None, 1));
+    assert_same(rt, lists.earliest_end(), Some(50));
+    assert_same(rt, lists.expire(60), Some(11));
+    assert_same(rt, lists.expire(60), Some(13));
+    assert_same(rt, (lists.expire(60), lists.len()), (None, 1));
     assert!(rt; lists.find(2, 69).is_some());
     Ok(())
 }
@@ -182,7 +182,7 @@ fn texts_of_faults(rt: HostRuntime) -> Result<(), Fail> {
         OpenFault::NumbersSpent,
         OpenFault::NoMemory,
     ] {
-        Assert::shown(&rt, rt.alloc(), fault, text_of(fault))?;
+        assert_shown(&rt, rt.alloc(), fault, text_of(fault))?;
     }
     Ok(())
 }

@@ -3,7 +3,7 @@
 //! loses what the next call requires.
 ghost use Rattle.std.specs.Prelude.{◌≡◌, IsSome, IfOk, OnErr, OnOk};
 
-use crate::assertions::Assert;
+use crate::assertions::assert_same;
 use oai_catalogue::{FaultyVersions, Filter, PlainVersions, Versions, change_item};
 use oai_item::{Fault, Item};
 use oai_names::{Identifier, Prefix, SetSpec};
@@ -40,9 +40,9 @@ fn asked(alloc: Global, prefix: &str, set: &str) -> Result<Filter, Fail> {
 
 /// The items have these identifiers.
 fn assert_identifiers(rt: &impl Abort, items: &[Item], identifiers: &[&str]) {
-    Assert::same(rt, items.len(), identifiers.len());
+    assert_same(rt, items.len(), identifiers.len());
     for (item, identifier) in items.iter().zip(identifiers) {
-        Assert::same(rt, item.identifier().as_str(), *identifier);
+        assert_same(rt, item.identifier().as_str(), *identifier);
     }
 }
 
@@ -58,7 +58,7 @@ fn assert_selected<V: Versions>(
     ensures { V.lists store.new ≡ V.lists store.old }
 {
     assert_identifiers(rt, store.part(v, filter, 0, 9)?.as_slice(), identifiers);
-    Assert::same(rt, store.count(v, filter), Ok(identifiers.len()));
+    assert_same(rt, store.count(v, filter), Ok(identifiers.len()));
     Ok(())
 }
 
@@ -123,7 +123,7 @@ fn assert_found<V: Versions>(
 {
     let identifier = Identifier::read(alloc, identifier)?;
     let found = store.find(v, STAMP, &identifier)?;
-    Assert::same(rt, found.is_some(), is_there);
+    assert_same(rt, found.is_some(), is_there);
     Ok(())
 }
 
@@ -151,7 +151,7 @@ fn assert_part<V: Versions>(
 {
     let all = filter(alloc, 0, 9)?;
     let items = store.part(v, &all, skip, most)?;
-    Assert::same(rt, items.as_slice().len(), count);
+    assert_same(rt, items.as_slice().len(), count);
     Ok(())
 }
 
@@ -173,8 +173,8 @@ fn assert_passes(
     passes: bool,
 ) -> Result<(), Fail> {
     let copy = filter.copy(alloc)?;
-    Assert::same(rt, filter.passes(item), passes);
-    Assert::same(rt, copy.passes(item), passes);
+    assert_same(rt, filter.passes(item), passes);
+    assert_same(rt, copy.passes(item), passes);
     Ok(())
 }
 
@@ -247,7 +247,7 @@ fn assert_fails<V: Versions>(
 {
     let first = Identifier::read(alloc, "oai:a:1")?;
     let failed = store.remove(v, STAMP, &first);
-    Assert::same(rt, failed, Err(Fault::Device));
+    assert_same(rt, failed, Err(Fault::Device));
     Ok(())
 }
 
@@ -324,7 +324,7 @@ fn assert_counted<V: Versions>(
     let w = frozen(store, v)?;
     release(rt, store, v, w);
     let all = filter(alloc, 0, 9)?;
-    Assert::same(rt, store.count(w, &all), Ok(2));
+    assert_same(rt, store.count(w, &all), Ok(2));
     assert_fails(rt, alloc, store, w)
 }
 

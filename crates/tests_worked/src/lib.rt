@@ -1,4 +1,6 @@
-//! The worked configuration, and the shorthand in which transcripts tell documents.
+//! What tests of several crates speak of: the worked configuration, and the shorthand in which
+//! transcripts tell documents. It holds no test.
+#![tactic(auto)]
 
 use std::alloc::{AllocError, Global};
 
