@@ -11,7 +11,7 @@ use std::alloc::{AllocError, Global};
 use std::marker::Model;
 
 /// Items in their order.
-#[derive(Debug, Drop)]
+#[derive(Drop)]
 pub(crate) struct Items {
     items: Vec<Item>,
 }

@@ -16,7 +16,7 @@ pub const MOST_HEAD_FIELDS: usize = 64;
 
 /// A head that is whole: where its parts are among the bytes that begin with it, and what comes behind
 /// it.
-#[derive(Clone, Copy, Debug)]
+#[derive(Clone, Copy)]
 pub struct Head {
     /// The method.
     pub method: Span,
@@ -33,7 +33,7 @@ pub struct Head {
 }
 
 /// What stands at the front of bytes that came.
-#[derive(Clone, Copy, Debug)]
+#[derive(Clone, Copy)]
 pub enum Beginning {
     /// No head that is whole; one may come.
     Unknown,

@@ -15,7 +15,7 @@ use std::marker::Model;
 
 /// A connection: the bytes that came and belong to no message that was performed, what is known of the
 /// head at their front, and the buffers that wait to be written, of the first of which `taken` bytes are.
-#[derive(Debug, Drop)]
+#[derive(Drop)]
 pub struct Connection {
     number: u64,
     bytes: Vec<u8>,

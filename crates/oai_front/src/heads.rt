@@ -6,7 +6,7 @@ use itoa::Buffer;
 use oai_host::{DEPOSITS_FRONT, REQUESTS_FRONT, Status};
 
 /// What stands at a target.
-#[derive(Clone, Copy, Debug, PartialEq, Eq)]
+#[derive(Clone, Copy, PartialEq, Eq)]
 pub enum Place {
     /// The requests of a repository: the path begins with `/oai/`.
     Requests,
@@ -17,7 +17,7 @@ pub enum Place {
 }
 
 /// What the head of an answer tells.
-#[derive(Clone, Copy, Debug)]
+#[derive(Clone, Copy)]
 pub struct AnswerHead {
     /// What stands at the target that was asked for.
     pub place: Place,

@@ -16,7 +16,7 @@ use std::alloc::Global;
 use std::collections::VecDeque;
 
 /// What stands at the front of bytes that came.
-#[derive(Clone, Copy, Debug)]
+#[derive(Clone, Copy)]
 pub enum Next {
     /// Nothing whole, apart from the head where it is there.
     Unfinished(Option<Head>),
@@ -27,7 +27,7 @@ pub enum Next {
 }
 
 /// What is left of bytes after the messages that were performed.
-#[derive(Clone, Copy, Debug)]
+#[derive(Clone, Copy)]
 pub enum Left {
     /// Behind so many bytes those of a message that is not whole, with its head where that is.
     Waiting(usize, Option<Head>),

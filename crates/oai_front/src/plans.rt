@@ -13,7 +13,7 @@ pub const MOST_BODY_BYTES: usize = 1_048_576;
 pub const MOST_LENGTH_DIGITS: usize = 19;
 
 /// What comes behind a head.
-#[derive(Clone, Copy, Debug, PartialEq, Eq)]
+#[derive(Clone, Copy, PartialEq, Eq)]
 pub enum Plan {
     /// Nothing that is read: the message is answered with that status.
     Refused(Status),

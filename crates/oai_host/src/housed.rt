@@ -2,7 +2,7 @@ use oai_names::Text;
 use oai_repo::Repo;
 
 /// A repository of a host, and the name by which it is reached.
-#[derive(Debug, Drop)]
+#[derive(Drop)]
 pub(crate) struct Housed {
     /// The name.
     pub(crate) name: Text,

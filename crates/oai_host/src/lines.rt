@@ -10,7 +10,7 @@ use std::marker::Model;
 
 /// The lines of a deposit that are still to be taken: its body is cut at each line end, and a line of
 /// nothing but spaces, tabs and CR is passed over.
-#[derive(Debug, Drop)]
+#[derive(Drop)]
 pub(crate) struct Lines<'a> {
     rest: Option<&'a [u8]>,
 }

@@ -28,7 +28,7 @@ use std::marker::Model;
 
 /// The repositories of a host, in the order of its configuration, and an index of their names: a search
 /// takes time in the logarithm of their number.
-#[derive(Debug, Drop)]
+#[derive(Drop)]
 pub(crate) struct Repositories {
     alloc: Global,
     housed: Vec<Housed>,

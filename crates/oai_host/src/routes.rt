@@ -17,7 +17,7 @@ pub const REQUESTS_FRONT: &str = "/oai/";
 pub const DEPOSITS_FRONT: &str = "/deposit/";
 
 /// What a path of a repository is for.
-#[derive(Clone, Copy, Debug, PartialEq, Eq)]
+#[derive(Clone, Copy, PartialEq, Eq)]
 pub(crate) enum Kind {
     /// Requests of OAI-PMH.
     Requests,

@@ -27,7 +27,7 @@ const FIRST_STAMP: i64 = -62_167_219_200;
 const LAST_STAMP: i64 = 253_402_300_799;
 
 /// The parts of an item, as its spelling has them.
-#[derive(Debug, Drop)]
+#[derive(Drop)]
 pub(crate) struct Parts {
     pub(crate) live: bool,
     pub(crate) stamp: i64,

@@ -13,7 +13,7 @@ use std::alloc::AllocError;
 const MOST_RUN: usize = 256;
 
 /// Where a text stands in a document.
-#[derive(Clone, Copy, Debug, PartialEq, Eq)]
+#[derive(Clone, Copy, PartialEq, Eq)]
 enum Place {
     Element,
     Attribute,

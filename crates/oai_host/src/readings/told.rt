@@ -14,7 +14,7 @@ use serde_json::Value;
 use std::alloc::Global;
 
 /// What is told of a host, before it is looked at.
-#[derive(Debug, Drop)]
+#[derive(Drop)]
 pub(crate) struct HostSettings {
     /// The pages that the cache holds: 1 to 65,536. None where a number is told that is none of 64
     /// bits, whole and not negative.
