@@ -3,13 +3,12 @@
 use crate::assertions::assert_same;
 use crate::transcripts::assert_transcript_over;
 use crate::worked::config;
-use crate::{CrampedVersions, Want};
 use oai_catalogue::{FaultyVersions, PlainVersions};
 use oai_host::Host;
 use oai_item::Fault;
 use std::alloc::Global;
 use std::test::Fail;
-use tests_archives::LyingVersions;
+use tests_archives::{CrampedVersions, LyingVersions, Want};
 
 // ---- deposits
 

@@ -1,10 +1,8 @@
-//! Tests of many repositories behind one door (`oai_host`), and a store without room that they need. It
-//! holds nothing else.
+//! Tests of many repositories behind one door (`oai_host`). It holds nothing else.
 #![tactic(auto)]
 
 #[cfg(test)]
 mod assertions;
-mod cramped;
 #[cfg(test)]
 mod deposits;
 #[cfg(test)]
@@ -21,5 +19,3 @@ mod thousand;
 mod transcripts;
 #[cfg(test)]
 mod worked;
-
-pub use cramped::{CrampedVersions, Want};
