@@ -1,5 +1,5 @@
-//! Tests of what texts are configurations of a host, and why others are none (`oai_host`). It holds
-//! nothing else.
+//! Tests of what settings make the configuration of a repository (`oai_repo`), of what texts are
+//! configurations of a host (`oai_host`), and why others are none. It holds nothing else.
 #![tactic(auto)]
 
 mod answers;
@@ -9,6 +9,8 @@ mod assertions;
 mod configurations;
 #[cfg(test)]
 mod faults;
+#[cfg(test)]
+mod settings;
 #[cfg(test)]
 mod worked;
 

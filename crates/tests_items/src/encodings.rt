@@ -1,12 +1,12 @@
 //! Items as bytes: the spelling of an item, and bytes that are none. The bytes are typed from the
 //! description of the spelling, and not taken from the program.
 use crate::assertions::assert_same;
+use crate::samples::item;
 use crate::told::{assert_title, assert_told};
 use oai_item::{DecodeFault, Item, MOST_ITEM_BYTES, encoding_law};
 use std::alloc::Global;
 use std::process::Abort;
 use std::test::Fail;
-use tests_samples::item;
 
 /// The live item `oai:a:1` of 2024-01-01T00:00:00Z, without sets, with the title `T` in oai_dc.
 fn spelling() -> [u8; 56] {

@@ -4,6 +4,7 @@ ghost use Rattle.std.specs.Prelude.{◌≡◌, true};
 ghost use Rattle.oai_item.specs.Order.{are_in_order};
 
 use crate::assertions::{assert_same, assert_shown};
+use crate::samples::{STAMP, item, letters, title_field};
 use crate::told::{assert_title, assert_title_field, assert_told};
 use oai_item::{Fault, Item, TooLarge, is_in, order_law, place_of, selection_law, set_law};
 use oai_names::SetSpec;
@@ -11,7 +12,6 @@ use std::alloc::Global;
 use std::cmp::Ordering;
 use std::process::Abort;
 use std::test::Fail;
-use tests_samples::{STAMP, item, letters, title_field};
 
 /// `oai:a:1` in these sets, with this title.
 fn titled(alloc: Global, specs: &[&str], title: &str) -> Result<Item, Fail> {

@@ -1,4 +1,5 @@
-//! Tests of items, of items as bytes, and of metadata formats (`oai_item`). It holds nothing else.
+//! Tests of items, of items as bytes, and of metadata formats (`oai_item`); of stores of versions
+//! (`oai_catalogue`) and of lists that are open (`oai_lists`). It holds nothing else.
 #![tactic(auto)]
 
 #[cfg(test)]
@@ -9,5 +10,11 @@ mod encodings;
 mod formats;
 #[cfg(test)]
 mod items;
+#[cfg(test)]
+mod open_lists;
+#[cfg(test)]
+mod samples;
+#[cfg(test)]
+mod stores;
 #[cfg(test)]
 mod told;

@@ -1,9 +1,14 @@
-//! Tests of what is read and written as text: names, characters, escapes and sets (`oai_names`), and
-//! times (`oai_time`). It holds nothing else.
+//! Tests of what is read and written as text: names, characters, escapes and sets (`oai_names`), times
+//! (`oai_time`), the arguments of requests (`oai_args`) and deposit lines (`oai_deposit`). It holds nothing
+//! else.
 #![tactic(auto)]
 
 #[cfg(test)]
+mod arguments;
+#[cfg(test)]
 mod assertions;
+#[cfg(test)]
+mod lines;
 #[cfg(test)]
 mod names;
 #[cfg(test)]

@@ -4,13 +4,13 @@
 ghost use Rattle.std.specs.Prelude.{◌≡◌, IsSome, IfOk, OnErr, OnOk};
 
 use crate::assertions::assert_same;
+use crate::samples::{STAMP, item};
 use oai_catalogue::{FaultyVersions, Filter, PlainVersions, Versions, change_item};
 use oai_item::{Fault, Item};
 use oai_names::{Identifier, Prefix, SetSpec};
 use std::alloc::Global;
 use std::process::Abort;
 use std::test::Fail;
-use tests_samples::{STAMP, item};
 
 /// `oai:a:1` of the first datestamp, `oai:a:2` of a second later, and so on, in the set `x:y`.
 fn numbered(alloc: Global, number: u8) -> Result<Item, Fail> {

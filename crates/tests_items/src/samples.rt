@@ -1,5 +1,4 @@
-//! Items that tests speak of, by the little that is told of them. It holds no test.
-#![tactic(auto)]
+//! Items that tests speak of, by the little that is told of them.
 
 use oai_item::{Field, Item};
 use oai_names::{Identifier, Prefix, Sequence, SetSpec, Text};
@@ -7,10 +6,10 @@ use std::alloc::{AllocError, Global};
 use std::test::Fail;
 
 /// 2024-01-01T00:00:00Z, the datestamp of an item that is not deposited later.
-pub const STAMP: i64 = 1_704_067_200;
+pub(crate) const STAMP: i64 = 1_704_067_200;
 
 /// `a`, so many times.
-pub fn letters(alloc: Global, many: usize) -> Result<String, AllocError> {
+pub(crate) fn letters(alloc: Global, many: usize) -> Result<String, AllocError> {
     let mut text = String::new(alloc);
     for _ in 0..many {
         text.push('a')?;
@@ -19,7 +18,7 @@ pub fn letters(alloc: Global, many: usize) -> Result<String, AllocError> {
 }
 
 /// The field `title` of that text.
-pub fn title_field(alloc: Global, text: &str) -> Result<Field, AllocError> {
+pub(crate) fn title_field(alloc: Global, text: &str) -> Result<Field, AllocError> {
     Ok(Field {
         name: Text::new(alloc, "title")?,
         text: Text::new(alloc, text)?,
@@ -42,7 +41,7 @@ fn titles(alloc: Global, text: &str) -> Result<Sequence<Field>, AllocError> {
 
 /// The item of that identifier, and of a datestamp so many seconds later, in these sets, with one
 /// title in oai_dc.
-pub fn item(
+pub(crate) fn item(
     alloc: Global,
     identifier: &str,
     later: u8,
