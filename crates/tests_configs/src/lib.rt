@@ -1,4 +1,4 @@
-//! Tests of what settings make the configuration of a repository (`oai_repo`), of what texts are
+//! Tests of what settings make the configuration of a repository (`oai_settings`), of what texts are
 //! configurations of a host (`oai_host`), and why others are none. It holds nothing else.
 #![tactic(auto)]
 

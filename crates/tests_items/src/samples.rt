@@ -1,5 +1,4 @@
 //! Items that tests speak of, by the little that is told of them.
-
 use oai_item::{Field, Item};
 use oai_names::{Identifier, Prefix, Sequence, SetSpec, Text};
 use std::alloc::{AllocError, Global};
