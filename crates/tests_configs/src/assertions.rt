@@ -1,6 +1,7 @@
 //! What the tests of this crate compare with, as functions: what `assert_eq!` writes is proved wherever it stands.
-use std::alloc::{AllocError, Global};
+use std::alloc::Global;
 use std::fmt::{Debug, Display};
+use std::panic::Expect;
 use std::process::Abort;
 
 /// Fails the test, and shows both values, where they are not equal.
@@ -18,14 +19,15 @@ pub(crate) fn assert_same_at<T: PartialEq + Debug + Drop, P: Display + Drop>(
     assert_eq!(rt; found, wanted, "at {place}");
 }
 
-/// Fails the test, and shows both texts, where the value is not told as the one that is wanted. The error is
-/// want of memory.
+/// Fails the test where the value is not told as the text that is wanted, and shows both; or for want of memory.
 pub(crate) fn assert_shown<T: Display + Drop>(
     rt: &impl Abort,
     alloc: Global,
     value: T,
     wanted: &str,
-) -> Result<(), AllocError> {
-    assert_eq!(rt; value.to_string(alloc)?.as_str(), wanted);
-    Ok(())
+) {
+    assert_eq!(rt;
+        value.to_string(alloc).expect(rt, "memory").as_str(),
+        wanted
+    );
 }

@@ -3,59 +3,59 @@ use crate::answers::answer_to;
 use crate::assertions::{assert_same, assert_same_at};
 use crate::worked::{assert_table, worked_with};
 use oai_host::{Config, fault_law, path_law, shape_law};
-use std::alloc::{AllocError, Global};
+use std::alloc::Global;
+use std::panic::Expect;
 use std::process::Abort;
-use std::test::Fail;
 use tests_worked::worked_configuration;
 
 #[test]
-fn what_is_read(rt: HostRuntime) -> Result<(), Fail> {
-    let config = Config::read(rt.alloc(), worked_configuration().as_bytes())?;
+fn what_is_read(rt: HostRuntime) {
+    let config = Config::read(rt.alloc(), worked_configuration().as_bytes()).expect(
+        &rt,
+        "Config::read",
+    );
     assert_same(&rt, config.len(), 3);
     assert_same(&rt, config.cache(), 1);
     shape_law();
     fault_law();
     path_law();
-    Ok(())
 }
 
 /// The names and the base URLs of the repositories, one after another.
-fn bases_of(alloc: Global, text: &str) -> Result<String, Fail> {
-    let config = Config::read(alloc, text.as_bytes())?;
+fn bases_of(rt: &impl Abort, alloc: Global, text: &str) -> String {
+    let config = Config::read(alloc, text.as_bytes()).expect(rt, "Config::read");
     let mut bases = String::new(alloc);
     for hosted in config.into_repositories().as_slice() {
-        bases.push_str(hosted.name.as_str())?;
-        bases.push(' ')?;
-        bases.push_str(hosted.config.base())?;
-        bases.push('\n')?;
+        bases.push_str(hosted.name.as_str()).expect(rt, "memory");
+        bases.push(' ').expect(rt, "memory");
+        bases.push_str(hosted.config.base()).expect(rt, "memory");
+        bases.push('\n').expect(rt, "memory");
     }
-    Ok(bases)
+    bases
 }
 
 /// They are in the order of the text, each with its own configuration.
 #[test]
-fn repositories_of_the_worked_configuration(rt: HostRuntime) -> Result<(), Fail> {
-    let bases = bases_of(rt.alloc(), worked_configuration())?;
+fn repositories_of_the_worked_configuration(rt: HostRuntime) {
+    let bases = bases_of(&rt, rt.alloc(), worked_configuration());
     let wanted =
         "a http://host.example/oai/a\nb http://host.example/oai/b\nc http://host.example/oai/c\n";
     assert_same(&rt, bases.as_str(), wanted);
-    Ok(())
 }
 
 /// The order of the text is no order of the names; and a slash of the base stays.
 #[test]
-fn repositories_in_the_order_of_the_text(rt: HostRuntime) -> Result<(), Fail> {
+fn repositories_in_the_order_of_the_text(rt: HostRuntime) {
     let changes = r#""name":"a" -> "name":"z" && "http://host.example", -> "x y/","#;
-    let text = worked_with(&rt, rt.alloc(), changes)?;
-    let bases = bases_of(rt.alloc(), text.as_str())?;
+    let text = worked_with(&rt, rt.alloc(), changes);
+    let bases = bases_of(&rt, rt.alloc(), text.as_str());
     let wanted = "z x y//oai/z\nb x y//oai/b\nc x y//oai/c\n";
     assert_same(&rt, bases.as_str(), wanted);
-    Ok(())
 }
 
 /// What is told of the first repository.
-fn assert_first(rt: &impl Abort, alloc: Global) -> Result<(), Fail> {
-    let config = Config::read(alloc, worked_configuration().as_bytes())?;
+fn assert_first(rt: &impl Abort, alloc: Global) {
+    let config = Config::read(alloc, worked_configuration().as_bytes()).expect(rt, "Config::read");
     for first in config.into_repositories().as_slice().iter().take(1) {
         let told = &first.config;
         assert_same(rt, told.repository_name(), "Archive A");
@@ -64,25 +64,25 @@ fn assert_first(rt: &impl Abort, alloc: Global) -> Result<(), Fail> {
         assert_same(rt, (told.lists(), told.items()), (1, 1_000));
         assert_same(rt, told.formats().len(), 2);
     }
-    Ok(())
 }
 
 #[test]
-fn first_repository(rt: HostRuntime) -> Result<(), Fail> {
-    assert_first(&rt, rt.alloc())
+fn first_repository(rt: HostRuntime) {
+    assert_first(&rt, rt.alloc());
 }
 
 /// Of two members of one name the last counts, also where the first is of another kind.
 #[test]
-fn member_that_stands_twice(rt: HostRuntime) -> Result<(), Fail> {
+fn member_that_stands_twice(rt: HostRuntime) {
     let changes = r#""cache":1 -> "cache":"x","cache":7,"cache":65536"#;
-    let text = worked_with(&rt, rt.alloc(), changes)?;
+    let text = worked_with(&rt, rt.alloc(), changes);
     assert_same(
         &rt,
-        Config::read(rt.alloc(), text.as_bytes())?.cache(),
+        Config::read(rt.alloc(), text.as_bytes())
+            .expect(&rt, "Config::read")
+            .cache(),
         65_536,
     );
-    Ok(())
 }
 
 /// What may be told in place of the words of the worked configuration: each limit, and what is free.
@@ -108,34 +108,35 @@ jnl.xsd -> é\u007f.xsd && "article" -> "_a-Z.9" => ok
 }
 
 #[test]
-fn changes_that_are_free(rt: HostRuntime) -> Result<(), Fail> {
-    assert_table(&rt, rt.alloc(), free_changes())
+fn changes_that_are_free(rt: HostRuntime) {
+    assert_table(&rt, rt.alloc(), free_changes());
 }
 
 // ---- many repositories
 
 /// A repository of this name that keeps so many records a page.
-fn push_repository(text: &mut String, name: usize, chunk: &str) -> Result<(), AllocError> {
+fn push_repository(rt: &impl Abort, text: &mut String, name: usize, chunk: &str) {
     let alloc = *text.allocator();
     let repository = format!(in alloc;
         "{{\"name\":\"r{name}\",\"repositoryName\":\"R\",\"adminEmail\":[\"r@host.example\"],\"earliestDatestamp\":\"2024-01-01\",\"deletedRecord\":\"no\",\"granularity\":\"days\",\"chunk\":{chunk},\"lifetime\":60,\"lists\":1,\"items\":1,\"formats\":[]}}"
-    )?;
-    text.push_str(repository.as_str())
+    ).expect(rt, "memory");
+    text.push_str(repository.as_str()).expect(rt, "memory");
 }
 
 /// So many repositories, of the names `r0`, `r1` and so on, and one of this name and chunk last.
-fn many(alloc: Global, number: usize, last: usize, chunk: &str) -> Result<String, AllocError> {
+fn many(rt: &impl Abort, alloc: Global, number: usize, last: usize, chunk: &str) -> String {
     let mut text = String::from_str(
         alloc,
         r#"{"base":"http://host.example","cache":1,"repositories":["#,
-    )?;
+    )
+    .expect(rt, "memory");
     for name in 0..number {
-        push_repository(&mut text, name, "2")?;
-        text.push(',')?;
+        push_repository(rt, &mut text, name, "2");
+        text.push(',').expect(rt, "memory");
     }
-    push_repository(&mut text, last, chunk)?;
-    text.push_str("]}")?;
-    Ok(text)
+    push_repository(rt, &mut text, last, chunk);
+    text.push_str("]}").expect(rt, "memory");
+    text
 }
 
 /// What so many repositories and such a last one are answered.
@@ -146,23 +147,27 @@ fn assert_many(
     last: usize,
     chunk: &str,
     wanted: &str,
-) -> Result<(), Fail> {
-    let text = many(alloc, number, last, chunk)?;
-    assert_same_at(rt, answer_to(alloc, text.as_bytes())?, wanted, last);
-    Ok(())
+) {
+    let text = many(rt, alloc, number, last, chunk);
+    assert_same_at(
+        rt,
+        answer_to(alloc, text.as_bytes()).expect(rt, "answer_to"),
+        wanted,
+        last,
+    );
 }
 
 #[test]
-fn a_thousand_repositories(rt: HostRuntime) -> Result<(), Fail> {
-    assert_many(&rt, rt.alloc(), 999, 999, "2", "ok")?;
-    assert_many(&rt, rt.alloc(), 999, 0, "2", "4 DuplicateName")
+fn a_thousand_repositories(rt: HostRuntime) {
+    assert_many(&rt, rt.alloc(), 999, 999, "2", "ok");
+    assert_many(&rt, rt.alloc(), 999, 0, "2", "4 DuplicateName");
 }
 
 /// One more is told where no lower fault lies anywhere, the last repository included.
 #[test]
-fn a_thousand_and_one(rt: HostRuntime) -> Result<(), Fail> {
-    assert_many(&rt, rt.alloc(), 1_000, 1_000, "2", "8 TooMany")?;
-    assert_many(&rt, rt.alloc(), 1_000, 0, "2", "4 DuplicateName")?;
-    assert_many(&rt, rt.alloc(), 1_000, 1_000, "0", "7 BadNumber")?;
-    assert_many(&rt, rt.alloc(), 1_000, 0, "\"2\"", "2 BadShape")
+fn a_thousand_and_one(rt: HostRuntime) {
+    assert_many(&rt, rt.alloc(), 1_000, 1_000, "2", "8 TooMany");
+    assert_many(&rt, rt.alloc(), 1_000, 0, "2", "4 DuplicateName");
+    assert_many(&rt, rt.alloc(), 1_000, 1_000, "0", "7 BadNumber");
+    assert_many(&rt, rt.alloc(), 1_000, 0, "\"2\"", "2 BadShape");
 }

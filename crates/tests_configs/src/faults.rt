@@ -3,9 +3,9 @@ use crate::answers::answer_to;
 use crate::assertions::{assert_same, assert_same_at, assert_shown};
 use crate::worked::{assert_table, repeated, worked_with};
 use oai_host::ReadFault;
-use std::alloc::{AllocError, Global};
+use std::alloc::Global;
+use std::panic::Expect;
 use std::process::Abort;
-use std::test::Fail;
 
 fn all_faults() -> [(ReadFault, u8, &'static str); 9] {
     [
@@ -22,21 +22,24 @@ fn all_faults() -> [(ReadFault, u8, &'static str); 9] {
 }
 
 #[test]
-fn faults_are_told(rt: HostRuntime) -> Result<(), Fail> {
+fn faults_are_told(rt: HostRuntime) {
     for (fault, number, text) in all_faults() {
         assert_same(&rt, fault.number(), number);
         assert_same(&rt, fault.answer(), text);
-        assert_shown(&rt, rt.alloc(), fault, text)?;
+        assert_shown(&rt, rt.alloc(), fault, text);
     }
-    Ok(())
 }
 
 /// Each of these texts, one a line, is answered so.
-fn assert_each(rt: &impl Abort, alloc: Global, texts: &str, wanted: &str) -> Result<(), Fail> {
+fn assert_each(rt: &impl Abort, alloc: Global, texts: &str, wanted: &str) {
     for text in texts.lines() {
-        assert_same_at(rt, answer_to(alloc, text.as_bytes())?, wanted, text);
+        assert_same_at(
+            rt,
+            answer_to(alloc, text.as_bytes()).expect(rt, "answer_to"),
+            wanted,
+            text,
+        );
     }
-    Ok(())
 }
 
 fn no_json() -> &'static str {
@@ -64,12 +67,19 @@ null
 }
 
 #[test]
-fn texts_of_another_kind(rt: HostRuntime) -> Result<(), Fail> {
-    assert_each(&rt, rt.alloc(), no_json(), "1 BadJson")?;
-    assert_each(&rt, rt.alloc(), other_json(), "2 BadShape")?;
-    assert_same(&rt, answer_to(rt.alloc(), b"")?, "1 BadJson");
-    assert_same(&rt, answer_to(rt.alloc(), b"\"\xff\"")?, "1 BadJson");
-    Ok(())
+fn texts_of_another_kind(rt: HostRuntime) {
+    assert_each(&rt, rt.alloc(), no_json(), "1 BadJson");
+    assert_each(&rt, rt.alloc(), other_json(), "2 BadShape");
+    assert_same(
+        &rt,
+        answer_to(rt.alloc(), b"").expect(&rt, "answer_to"),
+        "1 BadJson",
+    );
+    assert_same(
+        &rt,
+        answer_to(rt.alloc(), b"\"\xff\"").expect(&rt, "answer_to"),
+        "1 BadJson",
+    );
 }
 
 /// One change, and one cause.
@@ -146,8 +156,8 @@ jnl.xsd -> \u0001 => 5 BadFormat
 }
 
 #[test]
-fn each_cause_alone(rt: HostRuntime) -> Result<(), Fail> {
-    assert_table(&rt, rt.alloc(), single_causes())
+fn each_cause_alone(rt: HostRuntime) {
+    assert_table(&rt, rt.alloc(), single_causes());
 }
 
 /// Two causes, of which the lower is told wherever they stand: before the other or behind it, in one
@@ -172,44 +182,41 @@ fn two_causes() -> &'static str {
 }
 
 #[test]
-fn lowest_of_two_causes(rt: HostRuntime) -> Result<(), Fail> {
-    assert_table(&rt, rt.alloc(), two_causes())
+fn lowest_of_two_causes(rt: HostRuntime) {
+    assert_table(&rt, rt.alloc(), two_causes());
 }
 
 /// The text so often in place of a text of the worked configuration.
-fn assert_long(
-    rt: &impl Abort,
-    alloc: Global,
-    old: &str,
-    text: &str,
-    times: usize,
-    wanted: &str,
-) -> Result<(), Fail> {
-    let long = repeated(alloc, text, times)?;
-    let change = format!(in alloc; "\"{old}\" -> \"{}\"", long.as_str())?;
-    let config = worked_with(rt, alloc, change.as_str())?;
-    assert_same_at(rt, answer_to(alloc, config.as_bytes())?, wanted, times);
-    Ok(())
+fn assert_long(rt: &impl Abort, alloc: Global, old: &str, text: &str, times: usize, wanted: &str) {
+    let long = repeated(rt, alloc, text, times);
+    let change = format!(in alloc; "\"{old}\" -> \"{}\"", long.as_str()).expect(rt, "memory");
+    let config = worked_with(rt, alloc, change.as_str());
+    assert_same_at(
+        rt,
+        answer_to(alloc, config.as_bytes()).expect(rt, "answer_to"),
+        wanted,
+        times,
+    );
 }
 
 /// Lengths are in bytes: the letter has two.
 #[test]
-fn longest_texts(rt: HostRuntime) -> Result<(), Fail> {
+fn longest_texts(rt: HostRuntime) {
     let alloc = rt.alloc();
-    assert_long(&rt, alloc, "http://host.example", "x", 512, "ok")?;
-    assert_long(&rt, alloc, "http://host.example", "x", 513, "2 BadShape")?;
-    assert_long(&rt, alloc, "Archive C", "\u{E9}", 256, "ok")?;
-    assert_long(&rt, alloc, "Archive C", "\u{E9}", 257, "2 BadShape")?;
-    assert_long(&rt, alloc, "c@host.example", "x", 512, "ok")?;
-    assert_long(&rt, alloc, "c@host.example", "x", 513, "2 BadShape")
+    assert_long(&rt, alloc, "http://host.example", "x", 512, "ok");
+    assert_long(&rt, alloc, "http://host.example", "x", 513, "2 BadShape");
+    assert_long(&rt, alloc, "Archive C", "\u{E9}", 256, "ok");
+    assert_long(&rt, alloc, "Archive C", "\u{E9}", 257, "2 BadShape");
+    assert_long(&rt, alloc, "c@host.example", "x", 512, "ok");
+    assert_long(&rt, alloc, "c@host.example", "x", 513, "2 BadShape");
 }
 
 #[test]
-fn longest_texts_of_formats(rt: HostRuntime) -> Result<(), Fail> {
+fn longest_texts_of_formats(rt: HostRuntime) {
     let alloc = rt.alloc();
-    assert_long(&rt, alloc, "jnl", "x", 64, "ok")?;
-    assert_long(&rt, alloc, "jnl", "x", 65, "5 BadFormat")?;
-    assert_long(&rt, alloc, "http://host.example/jnl/", "x", 512, "ok")?;
+    assert_long(&rt, alloc, "jnl", "x", 64, "ok");
+    assert_long(&rt, alloc, "jnl", "x", 65, "5 BadFormat");
+    assert_long(&rt, alloc, "http://host.example/jnl/", "x", 512, "ok");
     assert_long(
         &rt,
         alloc,
@@ -217,68 +224,62 @@ fn longest_texts_of_formats(rt: HostRuntime) -> Result<(), Fail> {
         "x",
         513,
         "5 BadFormat",
-    )?;
-    assert_long(&rt, alloc, "article", "x", 64, "ok")?;
-    assert_long(&rt, alloc, "article", "x", 65, "5 BadFormat")?;
-    assert_long(&rt, alloc, "pages", "x", 65, "5 BadFormat")
+    );
+    assert_long(&rt, alloc, "article", "x", 64, "ok");
+    assert_long(&rt, alloc, "article", "x", 65, "5 BadFormat");
+    assert_long(&rt, alloc, "pages", "x", 65, "5 BadFormat");
 }
 
 /// So many texts with commas between, each the front, its number and the end.
-fn numbered(alloc: Global, front: &str, number: usize, end: &str) -> Result<String, AllocError> {
-    let mut all = format!(in alloc; "{front}0{end}")?;
+fn numbered(rt: &impl Abort, alloc: Global, front: &str, number: usize, end: &str) -> String {
+    let mut all = format!(in alloc; "{front}0{end}").expect(rt, "memory");
     for i in 1..number {
-        let one = format!(in alloc; ",{front}{i}{end}")?;
-        all.push_str(one.as_str())?;
+        let one = format!(in alloc; ",{front}{i}{end}").expect(rt, "memory");
+        all.push_str(one.as_str()).expect(rt, "memory");
     }
-    Ok(all)
+    all
 }
 
 /// These texts in place of a list of the worked configuration.
-fn assert_listed(
-    rt: &impl Abort,
-    alloc: Global,
-    old: &str,
-    name: &str,
-    texts: &str,
-    wanted: &str,
-) -> Result<(), Fail> {
-    let change = format!(in alloc; "{old} -> \"{name}\":[{texts}]")?;
-    let config = worked_with(rt, alloc, change.as_str())?;
-    assert_same_at(rt, answer_to(alloc, config.as_bytes())?, wanted, change);
-    Ok(())
+fn assert_listed(rt: &impl Abort, alloc: Global, old: &str, name: &str, texts: &str, wanted: &str) {
+    let change = format!(in alloc; "{old} -> \"{name}\":[{texts}]").expect(rt, "memory");
+    let config = worked_with(rt, alloc, change.as_str());
+    assert_same_at(
+        rt,
+        answer_to(alloc, config.as_bytes()).expect(rt, "answer_to"),
+        wanted,
+        change,
+    );
 }
 
 #[test]
-fn most_addresses(rt: HostRuntime) -> Result<(), Fail> {
+fn most_addresses(rt: HostRuntime) {
     let alloc = rt.alloc();
     let old = "\"adminEmail\":[\"c@host.example\"]";
     for (number, wanted) in [(16, "ok"), (17, "2 BadShape")] {
-        let texts = numbered(alloc, "\"a", number, "\"")?;
-        assert_listed(&rt, alloc, old, "adminEmail", texts.as_str(), wanted)?;
+        let texts = numbered(&rt, alloc, "\"a", number, "\"");
+        assert_listed(&rt, alloc, old, "adminEmail", texts.as_str(), wanted);
     }
-    Ok(())
 }
 
 #[test]
-fn most_fields(rt: HostRuntime) -> Result<(), Fail> {
+fn most_fields(rt: HostRuntime) {
     let alloc = rt.alloc();
     let old = "\"fields\":[\"volume\",\"pages\"]";
     for (number, wanted) in [(256, "ok"), (257, "5 BadFormat")] {
-        let texts = numbered(alloc, "\"f", number, "\"")?;
-        assert_listed(&rt, alloc, old, "fields", texts.as_str(), wanted)?;
+        let texts = numbered(&rt, alloc, "\"f", number, "\"");
+        assert_listed(&rt, alloc, old, "fields", texts.as_str(), wanted);
     }
-    Ok(())
 }
 
 /// 64 with oai_dc counted, and one more; many more are no want of memory.
 #[test]
-fn most_formats(rt: HostRuntime) -> Result<(), Fail> {
+fn most_formats(rt: HostRuntime) {
     let alloc = rt.alloc();
     let old = "\"formats\":[]";
     let end = "\",\"schema\":\"s\",\"namespace\":\"n\",\"root\":\"r\",\"fields\":[\"f\"]}";
     for (number, wanted) in [(63, "ok"), (64, "5 BadFormat"), (2_000, "5 BadFormat")] {
-        let texts = numbered(alloc, "{\"prefix\":\"p", number, end)?;
-        assert_listed(&rt, alloc, old, "formats", texts.as_str(), wanted)?;
+        let texts = numbered(&rt, alloc, "{\"prefix\":\"p", number, end);
+        assert_listed(&rt, alloc, old, "formats", texts.as_str(), wanted);
     }
-    Ok(())
 }

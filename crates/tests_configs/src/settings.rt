@@ -3,20 +3,24 @@ use crate::assertions::{assert_same, assert_same_at, assert_shown};
 use oai_answers::DeletedRecord;
 use oai_settings::{ConfigFault, RepoConfig};
 use oai_time::Granularity;
-use std::alloc::{AllocError, Global};
+use std::alloc::Global;
+use std::panic::Expect;
 use std::process::Abort;
-use std::test::Fail;
 use tests_archives::{Told, archive_a, archive_b, settings_of};
 
 /// The configuration of Archive A.
-fn config_of_a(alloc: Global) -> Result<RepoConfig, Fail> {
-    Ok(RepoConfig::new(alloc, settings_of(alloc, archive_a())?)?)
+fn config_of_a(rt: &impl Abort, alloc: Global) -> RepoConfig {
+    RepoConfig::new(
+        alloc,
+        settings_of(alloc, archive_a()).expect(rt, "settings_of"),
+    )
+    .expect(rt, "RepoConfig::new")
 }
 
 /// Why that makes no configuration, where it makes none.
-fn fault_of(alloc: Global, told: Told<'_>) -> Result<Option<ConfigFault>, AllocError> {
-    let settings = settings_of(alloc, told)?;
-    Ok(RepoConfig::new(alloc, settings).err())
+fn fault_of(rt: &impl Abort, alloc: Global, told: Told<'_>) -> Option<ConfigFault> {
+    let settings = settings_of(alloc, told).expect(rt, "settings_of");
+    RepoConfig::new(alloc, settings).err()
 }
 
 /// That makes a configuration, or none for this fault.
@@ -26,19 +30,18 @@ fn assert_fault(
     told: Told<'_>,
     wanted: Option<ConfigFault>,
     place: &str,
-) -> Result<(), AllocError> {
-    let fault = fault_of(alloc, told)?;
+) {
+    let fault = fault_of(rt, alloc, told);
     assert_same_at(rt, fault, wanted, place);
-    Ok(())
 }
 
 /// The text so often.
-fn repeated(alloc: Global, text: &str, times: usize) -> Result<String, AllocError> {
+fn repeated(rt: &impl Abort, alloc: Global, text: &str, times: usize) -> String {
     let mut all = String::new(alloc);
     for _ in 0..times {
-        all.push_str(text)?;
+        all.push_str(text).expect(rt, "memory");
     }
-    Ok(all)
+    all
 }
 
 /// What is told of Archive A.
@@ -55,10 +58,9 @@ fn assert_told(rt: &impl Abort, config: &RepoConfig) {
 }
 
 #[test]
-fn accessors(rt: HostRuntime) -> Result<(), Fail> {
-    let config = config_of_a(rt.alloc())?;
+fn accessors(rt: HostRuntime) {
+    let config = config_of_a(&rt, rt.alloc());
     assert_told(&rt, &config);
-    Ok(())
 }
 
 /// Its second format, which it declares.
@@ -76,14 +78,13 @@ fn assert_declared(rt: &impl Abort, config: &RepoConfig) {
 }
 
 #[test]
-fn declared_format(rt: HostRuntime) -> Result<(), Fail> {
-    let config = config_of_a(rt.alloc())?;
+fn declared_format(rt: HostRuntime) {
+    let config = config_of_a(&rt, rt.alloc());
     assert_declared(&rt, &config);
-    Ok(())
 }
 
 #[test]
-fn faults_are_told(rt: HostRuntime) -> Result<(), Fail> {
+fn faults_are_told(rt: HostRuntime) {
     for (fault, text) in [
         (ConfigFault::BadShape, "2 BadShape"),
         (ConfigFault::BadName, "3 BadName"),
@@ -93,37 +94,30 @@ fn faults_are_told(rt: HostRuntime) -> Result<(), Fail> {
         (ConfigFault::NoMemory, "9 NoMemory"),
     ] {
         assert_same(&rt, fault.answer(), text);
-        assert_shown(&rt, rt.alloc(), fault, text)?;
+        assert_shown(&rt, rt.alloc(), fault, text);
     }
-    Ok(())
 }
 
 /// This base.
-fn assert_base(
-    rt: &impl Abort,
-    alloc: Global,
-    base: &str,
-    wanted: Option<ConfigFault>,
-) -> Result<(), AllocError> {
+fn assert_base(rt: &impl Abort, alloc: Global, base: &str, wanted: Option<ConfigFault>) {
     let told = Told {
         base,
         ..archive_b()
     };
-    assert_fault(rt, alloc, told, wanted, base)
+    assert_fault(rt, alloc, told, wanted, base);
 }
 
 #[test]
-fn bases(rt: HostRuntime) -> Result<(), Fail> {
+fn bases(rt: HostRuntime) {
     for length in [1, 512] {
-        let base = repeated(rt.alloc(), "x", length)?;
-        assert_base(&rt, rt.alloc(), base.as_str(), None)?;
+        let base = repeated(&rt, rt.alloc(), "x", length);
+        assert_base(&rt, rt.alloc(), base.as_str(), None);
     }
     let bad = Some(ConfigFault::BadShape);
     for length in [0, 513] {
-        let base = repeated(rt.alloc(), "x", length)?;
-        assert_base(&rt, rt.alloc(), base.as_str(), bad)?;
+        let base = repeated(&rt, rt.alloc(), "x", length);
+        assert_base(&rt, rt.alloc(), base.as_str(), bad);
     }
-    Ok(())
 }
 
 /// This name for people.
@@ -132,29 +126,28 @@ fn assert_name_for_people(
     alloc: Global,
     repository_name: &str,
     wanted: Option<ConfigFault>,
-) -> Result<(), AllocError> {
+) {
     let told = Told {
         repository_name,
         ..archive_b()
     };
-    assert_fault(rt, alloc, told, wanted, repository_name)
+    assert_fault(rt, alloc, told, wanted, repository_name);
 }
 
 /// Two bytes a character: the length is that in bytes.
 #[test]
-fn names_for_people(rt: HostRuntime) -> Result<(), Fail> {
+fn names_for_people(rt: HostRuntime) {
     let alloc = rt.alloc();
     let bad = Some(ConfigFault::BadShape);
-    let most = repeated(alloc, "\u{E9}", 256)?;
-    assert_name_for_people(&rt, alloc, most.as_str(), None)?;
-    let long = repeated(alloc, "\u{E9}", 257)?;
-    assert_name_for_people(&rt, alloc, long.as_str(), bad)?;
-    assert_name_for_people(&rt, alloc, "\u{FFFE}", bad)?;
-    Ok(())
+    let most = repeated(&rt, alloc, "\u{E9}", 256);
+    assert_name_for_people(&rt, alloc, most.as_str(), None);
+    let long = repeated(&rt, alloc, "\u{E9}", 257);
+    assert_name_for_people(&rt, alloc, long.as_str(), bad);
+    assert_name_for_people(&rt, alloc, "\u{FFFE}", bad);
 }
 
 #[test]
-fn addresses(rt: HostRuntime) -> Result<(), Fail> {
+fn addresses(rt: HostRuntime) {
     for (address, addresses, wanted) in [
         ("b@host.example", 1, None),
         ("b@host.example", 16, None),
@@ -167,13 +160,12 @@ fn addresses(rt: HostRuntime) -> Result<(), Fail> {
             addresses,
             ..archive_b()
         };
-        assert_fault(&rt, rt.alloc(), told, wanted, address)?;
+        assert_fault(&rt, rt.alloc(), told, wanted, address);
     }
-    Ok(())
 }
 
 #[test]
-fn names(rt: HostRuntime) -> Result<(), Fail> {
+fn names(rt: HostRuntime) {
     for (name, wanted) in [
         ("-", None),
         ("0", None),
@@ -190,9 +182,8 @@ fn names(rt: HostRuntime) -> Result<(), Fail> {
             name,
             ..archive_b()
         };
-        assert_fault(&rt, rt.alloc(), told, wanted, name)?;
+        assert_fault(&rt, rt.alloc(), told, wanted, name);
     }
-    Ok(())
 }
 
 fn assert_base_is(rt: &impl Abort, config: &RepoConfig, base: &str) {
@@ -201,63 +192,61 @@ fn assert_base_is(rt: &impl Abort, config: &RepoConfig, base: &str) {
 
 /// The base is no checked URL, and the rest is put behind it as it is.
 #[test]
-fn base_with_a_slash(rt: HostRuntime) -> Result<(), Fail> {
+fn base_with_a_slash(rt: HostRuntime) {
     let told = Told {
         base: "a b/",
         ..archive_b()
     };
-    let config = RepoConfig::new(rt.alloc(), settings_of(rt.alloc(), told)?)?;
+    let config = RepoConfig::new(
+        rt.alloc(),
+        settings_of(rt.alloc(), told).expect(&rt, "settings_of"),
+    )
+    .expect(&rt, "RepoConfig::new");
     assert_base_is(&rt, &config, "a b//oai/b");
-    Ok(())
 }
 
 /// Formats of these prefixes.
-fn assert_prefixes(
-    rt: &impl Abort,
-    alloc: Global,
-    prefixes: &str,
-    wanted: Option<ConfigFault>,
-) -> Result<(), AllocError> {
+fn assert_prefixes(rt: &impl Abort, alloc: Global, prefixes: &str, wanted: Option<ConfigFault>) {
     let told = Told {
         prefixes: Some(prefixes),
         ..archive_b()
     };
-    assert_fault(rt, alloc, told, wanted, prefixes)
+    assert_fault(rt, alloc, told, wanted, prefixes);
 }
 
 #[test]
-fn prefixes(rt: HostRuntime) -> Result<(), Fail> {
+fn prefixes(rt: HostRuntime) {
     for prefixes in ["oai_dC", "jnl,jnL", "-_.!~*'()"] {
-        assert_prefixes(&rt, rt.alloc(), prefixes, None)?;
+        assert_prefixes(&rt, rt.alloc(), prefixes, None);
     }
     for prefixes in ["", "a b", "jnl,oai_dc", "a,b,a"] {
-        assert_prefixes(&rt, rt.alloc(), prefixes, Some(ConfigFault::BadFormat))?;
+        assert_prefixes(&rt, rt.alloc(), prefixes, Some(ConfigFault::BadFormat));
     }
     for (length, wanted) in [(64, None), (65, Some(ConfigFault::BadFormat))] {
-        let prefix = repeated(rt.alloc(), "p", length)?;
-        assert_prefixes(&rt, rt.alloc(), prefix.as_str(), wanted)?;
+        let prefix = repeated(&rt, rt.alloc(), "p", length);
+        assert_prefixes(&rt, rt.alloc(), prefix.as_str(), wanted);
     }
-    Ok(())
 }
 
 /// So many prefixes with commas between: the first of one letter, the next of two, and so on.
-fn many_prefixes(alloc: Global, number: usize) -> Result<String, AllocError> {
-    let mut prefixes = String::from_str(alloc, "p")?;
+fn many_prefixes(rt: &impl Abort, alloc: Global, number: usize) -> String {
+    let mut prefixes = String::from_str(alloc, "p").expect(rt, "memory");
     for length in 2..=number {
-        prefixes.push(',')?;
-        prefixes.push_str(repeated(alloc, "p", length)?.as_str())?;
+        prefixes.push(',').expect(rt, "memory");
+        prefixes
+            .push_str(repeated(rt, alloc, "p", length).as_str())
+            .expect(rt, "memory");
     }
-    Ok(prefixes)
+    prefixes
 }
 
 /// 64 formats with oai_dc counted, and one more.
 #[test]
-fn many_formats(rt: HostRuntime) -> Result<(), Fail> {
+fn many_formats(rt: HostRuntime) {
     for (number, wanted) in [(63, None), (64, Some(ConfigFault::BadFormat))] {
-        let prefixes = many_prefixes(rt.alloc(), number)?;
-        assert_prefixes(&rt, rt.alloc(), prefixes.as_str(), wanted)?;
+        let prefixes = many_prefixes(&rt, rt.alloc(), number);
+        assert_prefixes(&rt, rt.alloc(), prefixes.as_str(), wanted);
     }
-    Ok(())
 }
 
 /// This earliest datestamp.
@@ -267,19 +256,19 @@ fn assert_date(
     granularity: Granularity,
     earliest: &str,
     wanted: Option<ConfigFault>,
-) -> Result<(), AllocError> {
+) {
     let told = Told {
         granularity,
         earliest,
         ..archive_b()
     };
-    assert_fault(rt, alloc, told, wanted, earliest)
+    assert_fault(rt, alloc, told, wanted, earliest);
 }
 
 #[test]
-fn dates_of_seconds(rt: HostRuntime) -> Result<(), Fail> {
+fn dates_of_seconds(rt: HostRuntime) {
     for date in ["0001-01-01T00:00:00Z", "9998-12-31T23:59:59Z"] {
-        assert_date(&rt, rt.alloc(), Granularity::Second, date, None)?;
+        assert_date(&rt, rt.alloc(), Granularity::Second, date, None);
     }
     let bad = Some(ConfigFault::BadDate);
     for date in [
@@ -289,15 +278,14 @@ fn dates_of_seconds(rt: HostRuntime) -> Result<(), Fail> {
         "2024-02-30T00:00:00Z",
         "",
     ] {
-        assert_date(&rt, rt.alloc(), Granularity::Second, date, bad)?;
+        assert_date(&rt, rt.alloc(), Granularity::Second, date, bad);
     }
-    Ok(())
 }
 
 #[test]
-fn dates_of_days(rt: HostRuntime) -> Result<(), Fail> {
+fn dates_of_days(rt: HostRuntime) {
     for date in ["0001-01-01", "9998-12-31"] {
-        assert_date(&rt, rt.alloc(), Granularity::Day, date, None)?;
+        assert_date(&rt, rt.alloc(), Granularity::Day, date, None);
     }
     let bad = Some(ConfigFault::BadDate);
     for date in [
@@ -307,9 +295,8 @@ fn dates_of_days(rt: HostRuntime) -> Result<(), Fail> {
         "2024-02-30",
         "2024-1-1",
     ] {
-        assert_date(&rt, rt.alloc(), Granularity::Day, date, bad)?;
+        assert_date(&rt, rt.alloc(), Granularity::Day, date, bad);
     }
-    Ok(())
 }
 
 /// Archive B with this number for one of the limits.
@@ -335,7 +322,7 @@ fn most_of(limit: &str) -> u64 {
 }
 
 #[test]
-fn numbers(rt: HostRuntime) -> Result<(), Fail> {
+fn numbers(rt: HostRuntime) {
     let bad = Some(ConfigFault::BadNumber);
     for limit in ["chunk", "lifetime", "lists", "items"] {
         let most = most_of(limit);
@@ -346,10 +333,9 @@ fn numbers(rt: HostRuntime) -> Result<(), Fail> {
             (Some(0), bad),
             (most.checked_add(1), bad),
         ] {
-            assert_fault(&rt, rt.alloc(), with_number(limit, number), wanted, limit)?;
+            assert_fault(&rt, rt.alloc(), with_number(limit, number), wanted, limit);
         }
     }
-    Ok(())
 }
 
 /// Settings whose parts are bad ones, but for so many that are looked for first.
@@ -366,7 +352,7 @@ fn mended(parts: usize) -> Told<'static> {
 
 /// Each fault comes before those of greater numbers.
 #[test]
-fn order(rt: HostRuntime) -> Result<(), Fail> {
+fn order(rt: HostRuntime) {
     let faults = [
         ConfigFault::BadShape,
         ConfigFault::BadName,
@@ -381,7 +367,6 @@ fn order(rt: HostRuntime) -> Result<(), Fail> {
             mended(parts),
             Some(wanted),
             wanted.answer(),
-        )?;
+        );
     }
-    Ok(())
 }

@@ -1,5 +1,5 @@
 //! Each document by its whole bytes.
-ghost use Rattle.std.specs.Prelude.{◌≡◌, ◌≢◌, IfOk, [], true};
+ghost use Rattle.std.specs.Prelude.{◌≡◌, ◌≢◌, [], true};
 ghost use Rattle.oai_item.specs.Item.{IsStamp, are_rising};
 ghost use Rattle.oai_answers.specs.Answers.{HasWritableEnd, HasWritableTimes, IsWritableDocument};
 ghost use Rattle.oai_answers.specs.Borrowed.{answer_of, continuation_of, document_of};
@@ -14,9 +14,9 @@ use oai_answers::{
 use oai_item::{Field, Format, Formats, Item};
 use oai_names::{Identifier, Prefix, Sequence, SetSpec, Text};
 use oai_time::Granularity;
-use std::alloc::{AllocError, Global};
+use std::alloc::Global;
+use std::panic::Expect;
 use std::process::Abort;
-use std::test::Fail;
 
 /// 2024-01-01T00:00:00Z.
 const DATE: i64 = 1_704_067_200;
@@ -28,24 +28,17 @@ const BASE: &str = "http://host.example/oai/a";
 const MARKUP: &str = "&<>\"'\r\t\né𝄞";
 
 /// The document is spelled so.
-fn assert_document(rt: &impl Abort, alloc: Global, doc: &Doc<'_>, wanted: &str) -> Result<(), Fail>
+fn assert_document(rt: &impl Abort, alloc: Global, doc: &Doc<'_>, wanted: &str)
     requires { IsWritableDocument (document_of doc.now) }
 {
     let mut written = Vec::new(alloc);
-    write_document(alloc, doc, &mut written)?;
-    let wanted = wanted.replace(alloc, '→', "\t")?;
+    write_document(alloc, doc, &mut written).expect(rt, "write_document");
+    let wanted = wanted.replace(alloc, '→', "\t").expect(rt, "replace");
     assert_same_at(rt, written.as_slice(), wanted.as_bytes(), wanted.as_str());
-    Ok(())
 }
 
 /// The answer to the arguments, at the date and the base URL, is spelled so.
-fn assert_answer(
-    rt: &impl Abort,
-    alloc: Global,
-    asked: Asked<'_>,
-    body: Body<'_>,
-    wanted: &str,
-) -> Result<(), Fail>
+fn assert_answer(rt: &impl Abort, alloc: Global, asked: Asked<'_>, body: Body<'_>, wanted: &str)
     requires { HasWritableTimes (answer_of body) }
 {
     let doc = Doc {
@@ -54,11 +47,11 @@ fn assert_answer(
         asked,
         body,
     };
-    assert_document(rt, alloc, &doc, wanted)
+    assert_document(rt, alloc, &doc, wanted);
 }
 
 /// The answer, where markup stands in the base URL and in each argument, is spelled so.
-fn assert_escaped(rt: &impl Abort, alloc: Global, body: Body<'_>, wanted: &str) -> Result<(), Fail>
+fn assert_escaped(rt: &impl Abort, alloc: Global, body: Body<'_>, wanted: &str)
     requires { HasWritableTimes (answer_of body) }
 {
     let doc = Doc {
@@ -67,7 +60,7 @@ fn assert_escaped(rt: &impl Abort, alloc: Global, body: Body<'_>, wanted: &str) 
         asked: all_of(MARKUP),
         body,
     };
-    assert_document(rt, alloc, &doc, wanted)
+    assert_document(rt, alloc, &doc, wanted);
 }
 
 /// The verb alone.
@@ -101,106 +94,121 @@ fn all_of(text: &str) -> Asked<'_> {
 }
 
 /// The setSpecs.
-fn set_specs(alloc: Global, specs: &[&str]) -> Result<Sequence<SetSpec>, Fail> {
+fn set_specs(rt: &impl Abort, alloc: Global, specs: &[&str]) -> Sequence<SetSpec> {
     let mut sets = Vec::new(alloc);
     for spec in specs {
-        sets.push(SetSpec::read(alloc, spec)?)?;
+        sets.push(SetSpec::read(alloc, spec).expect(rt, "SetSpec::read"))
+            .expect(rt, "memory");
     }
-    Ok(Sequence::new(sets))
+    Sequence::new(sets)
 }
 
 /// The fields, each its name and its text.
-fn fields(alloc: Global, named: &[(&str, &str)]) -> Result<Sequence<Field>, Fail> {
+fn fields(rt: &impl Abort, alloc: Global, named: &[(&str, &str)]) -> Sequence<Field> {
     let mut fields = Vec::new(alloc);
     for (name, text) in named {
-        fields.push(Field {
-            name: Text::new(alloc, name)?,
-            text: Text::new(alloc, text)?,
-        })?;
+        fields
+            .push(Field {
+                name: Text::new(alloc, name).expect(rt, "memory"),
+                text: Text::new(alloc, text).expect(rt, "memory"),
+            })
+            .expect(rt, "memory");
     }
-    Ok(Sequence::new(fields))
+    Sequence::new(fields)
 }
 
 /// The record in oai_dc of these fields.
 fn one_record(
+    rt: &impl Abort,
     alloc: Global,
     named: &[(&str, &str)],
-) -> Result<Sequence<(Prefix, Sequence<Field>)>, Fail>
-    ensures rising { IfOk result (λ formats. are_rising formats ≡ true) }
-    ensures carries { IfOk result (λ formats. formats ≢ []) }
+) -> Sequence<(Prefix, Sequence<Field>)>
+    ensures rising { are_rising result ≡ true }
+    ensures carries { result ≢ [] }
 {
     let mut formats = Vec::new(alloc);
-    formats.push((Prefix::read(alloc, "oai_dc")?, fields(alloc, named)?))?;
-    Ok(Sequence::new(formats))
+    formats
+        .push((
+            Prefix::read(alloc, "oai_dc").expect(rt, "Prefix::read"),
+            fields(rt, alloc, named),
+        ))
+        .expect(rt, "memory");
+    Sequence::new(formats)
 }
 
 /// `oai:a:1`, in no sets, with these fields in oai_dc.
-fn dublin_core(alloc: Global, named: &[(&str, &str)]) -> Result<Item, Fail> {
-    let formats = one_record(alloc, named)?;
-    let identifier = Identifier::read(alloc, "oai:a:1")?;
+fn dublin_core(rt: &impl Abort, alloc: Global, named: &[(&str, &str)]) -> Item {
+    let formats = one_record(rt, alloc, named);
+    let identifier = Identifier::read(alloc, "oai:a:1").expect(rt, "Identifier::read");
     let sets = Sequence::new(Vec::new(alloc));
-    Ok(Item::live(alloc, identifier, DATE, sets, formats)?)
+    Item::live(alloc, identifier, DATE, sets, formats).expect(rt, "Item::live")
 }
 
 /// Records in jnl, with that volume, and in oai_dc, with a title.
-fn two_records(alloc: Global, volume: &str) -> Result<Sequence<(Prefix, Sequence<Field>)>, Fail>
-    ensures rising { IfOk result (λ formats. are_rising formats ≡ true) }
-    ensures carries { IfOk result (λ formats. formats ≢ []) }
+fn two_records(rt: &impl Abort, alloc: Global, volume: &str) -> Sequence<(Prefix, Sequence<Field>)>
+    ensures rising { are_rising result ≡ true }
+    ensures carries { result ≢ [] }
 {
-    let journal = Prefix::read(alloc, "jnl")?;
-    let dublin_core = Prefix::read(alloc, "oai_dc")?;
-    let in_journal = fields(alloc, &[("volume", volume)])?;
-    let in_dublin_core = fields(alloc, &[("title", "T")])?;
+    let journal = Prefix::read(alloc, "jnl").expect(rt, "Prefix::read");
+    let dublin_core = Prefix::read(alloc, "oai_dc").expect(rt, "Prefix::read");
+    let in_journal = fields(rt, alloc, &[("volume", volume)]);
+    let in_dublin_core = fields(rt, alloc, &[("title", "T")]);
     let mut formats = Vec::new(alloc);
-    formats.push((journal, in_journal))?;
-    formats.push((dublin_core, in_dublin_core))?;
-    Ok(Sequence::new(formats))
+    formats.push((journal, in_journal)).expect(rt, "memory");
+    formats
+        .push((dublin_core, in_dublin_core))
+        .expect(rt, "memory");
+    Sequence::new(formats)
 }
 
 /// An item of that identifier and datestamp, in these sets, with that volume in jnl and a
 /// title in oai_dc.
 fn in_journal(
+    rt: &impl Abort,
     alloc: Global,
     identifier: &str,
     stamp: i64,
     specs: &[&str],
     volume: &str,
-) -> Result<Item, Fail>
+) -> Item
     requires { IsStamp stamp }
 {
-    let identifier = Identifier::read(alloc, identifier)?;
-    let sets = set_specs(alloc, specs)?;
-    let formats = two_records(alloc, volume)?;
-    Ok(Item::live(alloc, identifier, stamp, sets, formats)?)
+    let identifier = Identifier::read(alloc, identifier).expect(rt, "Identifier::read");
+    let sets = set_specs(rt, alloc, specs);
+    let formats = two_records(rt, alloc, volume);
+    Item::live(alloc, identifier, stamp, sets, formats).expect(rt, "Item::live")
 }
 
 /// `oai:a:2`, deleted a second after the date, in two sets, with records in jnl and in oai_dc.
-fn deleted(alloc: Global) -> Result<Item, Fail> {
-    let item = in_journal(alloc, "oai:a:2", DATE, &["x:y", "z"], "7")?;
-    Ok(item.tombstone(alloc, DATE + 1)?)
+fn deleted(rt: &impl Abort, alloc: Global) -> Item {
+    let item = in_journal(rt, alloc, "oai:a:2", DATE, &["x:y", "z"], "7");
+    item.tombstone(alloc, DATE + 1).expect(rt, "tombstone")
 }
 
 /// The field of a format, `volume`.
-fn volume(alloc: Global) -> Result<Sequence<Text>, Fail> {
+fn volume(rt: &impl Abort, alloc: Global) -> Sequence<Text> {
     let mut fields = Vec::new(alloc);
-    fields.push(Text::new(alloc, "volume")?)?;
-    Ok(Sequence::new(fields))
+    fields
+        .push(Text::new(alloc, "volume").expect(rt, "memory"))
+        .expect(rt, "memory");
+    Sequence::new(fields)
 }
 
 /// A format of this prefix, with these texts.
-fn format(alloc: Global, prefix: &str, schema: &str, namespace: &str) -> Result<Format, Fail> {
-    Ok(Format {
-        prefix: Prefix::read(alloc, prefix)?,
-        schema: Text::new(alloc, schema)?,
-        namespace: Text::new(alloc, namespace)?,
-        root: Text::new(alloc, "article")?,
-        fields: volume(alloc)?,
-    })
+fn format(rt: &impl Abort, alloc: Global, prefix: &str, schema: &str, namespace: &str) -> Format {
+    Format {
+        prefix: Prefix::read(alloc, prefix).expect(rt, "Prefix::read"),
+        schema: Text::new(alloc, schema).expect(rt, "memory"),
+        namespace: Text::new(alloc, namespace).expect(rt, "memory"),
+        root: Text::new(alloc, "article").expect(rt, "memory"),
+        fields: volume(rt, alloc),
+    }
 }
 
 /// The format jnl.
-fn journal(alloc: Global) -> Result<Format, Fail> {
+fn journal(rt: &impl Abort, alloc: Global) -> Format {
     format(
+        rt,
         alloc,
         "jnl",
         "http://host.example/jnl.xsd",
@@ -214,9 +222,9 @@ fn at(cursor: u64, size: u64) -> Extent {
 }
 
 #[test]
-fn identify(rt: HostRuntime) -> Result<(), Fail> {
+fn identify(rt: HostRuntime) {
     let alloc = rt.alloc();
-    let addresses = [Text::new(alloc, "a@host.example")?];
+    let addresses = [Text::new(alloc, "a@host.example").expect(&rt, "memory")];
     let identity = Identity {
         name: "Archive A",
         addresses: &addresses,
@@ -225,15 +233,15 @@ fn identify(rt: HostRuntime) -> Result<(), Fail> {
         granularity: Granularity::Second,
     };
     let body = Body::Identify(identity);
-    assert_answer(&rt, alloc, verb("Identify"), body, expected::identify())
+    assert_answer(&rt, alloc, verb("Identify"), body, expected::identify());
 }
 
 #[test]
-fn identify_of_days(rt: HostRuntime) -> Result<(), Fail> {
+fn identify_of_days(rt: HostRuntime) {
     let alloc = rt.alloc();
     let addresses = [
-        Text::new(alloc, "b@host.example")?,
-        Text::new(alloc, "c@host.example")?,
+        Text::new(alloc, "b@host.example").expect(&rt, "memory"),
+        Text::new(alloc, "c@host.example").expect(&rt, "memory"),
     ];
     let identity = Identity {
         name: "Archive B",
@@ -249,11 +257,11 @@ fn identify_of_days(rt: HostRuntime) -> Result<(), Fail> {
         verb("Identify"),
         body,
         expected::identify_of_days(),
-    )
+    );
 }
 
 #[test]
-fn identify_transient(rt: HostRuntime) -> Result<(), Fail> {
+fn identify_transient(rt: HostRuntime) {
     let identity = Identity {
         name: "",
         addresses: &[],
@@ -268,12 +276,12 @@ fn identify_transient(rt: HostRuntime) -> Result<(), Fail> {
         verb("Identify"),
         body,
         expected::identify_transient(),
-    )
+    );
 }
 
 /// All eight errors. All arguments were given; two of the errors tell none.
 #[test]
-fn errors(rt: HostRuntime) -> Result<(), Fail> {
+fn errors(rt: HostRuntime) {
     let asked = Asked {
         verb: Some("GetRecord"),
         identifier: Some("i"),
@@ -303,9 +311,8 @@ fn errors(rt: HostRuntime) -> Result<(), Fail> {
         (ErrorCode::NoSetHierarchy, expected::no_set_hierarchy()),
     ];
     for (code, wanted) in all {
-        assert_answer(&rt, rt.alloc(), asked, Body::Error(code), wanted)?;
+        assert_answer(&rt, rt.alloc(), asked, Body::Error(code), wanted);
     }
-    Ok(())
 }
 
 /// Of oai_dc and jnl, the formats that are listed, all or those of an item, are spelled so.
@@ -315,26 +322,26 @@ fn assert_formats(
     asked: Asked<'_>,
     of: Option<&Item>,
     wanted: &str,
-) -> Result<(), Fail> {
-    let mut formats = Formats::dc(alloc)?;
-    formats.declare(journal(alloc)?)?;
+) {
+    let mut formats = Formats::dc(alloc).expect(rt, "Formats::dc");
+    formats.declare(journal(rt, alloc)).expect(rt, "declare");
     let body = Body::ListMetadataFormats(Offered {
         formats: formats.as_slice(),
         of,
     });
-    assert_answer(rt, alloc, asked, body, wanted)
+    assert_answer(rt, alloc, asked, body, wanted);
 }
 
 #[test]
-fn formats(rt: HostRuntime) -> Result<(), Fail> {
+fn formats(rt: HostRuntime) {
     let asked = verb("ListMetadataFormats");
-    assert_formats(&rt, rt.alloc(), asked, None, expected::all_formats())
+    assert_formats(&rt, rt.alloc(), asked, None, expected::all_formats());
 }
 
 #[test]
-fn formats_of_an_item(rt: HostRuntime) -> Result<(), Fail> {
+fn formats_of_an_item(rt: HostRuntime) {
     let alloc = rt.alloc();
-    let item = dublin_core(alloc, &[])?;
+    let item = dublin_core(&rt, alloc, &[]);
     let asked = Asked {
         identifier: Some("oai:a:1"),
         ..verb("ListMetadataFormats")
@@ -345,20 +352,23 @@ fn formats_of_an_item(rt: HostRuntime) -> Result<(), Fail> {
         asked,
         Some(&item),
         expected::formats_of_an_item(),
-    )
+    );
 }
 
 /// A set, its setSpec and its name.
-fn set(alloc: Global, spec: &str, name: &str) -> Result<(SetSpec, Text), Fail> {
-    Ok((SetSpec::read(alloc, spec)?, Text::new(alloc, name)?))
+fn set(rt: &impl Abort, alloc: Global, spec: &str, name: &str) -> (SetSpec, Text) {
+    (
+        SetSpec::read(alloc, spec).expect(rt, "SetSpec::read"),
+        Text::new(alloc, name).expect(rt, "memory"),
+    )
 }
 
 #[test]
-fn sets(rt: HostRuntime) -> Result<(), Fail> {
+fn sets(rt: HostRuntime) {
     let alloc = rt.alloc();
-    let sets = [set(alloc, "x", "X & Y")?, set(alloc, "x:y", "Y")?];
+    let sets = [set(&rt, alloc, "x", "X & Y"), set(&rt, alloc, "x:y", "Y")];
     let body = Body::ListSets(&sets);
-    assert_answer(&rt, alloc, verb("ListSets"), body, expected::sets())
+    assert_answer(&rt, alloc, verb("ListSets"), body, expected::sets());
 }
 
 /// So many bytes that they are more than a megabyte.
@@ -366,28 +376,27 @@ const MUCH: usize = 1_048_577;
 
 /// A document is written behind what is there, however much that is.
 #[test]
-fn document_behind_much(rt: HostRuntime) -> Result<(), Fail> {
+fn document_behind_much(rt: HostRuntime) {
     let alloc = rt.alloc();
-    let sets = [set(alloc, "x", "X & Y")?, set(alloc, "x:y", "Y")?];
+    let sets = [set(&rt, alloc, "x", "X & Y"), set(&rt, alloc, "x:y", "Y")];
     let doc = Doc {
         date: DATE,
         base: BASE,
         asked: verb("ListSets"),
         body: Body::ListSets(&sets),
     };
-    let mut written = bytes(alloc, MUCH)?;
-    write_document(alloc, &doc, &mut written)?;
+    let mut written = bytes(&rt, alloc, MUCH);
+    write_document(alloc, &doc, &mut written).expect(&rt, "write_document");
     assert_same(&rt, written.get(MUCH..), Some(expected::sets().as_bytes()));
-    Ok(())
 }
 
 /// So many bytes.
-fn bytes(alloc: Global, count: usize) -> Result<Vec<u8>, AllocError> {
+fn bytes(rt: &impl Abort, alloc: Global, count: usize) -> Vec<u8> {
     let mut bytes = Vec::new(alloc);
     for _ in 0..count {
-        bytes.push(b'-')?;
+        bytes.push(b'-').expect(rt, "memory");
     }
-    Ok(bytes)
+    bytes
 }
 
 /// The record in oai_dc of the item `oai:a:1` is spelled so.
@@ -397,8 +406,8 @@ fn assert_record(
     item: &Item,
     granularity: Granularity,
     wanted: &str,
-) -> Result<(), Fail> {
-    let formats = Formats::dc(alloc)?;
+) {
+    let formats = Formats::dc(alloc).expect(rt, "Formats::dc");
     let Some(format) = formats.get(0) else {
         panic!(rt; "no format");
     };
@@ -408,19 +417,19 @@ fn assert_record(
         format,
     });
     let asked = in_format("GetRecord", Some("oai:a:1"), "oai_dc");
-    assert_answer(rt, alloc, asked, body, wanted)
+    assert_answer(rt, alloc, asked, body, wanted);
 }
 
 #[test]
-fn first_record(rt: HostRuntime) -> Result<(), Fail> {
-    let item = dublin_core(rt.alloc(), &[("title", "A & B < \"C\" é")])?;
+fn first_record(rt: HostRuntime) {
+    let item = dublin_core(&rt, rt.alloc(), &[("title", "A & B < \"C\" é")]);
     let second = Granularity::Second;
-    assert_record(&rt, rt.alloc(), &item, second, expected::first_record())
+    assert_record(&rt, rt.alloc(), &item, second, expected::first_record());
 }
 
 #[test]
-fn record_without_fields(rt: HostRuntime) -> Result<(), Fail> {
-    let item = dublin_core(rt.alloc(), &[])?;
+fn record_without_fields(rt: HostRuntime) {
+    let item = dublin_core(&rt, rt.alloc(), &[]);
     let day = Granularity::Day;
     assert_record(
         &rt,
@@ -428,41 +437,36 @@ fn record_without_fields(rt: HostRuntime) -> Result<(), Fail> {
         &item,
         day,
         expected::record_without_fields(),
-    )
+    );
 }
 
 /// The record in jnl of the item `oai:a:2` is spelled so.
-fn assert_record_in_journal(
-    rt: &impl Abort,
-    alloc: Global,
-    item: &Item,
-    wanted: &str,
-) -> Result<(), Fail> {
-    let format = journal(alloc)?;
+fn assert_record_in_journal(rt: &impl Abort, alloc: Global, item: &Item, wanted: &str) {
+    let format = journal(rt, alloc);
     let body = Body::GetRecord(Record {
         item,
         granularity: Granularity::Second,
         format: &format,
     });
     let asked = in_format("GetRecord", Some("oai:a:2"), "jnl");
-    assert_answer(rt, alloc, asked, body, wanted)
+    assert_answer(rt, alloc, asked, body, wanted);
 }
 
 #[test]
-fn declared_record(rt: HostRuntime) -> Result<(), Fail> {
+fn declared_record(rt: HostRuntime) {
     let alloc = rt.alloc();
-    let item = in_journal(alloc, "oai:a:2", DATE, &["x:y", "z"], "7")?;
-    assert_record_in_journal(&rt, alloc, &item, expected::declared_record())
+    let item = in_journal(&rt, alloc, "oai:a:2", DATE, &["x:y", "z"], "7");
+    assert_record_in_journal(&rt, alloc, &item, expected::declared_record());
 }
 
 #[test]
-fn deleted_record(rt: HostRuntime) -> Result<(), Fail> {
-    let item = deleted(rt.alloc())?;
-    assert_record_in_journal(&rt, rt.alloc(), &item, expected::deleted_record())
+fn deleted_record(rt: HostRuntime) {
+    let item = deleted(&rt, rt.alloc());
+    assert_record_in_journal(&rt, rt.alloc(), &item, expected::deleted_record());
 }
 
 /// The headers of the items, as the whole list and as the front of three, are spelled so.
-fn assert_headers(rt: &impl Abort, alloc: Global, items: &[Item]) -> Result<(), Fail> {
+fn assert_headers(rt: &impl Abort, alloc: Global, items: &[Item]) {
     let whole = Listed {
         items,
         granularity: Granularity::Second,
@@ -470,7 +474,7 @@ fn assert_headers(rt: &impl Abort, alloc: Global, items: &[Item]) -> Result<(), 
     };
     let asked = in_format("ListIdentifiers", None, "oai_dc");
     let body = Body::ListIdentifiers(whole);
-    assert_answer(rt, alloc, asked, body, expected::headers())?;
+    assert_answer(rt, alloc, asked, body, expected::headers());
     let resumption = Resumption::More(Remaining {
         expires: DATE + 61,
         extent: at(0, 3),
@@ -481,23 +485,23 @@ fn assert_headers(rt: &impl Abort, alloc: Global, items: &[Item]) -> Result<(), 
         ..whole
     };
     let body = Body::ListIdentifiers(first);
-    assert_answer(rt, alloc, asked, body, expected::headers_that_go_on())
+    assert_answer(rt, alloc, asked, body, expected::headers_that_go_on());
 }
 
 #[test]
-fn headers(rt: HostRuntime) -> Result<(), Fail> {
+fn headers(rt: HostRuntime) {
     let alloc = rt.alloc();
     let items = [
-        dublin_core(alloc, &[])?,
-        in_journal(alloc, "oai:a:2", DATE + 1, &["x:y", "z"], "7")?,
+        dublin_core(&rt, alloc, &[]),
+        in_journal(&rt, alloc, "oai:a:2", DATE + 1, &["x:y", "z"], "7"),
     ];
-    assert_headers(&rt, alloc, &items)
+    assert_headers(&rt, alloc, &items);
 }
 
 #[test]
-fn last_headers(rt: HostRuntime) -> Result<(), Fail> {
+fn last_headers(rt: HostRuntime) {
     let alloc = rt.alloc();
-    let items = [deleted(alloc)?];
+    let items = [deleted(&rt, alloc)];
     let last = Listed {
         items: &items,
         granularity: Granularity::Second,
@@ -508,7 +512,7 @@ fn last_headers(rt: HostRuntime) -> Result<(), Fail> {
         ..verb("ListIdentifiers")
     };
     let body = Body::ListIdentifiers(last);
-    assert_answer(&rt, alloc, asked, body, expected::last_headers())
+    assert_answer(&rt, alloc, asked, body, expected::last_headers());
 }
 
 /// The records of the items in oai_dc, as such a part of the list, are spelled so.
@@ -519,10 +523,10 @@ fn assert_records(
     items: &[Item],
     resumption: Resumption<'_>,
     wanted: &str,
-) -> Result<(), Fail>
+)
     requires { HasWritableEnd (continuation_of resumption) }
 {
-    let formats = Formats::dc(alloc)?;
+    let formats = Formats::dc(alloc).expect(rt, "Formats::dc");
     let Some(format) = formats.get(0) else {
         panic!(rt; "no format");
     };
@@ -531,24 +535,24 @@ fn assert_records(
         granularity: Granularity::Second,
         resumption,
     };
-    assert_answer(rt, alloc, asked, Body::ListRecords(format, part), wanted)
+    assert_answer(rt, alloc, asked, Body::ListRecords(format, part), wanted);
 }
 
 #[test]
-fn records(rt: HostRuntime) -> Result<(), Fail> {
+fn records(rt: HostRuntime) {
     let alloc = rt.alloc();
     let items = [
-        dublin_core(alloc, &[("title", "A & B < \"C\" é")])?,
-        deleted(alloc)?,
+        dublin_core(&rt, alloc, &[("title", "A & B < \"C\" é")]),
+        deleted(&rt, alloc),
     ];
     let asked = in_format("ListRecords", None, "oai_dc");
     let whole = Resumption::Whole;
-    assert_records(&rt, alloc, asked, &items, whole, expected::records())
+    assert_records(&rt, alloc, asked, &items, whole, expected::records());
 }
 
 /// The records of the items in jnl, as the part of a long list behind ten, are spelled so.
-fn assert_records_of_days(rt: &impl Abort, alloc: Global, items: &[Item]) -> Result<(), Fail> {
-    let format = journal(alloc)?;
+fn assert_records_of_days(rt: &impl Abort, alloc: Global, items: &[Item]) {
+    let format = journal(rt, alloc);
     let resumption = Resumption::More(Remaining {
         expires: DATE + 61,
         extent: at(10, 18_446_744_073_709_551_615),
@@ -561,31 +565,35 @@ fn assert_records_of_days(rt: &impl Abort, alloc: Global, items: &[Item]) -> Res
     };
     let asked = in_format("ListRecords", None, "jnl");
     let body = Body::ListRecords(&format, part);
-    assert_answer(rt, alloc, asked, body, expected::records_of_days())
+    assert_answer(rt, alloc, asked, body, expected::records_of_days());
 }
 
 #[test]
-fn records_of_days(rt: HostRuntime) -> Result<(), Fail> {
-    let items = [in_journal(rt.alloc(), "oai:a:2", DATE, &["x:y", "z"], "7")?];
-    assert_records_of_days(&rt, rt.alloc(), &items)
+fn records_of_days(rt: HostRuntime) {
+    let items = [in_journal(&rt, rt.alloc(), "oai:a:2", DATE, &["x:y", "z"], "7")];
+    assert_records_of_days(&rt, rt.alloc(), &items);
 }
 
 #[test]
-fn last_records(rt: HostRuntime) -> Result<(), Fail> {
+fn last_records(rt: HostRuntime) {
     let alloc = rt.alloc();
-    let items = [dublin_core(alloc, &[("title", "T"), ("creator", "C"), ("title", "")])?];
+    let items = [dublin_core(
+        &rt,
+        alloc,
+        &[("title", "T"), ("creator", "C"), ("title", "")],
+    )];
     let asked = Asked {
         token: Some("1.100"),
         ..verb("ListRecords")
     };
     let last = Resumption::Last(at(100, 101));
-    assert_records(&rt, alloc, asked, &items, last, expected::last_records())
+    assert_records(&rt, alloc, asked, &items, last, expected::last_records());
 }
 
 #[test]
-fn escaped_identify(rt: HostRuntime) -> Result<(), Fail> {
+fn escaped_identify(rt: HostRuntime) {
     let alloc = rt.alloc();
-    let addresses = [Text::new(alloc, MARKUP)?];
+    let addresses = [Text::new(alloc, MARKUP).expect(&rt, "memory")];
     let body = Body::Identify(Identity {
         name: MARKUP,
         addresses: &addresses,
@@ -593,31 +601,31 @@ fn escaped_identify(rt: HostRuntime) -> Result<(), Fail> {
         deleted: DeletedRecord::No,
         granularity: Granularity::Day,
     });
-    assert_escaped(&rt, alloc, body, expected::escaped_identify())
+    assert_escaped(&rt, alloc, body, expected::escaped_identify());
 }
 
 #[test]
-fn escaped_formats(rt: HostRuntime) -> Result<(), Fail> {
+fn escaped_formats(rt: HostRuntime) {
     let alloc = rt.alloc();
-    let formats = [format(alloc, "a'b", MARKUP, MARKUP)?];
+    let formats = [format(&rt, alloc, "a'b", MARKUP, MARKUP)];
     let body = Body::ListMetadataFormats(Offered {
         formats: &formats,
         of: None,
     });
-    assert_escaped(&rt, alloc, body, expected::escaped_formats())
+    assert_escaped(&rt, alloc, body, expected::escaped_formats());
 }
 
 #[test]
-fn escaped_sets(rt: HostRuntime) -> Result<(), Fail> {
+fn escaped_sets(rt: HostRuntime) {
     let alloc = rt.alloc();
-    let sets = [set(alloc, "x'y", MARKUP)?];
+    let sets = [set(&rt, alloc, "x'y", MARKUP)];
     let body = Body::ListSets(&sets);
-    assert_escaped(&rt, alloc, body, expected::escaped_sets())
+    assert_escaped(&rt, alloc, body, expected::escaped_sets());
 }
 
 /// The records of the items in a format with markup, before a token with markup, are spelled so.
-fn assert_escaped_records(rt: &impl Abort, alloc: Global, items: &[Item]) -> Result<(), Fail> {
-    let format = format(alloc, "jnl", MARKUP, MARKUP)?;
+fn assert_escaped_records(rt: &impl Abort, alloc: Global, items: &[Item]) {
+    let format = format(rt, alloc, "jnl", MARKUP, MARKUP);
     let resumption = Resumption::More(Remaining {
         expires: 253_402_300_799,
         extent: at(0, 0),
@@ -629,19 +637,19 @@ fn assert_escaped_records(rt: &impl Abort, alloc: Global, items: &[Item]) -> Res
         resumption,
     };
     let body = Body::ListRecords(&format, part);
-    assert_escaped(rt, alloc, body, expected::escaped_records())
+    assert_escaped(rt, alloc, body, expected::escaped_records());
 }
 
 /// Markup stands in the parts of a record, in its format and in a token.
 #[test]
-fn escaped_records(rt: HostRuntime) -> Result<(), Fail> {
-    let items = [in_journal(rt.alloc(), "a:&'1", DATE, &["x'y"], MARKUP)?];
-    assert_escaped_records(&rt, rt.alloc(), &items)
+fn escaped_records(rt: HostRuntime) {
+    let items = [in_journal(&rt, rt.alloc(), "a:&'1", DATE, &["x'y"], MARKUP)];
+    assert_escaped_records(&rt, rt.alloc(), &items);
 }
 
 /// What stood in the buffer stays in front of the document.
 #[test]
-fn front_of_the_buffer_stays(rt: HostRuntime) -> Result<(), Fail> {
+fn front_of_the_buffer_stays(rt: HostRuntime) {
     let alloc = rt.alloc();
     let doc = Doc {
         date: DATE,
@@ -650,10 +658,9 @@ fn front_of_the_buffer_stays(rt: HostRuntime) -> Result<(), Fail> {
         body: Body::Error(ErrorCode::BadVerb),
     };
     let mut written = Vec::new(alloc);
-    written.extend_from_slice(b"front")?;
-    write_document(alloc, &doc, &mut written)?;
-    let mut wanted = String::from_str(alloc, "front")?;
-    wanted.push_str(expected::bad_verb())?;
+    written.extend_from_slice(b"front").expect(&rt, "memory");
+    write_document(alloc, &doc, &mut written).expect(&rt, "write_document");
+    let mut wanted = String::from_str(alloc, "front").expect(&rt, "memory");
+    wanted.push_str(expected::bad_verb()).expect(&rt, "memory");
     assert_same(&rt, written.as_slice(), wanted.as_bytes());
-    Ok(())
 }

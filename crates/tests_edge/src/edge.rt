@@ -6,10 +6,10 @@ use crate::transcripts;
 use oai_edge::{Stop, write_answer};
 use oai_host::{Answer, ReadFault, Status};
 use oai_names::Sequence;
-use std::alloc::{AllocError, Global};
+use std::alloc::Global;
 use std::io::{self, ErrorKind, Read, Write};
+use std::panic::Expect;
 use std::process::Abort;
-use std::test::Fail;
 use tests_worked::push_wanted;
 
 /// A deposit, an empty line, a line that is no JSON, and a deposit that has no line end.
@@ -61,118 +61,102 @@ impl Read for PiecesReader<'_> {
 
 /// The text, the script or the script after empty lines, is answered as the script is, where it comes
 /// in these pieces.
-fn assert_in_pieces(
-    rt: &impl Abort,
-    alloc: Global,
-    text: &[u8],
-    first: usize,
-    later: usize,
-) -> Result<(), Fail> {
+fn assert_in_pieces(rt: &impl Abort, alloc: Global, text: &[u8], first: usize, later: usize) {
     let mut reader = PiecesReader { text, first, later };
-    let output = written(alloc, &mut reader)?;
+    let output = written(rt, alloc, &mut reader);
     assert_same_at(rt, output.as_slice(), script_answer().as_bytes(), first);
-    Ok(())
 }
 
 /// In one read, in two that are cut at every place, and in many of each length.
 #[test]
-fn pieces(rt: HostRuntime) -> Result<(), Fail> {
+fn pieces(rt: HostRuntime) {
     let alloc = rt.alloc();
-    assert_asked(&rt, alloc, script(), script_answer())?;
+    assert_asked(&rt, alloc, script(), script_answer());
     let text = script().as_bytes();
     for length in 1..=text.len() {
-        assert_in_pieces(&rt, alloc, text, length, text.len())?;
-        assert_in_pieces(&rt, alloc, text, length, length)?;
+        assert_in_pieces(&rt, alloc, text, length, text.len());
+        assert_in_pieces(&rt, alloc, text, length, length);
     }
-    Ok(())
 }
 
 /// The script after so many empty lines.
-fn script_after(alloc: Global, empty: usize) -> Result<Vec<u8>, AllocError> {
+fn script_after(rt: &impl Abort, alloc: Global, empty: usize) -> Vec<u8> {
     let mut text = Vec::new(alloc);
     for _ in 0..empty {
-        text.push(b'\n')?;
+        text.push(b'\n').expect(rt, "memory");
     }
-    text.extend_from_slice(script().as_bytes())?;
-    Ok(text)
+    text.extend_from_slice(script().as_bytes())
+        .expect(rt, "memory");
+    text
 }
 
 /// Empty lines move the script over the end of a read of 65,536 bytes, place by place.
 #[test]
-fn lines_cross_the_buffer(rt: HostRuntime) -> Result<(), Fail> {
+fn lines_cross_the_buffer(rt: HostRuntime) {
     let alloc = rt.alloc();
     for before in 0..=script().len() {
-        let text = script_after(alloc, 65_536 - before.min(65_536))?;
-        assert_in_pieces(&rt, alloc, text.as_slice(), 65_536, 65_536)?;
+        let text = script_after(&rt, alloc, 65_536 - before.min(65_536));
+        assert_in_pieces(&rt, alloc, text.as_slice(), 65_536, 65_536);
     }
-    Ok(())
 }
 
 /// A line of so many bytes and 22 more, and the script after it.
-fn long_line(alloc: Global, bytes: usize) -> Result<String, AllocError> {
-    let mut text = String::from_str(alloc, "1704067200 GET /oai/a?")?;
+fn long_line(rt: &impl Abort, alloc: Global, bytes: usize) -> String {
+    let mut text = String::from_str(alloc, "1704067200 GET /oai/a?").expect(rt, "memory");
     for _ in 0..bytes {
-        text.push('x')?;
+        text.push('x').expect(rt, "memory");
     }
-    text.push('\n')?;
-    text.push_str(script())?;
-    Ok(text)
+    text.push('\n').expect(rt, "memory");
+    text.push_str(script()).expect(rt, "memory");
+    text
 }
 
 /// What they are answered.
-fn long_line_answer(alloc: Global) -> Result<String, AllocError> {
-    let mut wanted = String::from_str(alloc, "200\n")?;
-    push_wanted(transcripts::bad_verb(), &mut wanted)?;
-    wanted.push_str(script_answer())?;
-    Ok(wanted)
+fn long_line_answer(rt: &impl Abort, alloc: Global) -> String {
+    let mut wanted = String::from_str(alloc, "200\n").expect(rt, "memory");
+    push_wanted(transcripts::bad_verb(), &mut wanted).expect(rt, "push_wanted");
+    wanted.push_str(script_answer()).expect(rt, "memory");
+    wanted
 }
 
 /// A line that fills two reads and more.
 #[test]
-fn line_longer_than_the_buffer(rt: HostRuntime) -> Result<(), Fail> {
+fn line_longer_than_the_buffer(rt: HostRuntime) {
     let alloc = rt.alloc();
-    let text = long_line(alloc, 140_000)?;
-    let wanted = long_line_answer(alloc)?;
-    assert_asked(&rt, alloc, text.as_str(), wanted.as_str())
+    let text = long_line(&rt, alloc, 140_000);
+    let wanted = long_line_answer(&rt, alloc);
+    assert_asked(&rt, alloc, text.as_str(), wanted.as_str());
 }
 
 /// A line that comes in 1,223 reads.
 #[test]
-fn line_of_many_reads(rt: HostRuntime) -> Result<(), Fail> {
+fn line_of_many_reads(rt: HostRuntime) {
     let alloc = rt.alloc();
-    let text = long_line(alloc, 1_200)?;
-    let wanted = long_line_answer(alloc)?;
+    let text = long_line(&rt, alloc, 1_200);
+    let wanted = long_line_answer(&rt, alloc);
     let mut reader = PiecesReader {
         text: text.as_bytes(),
         first: 1,
         later: 1,
     };
-    let output = written(alloc, &mut reader)?;
+    let output = written(&rt, alloc, &mut reader);
     assert_same(&rt, output.as_slice(), wanted.as_bytes());
-    Ok(())
 }
 
 /// The program stops at a bad line of that number where the text comes in pieces of such a length.
-fn assert_bad_line(
-    rt: &impl Abort,
-    alloc: Global,
-    text: &[u8],
-    length: usize,
-    number: u64,
-) -> Result<(), Fail> {
+fn assert_bad_line(rt: &impl Abort, alloc: Global, text: &[u8], length: usize, number: u64) {
     let mut reader = PiecesReader {
         text,
         first: length,
         later: length,
     };
-    let stop = stop_of(rt, alloc, &mut reader)?;
+    let stop = stop_of(rt, alloc, &mut reader);
     assert_same_at(rt, stop, Stop::BadExchange(number), length);
-    Ok(())
 }
 
 /// A bad line has its number, with a line end and without one, whatever the pieces.
 #[test]
-fn numbers_of_bad_lines(rt: HostRuntime) -> Result<(), Fail> {
+fn numbers_of_bad_lines(rt: HostRuntime) {
     let alloc = rt.alloc();
     for (text, number) in [
         ("x", 1),
@@ -183,17 +167,17 @@ fn numbers_of_bad_lines(rt: HostRuntime) -> Result<(), Fail> {
         ("1 PUT /deposit/a [\n1 PUT /deposit/a [\n1.0 GET /", 3),
     ] {
         for length in 1..=9 {
-            assert_bad_line(&rt, alloc, text.as_bytes(), length, number)?;
+            assert_bad_line(&rt, alloc, text.as_bytes(), length, number);
         }
     }
-    let mut text = script_after(alloc, 70_000)?;
-    text.extend_from_slice(b"\nx\n\n")?;
-    assert_bad_line(&rt, alloc, text.as_slice(), 65_536, 70_005)
+    let mut text = script_after(&rt, alloc, 70_000);
+    text.extend_from_slice(b"\nx\n\n").expect(&rt, "memory");
+    assert_bad_line(&rt, alloc, text.as_slice(), 65_536, 70_005);
 }
 
 /// What is said on standard error.
 #[test]
-fn what_is_said(rt: HostRuntime) -> Result<(), Fail> {
+fn what_is_said(rt: HostRuntime) {
     for (stop, text) in [
         (
             Stop::Usage,
@@ -210,9 +194,8 @@ fn what_is_said(rt: HostRuntime) -> Result<(), Fail> {
         (Stop::OutputFault, "output fault"),
         (Stop::NoMemory, "out of memory"),
     ] {
-        assert_shown(&rt, rt.alloc(), stop, text)?;
+        assert_shown(&rt, rt.alloc(), stop, text);
     }
-    Ok(())
 }
 
 /// An answer without a body.
@@ -228,7 +211,7 @@ fn answer(alloc: Global, status: Status, seconds: Option<i64>, done: Option<u64>
 
 /// What is written of answers without a body.
 #[test]
-fn short_answers(rt: HostRuntime) -> Result<(), Fail> {
+fn short_answers(rt: HostRuntime) {
     for (status, seconds, done, text) in [
         (Status::ServiceUnavailable, Some(60), Some(0), "503 60 0\n"),
         (Status::ServiceUnavailable, Some(60), None, "503 60\n"),
@@ -244,10 +227,12 @@ fn short_answers(rt: HostRuntime) -> Result<(), Fail> {
         (Status::NotFound, None, None, "404\n"),
     ] {
         let mut output = Vec::new(rt.alloc());
-        write_answer(&answer(rt.alloc(), status, seconds, done), &mut output)?;
+        write_answer(&answer(rt.alloc(), status, seconds, done), &mut output).expect(
+            &rt,
+            "write_answer",
+        );
         assert_same(&rt, output.as_slice(), text.as_bytes());
     }
-    Ok(())
 }
 
 /// Gives one byte a read, and fails at the read after so many.
@@ -275,13 +260,13 @@ impl Read for ByteReader<'_> {
 
 /// What was answered before a read that fails stays written, and the line begun is not performed.
 #[test]
-fn each_read_fails(rt: HostRuntime) -> Result<(), Fail> {
+fn each_read_fails(rt: HostRuntime) {
     let alloc = rt.alloc();
     let text = script().as_bytes();
     for reads in 0..=text.len() {
         let mut reader = ByteReader { text, reads };
         let mut output = Vec::new(alloc);
-        let done = performed(alloc, &mut reader, &mut output)?;
+        let done = performed(&rt, alloc, &mut reader, &mut output);
         assert_same_at(&rt, done, Err(Stop::InputFault), reads);
         assert_same_at(
             &rt,
@@ -290,7 +275,6 @@ fn each_read_fails(rt: HostRuntime) -> Result<(), Fail> {
             reads,
         );
     }
-    Ok(())
 }
 
 /// Takes what so many calls write, and fails at the next, or at its flush.
@@ -321,7 +305,7 @@ impl Write for CountingWriter {
 
 /// What is written before a write that fails is the front of the answers; nothing is after it.
 #[test]
-fn each_write_fails(rt: HostRuntime) -> Result<(), Fail> {
+fn each_write_fails(rt: HostRuntime) {
     let alloc = rt.alloc();
     let wanted = script_answer().as_bytes();
     for writes in 0..20 {
@@ -331,18 +315,17 @@ fn each_write_fails(rt: HostRuntime) -> Result<(), Fail> {
             writes,
             flushes: true,
         };
-        let done = performed(alloc, &mut reader, &mut writer)?;
+        let done = performed(&rt, alloc, &mut reader, &mut writer);
         assert!(rt; wanted.starts_with(writer.taken.as_slice()), "{writes}");
         let is_whole = writer.taken.len() == wanted.len();
         assert_same_at(&rt, done.is_ok(), is_whole, writes);
         assert!(rt; is_whole || done == Err(Stop::OutputFault), "{writes}");
     }
-    Ok(())
 }
 
 /// A flush that fails is a fault of the output, though all was written.
 #[test]
-fn flush_fails(rt: HostRuntime) -> Result<(), Fail> {
+fn flush_fails(rt: HostRuntime) {
     let alloc = rt.alloc();
     let mut reader = script().as_bytes();
     let mut writer = CountingWriter {
@@ -350,10 +333,9 @@ fn flush_fails(rt: HostRuntime) -> Result<(), Fail> {
         writes: 100,
         flushes: false,
     };
-    let done = performed(alloc, &mut reader, &mut writer)?;
+    let done = performed(&rt, alloc, &mut reader, &mut writer);
     assert_same(&rt, done, Err(Stop::OutputFault));
     assert_same(&rt, writer.taken.as_slice(), script_answer().as_bytes());
-    Ok(())
 }
 
 /// So many empty lines, one a read, and then the end.
@@ -373,13 +355,12 @@ impl Read for EmptyLines {
 
 /// The end has to come at the read of number 1,000,000 at the latest.
 #[test]
-fn most_reads(rt: HostRuntime) -> Result<(), Fail> {
+fn most_reads(rt: HostRuntime) {
     let alloc = rt.alloc();
     for (lines, wanted) in [(999_999, Ok(())), (1_000_000, Err(Stop::InputFault))] {
         let mut output = Vec::new(alloc);
-        let done = performed(alloc, &mut EmptyLines(lines), &mut output)?;
+        let done = performed(&rt, alloc, &mut EmptyLines(lines), &mut output);
         assert_same_at(&rt, done, wanted, lines);
         assert!(rt; output.is_empty());
     }
-    Ok(())
 }

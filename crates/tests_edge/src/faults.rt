@@ -6,8 +6,8 @@ use oai_edge::{config_in, write_answer};
 use oai_host::{Answer, Exchange, Host};
 use oai_item::Fault;
 use std::alloc::Global;
+use std::panic::Expect;
 use std::process::Abort;
-use std::test::Fail;
 use tests_worked::{wanted_in, worked_configuration};
 
 /// A second, a target, and of a deposit its line.
@@ -74,16 +74,16 @@ fn answer<V: Versions + Drop>(
     host: &mut Host<V>,
     asked: Asked,
     output: &mut Vec<u8>,
-) -> Result<bool, Fail> {
+) -> bool {
     let first = answer_of(host, asked);
     let Some(fault) = first.fault else {
-        write_answer(&first, output)?;
-        return Ok(false);
+        write_answer(&first, output).expect(rt, "write_answer");
+        return false;
     };
     assert_same(rt, fault, Fault::Device);
     assert_same(rt, first.status.number(), 500);
-    write_answer(&answer_of(host, asked), output)?;
-    Ok(true)
+    write_answer(&answer_of(host, asked), output).expect(rt, "write_answer");
+    true
 }
 
 /// Performs the exchanges, and says whether a call of the store failed: no more may.
@@ -91,15 +91,15 @@ fn answer_all<V: Versions + Drop>(
     rt: &impl Abort,
     host: &mut Host<V>,
     output: &mut Vec<u8>,
-) -> Result<bool, Fail> {
+) -> bool {
     let mut failed = false;
     for asked in exchanges() {
-        if answer(rt, host, asked, output)? {
+        if answer(rt, host, asked, output) {
             assert!(rt; !failed);
             failed = true;
         }
     }
-    Ok(failed)
+    failed
 }
 
 /// The host answers the exchanges; whether a call of its store, of which the k-th fails, did.
@@ -108,33 +108,32 @@ fn assert_answered<V: Versions + Drop>(
     alloc: Global,
     host: &mut Host<V>,
     k: u64,
-) -> Result<bool, Fail> {
+) -> bool {
     let mut output = Vec::new(alloc);
-    let failed = answer_all(rt, host, &mut output)?;
-    let wanted = wanted_in(alloc, answers())?;
+    let failed = answer_all(rt, host, &mut output);
+    let wanted = wanted_in(alloc, answers()).expect(rt, "wanted_in");
     assert_same_at(rt, output.as_slice(), wanted.as_bytes(), k);
-    Ok(failed)
+    failed
 }
 
 /// Performs the exchanges over a store whose k-th call fails, and says whether one did: no more may.
-fn assert_answers(rt: &impl Abort, alloc: Global, k: u64) -> Result<bool, Fail> {
+fn assert_answers(rt: &impl Abort, alloc: Global, k: u64) -> bool {
     let store = FaultyVersions::new(PlainVersions::new(alloc), k);
-    let config = config_in(alloc, worked_configuration().as_bytes())?;
+    let config = config_in(alloc, worked_configuration().as_bytes()).expect(rt, "config_in");
     match Host::new(alloc, config, store) {
         Ok(mut host) => assert_answered(rt, alloc, &mut host, k),
         Err(fault) => {
             assert_same(rt, fault, Fault::Device);
-            Ok(true)
+            true
         }
     }
 }
 
 /// Each call of the store fails once.
 #[test]
-fn each_call_fails(rt: HostRuntime) -> Result<(), Fail> {
+fn each_call_fails(rt: HostRuntime) {
     for k in 1..=CALLS {
-        assert!(rt; assert_answers(&rt, rt.alloc(), k)?);
+        assert!(rt; assert_answers(&rt, rt.alloc(), k));
     }
-    assert!(rt; !assert_answers(&rt, rt.alloc(), CALLS + 1)?);
-    Ok(())
+    assert!(rt; !assert_answers(&rt, rt.alloc(), CALLS + 1));
 }

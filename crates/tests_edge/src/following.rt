@@ -1,7 +1,6 @@
 //! A list that is followed over three pages while much else happens, as worked exchanges: the run by
 //! which the law of following is shown to speak of something.
 use crate::asking::assert_transcript;
-use std::test::Fail;
 
 /// A list is opened and never followed; when it ends, at that very second, the list is opened that is
 /// followed, and the token of the first is refused. Then an item is deposited and one deleted, a list is
@@ -55,6 +54,6 @@ DOC <responseDate>2024-01-01T00:02:03Z</responseDate><request verb="ListRecords"
 }
 
 #[test]
-fn following(rt: HostRuntime) -> Result<(), Fail> {
-    assert_transcript(&rt, rt.alloc(), following_asked())
+fn following(rt: HostRuntime) {
+    assert_transcript(&rt, rt.alloc(), following_asked());
 }

@@ -1,7 +1,6 @@
 //! Lists of items and deletion, as worked exchanges: lines that begin with `> ` are asked, the others
 //! are answered. 1704067200 is 2024-01-01T00:00:00Z.
 use crate::asking::assert_transcript;
-use std::test::Fail;
 
 /// A repository without items and sets.
 fn empty_repository_asked() -> &'static str {
@@ -17,8 +16,8 @@ DOC <responseDate>2024-01-01T00:00:00Z</responseDate><request verb="ListRecords"
 }
 
 #[test]
-fn empty_repository(rt: HostRuntime) -> Result<(), Fail> {
-    assert_transcript(&rt, rt.alloc(), empty_repository_asked())
+fn empty_repository(rt: HostRuntime) {
+    assert_transcript(&rt, rt.alloc(), empty_repository_asked());
 }
 
 /// Items of one datestamp stand in the order of their identifiers; a list of more than two goes on.
@@ -50,8 +49,8 @@ DOC <responseDate>2024-01-01T00:00:01Z</responseDate><request verb="ListIdentifi
 }
 
 #[test]
-fn lists(rt: HostRuntime) -> Result<(), Fail> {
-    assert_transcript(&rt, rt.alloc(), lists_asked())
+fn lists(rt: HostRuntime) {
+    assert_transcript(&rt, rt.alloc(), lists_asked());
 }
 
 /// Both bounds are inclusive, and a day ends with its last second.
@@ -89,8 +88,8 @@ DOC <responseDate>2024-02-29T23:59:59Z</responseDate><request verb="ListIdentifi
 }
 
 #[test]
-fn bounds(rt: HostRuntime) -> Result<(), Fail> {
-    assert_transcript(&rt, rt.alloc(), bounds_asked())
+fn bounds(rt: HostRuntime) {
+    assert_transcript(&rt, rt.alloc(), bounds_asked());
 }
 
 /// An item of a set is in the sets above it, and in no other.
@@ -125,8 +124,8 @@ DOC <responseDate>2024-01-01T00:00:00Z</responseDate><request verb="ListIdentifi
 }
 
 #[test]
-fn lists_of_a_set(rt: HostRuntime) -> Result<(), Fail> {
-    assert_transcript(&rt, rt.alloc(), lists_of_a_set_asked())
+fn lists_of_a_set(rt: HostRuntime) {
+    assert_transcript(&rt, rt.alloc(), lists_of_a_set_asked());
 }
 
 /// The clock of a refused deletion, and its end.
@@ -149,8 +148,8 @@ DOC <responseDate>9998-12-31T23:59:59Z</responseDate><request verb="ListIdentifi
 }
 
 #[test]
-fn clock(rt: HostRuntime) -> Result<(), Fail> {
-    assert_transcript(&rt, rt.alloc(), clock_asked())
+fn clock(rt: HostRuntime) {
+    assert_transcript(&rt, rt.alloc(), clock_asked());
 }
 
 /// A deleted item keeps its identifier, its sets and its formats, and no record; and it may come back.
@@ -194,6 +193,6 @@ DOC <responseDate>2024-01-01T00:00:09Z</responseDate><request verb="ListRecords"
 }
 
 #[test]
-fn deletion(rt: HostRuntime) -> Result<(), Fail> {
-    assert_transcript(&rt, rt.alloc(), deletion_asked())
+fn deletion(rt: HostRuntime) {
+    assert_transcript(&rt, rt.alloc(), deletion_asked());
 }

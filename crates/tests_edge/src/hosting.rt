@@ -1,6 +1,5 @@
 //! Exchanges with three repositories of one host, as transcripts.
 use crate::asking::assert_transcript;
-use std::test::Fail;
 
 /// What is no repository's, and methods that a path does not take.
 fn routes_asked() -> &'static str {
@@ -38,8 +37,8 @@ DOC <responseDate>2024-01-01T00:00:00Z</responseDate><request verb="Identify">ht
 }
 
 #[test]
-fn routes(rt: HostRuntime) -> Result<(), Fail> {
-    assert_transcript(&rt, rt.alloc(), routes_asked())
+fn routes(rt: HostRuntime) {
+    assert_transcript(&rt, rt.alloc(), routes_asked());
 }
 
 /// The second repository, which has days and keeps nothing of deleted records.
@@ -65,8 +64,8 @@ DOC <responseDate>2024-01-01T00:00:00Z</responseDate><request>http://host.exampl
 }
 
 #[test]
-fn second(rt: HostRuntime) -> Result<(), Fail> {
-    assert_transcript(&rt, rt.alloc(), second_asked())
+fn second(rt: HostRuntime) {
+    assert_transcript(&rt, rt.alloc(), second_asked());
 }
 
 /// The third repository, which keeps deleted records until they are purged, and has room for two items.
@@ -107,8 +106,8 @@ refused 15 not-transient"#
 }
 
 #[test]
-fn third(rt: HostRuntime) -> Result<(), Fail> {
-    assert_transcript(&rt, rt.alloc(), third_asked())
+fn third(rt: HostRuntime) {
+    assert_transcript(&rt, rt.alloc(), third_asked());
 }
 
 /// Clocks, items, sets and lists of one repository are not seen at another, nor are its tokens.
@@ -143,6 +142,6 @@ DOC <responseDate>2024-01-01T00:00:03Z</responseDate><request verb="ListIdentifi
 }
 
 #[test]
-fn apart(rt: HostRuntime) -> Result<(), Fail> {
-    assert_transcript(&rt, rt.alloc(), apart_asked())
+fn apart(rt: HostRuntime) {
+    assert_transcript(&rt, rt.alloc(), apart_asked());
 }

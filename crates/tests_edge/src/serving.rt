@@ -11,13 +11,13 @@ use oai_catalogue::PlainVersions;
 use oai_edge::{StreamFault, config_in, host_of, serve_stream};
 use oai_front::{ConnId, Front};
 use oai_host::Host;
-use std::alloc::{AllocError, Global};
+use std::alloc::Global;
 use std::cell::Cell;
 use std::io::{self, ErrorKind, Read, Write};
 use std::net::{Ipv4Addr, Shutdown, SocketAddr, SocketAddrV4, TcpListener, TcpStream};
+use std::panic::Expect;
 use std::process::Abort;
 use std::rt::Clock;
-use std::test::Fail;
 use std::time::Duration;
 use tests_worked::worked_configuration;
 
@@ -140,9 +140,9 @@ impl Write for SlowWire<'_> {
 }
 
 /// A front with a new host, on which one connection may be open.
-fn new_front(alloc: Global) -> Result<Front<Host<PlainVersions>>, Fail> {
-    let config = config_in(alloc, worked_configuration().as_bytes())?;
-    Ok(Front::new(alloc, host_of(alloc, config)?, 1))
+fn new_front(rt: &impl Abort, alloc: Global) -> Front<Host<PlainVersions>> {
+    let config = config_in(alloc, worked_configuration().as_bytes()).expect(rt, "config_in");
+    Front::new(alloc, host_of(alloc, config).expect(rt, "host_of"), 1)
 }
 
 /// A connection on which a set is added is answered so, and another one can be opened behind it.
@@ -151,27 +151,28 @@ fn assert_set(
     alloc: Global,
     front: &mut Front<Host<PlainVersions>>,
     wanted: &str,
-) -> Result<(), Fail> {
+) {
     let mut stream = wire_of(alloc, set_message().as_bytes(), 1_000);
     let served = serve_stream(alloc, front, &mut stream, &StandingClock);
     assert_same(rt, served, Ok(()));
     assert_same(rt, stream.written.as_slice(), wanted.as_bytes());
-    Ok(())
 }
 
 /// Two messages, the second of which is the last, and one that is not read any more.
-fn three_messages(alloc: Global) -> Result<String, AllocError> {
-    let mut text = String::from_str(alloc, set_message())?;
-    text.push_str("GET / HTTP/1.1\r\nHost: h\r\nConnection: close\r\n\r\n")?;
-    text.push_str(set_message())?;
-    Ok(text)
+fn three_messages(rt: &impl Abort, alloc: Global) -> String {
+    let mut text = String::from_str(alloc, set_message()).expect(rt, "memory");
+    text.push_str("GET / HTTP/1.1\r\nHost: h\r\nConnection: close\r\n\r\n")
+        .expect(rt, "memory");
+    text.push_str(set_message()).expect(rt, "memory");
+    text
 }
 
 /// The answers to the two.
-fn two_answers(alloc: Global) -> Result<String, AllocError> {
-    let mut text = String::from_str(alloc, set_answer())?;
-    text.push_str("HTTP/1.1 404 Not Found\r\nConnection: close\r\nContent-Length: 0\r\n\r\n")?;
-    Ok(text)
+fn two_answers(rt: &impl Abort, alloc: Global) -> String {
+    let mut text = String::from_str(alloc, set_answer()).expect(rt, "memory");
+    text.push_str("HTTP/1.1 404 Not Found\r\nConnection: close\r\nContent-Length: 0\r\n\r\n")
+        .expect(rt, "memory");
+    text
 }
 
 /// That is written on the wire; so many bytes were read in pieces of so many, each with room for
@@ -205,43 +206,36 @@ fn assert_read_in_pieces(
 }
 
 /// They are answered so, and the next connection is served.
-fn assert_pieces(
-    rt: &impl Abort,
-    alloc: Global,
-    text: &str,
-    wanted: &str,
-    piece: usize,
-) -> Result<(), Fail>
+fn assert_pieces(rt: &impl Abort, alloc: Global, text: &str, wanted: &str, piece: usize)
     requires { 1 ≤ piece }
 {
-    let mut front = new_front(alloc)?;
+    let mut front = new_front(rt, alloc);
     assert_read_in_pieces(rt, alloc, &mut front, text, wanted, piece);
-    assert_set(rt, alloc, &mut front, set_again_answer())
+    assert_set(rt, alloc, &mut front, set_again_answer());
 }
 
 /// However the bytes are cut, the answers are the same.
 #[test]
-fn streams_in_pieces(rt: HostRuntime) -> Result<(), Fail> {
+fn streams_in_pieces(rt: HostRuntime) {
     let alloc = rt.alloc();
-    let text = three_messages(alloc)?;
-    let wanted = two_answers(alloc)?;
+    let text = three_messages(&rt, alloc);
+    let wanted = two_answers(&rt, alloc);
     for piece in 1..=text.len() {
-        assert_pieces(&rt, alloc, text.as_str(), wanted.as_str(), piece)?;
+        assert_pieces(&rt, alloc, text.as_str(), wanted.as_str(), piece);
     }
-    Ok(())
 }
 
 /// A stream ends in the middle of a message: nothing is performed of it.
 #[test]
-fn stream_ends_in_a_body(rt: HostRuntime) -> Result<(), Fail> {
+fn stream_ends_in_a_body(rt: HostRuntime) {
     let alloc = rt.alloc();
-    let mut front = new_front(alloc)?;
+    let mut front = new_front(&rt, alloc);
     let message = set_message().as_bytes();
     let mut stream = wire_of(alloc, but_the_last(message), 1_000);
     let served = serve_stream(alloc, &mut front, &mut stream, &StandingClock);
     assert_same(&rt, served, Ok(()));
     assert!(rt; stream.written.is_empty());
-    assert_set(&rt, alloc, &mut front, set_answer())
+    assert_set(&rt, alloc, &mut front, set_answer());
 }
 
 /// The message comes a byte a read, and the read behind so many fails; that is written for it.
@@ -260,24 +254,23 @@ fn assert_read_fails(
 }
 
 /// What was performed where that read fails stays, and the next connection is served.
-fn assert_served_behind_reads(rt: &impl Abort, alloc: Global, reads: usize) -> Result<(), Fail> {
+fn assert_served_behind_reads(rt: &impl Abort, alloc: Global, reads: usize) {
     let (wanted, next) = if reads == set_message().len() {
         (set_answer(), set_again_answer())
     } else {
         ("", set_answer())
     };
-    let mut front = new_front(alloc)?;
+    let mut front = new_front(rt, alloc);
     assert_read_fails(rt, alloc, &mut front, reads, wanted);
-    assert_set(rt, alloc, &mut front, next)
+    assert_set(rt, alloc, &mut front, next);
 }
 
 /// Each read fails in turn.
 #[test]
-fn reads_of_a_stream_fail(rt: HostRuntime) -> Result<(), Fail> {
+fn reads_of_a_stream_fail(rt: HostRuntime) {
     for reads in 0..=set_message().len() {
-        assert_served_behind_reads(&rt, rt.alloc(), reads)?;
+        assert_served_behind_reads(&rt, rt.alloc(), reads);
     }
-    Ok(())
 }
 
 /// The messages come, and the write behind so many fails; what is written is a front of that.
@@ -300,10 +293,10 @@ fn assert_write_fails(
 }
 
 /// What was performed where that write fails stays, and the next connection is served.
-fn assert_served_behind_writes(rt: &impl Abort, alloc: Global, writes: usize) -> Result<(), Fail> {
-    let text = three_messages(alloc)?;
-    let wanted = two_answers(alloc)?;
-    let mut front = new_front(alloc)?;
+fn assert_served_behind_writes(rt: &impl Abort, alloc: Global, writes: usize) {
+    let text = three_messages(rt, alloc);
+    let wanted = two_answers(rt, alloc);
+    let mut front = new_front(rt, alloc);
     assert_write_fails(
         rt,
         alloc,
@@ -312,34 +305,34 @@ fn assert_served_behind_writes(rt: &impl Abort, alloc: Global, writes: usize) ->
         wanted.as_str(),
         writes,
     );
-    assert_set(rt, alloc, &mut front, set_again_answer())
+    assert_set(rt, alloc, &mut front, set_again_answer());
 }
 
 /// Each write fails in turn.
 #[test]
-fn writes_of_a_stream_fail(rt: HostRuntime) -> Result<(), Fail> {
-    assert_served_behind_writes(&rt, rt.alloc(), 0)?;
-    assert_served_behind_writes(&rt, rt.alloc(), 1)
+fn writes_of_a_stream_fail(rt: HostRuntime) {
+    assert_served_behind_writes(&rt, rt.alloc(), 0);
+    assert_served_behind_writes(&rt, rt.alloc(), 1);
 }
 
 #[test]
-fn clock_of_a_stream_fails(rt: HostRuntime) -> Result<(), Fail> {
+fn clock_of_a_stream_fails(rt: HostRuntime) {
     let alloc = rt.alloc();
-    let mut front = new_front(alloc)?;
+    let mut front = new_front(&rt, alloc);
     let mut stream = wire_of(alloc, set_message().as_bytes(), 1_000);
     let served = serve_stream(alloc, &mut front, &mut stream, &StoppedClock);
     assert_same(&rt, served, Err(StreamFault::ClockFault));
     assert!(rt; stream.written.is_empty());
-    assert_set(&rt, alloc, &mut front, set_answer())
+    assert_set(&rt, alloc, &mut front, set_answer());
 }
 
 /// A message is performed at the moment that the clock tells behind the read that completes it: the second
 /// read ends twenty seconds behind the first moment.
 #[test]
-fn moments_of_a_stream(rt: HostRuntime) -> Result<(), Fail> {
+fn moments_of_a_stream(rt: HostRuntime) {
     let alloc = rt.alloc();
     let clock = MovedClock(Cell::new(1_704_067_210));
-    let mut front = new_front(alloc)?;
+    let mut front = new_front(&rt, alloc);
     let mut stream = SlowWire {
         wire: wire_of(alloc, set_message().as_bytes(), 60),
         clock: &clock,
@@ -351,7 +344,6 @@ fn moments_of_a_stream(rt: HostRuntime) -> Result<(), Fail> {
         stream.wire.written.as_slice(),
         later_set_answer().as_bytes(),
     );
-    Ok(())
 }
 
 /// No connection is opened for a stream.
@@ -362,40 +354,37 @@ fn assert_not_opened(rt: &impl Abort, alloc: Global, front: &mut Front<Host<Plai
 }
 
 /// A connection is opened; none is opened beside it, and it stays.
-fn assert_one_opened(
-    rt: &impl Abort,
-    alloc: Global,
-    front: &mut Front<Host<PlainVersions>>,
-) -> Result<(), Fail> {
-    let conn = front.open()?;
+fn assert_one_opened(rt: &impl Abort, alloc: Global, front: &mut Front<Host<PlainVersions>>) {
+    let conn = front.open().expect(rt, "open");
     assert_not_opened(rt, alloc, front);
     assert_same(rt, front.closing(conn), Some(false));
     assert_same(rt, front.closing(ConnId { number: 2 }), None);
-    Ok(())
 }
 
 /// Where as many connections are open as may be, none is opened.
 #[test]
-fn no_room_for_a_stream(rt: HostRuntime) -> Result<(), Fail> {
-    let mut front = new_front(rt.alloc())?;
-    assert_one_opened(&rt, rt.alloc(), &mut front)
+fn no_room_for_a_stream(rt: HostRuntime) {
+    let mut front = new_front(&rt, rt.alloc());
+    assert_one_opened(&rt, rt.alloc(), &mut front);
 }
 
 /// A deposit of a record whose title is so many of the letter, a request of it, and one of what is not there.
-fn long_record(alloc: Global, letter: &str, letters: usize) -> Result<String, AllocError> {
+fn long_record(rt: &impl Abort, alloc: Global, letter: &str, letters: usize) -> String {
     let mut line = String::from_str(
         alloc,
         "{\"deposit\":\"oai:a:1\",\"sets\":[],\"records\":{\"oai_dc\":[[\"title\",\"",
-    )?;
+    )
+    .expect(rt, "memory");
     for _ in 0..letters {
-        line.push_str(letter)?;
+        line.push_str(letter).expect(rt, "memory");
     }
-    line.push_str("\"]]}}")?;
+    line.push_str("\"]]}}").expect(rt, "memory");
     format!(in alloc;
         "POST /deposit/a HTTP/1.1\r\nHost: h\r\nContent-Length: {}\r\n\r\n{}GET /oai/a?verb=GetRecord&identifier=oai:a:1&metadataPrefix=oai_dc HTTP/1.1\r\nHost: h\r\n\r\nGET / HTTP/1.1\r\nHost: h\r\n\r\n",
         line.len(),
         line
     )
+    .expect(rt, "memory")
 }
 
 /// The document of that record up to its title.
@@ -404,78 +393,82 @@ fn front_of_the_record() -> &'static str {
 }
 
 /// The answers to the three, where the letter is shown so.
-fn long_answers(alloc: Global, shown: &str, letters: usize) -> Result<String, AllocError> {
-    let mut document = String::from_str(alloc, front_of_the_record())?;
+fn long_answers(rt: &impl Abort, alloc: Global, shown: &str, letters: usize) -> String {
+    let mut document = String::from_str(alloc, front_of_the_record()).expect(rt, "memory");
     for _ in 0..letters {
-        document.push_str(shown)?;
+        document.push_str(shown).expect(rt, "memory");
     }
-    document.push_str("</dc:title></oai_dc:dc></metadata></record></GetRecord></OAI-PMH>")?;
-    let answer = answer_with(alloc, document.as_str())?;
-    format!(in alloc; "{}{}{}", set_answer(), answer, not_found())
+    document
+        .push_str("</dc:title></oai_dc:dc></metadata></record></GetRecord></OAI-PMH>")
+        .expect(rt, "memory");
+    let answer = answer_with(rt, alloc, document.as_str());
+    format!(in alloc; "{}{}{}", set_answer(), answer, not_found()).expect(rt, "memory")
 }
 
 /// What comes on the stream is answered so, and that is all that is written.
-fn assert_served(rt: &impl Abort, alloc: Global, text: &str, wanted: &str) -> Result<(), Fail> {
-    let mut front = new_front(alloc)?;
+fn assert_served(rt: &impl Abort, alloc: Global, text: &str, wanted: &str) {
+    let mut front = new_front(rt, alloc);
     let mut stream = wire_of(alloc, text.as_bytes(), 65_536);
     let served = serve_stream(alloc, &mut front, &mut stream, &StandingClock);
     assert_same(rt, served, Ok(()));
     assert_same(rt, stream.written.as_slice(), wanted.as_bytes());
-    Ok(())
 }
 
 /// A record of a short document, one whose document is not gathered, and one whose document has 79,725 bytes of
 /// title: each byte is written, and each head before its body.
 #[test]
-fn long_outputs(rt: HostRuntime) -> Result<(), Fail> {
+fn long_outputs(rt: HostRuntime) {
     let alloc = rt.alloc();
     for (letter, shown, letters) in [("t", "t", 1), ("t", "t", 4_096), ("&", "&amp;", 15_945)] {
-        let text = long_record(alloc, letter, letters)?;
-        let wanted = long_answers(alloc, shown, letters)?;
-        assert_served(&rt, alloc, text.as_str(), wanted.as_str())?;
+        let text = long_record(&rt, alloc, letter, letters);
+        let wanted = long_answers(&rt, alloc, shown, letters);
+        assert_served(&rt, alloc, text.as_str(), wanted.as_str());
     }
-    Ok(())
 }
 
 /// The text so many times.
-fn times(alloc: Global, text: &str, count: usize) -> Result<String, AllocError> {
+fn times(rt: &impl Abort, alloc: Global, text: &str, count: usize) -> String {
     let mut all = String::new(alloc);
     for _ in 0..count {
-        all.push_str(text)?;
+        all.push_str(text).expect(rt, "memory");
     }
-    Ok(all)
+    all
 }
 
 /// A hundred short answers, which are more bytes than are gathered.
 #[test]
-fn many_short_outputs(rt: HostRuntime) -> Result<(), Fail> {
+fn many_short_outputs(rt: HostRuntime) {
     let alloc = rt.alloc();
-    let text = times(alloc, "GET / HTTP/1.1\r\nHost: h\r\n\r\n", 100)?;
-    let wanted = times(alloc, not_found(), 100)?;
-    assert_served(&rt, alloc, text.as_str(), wanted.as_str())
+    let text = times(&rt, alloc, "GET / HTTP/1.1\r\nHost: h\r\n\r\n", 100);
+    let wanted = times(&rt, alloc, not_found(), 100);
+    assert_served(&rt, alloc, text.as_str(), wanted.as_str());
 }
 
 /// What comes of the text where so many writes are made and the next one fails.
 fn served_with_writes(
+    rt: &impl Abort,
     alloc: Global,
     text: &str,
     writes: usize,
-) -> Result<Result<(), StreamFault>, Fail> {
-    let mut front = new_front(alloc)?;
+) -> Result<(), StreamFault> {
+    let mut front = new_front(rt, alloc);
     let mut stream = wire_of(alloc, text.as_bytes(), 65_536);
     stream.writes = writes;
-    Ok(serve_stream(alloc, &mut front, &mut stream, &StandingClock))
+    serve_stream(alloc, &mut front, &mut stream, &StandingClock)
 }
 
 /// What is short is written together: an answer, the head of the next, then its long body, and the last.
 #[test]
-fn short_outputs_are_gathered(rt: HostRuntime) -> Result<(), Fail> {
+fn short_outputs_are_gathered(rt: HostRuntime) {
     let alloc = rt.alloc();
-    let text = long_record(alloc, "t", 4_096)?;
+    let text = long_record(&rt, alloc, "t", 4_096);
     let fault = Err(StreamFault::WriteFault);
-    assert_same(&rt, served_with_writes(alloc, text.as_str(), 2)?, fault);
-    assert_same(&rt, served_with_writes(alloc, text.as_str(), 3)?, Ok(()));
-    Ok(())
+    assert_same(&rt, served_with_writes(&rt, alloc, text.as_str(), 2), fault);
+    assert_same(
+        &rt,
+        served_with_writes(&rt, alloc, text.as_str(), 3),
+        Ok(()),
+    );
 }
 
 /// Gives the head of a message of 1,048,576 bytes, and then one byte a read, for ever.
@@ -507,9 +500,9 @@ impl Write for EndlessWire<'_> {
 }
 
 #[test]
-fn endless_streams(rt: HostRuntime) -> Result<(), Fail> {
+fn endless_streams(rt: HostRuntime) {
     let alloc = rt.alloc();
-    let mut front = new_front(alloc)?;
+    let mut front = new_front(&rt, alloc);
     let mut stream = EndlessWire {
         head: b"POST /deposit/a HTTP/1.1\r\nHost: h\r\nContent-Length: 1048576\r\n\r\n",
         reads: 0,
@@ -517,12 +510,12 @@ fn endless_streams(rt: HostRuntime) -> Result<(), Fail> {
     let served = serve_stream(alloc, &mut front, &mut stream, &StandingClock);
     assert_same(&rt, served, Err(StreamFault::Endless));
     assert_same(&rt, stream.reads, 1_000_000);
-    assert_set(&rt, alloc, &mut front, set_answer())
+    assert_set(&rt, alloc, &mut front, set_answer());
 }
 
 /// What is said of each fault of a stream.
 #[test]
-fn faults_of_streams(rt: HostRuntime) -> Result<(), Fail> {
+fn faults_of_streams(rt: HostRuntime) {
     for (fault, text) in [
         (StreamFault::NoMemory, "out of memory"),
         (StreamFault::ReadFault, "the stream could not be read"),
@@ -530,59 +523,62 @@ fn faults_of_streams(rt: HostRuntime) -> Result<(), Fail> {
         (StreamFault::ClockFault, "the clock could not be read"),
         (StreamFault::Endless, "the stream has not ended"),
     ] {
-        assert_shown(&rt, rt.alloc(), fault, text)?;
+        assert_shown(&rt, rt.alloc(), fault, text);
     }
-    Ok(())
 }
 
 /// Asks for a set and for Identify, and ends its writing side.
-fn ask(client: &mut TcpStream) -> Result<(), Fail> {
-    client.write_all(set_message().as_bytes())?;
-    client.write_all(b"GET /oai/a?verb=Identify HTTP/1.1\r\nHost: h\r\n\r\n")?;
-    client.shutdown(Shutdown::Write)?;
-    Ok(())
+fn ask(rt: &impl Abort, client: &mut TcpStream) {
+    client
+        .write_all(set_message().as_bytes())
+        .expect(rt, "write_all");
+    client
+        .write_all(b"GET /oai/a?verb=Identify HTTP/1.1\r\nHost: h\r\n\r\n")
+        .expect(rt, "write_all");
+    client.shutdown(Shutdown::Write).expect(rt, "shutdown");
 }
 
 /// Serves the next connection to its end.
 fn serve_next(
+    rt: &impl Abort,
     alloc: Global,
     listener: &TcpListener,
     front: &mut Front<Host<PlainVersions>>,
-) -> Result<(), Fail> {
-    let (mut stream, _) = listener.accept()?;
-    serve_stream(alloc, front, &mut stream, &StandingClock)?;
-    Ok(())
+) {
+    let (mut stream, _) = listener.accept().expect(rt, "accept");
+    serve_stream(alloc, front, &mut stream, &StandingClock).expect(rt, "serve_stream");
 }
 
 /// What the client is answered by a new host that listens.
 fn answers_to(
+    rt: &impl Abort,
     alloc: Global,
     client: &mut TcpStream,
     listener: &TcpListener,
-) -> Result<Vec<u8>, Fail> {
-    ask(client)?;
-    serve_next(alloc, listener, &mut new_front(alloc)?)?;
+) -> Vec<u8> {
+    ask(rt, client);
+    serve_next(rt, alloc, listener, &mut new_front(rt, alloc));
     let mut answers = Vec::new(alloc);
-    client.read_to_end(&mut answers)?;
-    Ok(answers)
+    client.read_to_end(&mut answers).expect(rt, "read_to_end");
+    answers
 }
 
-/// What a client of the system's sockets is answered by a new host.
-fn answers_over_a_socket(rt: &HostRuntime, alloc: Global) -> Result<Vec<u8>, Fail> {
+/// A listener, and a client of it, over the system's sockets.
+fn connected(rt: &HostRuntime) -> io::Result<(TcpListener, TcpStream)> {
     let local = SocketAddr::V4(SocketAddrV4::new(Ipv4Addr::LOCALHOST, 0));
     let listener = TcpListener::bind(rt, local)?;
-    let mut client = TcpStream::connect(rt, listener.local_addr()?)?;
-    answers_to(alloc, &mut client, &listener)
+    let client = TcpStream::connect(rt, listener.local_addr()?)?;
+    Ok((listener, client))
 }
 
 /// A client asks, ends its writing side, and reads the answers.
 #[test]
-fn sockets(rt: HostRuntime) -> Result<(), Fail> {
+fn sockets(rt: HostRuntime) {
     let alloc = rt.alloc();
-    let answers = answers_over_a_socket(&rt, alloc)?;
-    let mut wanted = String::from_str(alloc, set_answer())?;
-    let document = answer_with(alloc, transcripts::identify())?;
-    wanted.push_str(document.as_str())?;
+    let (listener, mut client) = connected(&rt).expect(&rt, "connected");
+    let answers = answers_to(&rt, alloc, &mut client, &listener);
+    let mut wanted = String::from_str(alloc, set_answer()).expect(&rt, "memory");
+    let document = answer_with(&rt, alloc, transcripts::identify());
+    wanted.push_str(document.as_str()).expect(&rt, "memory");
     assert_same(&rt, answers.as_slice(), wanted.as_bytes());
-    Ok(())
 }

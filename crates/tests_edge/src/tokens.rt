@@ -2,7 +2,6 @@
 //! others are answered. 1704067200 is 2024-01-01T00:00:00Z; the archive tells two records in an answer,
 //! keeps a list open for a minute, and one at a time.
 use crate::asking::assert_transcript;
-use std::test::Fail;
 
 /// A list of as many records as an answer may have is whole; one more, and it comes in parts. A part may be
 /// asked for again, and from any of its records on.
@@ -37,8 +36,8 @@ DOC <responseDate>2024-01-01T00:00:04Z</responseDate><request verb="ListIdentifi
 }
 
 #[test]
-fn tokens(rt: HostRuntime) -> Result<(), Fail> {
-    assert_transcript(&rt, rt.alloc(), tokens_asked())
+fn tokens(rt: HostRuntime) {
+    assert_transcript(&rt, rt.alloc(), tokens_asked());
 }
 
 /// What a token gives is the list as it was when it began, whatever has been deleted since.
@@ -67,8 +66,8 @@ DOC <responseDate>2024-01-01T00:00:03Z</responseDate><request verb="ListIdentifi
 }
 
 #[test]
-fn frozen_lists(rt: HostRuntime) -> Result<(), Fail> {
-    assert_transcript(&rt, rt.alloc(), frozen_lists_asked())
+fn frozen_lists(rt: HostRuntime) {
+    assert_transcript(&rt, rt.alloc(), frozen_lists_asked());
 }
 
 /// A record that is deposited again while its list is read is told once, as it was.
@@ -97,8 +96,8 @@ DOC <responseDate>2024-01-01T00:00:04Z</responseDate><request verb="ListIdentifi
 }
 
 #[test]
-fn redeposits(rt: HostRuntime) -> Result<(), Fail> {
-    assert_transcript(&rt, rt.alloc(), redeposits_asked())
+fn redeposits(rt: HostRuntime) {
+    assert_transcript(&rt, rt.alloc(), redeposits_asked());
 }
 
 /// A list is open for a minute from each of its parts on, and at its end it is not.
@@ -127,8 +126,8 @@ DOC <responseDate>2024-01-01T00:02:59Z</responseDate><request verb="ListIdentifi
 }
 
 #[test]
-fn expiry(rt: HostRuntime) -> Result<(), Fail> {
-    assert_transcript(&rt, rt.alloc(), expiry_asked())
+fn expiry(rt: HostRuntime) {
+    assert_transcript(&rt, rt.alloc(), expiry_asked());
 }
 
 /// Of these texts none is a token of the list that is open, for the verb that asks; none keeps it open.
@@ -196,8 +195,8 @@ DOC <responseDate>2024-01-01T00:01:01Z</responseDate><request verb="ListIdentifi
 }
 
 #[test]
-fn refused_tokens(rt: HostRuntime) -> Result<(), Fail> {
-    assert_transcript(&rt, rt.alloc(), refused_tokens_asked())
+fn refused_tokens(rt: HostRuntime) {
+    assert_transcript(&rt, rt.alloc(), refused_tokens_asked());
 }
 
 /// Where as many lists are open as may be, a further one is to wait for the first that ends; it uses no number up.
@@ -226,8 +225,8 @@ DOC <responseDate>2024-01-01T00:01:01Z</responseDate><request verb="ListRecords"
 }
 
 #[test]
-fn full_table(rt: HostRuntime) -> Result<(), Fail> {
-    assert_transcript(&rt, rt.alloc(), full_table_asked())
+fn full_table(rt: HostRuntime) {
+    assert_transcript(&rt, rt.alloc(), full_table_asked());
 }
 
 /// A list has its own set, bounds and format; the number of the next is one more.
@@ -271,6 +270,6 @@ DOC <responseDate>2024-01-01T00:01:05Z</responseDate><request verb="ListIdentifi
 }
 
 #[test]
-fn lists_of_their_own(rt: HostRuntime) -> Result<(), Fail> {
-    assert_transcript(&rt, rt.alloc(), lists_of_their_own_asked())
+fn lists_of_their_own(rt: HostRuntime) {
+    assert_transcript(&rt, rt.alloc(), lists_of_their_own_asked());
 }

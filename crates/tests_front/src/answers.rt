@@ -1,13 +1,15 @@
 //! The head of each answer, by its whole bytes, and the faults of a connection.
 use crate::teller::assert_answered;
-use std::alloc::{AllocError, Global};
+use std::alloc::Global;
+use std::panic::Expect;
 use std::process::Abort;
-use std::test::Fail;
 
 /// A GET of the target is answered so.
-fn assert_got(rt: &impl Abort, alloc: Global, target: &str, wanted: &str) -> Result<(), Fail> {
-    let request = format!(in alloc; "GET {target} HTTP/1.1\r\nHost: h\r\n\r\n")?;
-    assert_answered(rt, alloc, request.as_str(), wanted, false)
+fn assert_got(rt: &impl Abort, alloc: Global, target: &str, wanted: &str) {
+    let request = format!(in alloc; "GET {target} HTTP/1.1\r\nHost: h\r\n\r\n").expect(
+        rt, "memory",
+    );
+    assert_answered(rt, alloc, request.as_str(), wanted, false);
 }
 
 /// Targets of requests, and what they are answered.
@@ -39,11 +41,10 @@ fn requests() -> [(&'static str, &'static str); 7] {
 }
 
 #[test]
-fn answers_of_requests(rt: HostRuntime) -> Result<(), Fail> {
+fn answers_of_requests(rt: HostRuntime) {
     for (target, wanted) in requests() {
-        assert_got(&rt, rt.alloc(), target, wanted)?;
+        assert_got(&rt, rt.alloc(), target, wanted);
     }
-    Ok(())
 }
 
 /// Targets of deposits, and what they are answered.
@@ -69,28 +70,21 @@ fn deposits() -> [(&'static str, &'static str); 4] {
 }
 
 #[test]
-fn answers_of_deposits(rt: HostRuntime) -> Result<(), Fail> {
+fn answers_of_deposits(rt: HostRuntime) {
     for (target, wanted) in deposits() {
-        assert_got(&rt, rt.alloc(), target, wanted)?;
+        assert_got(&rt, rt.alloc(), target, wanted);
     }
-    Ok(())
 }
 
 /// What comes behind the request line of a GET is answered so, and closes the connection.
-fn assert_closes(
-    rt: &impl Abort,
-    alloc: Global,
-    version: &str,
-    fields: &str,
-    status: &str,
-) -> Result<(), Fail> {
+fn assert_closes(rt: &impl Abort, alloc: Global, version: &str, fields: &str, status: &str) {
     let request = format!(in alloc;
         "GET / HTTP/1.{version}\r\n{fields}\r\nGET / HTTP/1.1\r\nHost: h\r\n\r\n"
-    )?;
+    ).expect(rt, "memory");
     let wanted = format!(in alloc;
         "HTTP/1.1 {status}\r\nConnection: close\r\nContent-Length: 0\r\n\r\n"
-    )?;
-    assert_answered(rt, alloc, request.as_str(), wanted.as_str(), true)
+    ).expect(rt, "memory");
+    assert_answered(rt, alloc, request.as_str(), wanted.as_str(), true);
 }
 
 /// Each row is a version, the fields and the status.
@@ -118,57 +112,56 @@ fn closing_heads() -> &'static str {
 }
 
 /// The fields, which stand with semicolons between, as lines.
-fn lines_of(alloc: Global, fields: &str) -> Result<String, AllocError> {
+fn lines_of(rt: &impl Abort, alloc: Global, fields: &str) -> String {
     let mut lines = String::new(alloc);
     for field in fields.split(';') {
         if !field.is_empty() {
-            lines.push_str(field)?;
-            lines.push_str("\r\n")?;
+            lines.push_str(field).expect(rt, "memory");
+            lines.push_str("\r\n").expect(rt, "memory");
         }
     }
-    Ok(lines)
+    lines
 }
 
 /// The row is answered as it says.
-fn assert_row(rt: &impl Abort, alloc: Global, row: &str) -> Result<(), Fail> {
+fn assert_row(rt: &impl Abort, alloc: Global, row: &str) {
     let Some((version, rest)) = row.split_once("|") else {
         panic!(rt; "no version in {row}")
     };
     let Some((fields, status)) = rest.split_once("|") else {
         panic!(rt; "no status in {row}")
     };
-    let lines = lines_of(alloc, fields)?;
-    assert_closes(rt, alloc, version, lines.as_str(), status)
+    let lines = lines_of(rt, alloc, fields);
+    assert_closes(rt, alloc, version, lines.as_str(), status);
 }
 
 #[test]
-fn faults_and_last_messages_close(rt: HostRuntime) -> Result<(), Fail> {
+fn faults_and_last_messages_close(rt: HostRuntime) {
     for row in closing_heads().lines() {
-        assert_row(&rt, rt.alloc(), row)?;
+        assert_row(&rt, rt.alloc(), row);
     }
-    Ok(())
 }
 
 #[test]
-fn a_message_of_http_1_0_is_the_last(rt: HostRuntime) -> Result<(), Fail> {
+fn a_message_of_http_1_0_is_the_last(rt: HostRuntime) {
     assert_answered(
         &rt,
         rt.alloc(),
         "GET /oai/z HTTP/1.0\r\n\r\nGET /oai/a HTTP/1.1\r\nHost: h\r\n\r\n",
         "HTTP/1.1 404 Not Found\r\nConnection: close\r\nContent-Length: 0\r\n\r\n",
         true,
-    )
+    );
 }
 
 #[test]
-fn a_fault_is_answered_behind_the_messages(rt: HostRuntime) -> Result<(), Fail> {
+fn a_fault_is_answered_behind_the_messages(rt: HostRuntime) {
     assert_answered(
         &rt,
         rt.alloc(),
         "GET /oai/put HTTP/1.1\r\nHost: h\r\n\r\nGET /oai/a HTTP/1.1\r\n\r\n",
         "HTTP/1.1 405 Method Not Allowed\r\nAllow: GET, POST\r\nContent-Length: 0\r\n\r\nHTTP/1.1 400 Bad Request\r\nConnection: close\r\nContent-Length: 0\r\n\r\n",
         true,
-    )
+    );
 }
 
 /// Messages that keep the connection: three that are whole, and one that is not.
@@ -182,12 +175,12 @@ fn other_heads() -> [&'static str; 4] {
 }
 
 #[test]
-fn other_heads_keep_the_connection(rt: HostRuntime) -> Result<(), Fail> {
+fn other_heads_keep_the_connection(rt: HostRuntime) {
     let alloc = rt.alloc();
     let answer = "HTTP/1.1 404 Not Found\r\nContent-Length: 0\r\n\r\n";
     let [first, second, third, part] = other_heads();
     for whole in [first, second, third] {
-        assert_answered(&rt, alloc, whole, answer, false)?;
+        assert_answered(&rt, alloc, whole, answer, false);
     }
-    assert_answered(&rt, alloc, part, "", false)
+    assert_answered(&rt, alloc, part, "", false);
 }

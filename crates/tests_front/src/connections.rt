@@ -3,8 +3,8 @@ use crate::assertions::{assert_same, assert_shown};
 use crate::teller::{Teller, assert_waits, front, two_opened};
 use oai_front::{ConnId, Front, NoSuchConnection, OpenFault, PieceFault};
 use std::alloc::Global;
+use std::panic::Expect;
 use std::process::Abort;
-use std::test::Fail;
 
 /// The end of a message that begins with `GET / `, and what it is answered.
 fn last_piece() -> (&'static [u8], &'static [u8]) {
@@ -20,15 +20,10 @@ fn begin(front: &mut Front<Teller>, conn: ConnId) -> Result<(), PieceFault> {
 }
 
 /// Its end comes, and it is answered.
-fn assert_ended(
-    rt: &impl Abort,
-    alloc: Global,
-    front: &mut Front<Teller>,
-    conn: ConnId,
-) -> Result<(), Fail> {
+fn assert_ended(rt: &impl Abort, alloc: Global, front: &mut Front<Teller>, conn: ConnId) {
     let (piece, wanted) = last_piece();
-    front.piece(conn, 0, piece)?;
-    assert_waits(rt, alloc, front, conn, wanted)
+    front.piece(conn, 0, piece).expect(rt, "piece");
+    assert_waits(rt, alloc, front, conn, wanted);
 }
 
 /// Of two messages that have begun the second is ended and answered, and then the first.
@@ -38,41 +33,42 @@ fn assert_apart(
     front: &mut Front<Teller>,
     first: ConnId,
     second: ConnId,
-) -> Result<(), Fail> {
-    assert_ended(rt, alloc, front, second)?;
-    assert_waits(rt, alloc, front, first, b"")?;
-    assert_ended(rt, alloc, front, first)
+) {
+    assert_ended(rt, alloc, front, second);
+    assert_waits(rt, alloc, front, first, b"");
+    assert_ended(rt, alloc, front, first);
 }
 
 #[test]
-fn pieces_of_two_connections_do_not_mix(rt: HostRuntime) -> Result<(), Fail> {
+fn pieces_of_two_connections_do_not_mix(rt: HostRuntime) {
     let mut front = front(rt.alloc(), 2);
-    let (first, second) = two_opened(&mut front)?;
-    begin(&mut front, first)?;
-    begin(&mut front, second)?;
-    assert_apart(&rt, rt.alloc(), &mut front, first, second)
+    let (first, second) = two_opened(&mut front).expect(&rt, "two_opened");
+    begin(&mut front, first).expect(&rt, "begin");
+    begin(&mut front, second).expect(&rt, "begin");
+    assert_apart(&rt, rt.alloc(), &mut front, first, second);
 }
 
 /// The connection ends, and is closing; what comes behind is not answered.
-fn assert_closes(rt: &impl Abort, front: &mut Front<Teller>, conn: ConnId) -> Result<(), Fail> {
-    front.end(conn)?;
+fn assert_closes(rt: &impl Abort, front: &mut Front<Teller>, conn: ConnId) {
+    front.end(conn).expect(rt, "end");
     assert_same(rt, front.closing(conn), Some(true));
-    front.piece(conn, 0, b"y")?;
+    front.piece(conn, 0, b"y").expect(rt, "piece");
     assert_same(rt, front.output(conn).map(|bytes| bytes.len()), Some(0));
-    Ok(())
 }
 
 #[test]
-fn what_is_not_whole_at_the_end_is_dropped(rt: HostRuntime) -> Result<(), Fail> {
+fn what_is_not_whole_at_the_end_is_dropped(rt: HostRuntime) {
     let mut front = front(rt.alloc(), 1);
-    let conn = front.open()?;
-    front.piece(
-        conn,
-        0,
-        b"POST /oai/a HTTP/1.1\r\nHost: h\r\nContent-Length: 2\r\n\r\nx",
-    )?;
+    let conn = front.open().expect(&rt, "open");
+    front
+        .piece(
+            conn,
+            0,
+            b"POST /oai/a HTTP/1.1\r\nHost: h\r\nContent-Length: 2\r\n\r\nx",
+        )
+        .expect(&rt, "piece");
     assert_same(&rt, front.closing(conn), Some(false));
-    assert_closes(&rt, &mut front, conn)
+    assert_closes(&rt, &mut front, conn);
 }
 
 /// No call finds the connection.
@@ -93,36 +89,34 @@ fn assert_untold(rt: &impl Abort, front: &Front<Teller>, conn: ConnId) {
 }
 
 /// The one connection that may be open.
-fn only_opened(rt: &impl Abort, front: &mut Front<Teller>) -> Result<ConnId, Fail> {
-    let conn = front.open()?;
+fn only_opened(rt: &impl Abort, front: &mut Front<Teller>) -> ConnId {
+    let conn = front.open().expect(rt, "open");
     assert_same(rt, conn.number, 1);
     assert_same(rt, front.open(), Err(OpenFault::Full));
-    Ok(conn)
+    conn
 }
 
 #[test]
-fn a_forgotten_connection_is_gone(rt: HostRuntime) -> Result<(), Fail> {
+fn a_forgotten_connection_is_gone(rt: HostRuntime) {
     let mut front = front(rt.alloc(), 1);
-    let conn = only_opened(&rt, &mut front)?;
-    front.forget(conn)?;
+    let conn = only_opened(&rt, &mut front);
+    front.forget(conn).expect(&rt, "forget");
     assert_gone(&rt, &mut front, conn);
     assert_untold(&rt, &front, conn);
     assert_same(&rt, front.open(), Ok(ConnId { number: 2 }));
-    Ok(())
 }
 
 #[test]
-fn as_many_connections_are_open_as_may_be(rt: HostRuntime) -> Result<(), Fail> {
+fn as_many_connections_are_open_as_may_be(rt: HostRuntime) {
     let mut front = front(rt.alloc(), 1_024);
     for number in 1..=1_024 {
         assert_same(&rt, front.open(), Ok(ConnId { number }));
     }
     assert_same(&rt, front.open(), Err(OpenFault::Full));
-    Ok(())
 }
 
 #[test]
-fn faults_of_opening_are_told(rt: HostRuntime) -> Result<(), Fail> {
+fn faults_of_opening_are_told(rt: HostRuntime) {
     for (fault, text) in [
         (OpenFault::Full, "too many connections are open"),
         (OpenFault::NoMemory, "out of memory"),
@@ -131,13 +125,12 @@ fn faults_of_opening_are_told(rt: HostRuntime) -> Result<(), Fail> {
             "no number is left for a connection",
         ),
     ] {
-        assert_shown(&rt, rt.alloc(), fault, text)?;
+        assert_shown(&rt, rt.alloc(), fault, text);
     }
-    Ok(())
 }
 
 #[test]
-fn faults_of_pieces_are_told(rt: HostRuntime) -> Result<(), Fail> {
+fn faults_of_pieces_are_told(rt: HostRuntime) {
     for (fault, text) in [
         (PieceFault::NoSuchConnection, "no such connection is open"),
         (PieceFault::NoMemory, "out of memory"),
@@ -146,7 +139,6 @@ fn faults_of_pieces_are_told(rt: HostRuntime) -> Result<(), Fail> {
             "out of memory before all was performed",
         ),
     ] {
-        assert_shown(&rt, rt.alloc(), fault, text)?;
+        assert_shown(&rt, rt.alloc(), fault, text);
     }
-    Ok(())
 }

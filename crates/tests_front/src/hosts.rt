@@ -5,8 +5,8 @@ use oai_catalogue::PlainVersions;
 use oai_front::{ConnId, Front};
 use oai_host::{Config, Host};
 use std::alloc::{AllocError, Global};
+use std::panic::Expect;
 use std::process::Abort;
-use std::test::Fail;
 use tests_worked::document_head;
 
 /// The first second of 2024.
@@ -42,11 +42,14 @@ fn assert_told(
     front: &mut Front<Host<PlainVersions>>,
     conn: ConnId,
     wanted: &str,
-) -> Result<(), Fail> {
+) {
     let mut all = Vec::new(alloc);
-    take_all(front, conn, false, &mut all)?;
-    assert_same(rt, std::str::from_utf8(&all)?, wanted);
-    Ok(())
+    take_all(rt, front, conn, false, &mut all);
+    assert_same(
+        rt,
+        std::str::from_utf8(&all).expect(rt, "std::str::from_utf8"),
+        wanted,
+    );
 }
 
 /// The piece is answered so.
@@ -58,9 +61,9 @@ fn assert_answered(
     moment: i64,
     piece: &[u8],
     wanted: &str,
-) -> Result<(), Fail> {
-    front.piece(conn, moment, piece)?;
-    assert_told(rt, alloc, front, conn, wanted)
+) {
+    front.piece(conn, moment, piece).expect(rt, "piece");
+    assert_told(rt, alloc, front, conn, wanted);
 }
 
 /// A set that is new.
@@ -79,50 +82,44 @@ fn known() -> &'static str {
 }
 
 #[test]
-fn a_deposit_comes_byte_by_byte(rt: HostRuntime) -> Result<(), Fail> {
+fn a_deposit_comes_byte_by_byte(rt: HostRuntime) {
     let alloc = rt.alloc();
-    let mut front = hosting(alloc, 1)?;
-    assert_byte_by_byte(&rt, alloc, &mut front)
+    let mut front = hosting(alloc, 1).expect(&rt, "hosting");
+    assert_byte_by_byte(&rt, alloc, &mut front);
 }
 
 /// A deposit comes byte by byte, and again as one piece.
-fn assert_byte_by_byte(
-    rt: &impl Abort,
-    alloc: Global,
-    front: &mut Front<Host<PlainVersions>>,
-) -> Result<(), Fail> {
-    let conn = front.open()?;
+fn assert_byte_by_byte(rt: &impl Abort, alloc: Global, front: &mut Front<Host<PlainVersions>>) {
+    let conn = front.open().expect(rt, "open");
     for byte in deposit() {
-        front.piece(conn, START, &[*byte])?;
+        front.piece(conn, START, &[*byte]).expect(rt, "piece");
     }
-    assert_told(rt, alloc, front, conn, added())?;
-    assert_answered(rt, alloc, front, conn, START, deposit(), known())
+    assert_told(rt, alloc, front, conn, added());
+    assert_answered(rt, alloc, front, conn, START, deposit(), known());
 }
 
 #[test]
-fn a_deposit_that_lacks_a_byte_is_not_performed(rt: HostRuntime) -> Result<(), Fail> {
+fn a_deposit_that_lacks_a_byte_is_not_performed(rt: HostRuntime) {
     let alloc = rt.alloc();
-    let mut front = hosting(alloc, 2)?;
-    assert_not_performed(&rt, alloc, &mut front)
+    let mut front = hosting(alloc, 2).expect(&rt, "hosting");
+    assert_not_performed(&rt, alloc, &mut front);
 }
 
 /// A deposit lacks its last byte on one connection, and is new on another.
-fn assert_not_performed(
-    rt: &impl Abort,
-    alloc: Global,
-    front: &mut Front<Host<PlainVersions>>,
-) -> Result<(), Fail> {
-    let (first, second) = two_opened(front)?;
-    end_too_early(front, first)?;
-    assert_answered(rt, alloc, front, first, START, b"}", "")?;
-    assert_answered(rt, alloc, front, second, START, deposit(), added())
+fn assert_not_performed(rt: &impl Abort, alloc: Global, front: &mut Front<Host<PlainVersions>>) {
+    let (first, second) = two_opened(front).expect(rt, "two_opened");
+    end_too_early(rt, front, first);
+    assert_answered(rt, alloc, front, first, START, b"}", "");
+    assert_answered(rt, alloc, front, second, START, deposit(), added());
 }
 
 /// A deposit comes but for its last byte, and then the end of the connection.
-fn end_too_early(front: &mut Front<Host<PlainVersions>>, conn: ConnId) -> Result<(), Fail> {
+fn end_too_early(rt: &impl Abort, front: &mut Front<Host<PlainVersions>>, conn: ConnId) {
     let bytes = deposit();
-    front.piece(conn, START, &bytes[..bytes.len().saturating_sub(1)])?;
-    Ok(front.end(conn)?)
+    front
+        .piece(conn, START, &bytes[..bytes.len().saturating_sub(1)])
+        .expect(rt, "piece");
+    front.end(conn).expect(rt, "end");
 }
 
 /// Messages that are refused, one behind the other.
@@ -136,22 +133,17 @@ fn refusals() -> &'static str {
 }
 
 #[test]
-fn a_host_refuses_and_the_connection_stays(rt: HostRuntime) -> Result<(), Fail> {
+fn a_host_refuses_and_the_connection_stays(rt: HostRuntime) {
     let alloc = rt.alloc();
-    let mut front = hosting(alloc, 1)?;
-    assert_refused(&rt, alloc, &mut front)
+    let mut front = hosting(alloc, 1).expect(&rt, "hosting");
+    assert_refused(&rt, alloc, &mut front);
 }
 
 /// Each message is refused by itself, and the last one closes the connection.
-fn assert_refused(
-    rt: &impl Abort,
-    alloc: Global,
-    front: &mut Front<Host<PlainVersions>>,
-) -> Result<(), Fail> {
-    let conn = front.open()?;
-    assert_answered(rt, alloc, front, conn, START, refused(), refusals())?;
+fn assert_refused(rt: &impl Abort, alloc: Global, front: &mut Front<Host<PlainVersions>>) {
+    let conn = front.open().expect(rt, "open");
+    assert_answered(rt, alloc, front, conn, START, refused(), refusals());
     assert_same(rt, front.closing(conn), Some(true));
-    Ok(())
 }
 
 /// Three items, and a request that begins a list of them.
@@ -165,32 +157,31 @@ fn second_list() -> &'static [u8] {
 }
 
 #[test]
-fn a_full_table_tells_when_to_come_again(rt: HostRuntime) -> Result<(), Fail> {
+fn a_full_table_tells_when_to_come_again(rt: HostRuntime) {
     let alloc = rt.alloc();
-    let mut front = hosting(alloc, 1)?;
-    assert_full(&rt, alloc, &mut front)
+    let mut front = hosting(alloc, 1).expect(&rt, "hosting");
+    assert_full(&rt, alloc, &mut front);
 }
 
 /// A list begins, and ten seconds later no other can.
-fn assert_full(
-    rt: &impl Abort,
-    alloc: Global,
-    front: &mut Front<Host<PlainVersions>>,
-) -> Result<(), Fail> {
-    let conn = front.open()?;
-    begin_list(alloc, front, conn)?;
-    assert_answered(rt, alloc, front, conn, START + 11, second_list(), full())
+fn assert_full(rt: &impl Abort, alloc: Global, front: &mut Front<Host<PlainVersions>>) {
+    let conn = front.open().expect(rt, "open");
+    begin_list(rt, alloc, front, conn);
+    assert_answered(rt, alloc, front, conn, START + 11, second_list(), full());
 }
 
 /// Three items come, and a list of them begins.
 fn begin_list(
+    rt: &impl Abort,
     alloc: Global,
     front: &mut Front<Host<PlainVersions>>,
     conn: ConnId,
-) -> Result<(), Fail> {
-    front.piece(conn, START + 1, three_items())?;
+) {
+    front
+        .piece(conn, START + 1, three_items())
+        .expect(rt, "piece");
     let mut all = Vec::new(alloc);
-    Ok(take_all(front, conn, false, &mut all)?)
+    take_all(rt, front, conn, false, &mut all);
 }
 
 /// What is answered where no list can begin for 50 seconds.
@@ -227,35 +218,31 @@ fn whole_answer(alloc: Global, name: &str) -> Result<String, AllocError> {
 }
 
 #[test]
-fn two_requests_come_byte_by_byte_in_turns(rt: HostRuntime) -> Result<(), Fail> {
+fn two_requests_come_byte_by_byte_in_turns(rt: HostRuntime) {
     let alloc = rt.alloc();
-    let mut front = hosting(alloc, 2)?;
-    assert_in_turns(&rt, alloc, &mut front)
+    let mut front = hosting(alloc, 2).expect(&rt, "hosting");
+    assert_in_turns(&rt, alloc, &mut front);
 }
 
 /// Each connection has the answer of its repository.
-fn assert_in_turns(
-    rt: &impl Abort,
-    alloc: Global,
-    front: &mut Front<Host<PlainVersions>>,
-) -> Result<(), Fail> {
-    let (first, second) = two_opened(front)?;
-    hand_in_turns(front, first, second)?;
-    assert_identified(rt, alloc, front, second, "b")?;
-    assert_identified(rt, alloc, front, first, "a")
+fn assert_in_turns(rt: &impl Abort, alloc: Global, front: &mut Front<Host<PlainVersions>>) {
+    let (first, second) = two_opened(front).expect(rt, "two_opened");
+    hand_in_turns(rt, front, first, second);
+    assert_identified(rt, alloc, front, second, "b");
+    assert_identified(rt, alloc, front, first, "a");
 }
 
 /// A request of each repository comes, byte by byte in turns.
 fn hand_in_turns(
+    rt: &impl Abort,
     front: &mut Front<Host<PlainVersions>>,
     first: ConnId,
     second: ConnId,
-) -> Result<(), Fail> {
+) {
     for (a, b) in identify("a").iter().zip(identify("b")) {
-        front.piece(first, START, &[*a])?;
-        front.piece(second, START, &[*b])?;
+        front.piece(first, START, &[*a]).expect(rt, "piece");
+        front.piece(second, START, &[*b]).expect(rt, "piece");
     }
-    Ok(())
 }
 
 /// What waits on the connection is the answer of that repository.
@@ -265,7 +252,7 @@ fn assert_identified(
     front: &mut Front<Host<PlainVersions>>,
     conn: ConnId,
     name: &str,
-) -> Result<(), Fail> {
-    let wanted = whole_answer(alloc, name)?;
-    assert_told(rt, alloc, front, conn, wanted.as_str())
+) {
+    let wanted = whole_answer(alloc, name).expect(rt, "whole_answer");
+    assert_told(rt, alloc, front, conn, wanted.as_str());
 }

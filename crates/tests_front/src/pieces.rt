@@ -3,8 +3,8 @@ use crate::assertions::assert_same;
 use crate::teller::{Teller, answered, assert_waits, front, hand_on, take_all};
 use oai_front::{ConnId, Front, PieceFault};
 use std::alloc::Global;
+use std::panic::Expect;
 use std::process::Abort;
-use std::test::Fail;
 
 /// Five messages: a GET, a POST, a deposit, a bad path, and one that closes the connection; and bytes
 /// behind it.
@@ -18,23 +18,21 @@ fn answers() -> &'static [u8] {
 }
 
 #[test]
-fn every_cut_gives_the_same_answers(rt: HostRuntime) -> Result<(), Fail> {
+fn every_cut_gives_the_same_answers(rt: HostRuntime) {
     let bytes = stream();
     for at in 0..=bytes.len() {
         let (first, second) = bytes.split_at(at);
-        assert_cut(&rt, rt.alloc(), first, second)?;
+        assert_cut(&rt, rt.alloc(), first, second);
     }
-    Ok(())
 }
 
 /// The stream, cut into these two, is answered so.
-fn assert_cut(rt: &impl Abort, alloc: Global, first: &[u8], second: &[u8]) -> Result<(), Fail> {
+fn assert_cut(rt: &impl Abort, alloc: Global, first: &[u8], second: &[u8]) {
     let mut front = front(alloc, 1);
-    let conn = front.open()?;
-    hand_both(&mut front, conn, first, second)?;
-    assert_waits(rt, alloc, &mut front, conn, answers())?;
+    let conn = front.open().expect(rt, "open");
+    hand_both(&mut front, conn, first, second).expect(rt, "hand_both");
+    assert_waits(rt, alloc, &mut front, conn, answers());
     assert_same(rt, front.closing(conn), Some(true));
-    Ok(())
 }
 
 /// Hands two pieces on.
@@ -49,26 +47,26 @@ fn hand_both(
 }
 
 #[test]
-fn single_bytes_give_the_same_answers(rt: HostRuntime) -> Result<(), Fail> {
+fn single_bytes_give_the_same_answers(rt: HostRuntime) {
     let mut front = front(rt.alloc(), 1);
-    let conn = front.open()?;
-    let all = slowly_answered(rt.alloc(), &mut front, conn)?;
+    let conn = front.open().expect(&rt, "open");
+    let all = slowly_answered(&rt, rt.alloc(), &mut front, conn);
     assert_same(&rt, all.as_slice(), answers());
-    Ok(())
 }
 
 /// What is answered where the stream comes byte by byte, and is taken so behind each.
 fn slowly_answered(
+    rt: &impl Abort,
     alloc: Global,
     front: &mut Front<Teller>,
     conn: ConnId,
-) -> Result<Vec<u8>, Fail> {
+) -> Vec<u8> {
     let mut all = Vec::new(alloc);
     for byte in stream() {
-        hand_on(front, conn, 7, &[*byte])?;
-        take_all(front, conn, true, &mut all)?;
+        hand_on(front, conn, 7, &[*byte]).expect(rt, "hand_on");
+        take_all(rt, front, conn, true, &mut all);
     }
-    Ok(all)
+    all
 }
 
 /// A message of which the last byte comes as the fourth piece.
@@ -82,11 +80,10 @@ fn slow_message() -> [&'static [u8]; 4] {
 }
 
 #[test]
-fn a_message_is_performed_at_the_moment_of_its_last_byte(rt: HostRuntime) -> Result<(), Fail> {
-    let (answer, closing) = answered(&rt, rt.alloc(), &slow_message())?;
+fn a_message_is_performed_at_the_moment_of_its_last_byte(rt: HostRuntime) {
+    let (answer, closing) = answered(&rt, rt.alloc(), &slow_message());
     let wanted: &[u8] =
         b"HTTP/1.1 200 OK\r\nContent-Type: text/xml\r\nContent-Length: 15\r\n\r\n1 3 POST [-] xy";
     assert_same(&rt, answer.as_slice(), wanted);
     assert_same(&rt, closing, false);
-    Ok(())
 }

@@ -6,9 +6,9 @@ use oai_front::{ConnId, Front, Handler, OpenFault, PieceFault};
 use oai_host::{Answer, Exchange, Status};
 use oai_names::Sequence;
 use std::alloc::{AllocError, Global};
+use std::panic::Expect;
 use std::process::Abort;
 use std::str::from_utf8;
-use std::test::Fail;
 
 /// Counts what it was asked.
 #[derive(Drop)]
@@ -118,24 +118,24 @@ pub(crate) fn two_opened<H>(front: &mut Front<H>) -> Result<(ConnId, ConnId), Op
 
 /// Takes what is to be written on the connection, one byte at a time where `slowly`.
 pub(crate) fn take_all<H>(
+    rt: &impl Abort,
     front: &mut Front<H>,
     conn: ConnId,
     slowly: bool,
     all: &mut Vec<u8>,
-) -> Result<(), AllocError> {
+) {
     for _ in 0..100_000u32 {
         let count = match front.output(conn) {
             Some([]) => break,
             Some(bytes) => {
                 let count = if slowly { 1 } else { bytes.len() };
-                all.extend_from_slice(&bytes[..count])?;
+                all.extend_from_slice(&bytes[..count]).expect(rt, "memory");
                 count
             }
             None => break,
         };
         front.taken(conn, count);
     }
-    Ok(())
 }
 
 /// What is to be written on the connection is that.
@@ -145,11 +145,10 @@ pub(crate) fn assert_waits(
     front: &mut Front<Teller>,
     conn: ConnId,
     wanted: &[u8],
-) -> Result<(), Fail> {
+) {
     let mut all = Vec::new(alloc);
-    take_all(front, conn, false, &mut all)?;
+    take_all(rt, front, conn, false, &mut all);
     assert_same(rt, all.as_slice(), wanted);
-    Ok(())
 }
 
 /// Hands the pieces on, each at the moment of its number.
@@ -164,17 +163,13 @@ fn hand_each(front: &mut Front<Teller>, conn: ConnId, pieces: &[&[u8]]) -> Resul
 
 /// What is answered to these pieces on one connection, each at the moment of its number, and whether the
 /// connection is closing then.
-pub(crate) fn answered(
-    rt: &impl Abort,
-    alloc: Global,
-    pieces: &[&[u8]],
-) -> Result<(Vec<u8>, bool), Fail> {
+pub(crate) fn answered(rt: &impl Abort, alloc: Global, pieces: &[&[u8]]) -> (Vec<u8>, bool) {
     let mut front = front(alloc, 1);
-    let conn = front.open()?;
-    hand_each(&mut front, conn, pieces)?;
+    let conn = front.open().expect(rt, "open");
+    hand_each(&mut front, conn, pieces).expect(rt, "hand_each");
     let mut all = Vec::new(alloc);
-    take_all(&mut front, conn, false, &mut all)?;
-    Ok((all, front.closing(conn) == Some(true)))
+    take_all(rt, &mut front, conn, false, &mut all);
+    (all, front.closing(conn) == Some(true))
 }
 
 /// The bytes are answered so, and the connection is closing then or not.
@@ -184,10 +179,9 @@ pub(crate) fn assert_answered(
     bytes: &str,
     wanted: &str,
     closing: bool,
-) -> Result<(), Fail> {
-    let (answer, closes) = answered(rt, alloc, &[bytes.as_bytes()])?;
-    let answer = std::str::from_utf8(&answer)?;
+) {
+    let (answer, closes) = answered(rt, alloc, &[bytes.as_bytes()]);
+    let answer = std::str::from_utf8(&answer).expect(rt, "std::str::from_utf8");
     assert_same_at(rt, answer, wanted, bytes);
     assert_same_at(rt, closes, closing, bytes);
-    Ok(())
 }

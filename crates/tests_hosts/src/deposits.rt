@@ -1,7 +1,8 @@
 //! Deposits: their lines, the answers to them, and the clock.
 use crate::transcripts::assert_transcript;
-use std::alloc::{AllocError, Global};
-use std::test::Fail;
+use std::alloc::Global;
+use std::panic::Expect;
+use std::process::Abort;
 
 /// A body is cut at each line end, whatever its type, and each line that is not blank is answered. A line
 /// that is refused stops nothing. The sets are listed whole, though a page has two records.
@@ -29,28 +30,32 @@ DOC <responseDate>2024-01-01T00:00:01Z</responseDate><request verb="ListSets">ht
 }
 
 #[test]
-fn lines(rt: HostRuntime) -> Result<(), Fail> {
-    assert_transcript(&rt, rt.alloc(), lines_asked())
+fn lines(rt: HostRuntime) {
+    assert_transcript(&rt, rt.alloc(), lines_asked());
 }
 
 /// A deposit of so many lines, none of which is JSON.
-fn many_lines_asked(alloc: Global, lines: usize) -> Result<String, AllocError> {
-    let mut transcript = String::from_str(alloc, "> 1704067200 POST /deposit/a | - | ")?;
+fn many_lines_asked(rt: &impl Abort, alloc: Global, lines: usize) -> String {
+    let mut transcript = String::from_str(alloc, "> 1704067200 POST /deposit/a | - | ").expect(
+        rt, "memory",
+    );
     for _ in 0..lines {
-        transcript.push_str("[¶")?;
+        transcript.push_str("[¶").expect(rt, "memory");
     }
-    transcript.push_str("\n200")?;
+    transcript.push_str("\n200").expect(rt, "memory");
     for _ in 0..lines {
-        transcript.push_str("\nrefused 1 bad-json")?;
+        transcript
+            .push_str("\nrefused 1 bad-json")
+            .expect(rt, "memory");
     }
-    Ok(transcript)
+    transcript
 }
 
 /// However many lines there are, and however long their answer grows, no room is wanting.
 #[test]
-fn many_lines(rt: HostRuntime) -> Result<(), Fail> {
-    let transcript = many_lines_asked(rt.alloc(), 10_000)?;
-    assert_transcript(&rt, rt.alloc(), transcript.as_str())
+fn many_lines(rt: HostRuntime) {
+    let transcript = many_lines_asked(&rt, rt.alloc(), 10_000);
+    assert_transcript(&rt, rt.alloc(), transcript.as_str());
 }
 
 /// A line of spaces, tabs and CR alone is blank, one of other white space is none; a CR at the end of a
@@ -71,8 +76,8 @@ refused 1 bad-json"
 }
 
 #[test]
-fn blank_lines(rt: HostRuntime) -> Result<(), Fail> {
-    assert_transcript(&rt, rt.alloc(), blank_lines_asked())
+fn blank_lines(rt: HostRuntime) {
+    assert_transcript(&rt, rt.alloc(), blank_lines_asked());
 }
 
 /// A deposit without a line is no deposit: it is answered, and moves no clock. A line that is refused as
@@ -122,8 +127,8 @@ ok 2024-01-01T00:00:00Z"#
 }
 
 #[test]
-fn clock(rt: HostRuntime) -> Result<(), Fail> {
-    assert_transcript(&rt, rt.alloc(), clock_asked())
+fn clock(rt: HostRuntime) {
+    assert_transcript(&rt, rt.alloc(), clock_asked());
 }
 
 /// A line that is refused as it stands, and comes when a list ends, ends it.
@@ -147,6 +152,6 @@ DOC <responseDate>2024-01-01T00:01:00Z</responseDate><request verb="ListIdentifi
 }
 
 #[test]
-fn ended_list(rt: HostRuntime) -> Result<(), Fail> {
-    assert_transcript(&rt, rt.alloc(), ended_list_asked())
+fn ended_list(rt: HostRuntime) {
+    assert_transcript(&rt, rt.alloc(), ended_list_asked());
 }

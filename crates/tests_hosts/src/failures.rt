@@ -7,7 +7,7 @@ use oai_catalogue::{FaultyVersions, PlainVersions};
 use oai_host::Host;
 use oai_item::Fault;
 use std::alloc::Global;
-use std::test::Fail;
+use std::process::Abort;
 use tests_archives::{CrampedVersions, LyingVersions, Want};
 
 // ---- deposits
@@ -31,9 +31,9 @@ refused 13 no-such-item"#
 }
 
 #[test]
-fn third_line(rt: HostRuntime) -> Result<(), Fail> {
+fn third_line(rt: HostRuntime) {
     let store = FaultyVersions::new(PlainVersions::new(rt.alloc()), 6);
-    assert_transcript_over(&rt, rt.alloc(), store, third_line_fails())
+    assert_transcript_over(&rt, rt.alloc(), store, third_line_fails());
 }
 
 /// The same for want of memory, after which it may be tried again.
@@ -55,12 +55,12 @@ DOC <responseDate>2024-01-01T00:00:07Z</responseDate><request verb="ListIdentifi
 }
 
 #[test]
-fn third_line_without_room(rt: HostRuntime) -> Result<(), Fail> {
+fn third_line_without_room(rt: HostRuntime) {
     let alloc = rt.alloc();
     let store = CrampedVersions::new(PlainVersions::new(alloc), 6, Want::Memory);
-    assert_transcript_over(&rt, alloc, store, third_line_without_memory())?;
+    assert_transcript_over(&rt, alloc, store, third_line_without_memory());
     let store = CrampedVersions::new(PlainVersions::new(alloc), 6, Want::Pages);
-    assert_transcript_over(&rt, alloc, store, third_line_without_pages())
+    assert_transcript_over(&rt, alloc, store, third_line_without_pages());
 }
 
 /// A line that is refused is done, as one of which the store was not asked; a deposit whose first line
@@ -88,12 +88,12 @@ ok 2024-01-01T00:00:00Z"#
 }
 
 #[test]
-fn fourth_call(rt: HostRuntime) -> Result<(), Fail> {
+fn fourth_call(rt: HostRuntime) {
     let alloc = rt.alloc();
     let store = FaultyVersions::new(PlainVersions::new(alloc), 4);
-    assert_transcript_over(&rt, alloc, store, refused_lines_are_done())?;
+    assert_transcript_over(&rt, alloc, store, refused_lines_are_done());
     let store = FaultyVersions::new(PlainVersions::new(alloc), 4);
-    assert_transcript_over(&rt, alloc, store, first_line_fails())
+    assert_transcript_over(&rt, alloc, store, first_line_fails());
 }
 
 /// The store once does not find the first item, which is deposited anew.
@@ -109,10 +109,10 @@ DOC <responseDate>2024-01-01T00:00:06Z</responseDate><request verb="ListIdentifi
 }
 
 #[test]
-fn damage(rt: HostRuntime) -> Result<(), Fail> {
+fn damage(rt: HostRuntime) {
     let alloc = rt.alloc();
     let store = LyingVersions::new(alloc, PlainVersions::new(alloc), 0, 1);
-    assert_transcript_over(&rt, alloc, store, damaged_line())
+    assert_transcript_over(&rt, alloc, store, damaged_line());
 }
 
 /// The first line of a deposit is damaged: no line was done, and the clock stands.
@@ -128,10 +128,10 @@ DOC <responseDate>2024-01-01T00:00:00Z</responseDate><request verb="ListIdentifi
 }
 
 #[test]
-fn damage_at_once(rt: HostRuntime) -> Result<(), Fail> {
+fn damage_at_once(rt: HostRuntime) {
     let alloc = rt.alloc();
     let store = LyingVersions::new(alloc, PlainVersions::new(alloc), 0, 1);
-    assert_transcript_over(&rt, alloc, store, damaged_first_line())
+    assert_transcript_over(&rt, alloc, store, damaged_first_line());
 }
 
 // ---- requests
@@ -149,9 +149,9 @@ DOC <responseDate>2024-01-01T00:00:00Z</responseDate><request verb="ListIdentifi
 }
 
 #[test]
-fn request(rt: HostRuntime) -> Result<(), Fail> {
+fn request(rt: HostRuntime) {
     let store = FaultyVersions::new(PlainVersions::new(rt.alloc()), 5);
-    assert_transcript_over(&rt, rt.alloc(), store, failing_request())
+    assert_transcript_over(&rt, rt.alloc(), store, failing_request());
 }
 
 /// The store once does not find the item that is asked for. Such a request need not be made again, and moves
@@ -168,10 +168,10 @@ DOC <responseDate>2024-01-01T00:00:00Z</responseDate><request verb="ListIdentifi
 }
 
 #[test]
-fn damage_of_a_request(rt: HostRuntime) -> Result<(), Fail> {
+fn damage_of_a_request(rt: HostRuntime) {
     let alloc = rt.alloc();
     let store = LyingVersions::new(alloc, PlainVersions::new(alloc), 0, 1);
-    assert_transcript_over(&rt, alloc, store, damaged_request())
+    assert_transcript_over(&rt, alloc, store, damaged_request());
 }
 
 /// A list that does not begin for want of pages, or of memory, takes no number.
@@ -202,40 +202,39 @@ DOC <responseDate>2024-01-01T00:00:09Z</responseDate><request verb="ListIdentifi
 }
 
 #[test]
-fn list_without_room(rt: HostRuntime) -> Result<(), Fail> {
+fn list_without_room(rt: HostRuntime) {
     let alloc = rt.alloc();
     let store = CrampedVersions::new(PlainVersions::new(alloc), 7, Want::Pages);
-    assert_transcript_over(&rt, alloc, store, list_without_pages())?;
+    assert_transcript_over(&rt, alloc, store, list_without_pages());
     let store = CrampedVersions::new(PlainVersions::new(alloc), 7, Want::Memory);
-    assert_transcript_over(&rt, alloc, store, list_without_memory())
+    assert_transcript_over(&rt, alloc, store, list_without_memory());
 }
 
 // ---- new hosts
 
 /// Why there is no host over a store of which the k-th call finds no room; None where there is one.
-fn fault_at(alloc: Global, k: u64, want: Want) -> Result<Option<Fault>, Fail> {
+fn fault_at(rt: &impl Abort, alloc: Global, k: u64, want: Want) -> Option<Fault> {
     let store = CrampedVersions::new(PlainVersions::new(alloc), k, want);
-    match Host::new(alloc, config(alloc)?, store) {
-        Ok(_) => Ok(None),
-        Err(fault) => Ok(Some(fault)),
+    match Host::new(alloc, config(rt, alloc), store) {
+        Ok(_) => None,
+        Err(fault) => Some(fault),
     }
 }
 
 /// Each repository makes one call.
 #[test]
-fn new_host_without_room(rt: HostRuntime) -> Result<(), Fail> {
+fn new_host_without_room(rt: HostRuntime) {
     for k in 1..4 {
         assert_same(
             &rt,
-            fault_at(rt.alloc(), k, Want::Memory)?,
+            fault_at(&rt, rt.alloc(), k, Want::Memory),
             Some(Fault::NoMemory),
         );
         assert_same(
             &rt,
-            fault_at(rt.alloc(), k, Want::Pages)?,
+            fault_at(&rt, rt.alloc(), k, Want::Pages),
             Some(Fault::TooManyPages),
         );
     }
-    assert_same(&rt, fault_at(rt.alloc(), 4, Want::Pages)?, None);
-    Ok(())
+    assert_same(&rt, fault_at(&rt, rt.alloc(), 4, Want::Pages), None);
 }

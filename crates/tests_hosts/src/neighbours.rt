@@ -8,9 +8,9 @@ use crate::transcripts::write_answer;
 use oai_catalogue::PlainVersions;
 use oai_host::{Answer, Call};
 use std::alloc::{AllocError, Global};
+use std::panic::Expect;
 use std::process::Abort;
 use std::str;
-use std::test::Fail;
 
 /// How many exchanges there are; that of a number is at the repository of what is left of it by 3.
 const EXCHANGES: u8 = 200;
@@ -60,73 +60,85 @@ fn moment_of(number: u8) -> i64 {
 }
 
 /// The exchange of that number.
-fn call_at(alloc: Global, number: u8) -> Result<Call, AllocError> {
+fn call_at(rt: &impl Abort, alloc: Global, number: u8) -> Call {
     let name = name_of(number);
     let round = number / 3;
     let moment = moment_of(number);
     if matches!(round % 8, 0 | 1 | 2 | 6) {
-        let target = format!(in alloc; "/deposit/{name}")?;
-        let body = lines_of(alloc, name, round)?;
-        call(alloc, moment, "POST", target.as_str(), None, body.as_str())
+        let target = format!(in alloc; "/deposit/{name}").expect(rt, "memory");
+        let body = lines_of(alloc, name, round).expect(rt, "lines_of");
+        call(
+            rt,
+            alloc,
+            moment,
+            "POST",
+            target.as_str(),
+            None,
+            body.as_str(),
+        )
     } else {
-        let target = target_of(alloc, name, round)?;
-        call(alloc, moment, "GET", target.as_str(), None, "")
+        let target = target_of(alloc, name, round).expect(rt, "target_of");
+        call(rt, alloc, moment, "GET", target.as_str(), None, "")
     }
 }
 
 /// All exchanges, or those of one repository.
-fn calls(alloc: Global, of: Option<u8>) -> Result<Vec<Call>, AllocError> {
+fn calls(rt: &impl Abort, alloc: Global, of: Option<u8>) -> Vec<Call> {
     let mut calls = Vec::new(alloc);
     for number in 0..EXCHANGES {
         if of.is_none() || of == Some(number % 3) {
-            calls.push(call_at(alloc, number)?)?;
+            calls.push(call_at(rt, alloc, number)).expect(rt, "memory");
         }
     }
-    Ok(calls)
+    calls
 }
 
 /// What stands in the answers that are this repository's own, one after the other.
-fn written(alloc: Global, answers: &[Answer], of: usize, by: usize) -> Result<Vec<u8>, Fail>
+fn written(rt: &impl Abort, alloc: Global, answers: &[Answer], of: usize, by: usize) -> Vec<u8>
     requires { 1 ≤ by }
 {
     let mut output = Vec::new(alloc);
     for (number, answer) in answers.iter().enumerate() {
         if number % by == of {
-            write_answer(answer, &mut output)?;
+            write_answer(answer, &mut output).expect(rt, "write_answer");
         }
     }
-    Ok(output)
+    output
 }
 
 /// What the repository answers where the others are asked too.
-fn beside(rt: &impl Abort, alloc: Global, of: u8) -> Result<Vec<u8>, Fail> {
-    let calls = calls(alloc, None)?;
-    let answers = answers_to(alloc, PlainVersions::new(alloc), &calls)?;
+fn beside(rt: &impl Abort, alloc: Global, of: u8) -> Vec<u8> {
+    let calls = calls(rt, alloc, None);
+    let answers = answers_to(rt, alloc, PlainVersions::new(alloc), &calls);
     assert_same(rt, answers.as_slice().len(), 200);
-    written(alloc, answers.as_slice(), usize::from(of), 3)
+    written(rt, alloc, answers.as_slice(), usize::from(of), 3)
 }
 
 /// What it answers where they are not.
-fn alone(alloc: Global, of: u8) -> Result<Vec<u8>, Fail> {
-    let calls = calls(alloc, Some(of))?;
-    let answers = answers_to(alloc, PlainVersions::new(alloc), &calls)?;
-    written(alloc, answers.as_slice(), 0, 1)
+fn alone(rt: &impl Abort, alloc: Global, of: u8) -> Vec<u8> {
+    let calls = calls(rt, alloc, Some(of));
+    let answers = answers_to(rt, alloc, PlainVersions::new(alloc), &calls);
+    written(rt, alloc, answers.as_slice(), 0, 1)
 }
 
 /// The repository answers beside the others as it does alone, and what it says has this in it.
-fn assert_alone(rt: &impl Abort, alloc: Global, of: u8, part: &str) -> Result<(), Fail> {
-    let beside = beside(rt, alloc, of)?;
-    let alone = alone(alloc, of)?;
+fn assert_alone(rt: &impl Abort, alloc: Global, of: u8, part: &str) {
+    let beside = beside(rt, alloc, of);
+    let alone = alone(rt, alloc, of);
     assert_same(rt, beside.as_slice(), alone.as_slice());
-    assert!(rt; str::from_utf8(&alone)?.contains(part), "no {part}");
-    Ok(())
+    assert!(rt;
+        str::from_utf8(&alone)
+            .expect(rt, "str::from_utf8")
+            .contains(part),
+        "no {part}"
+    );
 }
 
 #[test]
-fn neighbours_are_not_seen(rt: HostRuntime) -> Result<(), Fail> {
+fn neighbours_are_not_seen(rt: HostRuntime) {
     let alloc = rt.alloc();
-    assert_alone(&rt, alloc, 0, "<dc:title>a</dc:title>")?;
-    assert_alone(&rt, alloc, 0, ">7.2</resumptionToken>")?;
-    assert_alone(&rt, alloc, 1, "<setName>b</setName>")?;
-    assert_alone(&rt, alloc, 2, "refused 12 too-many-items")
+    assert_alone(&rt, alloc, 0, "<dc:title>a</dc:title>");
+    assert_alone(&rt, alloc, 0, ">7.2</resumptionToken>");
+    assert_alone(&rt, alloc, 1, "<setName>b</setName>");
+    assert_alone(&rt, alloc, 2, "refused 12 too-many-items");
 }

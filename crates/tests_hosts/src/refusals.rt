@@ -6,8 +6,8 @@ use crate::worked::host;
 use oai_catalogue::{PlainVersions, Versions};
 use oai_host::{Answer, Exchange, Host, Status};
 use std::alloc::Global;
+use std::panic::Expect;
 use std::process::Abort;
-use std::test::Fail;
 use tests_worked::wanted_in;
 
 /// A request in the body of a POST is a form, by its type: what stands before any `;`, without spaces
@@ -46,9 +46,9 @@ DOC <responseDate>2024-01-01T00:00:00Z</responseDate><request verb=\"ListSets\">
 }
 
 #[test]
-fn types_of_requests(rt: HostRuntime) -> Result<(), Fail> {
-    assert_transcript(&rt, rt.alloc(), types_asked())?;
-    assert_transcript(&rt, rt.alloc(), spaced_type_asked())
+fn types_of_requests(rt: HostRuntime) {
+    assert_transcript(&rt, rt.alloc(), types_asked());
+    assert_transcript(&rt, rt.alloc(), spaced_type_asked());
 }
 
 /// Of two causes the first is told; and what is no repository's is told so whatever the method.
@@ -87,8 +87,8 @@ DOC <responseDate>2024-01-01T00:00:00Z</responseDate><request verb="ListSets">ht
 }
 
 #[test]
-fn first_of_two_causes(rt: HostRuntime) -> Result<(), Fail> {
-    assert_transcript(&rt, rt.alloc(), two_causes_asked())
+fn first_of_two_causes(rt: HostRuntime) {
+    assert_transcript(&rt, rt.alloc(), two_causes_asked());
 }
 
 /// A path is compared byte for byte.
@@ -130,8 +130,8 @@ fn paths_asked() -> &'static str {
 }
 
 #[test]
-fn other_paths(rt: HostRuntime) -> Result<(), Fail> {
-    assert_transcript(&rt, rt.alloc(), paths_asked())
+fn other_paths(rt: HostRuntime) {
+    assert_transcript(&rt, rt.alloc(), paths_asked());
 }
 
 /// The query is what stands behind the first `?`; of a POST and of a deposit it counts for nothing, nor
@@ -167,8 +167,8 @@ DOC <responseDate>2024-01-01T00:00:00Z</responseDate><request verb="ListSets">ht
 }
 
 #[test]
-fn queries(rt: HostRuntime) -> Result<(), Fail> {
-    assert_transcript(&rt, rt.alloc(), queries_asked())
+fn queries(rt: HostRuntime) {
+    assert_transcript(&rt, rt.alloc(), queries_asked());
 }
 
 // ---- bytes that are no text
@@ -257,31 +257,25 @@ fn assert_statuses<V: Versions + Drop>(rt: &impl Abort, host: &mut Host<V>) {
 }
 
 #[test]
-fn bytes_that_are_no_text(rt: HostRuntime) -> Result<(), Fail> {
+fn bytes_that_are_no_text(rt: HostRuntime) {
     let alloc = rt.alloc();
-    let mut host = host(alloc, PlainVersions::new(alloc))?;
+    let mut host = host(&rt, alloc, PlainVersions::new(alloc));
     assert_statuses(&rt, &mut host);
-    Ok(())
 }
 
 // ---- the parts of answers
 
 /// What a query of `b` that is performed is answered, each part of it.
-fn assert_page<V: Versions + Drop>(
-    rt: &impl Abort,
-    alloc: Global,
-    host: &mut Host<V>,
-) -> Result<(), Fail> {
+fn assert_page<V: Versions + Drop>(rt: &impl Abort, alloc: Global, host: &mut Host<V>) {
     let exchange = Exchange {
         method: b"GET",
         target: b"/oai/b?verb=ListSets",
         content_type: None,
         body: b"",
     };
-    let wanted = wanted_in(alloc, no_sets())?;
+    let wanted = wanted_in(alloc, no_sets()).expect(rt, "wanted_in");
     let answer = host.exchange(-5, &exchange);
     assert_answer(rt, &answer, Status::Ok, wanted.as_str());
-    Ok(())
 }
 
 fn no_sets() -> &'static str {
@@ -289,8 +283,8 @@ fn no_sets() -> &'static str {
 }
 
 #[test]
-fn parts_of_an_answer(rt: HostRuntime) -> Result<(), Fail> {
+fn parts_of_an_answer(rt: HostRuntime) {
     let alloc = rt.alloc();
-    let mut host = host(alloc, PlainVersions::new(alloc))?;
-    assert_page(&rt, alloc, &mut host)
+    let mut host = host(&rt, alloc, PlainVersions::new(alloc));
+    assert_page(&rt, alloc, &mut host);
 }

@@ -5,43 +5,46 @@ use crate::worked::host;
 use oai_catalogue::{FaultyVersions, PlainVersions, Versions};
 use oai_host::{Answer, Call, Host};
 use oai_names::Sequence;
-use std::alloc::{AllocError, Global};
+use std::alloc::Global;
+use std::panic::Expect;
 use std::process::Abort;
-use std::test::Fail;
 use tests_worked::wanted_in;
 
 // ---- calls
 
-fn bytes_of(alloc: Global, text: &str) -> Result<Sequence<u8>, AllocError> {
+fn bytes_of(rt: &impl Abort, alloc: Global, text: &str) -> Sequence<u8> {
     let mut bytes = Vec::new(alloc);
-    bytes.extend_from_slice(text.as_bytes())?;
-    Ok(Sequence::new(bytes))
+    bytes
+        .extend_from_slice(text.as_bytes())
+        .expect(rt, "memory");
+    Sequence::new(bytes)
 }
 
 /// A call of that moment, method, target, type and body.
 pub(crate) fn call(
+    rt: &impl Abort,
     alloc: Global,
     moment: i64,
     method: &str,
     target: &str,
     content_type: Option<&str>,
     body: &str,
-) -> Result<Call, AllocError> {
-    Ok(Call {
+) -> Call {
+    Call {
         moment,
-        method: bytes_of(alloc, method)?,
-        target: bytes_of(alloc, target)?,
+        method: bytes_of(rt, alloc, method),
+        target: bytes_of(rt, alloc, target),
         content_type: match content_type {
-            Some(value) => Some(bytes_of(alloc, value)?),
+            Some(value) => Some(bytes_of(rt, alloc, value)),
             None => None,
         },
-        body: bytes_of(alloc, body)?,
-    })
+        body: bytes_of(rt, alloc, body),
+    }
 }
 
 /// The call of which that is told.
-fn call_of(alloc: Global, told: Told<'_>) -> Result<Call, AllocError> {
-    let body = body_of(alloc, told)?;
+fn call_of(rt: &impl Abort, alloc: Global, told: Told<'_>) -> Call {
+    let body = body_of(alloc, told).expect(rt, "body_of");
     let Told {
         moment,
         method,
@@ -49,39 +52,50 @@ fn call_of(alloc: Global, told: Told<'_>) -> Result<Call, AllocError> {
         content_type,
         ..
     } = told;
-    call(alloc, moment, method, target, content_type, body.as_str())
+    call(
+        rt,
+        alloc,
+        moment,
+        method,
+        target,
+        content_type,
+        body.as_str(),
+    )
 }
 
 /// The exchanges of the transcript.
-fn calls_in(rt: &impl Abort, alloc: Global, transcript: &str) -> Result<Vec<Call>, Fail> {
+fn calls_in(rt: &impl Abort, alloc: Global, transcript: &str) -> Vec<Call> {
     let mut calls = Vec::new(alloc);
     for line in transcript.lines() {
         if let Some(asked) = line.strip_prefix("> ") {
-            calls.push(call_of(alloc, told_in(rt, asked)?)?)?;
+            calls
+                .push(call_of(rt, alloc, told_in(rt, asked)))
+                .expect(rt, "memory");
         }
     }
-    Ok(calls)
+    calls
 }
 
 // ---- their answers
 
 /// What a new host over the store answers to them.
 pub(crate) fn answers_to<V: Versions + Drop>(
+    rt: &impl Abort,
     alloc: Global,
     store: V,
     calls: &[Call],
-) -> Result<Sequence<Answer>, Fail> {
-    let mut host = host(alloc, store)?;
-    Ok(host.run(calls)?)
+) -> Sequence<Answer> {
+    let mut host = host(rt, alloc, store);
+    host.run(calls).expect(rt, "run")
 }
 
 /// The answers, written one after the other.
-fn written(alloc: Global, answers: &[Answer]) -> Result<Vec<u8>, Fail> {
+fn written(rt: &impl Abort, alloc: Global, answers: &[Answer]) -> Vec<u8> {
     let mut output = Vec::new(alloc);
     for answer in answers {
-        write_answer(answer, &mut output)?;
+        write_answer(answer, &mut output).expect(rt, "write_answer");
     }
-    Ok(output)
+    output
 }
 
 /// What the host answers to the exchanges of the transcript, as one run.
@@ -90,10 +104,10 @@ fn answers_to_run<V: Versions + Drop>(
     alloc: Global,
     host: &mut Host<V>,
     transcript: &str,
-) -> Result<Vec<u8>, Fail> {
-    let calls = calls_in(rt, alloc, transcript)?;
-    let answers = host.run(&calls)?;
-    written(alloc, answers.as_slice())
+) -> Vec<u8> {
+    let calls = calls_in(rt, alloc, transcript);
+    let answers = host.run(&calls).expect(rt, "run");
+    written(rt, alloc, answers.as_slice())
 }
 
 /// The host answers the exchanges of the transcript, as one run, as it says.
@@ -102,22 +116,16 @@ fn assert_run_of<V: Versions + Drop>(
     alloc: Global,
     host: &mut Host<V>,
     transcript: &str,
-) -> Result<(), Fail> {
-    let output = answers_to_run(rt, alloc, host, transcript)?;
-    let wanted = wanted_in(alloc, transcript)?;
+) {
+    let output = answers_to_run(rt, alloc, host, transcript);
+    let wanted = wanted_in(alloc, transcript).expect(rt, "wanted_in");
     assert_same_at(rt, output.as_slice(), wanted.as_bytes(), transcript);
-    Ok(())
 }
 
 /// A new host over the store does so.
-fn assert_run<V: Versions + Drop>(
-    rt: &impl Abort,
-    alloc: Global,
-    store: V,
-    transcript: &str,
-) -> Result<(), Fail> {
-    let mut host = host(alloc, store)?;
-    assert_run_of(rt, alloc, &mut host, transcript)
+fn assert_run<V: Versions + Drop>(rt: &impl Abort, alloc: Global, store: V, transcript: &str) {
+    let mut host = host(rt, alloc, store);
+    assert_run_of(rt, alloc, &mut host, transcript);
 }
 
 // ---- runs
@@ -160,10 +168,10 @@ DOC <responseDate>2024-01-01T00:00:02Z</responseDate><request verb="ListIdentifi
 }
 
 #[test]
-fn runs(rt: HostRuntime) -> Result<(), Fail> {
+fn runs(rt: HostRuntime) {
     let alloc = rt.alloc();
-    assert_run(&rt, alloc, PlainVersions::new(alloc), first_deposit())?;
-    assert_run(&rt, alloc, PlainVersions::new(alloc), token())
+    assert_run(&rt, alloc, PlainVersions::new(alloc), first_deposit());
+    assert_run(&rt, alloc, PlainVersions::new(alloc), token());
 }
 
 /// A run goes on after an exchange that failed, of which nothing is seen.
@@ -184,21 +192,17 @@ DOC <responseDate>2024-01-01T00:00:01Z</responseDate><request verb="ListIdentifi
 /// Of the calls of the store the fifth fails: each repository makes one when it begins, and each new
 /// item one.
 #[test]
-fn run_with_a_failure(rt: HostRuntime) -> Result<(), Fail> {
+fn run_with_a_failure(rt: HostRuntime) {
     let alloc = rt.alloc();
     let store = FaultyVersions::new(PlainVersions::new(alloc), 5);
-    assert_run(&rt, alloc, store, failing())
+    assert_run(&rt, alloc, store, failing());
 }
 
 /// A run of no exchanges is answered by none, and a run after another begins where that ended.
-fn assert_runs_in_turn<V: Versions + Drop>(
-    rt: &impl Abort,
-    alloc: Global,
-    host: &mut Host<V>,
-) -> Result<(), Fail> {
-    assert_run_of(rt, alloc, host, "")?;
-    assert_run_of(rt, alloc, host, first_deposit())?;
-    assert_run_of(rt, alloc, host, deposited_again())
+fn assert_runs_in_turn<V: Versions + Drop>(rt: &impl Abort, alloc: Global, host: &mut Host<V>) {
+    assert_run_of(rt, alloc, host, "");
+    assert_run_of(rt, alloc, host, first_deposit());
+    assert_run_of(rt, alloc, host, deposited_again());
 }
 
 /// What comes after the first deposit, at an earlier moment.
@@ -211,29 +215,30 @@ refused 14 already-deleted"#
 }
 
 #[test]
-fn runs_in_turn(rt: HostRuntime) -> Result<(), Fail> {
+fn runs_in_turn(rt: HostRuntime) {
     let alloc = rt.alloc();
-    let mut host = host(alloc, PlainVersions::new(alloc))?;
-    assert_runs_in_turn(&rt, alloc, &mut host)
+    let mut host = host(&rt, alloc, PlainVersions::new(alloc));
+    assert_runs_in_turn(&rt, alloc, &mut host);
 }
 
 // ---- many of them
 
 /// So many calls, none of which is a repository's.
-fn strangers(alloc: Global, number: usize) -> Result<Vec<Call>, AllocError> {
+fn strangers(rt: &impl Abort, alloc: Global, number: usize) -> Vec<Call> {
     let mut calls = Vec::new(alloc);
     for _ in 0..number {
-        calls.push(call(alloc, 0, "GET", "/", None, "")?)?;
+        calls
+            .push(call(rt, alloc, 0, "GET", "/", None, ""))
+            .expect(rt, "memory");
     }
-    Ok(calls)
+    calls
 }
 
 /// However many calls there are, room for their answers is found.
 #[test]
-fn many_calls(rt: HostRuntime) -> Result<(), Fail> {
+fn many_calls(rt: HostRuntime) {
     let alloc = rt.alloc();
-    let calls = strangers(alloc, 150_000)?;
-    let answers = answers_to(alloc, PlainVersions::new(alloc), &calls)?;
+    let calls = strangers(&rt, alloc, 150_000);
+    let answers = answers_to(&rt, alloc, PlainVersions::new(alloc), &calls);
     assert_same(&rt, answers.as_slice().len(), 150_000);
-    Ok(())
 }

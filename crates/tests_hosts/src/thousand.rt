@@ -2,40 +2,43 @@
 use crate::transcripts::assert_answers;
 use oai_catalogue::{PlainVersions, Versions};
 use oai_host::{Config, Host};
-use std::alloc::{AllocError, Global};
-use std::test::Fail;
+use std::alloc::Global;
+use std::panic::Expect;
+use std::process::Abort;
 
 /// The repository `r` and that number.
-fn push_repository(text: &mut String, number: usize) -> Result<(), AllocError> {
+fn push_repository(rt: &impl Abort, text: &mut String, number: usize) {
     let alloc = *text.allocator();
     let repository = format!(in alloc;
         "{{\"name\":\"r{number}\",\"repositoryName\":\"R\",\"adminEmail\":[\"r@host.example\"],\"earliestDatestamp\":\"2024-01-01\",\"deletedRecord\":\"no\",\"granularity\":\"days\",\"chunk\":2,\"lifetime\":60,\"lists\":1,\"items\":1,\"formats\":[]}}"
-    )?;
-    text.push_str(repository.as_str())
+    ).expect(rt, "memory");
+    text.push_str(repository.as_str()).expect(rt, "memory");
 }
 
 /// A configuration of `r0` to `r999`.
-fn configuration(alloc: Global) -> Result<String, AllocError> {
+fn configuration(rt: &impl Abort, alloc: Global) -> String {
     let mut text = String::from_str(
         alloc,
         r#"{"base":"http://host.example","cache":1,"repositories":["#,
-    )?;
-    push_repository(&mut text, 0)?;
+    )
+    .expect(rt, "memory");
+    push_repository(rt, &mut text, 0);
     for number in 1..1_000 {
-        text.push(',')?;
-        push_repository(&mut text, number)?;
+        text.push(',').expect(rt, "memory");
+        push_repository(rt, &mut text, number);
     }
-    text.push_str("]}")?;
-    Ok(text)
+    text.push_str("]}").expect(rt, "memory");
+    text
 }
 
 fn host_of<V: Versions + Drop>(
+    rt: &impl Abort,
     alloc: Global,
     configuration: &str,
     store: V,
-) -> Result<Host<V>, Fail> {
-    let config = Config::read(alloc, configuration.as_bytes())?;
-    Ok(Host::new(alloc, config, store)?)
+) -> Host<V> {
+    let config = Config::read(alloc, configuration.as_bytes()).expect(rt, "Config::read");
+    Host::new(alloc, config, store).expect(rt, "Host::new")
 }
 
 /// The first and the last are there, each with its own sets and its own clock.
@@ -62,11 +65,16 @@ DOC <responseDate>2024-01-01T00:00:02Z</responseDate><request verb="ListSets">ht
 }
 
 #[test]
-fn thousand_repositories(rt: HostRuntime) -> Result<(), Fail> {
+fn thousand_repositories(rt: HostRuntime) {
     let alloc = rt.alloc();
-    let configuration = configuration(alloc)?;
-    let mut host = host_of(alloc, configuration.as_str(), PlainVersions::new(alloc))?;
-    assert_answers(&rt, alloc, &mut host, first_and_last())
+    let configuration = configuration(&rt, alloc);
+    let mut host = host_of(
+        &rt,
+        alloc,
+        configuration.as_str(),
+        PlainVersions::new(alloc),
+    );
+    assert_answers(&rt, alloc, &mut host, first_and_last());
 }
 
 /// A configuration of one repository, with room for 1,001 items.
@@ -75,26 +83,30 @@ fn configuration_of_many() -> &'static str {
 }
 
 /// Appends the line that deposits the item of that number.
-fn push_item(transcript: &mut String, number: usize) -> Result<(), AllocError> {
+fn push_item(rt: &impl Abort, transcript: &mut String, number: usize) {
     let alloc = *transcript.allocator();
     let line = format!(in alloc;
         "{{\"deposit\":\"oai:a:{number}\",\"sets\":[],\"records\":{{\"oai_dc\":[]}}}}¶"
-    )?;
-    transcript.push_str(line.as_str())
+    ).expect(rt, "memory");
+    transcript.push_str(line.as_str()).expect(rt, "memory");
 }
 
 /// So many items are deposited, and a second later the first of them is deleted.
-fn many_items_asked(alloc: Global, items: usize) -> Result<String, AllocError> {
-    let mut transcript = String::from_str(alloc, "> 1704067200 POST /deposit/a | - | ")?;
+fn many_items_asked(rt: &impl Abort, alloc: Global, items: usize) -> String {
+    let mut transcript = String::from_str(alloc, "> 1704067200 POST /deposit/a | - | ").expect(
+        rt, "memory",
+    );
     for number in 0..items {
-        push_item(&mut transcript, number)?;
+        push_item(rt, &mut transcript, number);
     }
-    transcript.push_str("\n200")?;
+    transcript.push_str("\n200").expect(rt, "memory");
     for _ in 0..items {
-        transcript.push_str("\nok 2024-01-01T00:00:00Z")?;
+        transcript
+            .push_str("\nok 2024-01-01T00:00:00Z")
+            .expect(rt, "memory");
     }
-    transcript.push_str(deleted_later())?;
-    Ok(transcript)
+    transcript.push_str(deleted_later()).expect(rt, "memory");
+    transcript
 }
 
 /// The deletion of the first item, and what it is answered.
@@ -107,9 +119,14 @@ ok 2024-01-01T00:00:01Z"#
 
 /// The deletion copies the list of the items, however many there are.
 #[test]
-fn many_items(rt: HostRuntime) -> Result<(), Fail> {
+fn many_items(rt: HostRuntime) {
     let alloc = rt.alloc();
-    let asked = many_items_asked(alloc, 1_001)?;
-    let mut host = host_of(alloc, configuration_of_many(), PlainVersions::new(alloc))?;
-    assert_answers(&rt, alloc, &mut host, asked.as_str())
+    let asked = many_items_asked(&rt, alloc, 1_001);
+    let mut host = host_of(
+        &rt,
+        alloc,
+        configuration_of_many(),
+        PlainVersions::new(alloc),
+    );
+    assert_answers(&rt, alloc, &mut host, asked.as_str());
 }

@@ -10,8 +10,8 @@ use oai_host::{Answer, Exchange, Host};
 use oai_item::Fault;
 use std::alloc::{AllocError, Global};
 use std::io::{self, Write};
+use std::panic::Expect;
 use std::process::Abort;
-use std::test::Fail;
 use tests_worked::wanted_in;
 
 // ---- exchanges
@@ -27,10 +27,14 @@ pub(crate) struct Told<'a> {
 }
 
 /// What the line tells.
-pub(crate) fn told_in<'a>(rt: &impl Abort, line: &'a str) -> Result<Told<'a>, Fail> {
+pub(crate) fn told_in<'a>(rt: &impl Abort, line: &'a str) -> Told<'a> {
     let mut parts = line.split(" | ");
     let mut words = parts.next().unwrap_or("").split(' ');
-    let moment = words.next().unwrap_or("").parse::<i64>()?;
+    let moment = words
+        .next()
+        .unwrap_or("")
+        .parse::<i64>()
+        .expect(rt, "parse");
     let Some(method) = words.next() else {
         panic!(rt; "no method: {line}")
     };
@@ -38,13 +42,13 @@ pub(crate) fn told_in<'a>(rt: &impl Abort, line: &'a str) -> Result<Told<'a>, Fa
         Some("-") => None,
         other => other,
     };
-    Ok(Told {
+    Told {
         moment,
         method,
         target: words.next().unwrap_or(""),
         content_type,
         body: parts.next().unwrap_or(""),
-    })
+    }
 }
 
 /// The body, in which each `¶` is a line end.
@@ -96,14 +100,15 @@ pub(crate) fn write_answer(answer: &Answer, output: &mut Vec<u8>) -> io::Result<
 
 /// Performs an exchange, and writes what it is answered.
 fn write_line<V: Versions + Drop>(
+    rt: &impl Abort,
     alloc: Global,
     host: &mut Host<V>,
     told: Told<'_>,
     output: &mut Vec<u8>,
-) -> Result<(), Fail> {
-    let body = body_of(alloc, told)?;
+) {
+    let body = body_of(alloc, told).expect(rt, "body_of");
     let answer = answer_to(host, told, body.as_str());
-    Ok(write_answer(&answer, output)?)
+    write_answer(&answer, output).expect(rt, "write_answer");
 }
 
 // ---- transcripts
@@ -114,14 +119,14 @@ fn answers_to_all<V: Versions + Drop>(
     alloc: Global,
     host: &mut Host<V>,
     transcript: &str,
-) -> Result<Vec<u8>, Fail> {
+) -> Vec<u8> {
     let mut output = Vec::new(alloc);
     for line in transcript.lines() {
         if let Some(asked) = line.strip_prefix("> ") {
-            write_line(alloc, host, told_in(rt, asked)?, &mut output)?;
+            write_line(rt, alloc, host, told_in(rt, asked), &mut output);
         }
     }
-    Ok(output)
+    output
 }
 
 /// The host answers the transcript's exchanges as it says.
@@ -130,11 +135,10 @@ pub(crate) fn assert_answers<V: Versions + Drop>(
     alloc: Global,
     host: &mut Host<V>,
     transcript: &str,
-) -> Result<(), Fail> {
-    let output = answers_to_all(rt, alloc, host, transcript)?;
-    let wanted = wanted_in(alloc, transcript)?;
+) {
+    let output = answers_to_all(rt, alloc, host, transcript);
+    let wanted = wanted_in(alloc, transcript).expect(rt, "wanted_in");
     assert_same_at(rt, output.as_slice(), wanted.as_bytes(), transcript);
-    Ok(())
 }
 
 /// A new host of the worked configuration over the store answers the transcript's lines as it says.
@@ -143,16 +147,12 @@ pub(crate) fn assert_transcript_over<V: Versions + Drop>(
     alloc: Global,
     store: V,
     transcript: &str,
-) -> Result<(), Fail> {
-    let mut host = host(alloc, store)?;
-    assert_answers(rt, alloc, &mut host, transcript)
+) {
+    let mut host = host(rt, alloc, store);
+    assert_answers(rt, alloc, &mut host, transcript);
 }
 
 /// The same over a store of plain lists.
-pub(crate) fn assert_transcript(
-    rt: &impl Abort,
-    alloc: Global,
-    transcript: &str,
-) -> Result<(), Fail> {
-    assert_transcript_over(rt, alloc, PlainVersions::new(alloc), transcript)
+pub(crate) fn assert_transcript(rt: &impl Abort, alloc: Global, transcript: &str) {
+    assert_transcript_over(rt, alloc, PlainVersions::new(alloc), transcript);
 }

@@ -2,15 +2,16 @@
 use oai_catalogue::Versions;
 use oai_host::{Config, Host};
 use std::alloc::Global;
-use std::test::Fail;
+use std::panic::Expect;
+use std::process::Abort;
 use tests_worked::worked_configuration;
 
 /// The worked configuration.
-pub(crate) fn config(alloc: Global) -> Result<Config, Fail> {
-    Ok(Config::read(alloc, worked_configuration().as_bytes())?)
+pub(crate) fn config(rt: &impl Abort, alloc: Global) -> Config {
+    Config::read(alloc, worked_configuration().as_bytes()).expect(rt, "Config::read")
 }
 
 /// A new host of it over the store.
-pub(crate) fn host<V: Versions + Drop>(alloc: Global, store: V) -> Result<Host<V>, Fail> {
-    Ok(Host::new(alloc, config(alloc)?, store)?)
+pub(crate) fn host<V: Versions + Drop>(rt: &impl Abort, alloc: Global, store: V) -> Host<V> {
+    Host::new(alloc, config(rt, alloc), store).expect(rt, "Host::new")
 }

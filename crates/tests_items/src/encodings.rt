@@ -5,8 +5,8 @@ use crate::samples::item;
 use crate::told::{assert_title, assert_told};
 use oai_item::{DecodeFault, Item, MOST_ITEM_BYTES, encoding_law};
 use std::alloc::Global;
+use std::panic::Expect;
 use std::process::Abort;
-use std::test::Fail;
 
 /// The live item `oai:a:1` of 2024-01-01T00:00:00Z, without sets, with the title `T` in oai_dc.
 fn spelling() -> [u8; 56] {
@@ -24,40 +24,33 @@ fn deleted_spelling() -> &'static [u8] {
 }
 
 /// The spelling of the item, as it is written over other bytes.
-fn encoded(rt: &impl Abort, alloc: Global, item: &Item) -> Result<Vec<u8>, Fail> {
-    let mut bytes = vec![in alloc; 0xaa; MOST_ITEM_BYTES]?;
-    let size = item.encode_into(bytes.as_mut_slice())?;
+fn encoded(rt: &impl Abort, alloc: Global, item: &Item) -> Vec<u8> {
+    let mut bytes = vec![in alloc; 0xaa; MOST_ITEM_BYTES].expect(rt, "memory");
+    let size = item
+        .encode_into(bytes.as_mut_slice())
+        .expect(rt, "encode_into");
     assert_same(rt, item.encoded_len(), Ok(size));
     assert!(rt; bytes.iter().skip(size).all(|byte| *byte == 0xaa));
     bytes.truncate(size);
-    Ok(bytes)
+    bytes
 }
 
 /// The item is spelled so.
-fn assert_spelled(
-    rt: &impl Abort,
-    alloc: Global,
-    item: &Item,
-    spelling: &[u8],
-) -> Result<(), Fail> {
-    let bytes = encoded(rt, alloc, item)?;
+fn assert_spelled(rt: &impl Abort, alloc: Global, item: &Item, spelling: &[u8]) {
+    let bytes = encoded(rt, alloc, item);
     assert_same(rt, bytes.as_slice(), spelling);
-    Ok(())
 }
 
 /// The bytes are the spelling of an item, or Damaged.
-fn assert_no_second_spelling(rt: &impl Abort, alloc: Global, bytes: &[u8]) -> Result<(), Fail> {
+fn assert_no_second_spelling(rt: &impl Abort, alloc: Global, bytes: &[u8]) {
     match Item::decode(alloc, bytes) {
         Ok(item) => assert_spelled(rt, alloc, &item, bytes),
-        Err(fault) => {
-            assert_same(rt, fault, DecodeFault::Damaged);
-            Ok(())
-        }
+        Err(fault) => assert_same(rt, fault, DecodeFault::Damaged),
     }
 }
 
 /// Each front of the bytes is Damaged, and so are the bytes and one more.
-fn assert_no_other_length(rt: &impl Abort, alloc: Global, bytes: &[u8]) -> Result<(), Fail> {
+fn assert_no_other_length(rt: &impl Abort, alloc: Global, bytes: &[u8]) {
     for len in 0..bytes.len() {
         assert_same(
             rt,
@@ -65,33 +58,32 @@ fn assert_no_other_length(rt: &impl Abort, alloc: Global, bytes: &[u8]) -> Resul
             Some(DecodeFault::Damaged),
         );
     }
-    let mut longer = Vec::from_slice(alloc, bytes)?;
-    longer.push(0)?;
+    let mut longer = Vec::from_slice(alloc, bytes).expect(rt, "Vec::from_slice");
+    longer.push(0).expect(rt, "memory");
     assert_same(
         rt,
         Item::decode(alloc, longer.as_slice()).err(),
         Some(DecodeFault::Damaged),
     );
-    Ok(())
 }
 
 #[test]
-fn item_as_bytes(rt: HostRuntime) -> Result<(), Fail> {
+fn item_as_bytes(rt: HostRuntime) {
     let alloc = rt.alloc();
-    let item = item(alloc, "oai:a:1", 0, &[], "T")?;
-    assert_spelled(&rt, alloc, &item, spelling().as_slice())
+    let item = item(&rt, alloc, "oai:a:1", 0, &[], "T");
+    assert_spelled(&rt, alloc, &item, spelling().as_slice());
 }
 
 /// A copy of that item.
-fn copied(alloc: Global) -> Result<Item, Fail> {
-    let item = item(alloc, "oai:a:1", 0, &[], "T")?;
-    Ok(item.copy(alloc)?)
+fn copied(rt: &impl Abort, alloc: Global) -> Item {
+    let item = item(rt, alloc, "oai:a:1", 0, &[], "T");
+    item.copy(alloc).expect(rt, "memory")
 }
 
 #[test]
-fn copy_of_an_item_as_bytes(rt: HostRuntime) -> Result<(), Fail> {
-    let copy = copied(rt.alloc())?;
-    assert_spelled(&rt, rt.alloc(), &copy, spelling().as_slice())
+fn copy_of_an_item_as_bytes(rt: HostRuntime) {
+    let copy = copied(&rt, rt.alloc());
+    assert_spelled(&rt, rt.alloc(), &copy, spelling().as_slice());
 }
 
 #[test]
@@ -100,58 +92,54 @@ fn law_of_items_as_bytes() {
 }
 
 #[test]
-fn bytes_as_item(rt: HostRuntime) -> Result<(), Fail> {
+fn bytes_as_item(rt: HostRuntime) {
     let alloc = rt.alloc();
-    let item = Item::decode(alloc, spelling().as_slice())?;
+    let item = Item::decode(alloc, spelling().as_slice()).expect(&rt, "Item::decode");
     assert_told(&rt, &item, "oai:a:1", (1_704_067_200, true, 0));
     assert_title(&rt, &item);
-    Ok(())
 }
 
 #[test]
-fn bytes_as_deleted_item(rt: HostRuntime) -> Result<(), Fail> {
+fn bytes_as_deleted_item(rt: HostRuntime) {
     let alloc = rt.alloc();
-    let item = Item::decode(alloc, deleted_spelling())?;
+    let item = Item::decode(alloc, deleted_spelling()).expect(&rt, "Item::decode");
     assert_told(&rt, &item, "a:b", (-62_167_219_200, false, 2));
     assert!(rt; item.has_record("jnl") && item.has_record("oai_dc"));
-    assert_spelled(&rt, alloc, &item, deleted_spelling())
+    assert_spelled(&rt, alloc, &item, deleted_spelling());
 }
 
 #[test]
-fn each_byte_changed(rt: HostRuntime) -> Result<(), Fail> {
+fn each_byte_changed(rt: HostRuntime) {
     for at in 0..56 {
         for value in 0..=255 {
             let mut bytes = spelling();
             bytes[at] = value;
-            assert_no_second_spelling(&rt, rt.alloc(), bytes.as_slice())?;
+            assert_no_second_spelling(&rt, rt.alloc(), bytes.as_slice());
         }
     }
-    Ok(())
 }
 
 #[test]
-fn fronts_and_bytes_left_over(rt: HostRuntime) -> Result<(), Fail> {
-    assert_no_other_length(&rt, rt.alloc(), spelling().as_slice())?;
-    assert_no_other_length(&rt, rt.alloc(), deleted_spelling())
+fn fronts_and_bytes_left_over(rt: HostRuntime) {
+    assert_no_other_length(&rt, rt.alloc(), spelling().as_slice());
+    assert_no_other_length(&rt, rt.alloc(), deleted_spelling());
 }
 
 #[test]
-fn too_many_bytes(rt: HostRuntime) -> Result<(), Fail> {
-    let bytes = vec![in rt.alloc(); 0xaa; MOST_ITEM_BYTES + 1]?;
+fn too_many_bytes(rt: HostRuntime) {
+    let bytes = vec![in rt.alloc(); 0xaa; MOST_ITEM_BYTES + 1].expect(&rt, "memory");
     assert_same(
         &rt,
         Item::decode(rt.alloc(), bytes.as_slice()).err(),
         Some(DecodeFault::Damaged),
     );
-    Ok(())
 }
 
 #[test]
-fn texts_of_decode_faults(rt: HostRuntime) -> Result<(), Fail> {
+fn texts_of_decode_faults(rt: HostRuntime) {
     let alloc = rt.alloc();
-    let damaged = format!(in alloc; "{}", DecodeFault::Damaged)?;
+    let damaged = format!(in alloc; "{}", DecodeFault::Damaged).expect(&rt, "memory");
     assert_same(&rt, damaged.as_str(), "the bytes are not those of an item");
-    let refused = format!(in alloc; "{}", DecodeFault::NoMemory)?;
+    let refused = format!(in alloc; "{}", DecodeFault::NoMemory).expect(&rt, "memory");
     assert_same(&rt, refused.as_str(), "out of memory");
-    Ok(())
 }

@@ -3,9 +3,9 @@ use crate::assertions::{assert_same, assert_shown};
 use crate::samples::letters;
 use oai_item::{Format, FormatFault, Formats};
 use oai_names::{Prefix, Sequence, Text};
-use std::alloc::{AllocError, Global};
+use std::alloc::Global;
+use std::panic::Expect;
 use std::process::Abort;
-use std::test::Fail;
 
 const URI: &str = "http://host.example/jnl/";
 
@@ -30,42 +30,45 @@ fn journal() -> Told<'static> {
     }
 }
 
-fn texts(alloc: Global, texts: &[&str]) -> Result<Sequence<Text>, AllocError> {
+fn texts(rt: &impl Abort, alloc: Global, texts: &[&str]) -> Sequence<Text> {
     let mut copies = Vec::new(alloc);
     for text in texts {
-        copies.push(Text::new(alloc, text)?)?;
+        copies
+            .push(Text::new(alloc, text).expect(rt, "memory"))
+            .expect(rt, "memory");
     }
-    Ok(Sequence::new(copies))
+    Sequence::new(copies)
 }
 
 /// The format of which that is told.
-fn format_of(alloc: Global, told: Told<'_>) -> Result<Format, Fail> {
-    Ok(Format {
-        prefix: Prefix::read(alloc, told.prefix)?,
-        schema: Text::new(alloc, told.schema)?,
-        namespace: Text::new(alloc, told.namespace)?,
-        root: Text::new(alloc, told.root)?,
-        fields: texts(alloc, told.fields)?,
-    })
+fn format_of(rt: &impl Abort, alloc: Global, told: Told<'_>) -> Format {
+    Format {
+        prefix: Prefix::read(alloc, told.prefix).expect(rt, "Prefix::read"),
+        schema: Text::new(alloc, told.schema).expect(rt, "memory"),
+        namespace: Text::new(alloc, told.namespace).expect(rt, "memory"),
+        root: Text::new(alloc, told.root).expect(rt, "memory"),
+        fields: texts(rt, alloc, told.fields),
+    }
 }
 
 /// So many names, each of 1 to 60 letters, a dot, and other letters.
-fn names(alloc: Global, many: usize) -> Result<Vec<Text>, AllocError> {
+fn names(rt: &impl Abort, alloc: Global, many: usize) -> Vec<Text> {
     let mut names = Vec::new(alloc);
     for number in 0..many {
-        let mut name = letters(alloc, number % 60 + 1)?;
-        name.push('.')?;
-        name.push_str(letters(alloc, number / 60)?.as_str())?;
-        names.push(Text::from_string(name))?;
+        let mut name = letters(rt, alloc, number % 60 + 1);
+        name.push('.').expect(rt, "memory");
+        name.push_str(letters(rt, alloc, number / 60).as_str())
+            .expect(rt, "memory");
+        names.push(Text::from_string(name)).expect(rt, "memory");
     }
-    Ok(names)
+    names
 }
 
 /// The journal with these fields.
-fn with_fields(alloc: Global, fields: Vec<Text>) -> Result<Format, Fail> {
-    let mut format = format_of(alloc, journal())?;
+fn with_fields(rt: &impl Abort, alloc: Global, fields: Vec<Text>) -> Format {
+    let mut format = format_of(rt, alloc, journal());
     format.fields = Sequence::new(fields);
-    Ok(format)
+    format
 }
 
 /// Beside oai_dc the format of that prefix stands, or, where the answer is a fault, none.
@@ -83,76 +86,55 @@ fn assert_declared(
     alloc: Global,
     format: Format,
     answer: Result<(), FormatFault>,
-) -> Result<(), Fail> {
-    let mut formats = Formats::dc(alloc)?;
-    let prefix = format.prefix.copy(alloc)?;
+) {
+    let mut formats = Formats::dc(alloc).expect(rt, "Formats::dc");
+    let prefix = format.prefix.copy(alloc).expect(rt, "memory");
     assert_same(rt, formats.declare(format), answer);
     assert_last(rt, &formats, prefix.as_str(), answer);
-    Ok(())
 }
 
 /// The same with the format of which that is told.
-fn assert_answer(
-    rt: &impl Abort,
-    alloc: Global,
-    told: Told<'_>,
-    answer: Result<(), FormatFault>,
-) -> Result<(), Fail> {
-    assert_declared(rt, alloc, format_of(alloc, told)?, answer)
+fn assert_answer(rt: &impl Abort, alloc: Global, told: Told<'_>, answer: Result<(), FormatFault>) {
+    assert_declared(rt, alloc, format_of(rt, alloc, told), answer);
 }
 
 /// The name as that of the root, and as that of a field.
-fn assert_name(
-    rt: &impl Abort,
-    alloc: Global,
-    name: &str,
-    answer: Result<(), FormatFault>,
-) -> Result<(), Fail> {
+fn assert_name(rt: &impl Abort, alloc: Global, name: &str, answer: Result<(), FormatFault>) {
     let as_root = Told {
         root: name,
         ..journal()
     };
-    assert_answer(rt, alloc, as_root, answer)?;
+    assert_answer(rt, alloc, as_root, answer);
     let fields = ["a1", name];
     let as_field = Told {
         fields: &fields,
         ..journal()
     };
-    assert_answer(rt, alloc, as_field, answer)
+    assert_answer(rt, alloc, as_field, answer);
 }
 
 /// The URI as the schema, and as the namespace.
-fn assert_uri(
-    rt: &impl Abort,
-    alloc: Global,
-    uri: &str,
-    answer: Result<(), FormatFault>,
-) -> Result<(), Fail> {
+fn assert_uri(rt: &impl Abort, alloc: Global, uri: &str, answer: Result<(), FormatFault>) {
     let as_schema = Told {
         schema: uri,
         ..journal()
     };
-    assert_answer(rt, alloc, as_schema, answer)?;
+    assert_answer(rt, alloc, as_schema, answer);
     let as_namespace = Told {
         namespace: uri,
         ..journal()
     };
-    assert_answer(rt, alloc, as_namespace, answer)
+    assert_answer(rt, alloc, as_namespace, answer);
 }
 
 /// The fields.
-fn assert_fields(
-    rt: &impl Abort,
-    alloc: Global,
-    fields: &[&str],
-    answer: Result<(), FormatFault>,
-) -> Result<(), Fail> {
+fn assert_fields(rt: &impl Abort, alloc: Global, fields: &[&str], answer: Result<(), FormatFault>) {
     let told = Told {
         root: "a",
         fields,
         ..journal()
     };
-    assert_answer(rt, alloc, told, answer)
+    assert_answer(rt, alloc, told, answer);
 }
 
 /// Of these formats one is found so, and it has so many fields.
@@ -164,15 +146,14 @@ fn assert_found(rt: &impl Abort, formats: &Formats, prefix: &Prefix, fields: usi
 }
 
 #[test]
-fn dublin_core_stands_alone(rt: HostRuntime) -> Result<(), Fail> {
+fn dublin_core_stands_alone(rt: HostRuntime) {
     let alloc = rt.alloc();
-    let prefix = Prefix::read(alloc, "oai_dc")?;
-    let formats = Formats::dc(alloc)?;
+    let prefix = Prefix::read(alloc, "oai_dc").expect(&rt, "Prefix::read");
+    let formats = Formats::dc(alloc).expect(&rt, "Formats::dc");
     assert_same(&rt, formats.len(), 1);
     assert!(rt; formats.get(1).is_none());
     assert!(rt; formats.find_named("jnl").is_none());
     assert_found(&rt, &formats, &prefix, 15);
-    Ok(())
 }
 
 /// The journal is declared so under that prefix.
@@ -182,14 +163,13 @@ fn assert_prefix(
     formats: &mut Formats,
     prefix: &str,
     answer: Result<(), FormatFault>,
-) -> Result<(), Fail> {
+) {
     let told = Told {
         prefix,
         ..journal()
     };
-    let format = format_of(alloc, told)?;
+    let format = format_of(rt, alloc, told);
     assert_same(rt, formats.declare(format), answer);
-    Ok(())
 }
 
 /// The journal stands beside oai_dc.
@@ -201,10 +181,10 @@ fn assert_journal(rt: &impl Abort, formats: &Formats) {
 }
 
 #[test]
-fn a_format_is_declared_once(rt: HostRuntime) -> Result<(), Fail> {
+fn a_format_is_declared_once(rt: HostRuntime) {
     let alloc = rt.alloc();
-    let mut formats = Formats::dc(alloc)?;
-    assert_prefix(&rt, alloc, &mut formats, "jnl", Ok(()))?;
+    let mut formats = Formats::dc(alloc).expect(&rt, "Formats::dc");
+    assert_prefix(&rt, alloc, &mut formats, "jnl", Ok(()));
     for prefix in ["jnl", "oai_dc"] {
         assert_prefix(
             &rt,
@@ -212,36 +192,34 @@ fn a_format_is_declared_once(rt: HostRuntime) -> Result<(), Fail> {
             &mut formats,
             prefix,
             Err(FormatFault::Duplicate),
-        )?;
+        );
     }
     assert_same(&rt, formats.len(), 2);
-    assert_prefix(&rt, alloc, &mut formats, "oai_dC", Ok(()))?;
+    assert_prefix(&rt, alloc, &mut formats, "oai_dC", Ok(()));
     assert_journal(&rt, &formats);
-    Ok(())
 }
 
 #[test]
-fn names_of_elements(rt: HostRuntime) -> Result<(), Fail> {
+fn names_of_elements(rt: HostRuntime) {
     let alloc = rt.alloc();
-    let most = letters(alloc, 64)?;
+    let most = letters(&rt, alloc, 64);
     for name in ["a", "_", "_9", "a-_.9Z", "title", most.as_str()] {
-        assert_name(&rt, alloc, name, Ok(()))?;
+        assert_name(&rt, alloc, name, Ok(()));
     }
-    let long = letters(alloc, 65)?;
+    let long = letters(&rt, alloc, 65);
     for name in ["", "9", "-a", ".a", "a:b", "a b", "é", "aé", long.as_str()] {
-        assert_name(&rt, alloc, name, Err(FormatFault::BadName))?;
+        assert_name(&rt, alloc, name, Err(FormatFault::BadName));
     }
-    Ok(())
 }
 
 #[test]
-fn uris_of_a_format(rt: HostRuntime) -> Result<(), Fail> {
+fn uris_of_a_format(rt: HostRuntime) {
     let alloc = rt.alloc();
-    let most = letters(alloc, 512)?;
+    let most = letters(&rt, alloc, 512);
     for uri in ["a", "é<&\"", most.as_str()] {
-        assert_uri(&rt, alloc, uri, Ok(()))?;
+        assert_uri(&rt, alloc, uri, Ok(()));
     }
-    let long = letters(alloc, 513)?;
+    let long = letters(&rt, alloc, 513);
     for uri in [
         "",
         " a",
@@ -252,9 +230,8 @@ fn uris_of_a_format(rt: HostRuntime) -> Result<(), Fail> {
         "\u{FFFE}",
         long.as_str(),
     ] {
-        assert_uri(&rt, alloc, uri, Err(FormatFault::BadUri))?;
+        assert_uri(&rt, alloc, uri, Err(FormatFault::BadUri));
     }
-    Ok(())
 }
 
 /// A journal of so many fields is declared so.
@@ -263,46 +240,47 @@ fn assert_many_fields(
     alloc: Global,
     many: usize,
     answer: Result<(), FormatFault>,
-) -> Result<(), Fail> {
-    let format = with_fields(alloc, names(alloc, many)?)?;
-    assert_declared(rt, alloc, format, answer)
+) {
+    let format = with_fields(rt, alloc, names(rt, alloc, many));
+    assert_declared(rt, alloc, format, answer);
 }
 
 #[test]
-fn fields_of_a_format(rt: HostRuntime) -> Result<(), Fail> {
+fn fields_of_a_format(rt: HostRuntime) {
     let alloc = rt.alloc();
-    assert_fields(&rt, alloc, &["title", "Title"], Ok(()))?;
+    assert_fields(&rt, alloc, &["title", "Title"], Ok(()));
     let twice = Err(FormatFault::FieldTwice);
-    assert_fields(&rt, alloc, &["a", "b", "a"], twice)?;
-    assert_fields(&rt, alloc, &["b", "a", "a"], twice)?;
+    assert_fields(&rt, alloc, &["a", "b", "a"], twice);
+    assert_fields(&rt, alloc, &["b", "a", "a"], twice);
     let too_many = Err(FormatFault::TooMany);
-    assert_fields(&rt, alloc, &[], too_many)?;
-    assert_many_fields(&rt, alloc, 256, Ok(()))?;
-    assert_many_fields(&rt, alloc, 257, too_many)
+    assert_fields(&rt, alloc, &[], too_many);
+    assert_many_fields(&rt, alloc, 256, Ok(()));
+    assert_many_fields(&rt, alloc, 257, too_many);
 }
 
 #[test]
-fn formats_of_a_repository(rt: HostRuntime) -> Result<(), Fail> {
+fn formats_of_a_repository(rt: HostRuntime) {
     let alloc = rt.alloc();
-    let mut formats = Formats::dc(alloc)?;
+    let mut formats = Formats::dc(alloc).expect(&rt, "Formats::dc");
     for number in 1..64 {
-        let prefix = letters(alloc, number)?;
-        assert_prefix(&rt, alloc, &mut formats, prefix.as_str(), Ok(()))?;
+        let prefix = letters(&rt, alloc, number);
+        assert_prefix(&rt, alloc, &mut formats, prefix.as_str(), Ok(()));
     }
-    assert_prefix(&rt, alloc, &mut formats, "jnl", Err(FormatFault::TooMany))?;
+    assert_prefix(&rt, alloc, &mut formats, "jnl", Err(FormatFault::TooMany));
     assert_same(&rt, formats.len(), 64);
-    Ok(())
 }
 
 /// 257 fields, of which the second and one more have one name.
-fn many_with_one_twice(alloc: Global) -> Result<Format, Fail> {
-    let mut fields = names(alloc, 257)?;
-    fields.push(Text::new(alloc, "aa.")?)?;
-    with_fields(alloc, fields)
+fn many_with_one_twice(rt: &impl Abort, alloc: Global) -> Format {
+    let mut fields = names(rt, alloc, 257);
+    fields
+        .push(Text::new(alloc, "aa.").expect(rt, "memory"))
+        .expect(rt, "memory");
+    with_fields(rt, alloc, fields)
 }
 
 #[test]
-fn the_first_cause_is_answered(rt: HostRuntime) -> Result<(), Fail> {
+fn the_first_cause_is_answered(rt: HostRuntime) {
     let alloc = rt.alloc();
     let bad = Told {
         prefix: "oai_dc",
@@ -311,16 +289,16 @@ fn the_first_cause_is_answered(rt: HostRuntime) -> Result<(), Fail> {
         fields: &["a", "a"],
         ..journal()
     };
-    assert_answer(&rt, alloc, bad, Err(FormatFault::Duplicate))?;
+    assert_answer(&rt, alloc, bad, Err(FormatFault::Duplicate));
     let bad = Told {
         prefix: "jnl",
         ..bad
     };
-    assert_answer(&rt, alloc, bad, Err(FormatFault::BadName))?;
+    assert_answer(&rt, alloc, bad, Err(FormatFault::BadName));
     let bad = Told { root: "a", ..bad };
-    assert_answer(&rt, alloc, bad, Err(FormatFault::BadUri))?;
-    let format = many_with_one_twice(alloc)?;
-    assert_declared(&rt, alloc, format, Err(FormatFault::FieldTwice))
+    assert_answer(&rt, alloc, bad, Err(FormatFault::BadUri));
+    let format = many_with_one_twice(&rt, alloc);
+    assert_declared(&rt, alloc, format, Err(FormatFault::FieldTwice));
 }
 
 fn text_of(fault: FormatFault) -> &'static str {
@@ -335,7 +313,7 @@ fn text_of(fault: FormatFault) -> &'static str {
 }
 
 #[test]
-fn texts_of_faults(rt: HostRuntime) -> Result<(), Fail> {
+fn texts_of_faults(rt: HostRuntime) {
     for fault in [
         FormatFault::Duplicate,
         FormatFault::BadName,
@@ -344,7 +322,6 @@ fn texts_of_faults(rt: HostRuntime) -> Result<(), Fail> {
         FormatFault::TooMany,
         FormatFault::NoMemory,
     ] {
-        assert_shown(&rt, rt.alloc(), fault, text_of(fault))?;
+        assert_shown(&rt, rt.alloc(), fault, text_of(fault));
     }
-    Ok(())
 }

@@ -10,12 +10,12 @@ use oai_item::{Fault, Item, TooLarge, is_in, order_law, place_of, selection_law,
 use oai_names::SetSpec;
 use std::alloc::Global;
 use std::cmp::Ordering;
+use std::panic::Expect;
 use std::process::Abort;
-use std::test::Fail;
 
 /// `oai:a:1` in these sets, with this title.
-fn titled(alloc: Global, specs: &[&str], title: &str) -> Result<Item, Fail> {
-    item(alloc, "oai:a:1", 0, specs, title)
+fn titled(rt: &impl Abort, alloc: Global, specs: &[&str], title: &str) -> Item {
+    item(rt, alloc, "oai:a:1", 0, specs, title)
 }
 
 /// An item in these sets with this title is of that length.
@@ -25,10 +25,9 @@ fn assert_length(
     specs: &[&str],
     title: &str,
     answer: Result<usize, TooLarge>,
-) -> Result<(), Fail> {
-    let item = titled(alloc, specs, title)?;
+) {
+    let item = titled(rt, alloc, specs, title);
     assert_same(rt, item.encoded_len(), answer);
-    Ok(())
 }
 
 /// The sets are those of these setSpecs.
@@ -40,47 +39,44 @@ fn assert_sets(rt: &impl Abort, sets: &[SetSpec], specs: &[&str]) {
 }
 
 /// Of the given sets an item keeps those.
-fn assert_kept(rt: &impl Abort, alloc: Global, given: &[&str], kept: &[&str]) -> Result<(), Fail> {
-    let item = titled(alloc, given, "T")?;
+fn assert_kept(rt: &impl Abort, alloc: Global, given: &[&str], kept: &[&str]) {
+    let item = titled(rt, alloc, given, "T");
     assert_sets(rt, item.sets(), kept);
-    Ok(())
 }
 
 #[test]
-fn item_is_its_parts(rt: HostRuntime) -> Result<(), Fail> {
+fn item_is_its_parts(rt: HostRuntime) {
     let alloc = rt.alloc();
-    let item = titled(alloc, &["x"], "T")?;
+    let item = titled(&rt, alloc, &["x"], "T");
     assert_told(&rt, &item, "oai:a:1", (1_704_067_200, true, 1));
     assert_same(&rt, item.formats().len(), 1);
-    Ok(())
 }
 
 #[test]
-fn field_is_copied(rt: HostRuntime) -> Result<(), Fail> {
+fn field_is_copied(rt: HostRuntime) {
     let alloc = rt.alloc();
-    let field = title_field(alloc, "T")?;
-    assert_title_field(&rt, &field.copy(alloc)?);
-    Ok(())
+    let field = title_field(&rt, alloc, "T");
+    assert_title_field(&rt, &field.copy(alloc).expect(&rt, "memory"));
 }
 
 #[test]
-fn sets_are_reduced(rt: HostRuntime) -> Result<(), Fail> {
+fn sets_are_reduced(rt: HostRuntime) {
     let alloc = rt.alloc();
-    assert_kept(&rt, alloc, &["b", "a", "b"], &["b", "a"])?;
-    assert_kept(&rt, alloc, &["x", "x:y"], &["x:y"])?;
-    assert_kept(&rt, alloc, &["xy", "x"], &["xy", "x"])?;
-    assert_kept(&rt, alloc, &["a:b:c", "a", "a:b"], &["a:b:c"])
+    assert_kept(&rt, alloc, &["b", "a", "b"], &["b", "a"]);
+    assert_kept(&rt, alloc, &["x", "x:y"], &["x:y"]);
+    assert_kept(&rt, alloc, &["xy", "x"], &["xy", "x"]);
+    assert_kept(&rt, alloc, &["a:b:c", "a", "a:b"], &["a:b:c"]);
 }
 
 #[test]
-fn bytes_of_an_item(rt: HostRuntime) -> Result<(), Fail> {
+fn bytes_of_an_item(rt: HostRuntime) {
     let alloc = rt.alloc();
-    assert_length(&rt, alloc, &[], "T", Ok(56))?;
-    assert_length(&rt, alloc, &["x:y"], "T", Ok(63))?;
-    let most = letters(alloc, 15_945)?;
-    assert_length(&rt, alloc, &[], most.as_str(), Ok(16_000))?;
-    let long = letters(alloc, 15_946)?;
-    assert_length(&rt, alloc, &[], long.as_str(), Err(TooLarge))
+    assert_length(&rt, alloc, &[], "T", Ok(56));
+    assert_length(&rt, alloc, &["x:y"], "T", Ok(63));
+    let most = letters(&rt, alloc, 15_945);
+    assert_length(&rt, alloc, &[], most.as_str(), Ok(16_000));
+    let long = letters(&rt, alloc, 15_946);
+    assert_length(&rt, alloc, &[], long.as_str(), Err(TooLarge));
 }
 
 /// The item is `oai:a:1`, live and in one set, with the title `T`.
@@ -108,29 +104,27 @@ fn assert_tombstone(rt: &impl Abort, deleted: &Item) {
 }
 
 /// A copy of `oai:a:1` in the set `x:y`.
-fn copied(alloc: Global) -> Result<Item, Fail> {
-    let item = titled(alloc, &["x:y"], "T")?;
-    Ok(item.copy(alloc)?)
+fn copied(rt: &impl Abort, alloc: Global) -> Item {
+    let item = titled(rt, alloc, &["x:y"], "T");
+    item.copy(alloc).expect(rt, "memory")
 }
 
 #[test]
-fn copy_of_an_item(rt: HostRuntime) -> Result<(), Fail> {
-    let copy = copied(rt.alloc())?;
+fn copy_of_an_item(rt: HostRuntime) {
+    let copy = copied(&rt, rt.alloc());
     assert_copy(&rt, &copy);
-    Ok(())
 }
 
 /// What is left of it where it is deleted a second later.
-fn deleted(alloc: Global) -> Result<Item, Fail> {
-    let item = titled(alloc, &["x:y"], "T")?;
-    Ok(item.tombstone(alloc, STAMP + 1)?)
+fn deleted(rt: &impl Abort, alloc: Global) -> Item {
+    let item = titled(rt, alloc, &["x:y"], "T");
+    item.tombstone(alloc, STAMP + 1).expect(rt, "tombstone")
 }
 
 #[test]
-fn tombstone_of_an_item(rt: HostRuntime) -> Result<(), Fail> {
-    let deleted = deleted(rt.alloc())?;
+fn tombstone_of_an_item(rt: HostRuntime) {
+    let deleted = deleted(&rt, rt.alloc());
     assert_tombstone(&rt, &deleted);
-    Ok(())
 }
 
 /// The places of items among the item and its tombstone, a second later.
@@ -143,20 +137,18 @@ fn assert_places(rt: &impl Abort, items: &[Item])
 }
 
 #[test]
-fn items_in_order(rt: HostRuntime) -> Result<(), Fail> {
+fn items_in_order(rt: HostRuntime) {
     let alloc = rt.alloc();
-    let item = titled(alloc, &["x:y"], "T")?;
-    let later = item.tombstone(alloc, STAMP + 1)?;
+    let item = titled(&rt, alloc, &["x:y"], "T");
+    let later = item.tombstone(alloc, STAMP + 1).expect(&rt, "tombstone");
     assert!(rt; item.order(&later) == Ordering::Less);
     assert_places(&rt, &[item, later]);
-    Ok(())
 }
 
 #[test]
-fn item_in_order_to_a_place(rt: HostRuntime) -> Result<(), Fail> {
-    let item = titled(rt.alloc(), &["x:y"], "T")?;
+fn item_in_order_to_a_place(rt: HostRuntime) {
+    let item = titled(&rt, rt.alloc(), &["x:y"], "T");
     assert_same(&rt, item.order_to(STAMP, "oai:a:0"), Ordering::Greater);
-    Ok(())
 }
 
 #[test]
@@ -167,11 +159,10 @@ fn laws_of_items() {
 }
 
 #[test]
-fn item_is_in_the_set_above_its_own(rt: HostRuntime) -> Result<(), Fail> {
-    let set = SetSpec::read(rt.alloc(), "x")?;
-    let item = titled(rt.alloc(), &["x:y"], "T")?;
+fn item_is_in_the_set_above_its_own(rt: HostRuntime) {
+    let set = SetSpec::read(rt.alloc(), "x").expect(&rt, "SetSpec::read");
+    let item = titled(&rt, rt.alloc(), &["x:y"], "T");
     assert!(rt; is_in(&set, item.sets()));
-    Ok(())
 }
 
 fn text_of(fault: Fault) -> &'static str {
@@ -184,7 +175,7 @@ fn text_of(fault: Fault) -> &'static str {
 }
 
 #[test]
-fn texts_of_faults(rt: HostRuntime) -> Result<(), Fail> {
+fn texts_of_faults(rt: HostRuntime) {
     let alloc = rt.alloc();
     for fault in [
         Fault::NoMemory,
@@ -192,19 +183,17 @@ fn texts_of_faults(rt: HostRuntime) -> Result<(), Fail> {
         Fault::Damaged,
         Fault::TooManyPages,
     ] {
-        assert_shown(&rt, alloc, fault, text_of(fault))?;
+        assert_shown(&rt, alloc, fault, text_of(fault));
     }
-    Ok(())
 }
 
 #[test]
-fn text_of_an_item_too_large(rt: HostRuntime) -> Result<(), Fail> {
+fn text_of_an_item_too_large(rt: HostRuntime) {
     let alloc = rt.alloc();
-    let large = format!(in alloc; "{TooLarge}")?;
+    let large = format!(in alloc; "{TooLarge}").expect(&rt, "memory");
     assert_same(
         &rt,
         large.as_str(),
         "the encoded item has more than 16,000 bytes",
     );
-    Ok(())
 }

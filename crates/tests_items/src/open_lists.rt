@@ -4,8 +4,8 @@ use oai_catalogue::Filter;
 use oai_lists::{LAST_NUMBER, Lists, OpenFault, Token};
 use oai_names::{ListVerb, Prefix};
 use std::alloc::Global;
+use std::panic::Expect;
 use std::process::Abort;
-use std::test::Fail;
 
 /// A list of that version and end is opened at `now`, or not.
 fn assert_opened(
@@ -16,24 +16,31 @@ fn assert_opened(
     end: i64,
     version: u64,
     answer: Result<u64, OpenFault>,
-) -> Result<(), Fail> {
-    let filter = Filter::new(Prefix::read(alloc, "oai_dc")?, 0, 9, None);
+) {
+    let filter = Filter::new(
+        Prefix::read(alloc, "oai_dc").expect(rt, "Prefix::read"),
+        0,
+        9,
+        None,
+    );
     let opened = lists.open(now, ListVerb::Records, filter, version, 3, end);
     assert_same(rt, opened, answer);
-    Ok(())
 }
 
-fn assert_token(rt: &impl Abort, alloc: Global, text: &str, token: Token) -> Result<(), Fail> {
+fn assert_token(rt: &impl Abort, alloc: Global, text: &str, token: Token) {
     assert_same(rt, Token::read(text), Some(token));
-    assert_same(rt, token.write(alloc)?.as_slice(), text.as_bytes());
-    Ok(())
+    assert_same(
+        rt,
+        token.write(alloc).expect(rt, "write").as_slice(),
+        text.as_bytes(),
+    );
 }
 
 #[test]
-fn texts_of_tokens(rt: HostRuntime) -> Result<(), Fail> {
+fn texts_of_tokens(rt: HostRuntime) {
     let alloc = rt.alloc();
-    assert_token(&rt, alloc, "1.2", Token { list: 1, cursor: 2 })?;
-    assert_token(&rt, alloc, "0.0", Token { list: 0, cursor: 0 })?;
+    assert_token(&rt, alloc, "1.2", Token { list: 1, cursor: 2 });
+    assert_token(&rt, alloc, "0.0", Token { list: 0, cursor: 0 });
     let last = Token {
         list: 18_446_744_073_709_551_615,
         cursor: 18_446_744_073_709_551_614,
@@ -43,17 +50,16 @@ fn texts_of_tokens(rt: HostRuntime) -> Result<(), Fail> {
         alloc,
         "18446744073709551615.18446744073709551614",
         last,
-    )
+    );
 }
 
 #[test]
-fn tokens_are_displayed(rt: HostRuntime) -> Result<(), Fail> {
+fn tokens_are_displayed(rt: HostRuntime) {
     let token = Token {
         list: 2,
         cursor: 1_000_000,
     };
-    assert_shown(&rt, rt.alloc(), token, "2.1000000")?;
-    Ok(())
+    assert_shown(&rt, rt.alloc(), token, "2.1000000");
 }
 
 /// The first is empty.
@@ -76,29 +82,32 @@ x
 }
 
 #[test]
-fn texts_that_are_no_tokens(rt: HostRuntime) -> Result<(), Fail> {
+fn texts_that_are_no_tokens(rt: HostRuntime) {
     for text in no_tokens().lines() {
         assert!(rt; Token::read(text).is_none(), "{text}");
     }
-    Ok(())
 }
 
 /// A list of no records is opened as any other.
 #[test]
-fn empty_list_is_opened(rt: HostRuntime) -> Result<(), Fail> {
+fn empty_list_is_opened(rt: HostRuntime) {
     let mut lists = Lists::new(rt.alloc(), 1, 1);
-    let filter = Filter::new(Prefix::read(rt.alloc(), "oai_dc")?, 0, 9, None);
+    let filter = Filter::new(
+        Prefix::read(rt.alloc(), "oai_dc").expect(&rt, "Prefix::read"),
+        0,
+        9,
+        None,
+    );
     let opened = lists.open(0, ListVerb::Records, filter, 1, 0, 60);
     assert_same(&rt, opened, Ok(1));
-    Ok(())
 }
 
 /// An empty table of one opens a list, and no other beside it.
-fn assert_one_list(rt: &impl Abort, alloc: Global, lists: &mut Lists) -> Result<(), Fail> {
+fn assert_one_list(rt: &impl Abort, alloc: Global, lists: &mut Lists) {
     assert_same(rt, (lists.earliest_end(), lists.next(0)), (None, Ok(1)));
-    assert_opened(rt, alloc, lists, 0, 60, 7, Ok(1))?;
+    assert_opened(rt, alloc, lists, 0, 60, 7, Ok(1));
     assert_same(rt, lists.next(59), Err(OpenFault::Full));
-    assert_opened(rt, alloc, lists, 59, 119, 8, Err(OpenFault::Full))
+    assert_opened(rt, alloc, lists, 59, 119, 8, Err(OpenFault::Full));
 }
 
 /// The list is found below its end alone, and its end is moved.
@@ -121,50 +130,49 @@ fn assert_dropped(rt: &impl Abort, lists: &mut Lists) {
 }
 
 #[test]
-fn a_table_of_one_list(rt: HostRuntime) -> Result<(), Fail> {
+fn a_table_of_one_list(rt: HostRuntime) {
     let mut lists = Lists::new(rt.alloc(), 1, 1);
-    assert_one_list(&rt, rt.alloc(), &mut lists)?;
+    assert_one_list(&rt, rt.alloc(), &mut lists);
     assert_renewed(&rt, &mut lists);
     assert_dropped(&rt, &mut lists);
-    assert_opened(&rt, rt.alloc(), &mut lists, 61, 121, 9, Ok(2))
+    assert_opened(&rt, rt.alloc(), &mut lists, 61, 121, 9, Ok(2));
 }
 
 #[test]
-fn the_last_number(rt: HostRuntime) -> Result<(), Fail> {
+fn the_last_number(rt: HostRuntime) {
     let alloc = rt.alloc();
     let spent = Err(OpenFault::NumbersSpent);
     let mut lists = Lists::new(alloc, 1, LAST_NUMBER);
     assert_same(&rt, lists.next(0), spent);
-    assert_opened(&rt, alloc, &mut lists, 0, 60, 1, spent)
+    assert_opened(&rt, alloc, &mut lists, 0, 60, 1, spent);
 }
 
 #[test]
-fn the_number_before_the_last(rt: HostRuntime) -> Result<(), Fail> {
+fn the_number_before_the_last(rt: HostRuntime) {
     let alloc = rt.alloc();
     let last = 18_446_744_073_709_551_614;
     let mut lists = Lists::new(alloc, 2, last);
-    assert_opened(&rt, alloc, &mut lists, 0, 60, 1, Ok(last))?;
+    assert_opened(&rt, alloc, &mut lists, 0, 60, 1, Ok(last));
     let spent = Err(OpenFault::NumbersSpent);
-    assert_opened(&rt, alloc, &mut lists, 0, 60, 2, spent)
+    assert_opened(&rt, alloc, &mut lists, 0, 60, 2, spent);
 }
 
 /// Lists that end at 60, 70 and 50 are dropped where they ended, in the order of their numbers.
-fn assert_three_lists(rt: &impl Abort, alloc: Global, lists: &mut Lists) -> Result<(), Fail> {
-    assert_opened(rt, alloc, lists, 0, 60, 11, Ok(1))?;
-    assert_opened(rt, alloc, lists, 0, 70, 12, Ok(2))?;
-    assert_opened(rt, alloc, lists, 0, 50, 13, Ok(3))?;
+fn assert_three_lists(rt: &impl Abort, alloc: Global, lists: &mut Lists) {
+    assert_opened(rt, alloc, lists, 0, 60, 11, Ok(1));
+    assert_opened(rt, alloc, lists, 0, 70, 12, Ok(2));
+    assert_opened(rt, alloc, lists, 0, 50, 13, Ok(3));
     assert_same(rt, lists.earliest_end(), Some(50));
     assert_same(rt, lists.expire(60), Some(11));
     assert_same(rt, lists.expire(60), Some(13));
     assert_same(rt, (lists.expire(60), lists.len()), (None, 1));
     assert!(rt; lists.find(2, 69).is_some());
-    Ok(())
 }
 
 #[test]
-fn lists_that_ended_are_dropped_one_by_one(rt: HostRuntime) -> Result<(), Fail> {
+fn lists_that_ended_are_dropped_one_by_one(rt: HostRuntime) {
     let mut lists = Lists::new(rt.alloc(), 3, 1);
-    assert_three_lists(&rt, rt.alloc(), &mut lists)
+    assert_three_lists(&rt, rt.alloc(), &mut lists);
 }
 
 fn text_of(fault: OpenFault) -> &'static str {
@@ -176,13 +184,12 @@ fn text_of(fault: OpenFault) -> &'static str {
 }
 
 #[test]
-fn texts_of_faults(rt: HostRuntime) -> Result<(), Fail> {
+fn texts_of_faults(rt: HostRuntime) {
     for fault in [
         OpenFault::Full,
         OpenFault::NumbersSpent,
         OpenFault::NoMemory,
     ] {
-        assert_shown(&rt, rt.alloc(), fault, text_of(fault))?;
+        assert_shown(&rt, rt.alloc(), fault, text_of(fault));
     }
-    Ok(())
 }

@@ -1,7 +1,7 @@
 //! Stores of versions: what they find and cut, what a filter asks for, a call that fails, a change as a
 //! whole, and a version that was frozen. The helpers speak of any store: a test that names its type
 //! loses what the next call requires.
-ghost use Rattle.std.specs.Prelude.{◌≡◌, IsSome, IfOk, OnErr, OnOk};
+ghost use Rattle.std.specs.Prelude.{◌≡◌, IsSome, IfOk, OnErr};
 
 use crate::assertions::assert_same;
 use crate::samples::{STAMP, item};
@@ -9,33 +9,45 @@ use oai_catalogue::{FaultyVersions, Filter, PlainVersions, Versions, change_item
 use oai_item::{Fault, Item};
 use oai_names::{Identifier, Prefix, SetSpec};
 use std::alloc::Global;
+use std::panic::Expect;
 use std::process::Abort;
-use std::test::Fail;
 
 /// `oai:a:1` of the first datestamp, `oai:a:2` of a second later, and so on, in the set `x:y`.
-fn numbered(alloc: Global, number: u8) -> Result<Item, Fail> {
+fn numbered(rt: &impl Abort, alloc: Global, number: u8) -> Item {
     let identifier = match number {
         1 => "oai:a:1",
         2 => "oai:a:2",
         _ => "oai:a:3",
     };
-    item(alloc, identifier, number.saturating_sub(1), &["x:y"], "T")
+    item(
+        rt,
+        alloc,
+        identifier,
+        number.saturating_sub(1),
+        &["x:y"],
+        "T",
+    )
 }
 
 /// What asks for the datestamps from so many to so many seconds later, in oai_dc.
-fn filter(alloc: Global, from: u8, until: u8) -> Result<Filter, Fail> {
-    Ok(Filter::new(
-        Prefix::read(alloc, "oai_dc")?,
+fn filter(rt: &impl Abort, alloc: Global, from: u8, until: u8) -> Filter {
+    Filter::new(
+        Prefix::read(alloc, "oai_dc").expect(rt, "Prefix::read"),
         STAMP + i64::from(from),
         STAMP + i64::from(until),
         None,
-    ))
+    )
 }
 
 /// What asks for a set and a prefix.
-fn asked(alloc: Global, prefix: &str, set: &str) -> Result<Filter, Fail> {
-    let set = SetSpec::read(alloc, set)?;
-    Ok(Filter::new(Prefix::read(alloc, prefix)?, STAMP, STAMP, Some(set)))
+fn asked(rt: &impl Abort, alloc: Global, prefix: &str, set: &str) -> Filter {
+    let set = SetSpec::read(alloc, set).expect(rt, "SetSpec::read");
+    Filter::new(
+        Prefix::read(alloc, prefix).expect(rt, "Prefix::read"),
+        STAMP,
+        STAMP,
+        Some(set),
+    )
 }
 
 /// The items have these identifiers.
@@ -53,13 +65,16 @@ fn assert_selected<V: Versions>(
     v: u64,
     filter: &Filter,
     identifiers: &[&str],
-) -> Result<(), Fail>
+)
     requires { IsSome (V.lists store.old v) }
     ensures { V.lists store.new ≡ V.lists store.old }
 {
-    assert_identifiers(rt, store.part(v, filter, 0, 9)?.as_slice(), identifiers);
+    assert_identifiers(
+        rt,
+        store.part(v, filter, 0, 9).expect(rt, "part").as_slice(),
+        identifiers,
+    );
     assert_same(rt, store.count(v, filter), Ok(identifiers.len()));
-    Ok(())
 }
 
 /// The list is of items of these identifiers.
@@ -69,44 +84,44 @@ fn assert_list<V: Versions>(
     store: &mut V,
     v: u64,
     identifiers: &[&str],
-) -> Result<(), Fail>
+)
     requires { IsSome (V.lists store.old v) }
     ensures { V.lists store.new ≡ V.lists store.old }
 {
-    let all = filter(alloc, 0, 9)?;
-    assert_selected(rt, store, v, &all, identifiers)
+    let all = filter(rt, alloc, 0, 9);
+    assert_selected(rt, store, v, &all, identifiers);
 }
 
 /// Puts the item into the list of `v`; that of `w` stands.
-fn put_item<V: Versions>(store: &mut V, v: u64, w: u64, item: &Item) -> Result<(), Fail>
+fn put_item<V: Versions>(rt: &impl Abort, store: &mut V, v: u64, w: u64, item: &Item)
     requires own { IsSome (V.lists store.old v) }
     requires other { IsSome (V.lists store.old w) }
-    ensures own { OnOk result (IsSome (V.lists store.new v)) }
-    ensures other { OnOk result (IsSome (V.lists store.new w)) }
+    ensures own { IsSome (V.lists store.new v) }
+    ensures other { IsSome (V.lists store.new w) }
 {
-    item.encoded_len()?;
-    Ok(store.put(v, item)?)
+    item.encoded_len().expect(rt, "encoded_len");
+    store.put(v, item).expect(rt, "put");
 }
 
 /// Puts the item of that number into the list of `v`; that of `w` stands.
-fn put<V: Versions>(alloc: Global, store: &mut V, v: u64, w: u64, number: u8) -> Result<(), Fail>
+fn put<V: Versions>(rt: &impl Abort, alloc: Global, store: &mut V, v: u64, w: u64, number: u8)
     requires own { IsSome (V.lists store.old v) }
     requires other { IsSome (V.lists store.old w) }
-    ensures own { OnOk result (IsSome (V.lists store.new v)) }
-    ensures other { OnOk result (IsSome (V.lists store.new w)) }
+    ensures own { IsSome (V.lists store.new v) }
+    ensures other { IsSome (V.lists store.new w) }
 {
-    let item = numbered(alloc, number)?;
-    put_item(store, v, w, &item)
+    let item = numbered(rt, alloc, number);
+    put_item(rt, store, v, w, &item);
 }
 
 /// A list of two items.
-fn stored<V: Versions>(alloc: Global, store: &mut V) -> Result<u64, Fail>
-    ensures { IfOk result (λ v. IsSome (V.lists store.new v)) }
+fn stored<V: Versions>(rt: &impl Abort, alloc: Global, store: &mut V) -> u64
+    ensures { IsSome (V.lists store.new result) }
 {
-    let v = store.fresh()?;
-    put(alloc, store, v, v, 2)?;
-    put(alloc, store, v, v, 1)?;
-    Ok(v)
+    let v = store.fresh().expect(rt, "fresh");
+    put(rt, alloc, store, v, v, 2);
+    put(rt, alloc, store, v, v, 1);
+    v
 }
 
 /// Whether an item of the first datestamp and of that identifier is found.
@@ -117,23 +132,22 @@ fn assert_found<V: Versions>(
     v: u64,
     identifier: &str,
     is_there: bool,
-) -> Result<(), Fail>
+)
     requires { IsSome (V.lists store.old v) }
-    ensures { OnOk result (IsSome (V.lists store.new v)) }
+    ensures { IsSome (V.lists store.new v) }
 {
-    let identifier = Identifier::read(alloc, identifier)?;
-    let found = store.find(v, STAMP, &identifier)?;
+    let identifier = Identifier::read(alloc, identifier).expect(rt, "Identifier::read");
+    let found = store.find(v, STAMP, &identifier).expect(rt, "find");
     assert_same(rt, found.is_some(), is_there);
-    Ok(())
 }
 
 #[test]
-fn items_are_found(rt: HostRuntime) -> Result<(), Fail> {
+fn items_are_found(rt: HostRuntime) {
     let alloc = rt.alloc();
     let mut store = PlainVersions::new(alloc);
-    let v = stored(alloc, &mut store)?;
-    assert_found(&rt, alloc, &mut store, v, "oai:a:1", true)?;
-    assert_found(&rt, alloc, &mut store, v, "oai:a:2", false)
+    let v = stored(&rt, alloc, &mut store);
+    assert_found(&rt, alloc, &mut store, v, "oai:a:1", true);
+    assert_found(&rt, alloc, &mut store, v, "oai:a:2", false);
 }
 
 /// How many items the part has.
@@ -145,63 +159,48 @@ fn assert_part<V: Versions>(
     skip: usize,
     most: usize,
     count: usize,
-) -> Result<(), Fail>
+)
     requires { IsSome (V.lists store.old v) }
-    ensures { OnOk result (IsSome (V.lists store.new v)) }
+    ensures { IsSome (V.lists store.new v) }
 {
-    let all = filter(alloc, 0, 9)?;
-    let items = store.part(v, &all, skip, most)?;
+    let all = filter(rt, alloc, 0, 9);
+    let items = store.part(v, &all, skip, most).expect(rt, "part");
     assert_same(rt, items.as_slice().len(), count);
-    Ok(())
 }
 
 #[test]
-fn items_are_cut(rt: HostRuntime) -> Result<(), Fail> {
+fn items_are_cut(rt: HostRuntime) {
     let alloc = rt.alloc();
     let mut store = PlainVersions::new(alloc);
-    let v = stored(alloc, &mut store)?;
-    assert_part(&rt, alloc, &mut store, v, 1, 9, 1)?;
-    assert_part(&rt, alloc, &mut store, v, 0, 1, 1)
+    let v = stored(&rt, alloc, &mut store);
+    assert_part(&rt, alloc, &mut store, v, 1, 9, 1);
+    assert_part(&rt, alloc, &mut store, v, 0, 1, 1);
 }
 
 /// The filter, and a copy of it, ask for the item, or not.
-fn assert_passes(
-    rt: &impl Abort,
-    alloc: Global,
-    filter: Filter,
-    item: &Item,
-    passes: bool,
-) -> Result<(), Fail> {
-    let copy = filter.copy(alloc)?;
+fn assert_passes(rt: &impl Abort, alloc: Global, filter: Filter, item: &Item, passes: bool) {
+    let copy = filter.copy(alloc).expect(rt, "memory");
     assert_same(rt, filter.passes(item), passes);
     assert_same(rt, copy.passes(item), passes);
-    Ok(())
 }
 
 /// Whether the item is asked for by those datestamps.
-fn assert_dated(
-    rt: &impl Abort,
-    alloc: Global,
-    item: &Item,
-    from: u8,
-    until: u8,
-    is_asked: bool,
-) -> Result<(), Fail> {
-    assert_passes(rt, alloc, filter(alloc, from, until)?, item, is_asked)
+fn assert_dated(rt: &impl Abort, alloc: Global, item: &Item, from: u8, until: u8, is_asked: bool) {
+    assert_passes(rt, alloc, filter(rt, alloc, from, until), item, is_asked);
 }
 
 /// The item of the fifth second is asked for by it, and not by those before or behind it.
-fn assert_bounds(rt: &impl Abort, alloc: Global, item: &Item) -> Result<(), Fail> {
-    assert_dated(rt, alloc, item, 5, 5, true)?;
-    assert_dated(rt, alloc, item, 0, 4, false)?;
-    assert_dated(rt, alloc, item, 6, 9, false)
+fn assert_bounds(rt: &impl Abort, alloc: Global, item: &Item) {
+    assert_dated(rt, alloc, item, 5, 5, true);
+    assert_dated(rt, alloc, item, 0, 4, false);
+    assert_dated(rt, alloc, item, 6, 9, false);
 }
 
 #[test]
-fn bounds_of_a_filter(rt: HostRuntime) -> Result<(), Fail> {
+fn bounds_of_a_filter(rt: HostRuntime) {
     let alloc = rt.alloc();
-    let item = item(alloc, "oai:a:1", 5, &["x:y"], "T")?;
-    assert_bounds(&rt, alloc, &item)
+    let item = item(&rt, alloc, "oai:a:1", 5, &["x:y"], "T");
+    assert_bounds(&rt, alloc, &item);
 }
 
 /// Whether the item is asked for by its first datestamp, that prefix and that set.
@@ -212,150 +211,132 @@ fn assert_asked(
     prefix: &str,
     set: &str,
     is_asked: bool,
-) -> Result<(), Fail> {
-    assert_passes(rt, alloc, asked(alloc, prefix, set)?, item, is_asked)
+) {
+    assert_passes(rt, alloc, asked(rt, alloc, prefix, set), item, is_asked);
 }
 
 /// The item in the set `x:y` that has a record in oai_dc alone is asked for by these.
-fn assert_set_and_prefix(rt: &impl Abort, alloc: Global, item: &Item) -> Result<(), Fail> {
-    assert_asked(rt, alloc, item, "oai_dc", "x", true)?;
-    assert_asked(rt, alloc, item, "oai_dc", "x:y", true)?;
-    assert_asked(rt, alloc, item, "oai_dc", "x:z", false)?;
-    assert_asked(rt, alloc, item, "jnl", "x", false)
+fn assert_set_and_prefix(rt: &impl Abort, alloc: Global, item: &Item) {
+    assert_asked(rt, alloc, item, "oai_dc", "x", true);
+    assert_asked(rt, alloc, item, "oai_dc", "x:y", true);
+    assert_asked(rt, alloc, item, "oai_dc", "x:z", false);
+    assert_asked(rt, alloc, item, "jnl", "x", false);
 }
 
 /// What is left of `oai:a:1`, deleted at the first datestamp.
-fn tombstone(alloc: Global) -> Result<Item, Fail> {
-    Ok(item(alloc, "oai:a:1", 5, &["x:y"], "T")?.tombstone(alloc, STAMP)?)
+fn tombstone(rt: &impl Abort, alloc: Global) -> Item {
+    item(rt, alloc, "oai:a:1", 5, &["x:y"], "T")
+        .tombstone(alloc, STAMP)
+        .expect(rt, "tombstone")
 }
 
 #[test]
-fn set_and_prefix_of_a_filter(rt: HostRuntime) -> Result<(), Fail> {
-    let deleted = tombstone(rt.alloc())?;
-    assert_set_and_prefix(&rt, rt.alloc(), &deleted)
+fn set_and_prefix_of_a_filter(rt: HostRuntime) {
+    let deleted = tombstone(&rt, rt.alloc());
+    assert_set_and_prefix(&rt, rt.alloc(), &deleted);
 }
 
 /// Taking the first item out fails for the device.
-fn assert_fails<V: Versions>(
-    rt: &impl Abort,
-    alloc: Global,
-    store: &mut V,
-    v: u64,
-) -> Result<(), Fail>
+fn assert_fails<V: Versions>(rt: &impl Abort, alloc: Global, store: &mut V, v: u64)
     requires { IsSome (V.lists store.old v) }
-    ensures { OnOk result (IsSome (V.lists store.new v)) }
+    ensures { IsSome (V.lists store.new v) }
 {
-    let first = Identifier::read(alloc, "oai:a:1")?;
+    let first = Identifier::read(alloc, "oai:a:1").expect(rt, "Identifier::read");
     let failed = store.remove(v, STAMP, &first);
     assert_same(rt, failed, Err(Fault::Device));
-    Ok(())
 }
 
 #[test]
-fn one_call_fails(rt: HostRuntime) -> Result<(), Fail> {
+fn one_call_fails(rt: HostRuntime) {
     let alloc = rt.alloc();
     let mut store = FaultyVersions::new(PlainVersions::new(alloc), 4);
-    let v = stored(alloc, &mut store)?;
-    assert_fails(&rt, alloc, &mut store, v)?;
-    assert_list(&rt, alloc, &mut store, v, &["oai:a:1", "oai:a:2"])
+    let v = stored(&rt, alloc, &mut store);
+    assert_fails(&rt, alloc, &mut store, v);
+    assert_list(&rt, alloc, &mut store, v, &["oai:a:1", "oai:a:2"]);
 }
 
 /// The version of a change that takes the first item out.
 fn without_first<V: Versions>(
+    rt: &impl Abort,
     alloc: Global,
     store: &mut V,
     v: u64,
-) -> Result<Result<u64, Fault>, Fail>
+) -> Result<u64, Fault>
     requires { IsSome (V.lists store.old v) }
-    ensures made { IfOk result (λ taken. IfOk taken (λ w. IsSome (V.lists store.new w))) }
-    ensures not_made { IfOk result (λ taken. OnErr taken (IsSome (V.lists store.new v))) }
+    ensures made { IfOk result (λ w. IsSome (V.lists store.new w)) }
+    ensures not_made { OnErr result (IsSome (V.lists store.new v)) }
 {
-    let first = numbered(alloc, 1)?;
-    Ok(change_item(store, v, Some(&first), None))
+    let first = numbered(rt, alloc, 1);
+    change_item(store, v, Some(&first), None)
 }
 
 /// A change fails for the device, and the list is as before.
-fn assert_no_change<V: Versions>(
-    rt: &impl Abort,
-    alloc: Global,
-    store: &mut V,
-    v: u64,
-) -> Result<(), Fail>
+fn assert_no_change<V: Versions>(rt: &impl Abort, alloc: Global, store: &mut V, v: u64)
     requires { IsSome (V.lists store.old v) }
-    ensures { OnOk result (IsSome (V.lists store.new v)) }
+    ensures { IsSome (V.lists store.new v) }
 {
-    let taken = without_first(alloc, store, v)?;
+    let taken = without_first(rt, alloc, store, v);
     assert!(rt; taken == Err(Fault::Device));
-    assert_list(rt, alloc, store, v, &["oai:a:1", "oai:a:2"])
+    assert_list(rt, alloc, store, v, &["oai:a:1", "oai:a:2"]);
 }
 
 /// A change takes the first item out.
-fn assert_change<V: Versions>(
-    rt: &impl Abort,
-    alloc: Global,
-    store: &mut V,
-    v: u64,
-) -> Result<(), Fail>
+fn assert_change<V: Versions>(rt: &impl Abort, alloc: Global, store: &mut V, v: u64)
     requires { IsSome (V.lists store.old v) }
 {
-    let w = without_first(alloc, store, v)??;
-    assert_list(rt, alloc, store, w, &["oai:a:2"])
+    let w = without_first(rt, alloc, store, v).expect(rt, "change_item");
+    assert_list(rt, alloc, store, w, &["oai:a:2"]);
 }
 
 #[test]
-fn a_change_is_whole_or_none(rt: HostRuntime) -> Result<(), Fail> {
+fn a_change_is_whole_or_none(rt: HostRuntime) {
     let alloc = rt.alloc();
     // the fifth call takes the item out of the frozen version
     let mut store = FaultyVersions::new(PlainVersions::new(alloc), 5);
-    let v = stored(alloc, &mut store)?;
-    assert_no_change(&rt, alloc, &mut store, v)?;
-    assert_change(&rt, alloc, &mut store, v)
+    let v = stored(&rt, alloc, &mut store);
+    assert_no_change(&rt, alloc, &mut store, v);
+    assert_change(&rt, alloc, &mut store, v);
 }
 
 /// Letting go of a version is no call of the device, and a count is one: the call behind them fails.
-fn assert_counted<V: Versions>(
-    rt: &impl Abort,
-    alloc: Global,
-    store: &mut V,
-    v: u64,
-) -> Result<(), Fail>
+fn assert_counted<V: Versions>(rt: &impl Abort, alloc: Global, store: &mut V, v: u64)
     requires { IsSome (V.lists store.old v) }
 {
-    let w = frozen(store, v)?;
+    let w = frozen(rt, store, v);
     release(rt, store, v, w);
-    let all = filter(alloc, 0, 9)?;
+    let all = filter(rt, alloc, 0, 9);
     assert_same(rt, store.count(w, &all), Ok(2));
-    assert_fails(rt, alloc, store, w)
+    assert_fails(rt, alloc, store, w);
 }
 
 #[test]
-fn calls_are_counted(rt: HostRuntime) -> Result<(), Fail> {
+fn calls_are_counted(rt: HostRuntime) {
     let alloc = rt.alloc();
     // two items are stored by three calls, the fourth freezes them, and the fifth counts
     let mut store = FaultyVersions::new(PlainVersions::new(alloc), 6);
-    let v = stored(alloc, &mut store)?;
-    assert_counted(&rt, alloc, &mut store, v)
+    let v = stored(&rt, alloc, &mut store);
+    assert_counted(&rt, alloc, &mut store, v);
 }
 
 /// Another number for what the list holds.
-fn frozen<V: Versions>(store: &mut V, v: u64) -> Result<u64, Fail>
+fn frozen<V: Versions>(rt: &impl Abort, store: &mut V, v: u64) -> u64
     requires { IsSome (V.lists store.old v) }
-    ensures own { OnOk result (IsSome (V.lists store.new v)) }
-    ensures frozen { IfOk result (λ w. IsSome (V.lists store.new w)) }
+    ensures own { IsSome (V.lists store.new v) }
+    ensures frozen { IsSome (V.lists store.new result) }
 {
-    Ok(store.freeze(v)?)
+    store.freeze(v).expect(rt, "freeze")
 }
 
 /// Takes the first item out of the list of `v` and puts a third one in; the list of `w` stands.
-fn exchange<V: Versions>(alloc: Global, store: &mut V, v: u64, w: u64) -> Result<(), Fail>
+fn exchange<V: Versions>(rt: &impl Abort, alloc: Global, store: &mut V, v: u64, w: u64)
     requires own { IsSome (V.lists store.old v) }
     requires other { IsSome (V.lists store.old w) }
-    ensures own { OnOk result (IsSome (V.lists store.new v)) }
-    ensures other { OnOk result (IsSome (V.lists store.new w)) }
+    ensures own { IsSome (V.lists store.new v) }
+    ensures other { IsSome (V.lists store.new w) }
 {
-    let first = Identifier::read(alloc, "oai:a:1")?;
-    store.remove(v, STAMP, &first)?;
-    put(alloc, store, v, w, 3)
+    let first = Identifier::read(alloc, "oai:a:1").expect(rt, "Identifier::read");
+    store.remove(v, STAMP, &first).expect(rt, "remove");
+    put(rt, alloc, store, v, w, 3);
 }
 
 /// The two lists have numbers of their own, and that of `w` stands once that of `v` is let go.
@@ -370,26 +351,21 @@ fn release<V: Versions>(rt: &impl Abort, store: &mut V, v: u64, w: u64)
 
 /// A list of two items is frozen and then changed: each version holds its own items, and the frozen
 /// one still does once the other is let go.
-fn assert_frozen<V: Versions>(
-    rt: &impl Abort,
-    alloc: Global,
-    store: &mut V,
-    v: u64,
-) -> Result<(), Fail>
+fn assert_frozen<V: Versions>(rt: &impl Abort, alloc: Global, store: &mut V, v: u64)
     requires { IsSome (V.lists store.old v) }
 {
-    let w = frozen(store, v)?;
-    exchange(alloc, store, v, w)?;
-    assert_list(rt, alloc, store, w, &["oai:a:1", "oai:a:2"])?;
-    assert_list(rt, alloc, store, v, &["oai:a:2", "oai:a:3"])?;
+    let w = frozen(rt, store, v);
+    exchange(rt, alloc, store, v, w);
+    assert_list(rt, alloc, store, w, &["oai:a:1", "oai:a:2"]);
+    assert_list(rt, alloc, store, v, &["oai:a:2", "oai:a:3"]);
     release(rt, store, v, w);
-    assert_list(rt, alloc, store, w, &["oai:a:1", "oai:a:2"])
+    assert_list(rt, alloc, store, w, &["oai:a:1", "oai:a:2"]);
 }
 
 #[test]
-fn a_frozen_version_stands_alone(rt: HostRuntime) -> Result<(), Fail> {
+fn a_frozen_version_stands_alone(rt: HostRuntime) {
     let alloc = rt.alloc();
     let mut store = PlainVersions::new(alloc);
-    let v = stored(alloc, &mut store)?;
-    assert_frozen(&rt, alloc, &mut store, v)
+    let v = stored(&rt, alloc, &mut store);
+    assert_frozen(&rt, alloc, &mut store, v);
 }

@@ -1,6 +1,5 @@
 //! Lists of one repository that are open beside one another, as transcripts.
 use crate::transcripts::assert_transcript;
-use std::test::Fail;
 use tests_archives::{archive_a, archive_b};
 
 /// Two lists, one of each verb, are read in turns: each goes on where it stood, takes no token of the
@@ -43,8 +42,8 @@ DOC <responseDate>2024-01-01T00:02:06Z</responseDate><request verb="ListIdentifi
 }
 
 #[test]
-fn lists_in_turns(rt: HostRuntime) -> Result<(), Fail> {
-    assert_transcript(&rt, rt.alloc(), archive_a(), lists_in_turns_asked())
+fn lists_in_turns(rt: HostRuntime) {
+    assert_transcript(&rt, rt.alloc(), archive_a(), lists_in_turns_asked());
 }
 
 /// While a list is read, each of its records is deposited again or deleted; it is told as it was, and a
@@ -93,8 +92,8 @@ DOC <responseDate>2024-01-01T00:00:08Z</responseDate><request verb="ListRecords"
 }
 
 #[test]
-fn all_records_change(rt: HostRuntime) -> Result<(), Fail> {
-    assert_transcript(&rt, rt.alloc(), archive_a(), all_records_change_asked())
+fn all_records_change(rt: HostRuntime) {
+    assert_transcript(&rt, rt.alloc(), archive_a(), all_records_change_asked());
 }
 
 /// Two lists of which set, bounds and format differ; what comes later is in neither.
@@ -132,8 +131,8 @@ DOC <responseDate>2024-01-01T00:00:07Z</responseDate><request verb="ListIdentifi
 }
 
 #[test]
-fn lists_of_their_own(rt: HostRuntime) -> Result<(), Fail> {
-    assert_transcript(&rt, rt.alloc(), archive_a(), lists_of_their_own_asked())
+fn lists_of_their_own(rt: HostRuntime) {
+    assert_transcript(&rt, rt.alloc(), archive_a(), lists_of_their_own_asked());
 }
 
 /// Where two lists are open, a third one waits for the first that ends, of whatever verb. To wait moves
@@ -174,8 +173,8 @@ DOC <responseDate>2024-01-01T00:01:30Z</responseDate><request verb="ListRecords"
 }
 
 #[test]
-fn no_third_list(rt: HostRuntime) -> Result<(), Fail> {
-    assert_transcript(&rt, rt.alloc(), archive_a(), no_third_list_asked())
+fn no_third_list(rt: HostRuntime) {
+    assert_transcript(&rt, rt.alloc(), archive_a(), no_third_list_asked());
 }
 
 /// A repository of days that keeps nothing of deleted records: a list ends at a second, and has the
@@ -204,8 +203,8 @@ DOC <responseDate>2024-01-01T00:00:08Z</responseDate><request verb="ListIdentifi
 }
 
 #[test]
-fn list_of_days(rt: HostRuntime) -> Result<(), Fail> {
-    assert_transcript(&rt, rt.alloc(), archive_b(), list_of_days_asked())
+fn list_of_days(rt: HostRuntime) {
+    assert_transcript(&rt, rt.alloc(), archive_b(), list_of_days_asked());
 }
 
 /// A list ends by the clock, whatever has moved it.
@@ -229,6 +228,6 @@ DOC <responseDate>2024-01-01T00:01:59Z</responseDate><request verb="ListIdentifi
 }
 
 #[test]
-fn advance_ends_lists(rt: HostRuntime) -> Result<(), Fail> {
-    assert_transcript(&rt, rt.alloc(), archive_a(), advance_ends_lists_asked())
+fn advance_ends_lists(rt: HostRuntime) {
+    assert_transcript(&rt, rt.alloc(), archive_a(), advance_ends_lists_asked());
 }

@@ -11,8 +11,8 @@ use oai_names::Sequence;
 use oai_repo::{Refusal, Reply};
 use oai_settings::RepoConfig;
 use std::alloc::Global;
+use std::panic::Expect;
 use std::process::Abort;
-use std::test::Fail;
 use tests_archives::{LyingVersions, Stocked, archive_a, settings_of};
 
 /// More lies than are asked for.
@@ -20,40 +20,46 @@ const ALWAYS: u64 = 1_000;
 
 /// Archive A over a store that lies after so many answers, so often.
 fn archive(
+    rt: &impl Abort,
     alloc: Global,
     truths: u64,
     lies: u64,
-) -> Result<Stocked<LyingVersions<PlainVersions>>, Fail> {
-    let config = RepoConfig::new(alloc, settings_of(alloc, archive_a())?)?;
+) -> Stocked<LyingVersions<PlainVersions>> {
+    let config = RepoConfig::new(
+        alloc,
+        settings_of(alloc, archive_a()).expect(rt, "settings_of"),
+    )
+    .expect(rt, "RepoConfig::new");
     let store = LyingVersions::new(alloc, PlainVersions::new(alloc), truths, lies);
-    Ok(Stocked::new(alloc, config, store)?)
+    Stocked::new(alloc, config, store).expect(rt, "Stocked::new")
 }
 
-/// What a fault is called; it is an error of the test if it is another than damage.
-fn damage(fault: Fault) -> Result<&'static str, Fail> {
+/// What a fault is called; the test fails where it is another than damage.
+fn damage(rt: &impl Abort, fault: Fault) -> &'static str {
     match fault {
-        Fault::Damaged => Ok("damaged"),
-        fault => Err(Fail::from(fault)),
+        Fault::Damaged => "damaged",
+        fault => panic!(rt; "{fault:?}"),
     }
 }
 
 /// What an exchange comes to: `ok`, the line of a refusal, `page`, or `damaged`.
 fn outcome<V: Versions + Drop>(
+    rt: &impl Abort,
     alloc: Global,
     repo: &mut Stocked<V>,
     asked: Asked,
-) -> Result<&'static str, Fail> {
+) -> &'static str {
     let (moment, text) = asked;
-    match change_in(alloc, text)? {
+    match change_in(rt, alloc, text) {
         Some(change) => match repo.change(moment, &change) {
-            Ok(_) => Ok("ok"),
-            Err(Refusal::Refused(cause)) => Ok(cause.answer()),
-            Err(Refusal::Fault(fault)) => damage(fault),
+            Ok(_) => "ok",
+            Err(Refusal::Refused(cause)) => cause.answer(),
+            Err(Refusal::Fault(fault)) => damage(rt, fault),
         },
         None => match repo.ask(moment, text.as_bytes()) {
-            Ok(Reply::Page(_)) => Ok("page"),
-            Ok(Reply::Later(_)) => Ok("later"),
-            Err(fault) => damage(fault),
+            Ok(Reply::Page(_)) => "page",
+            Ok(Reply::Later(_)) => "later",
+            Err(fault) => damage(rt, fault),
         },
     }
 }
@@ -64,15 +70,14 @@ fn assert_outcomes<V: Versions + Drop>(
     alloc: Global,
     repo: &mut Stocked<V>,
     exchanges: &[(Asked, &str)],
-) -> Result<(), Fail> {
+) {
     for (asked, wanted) in exchanges {
         let (moment, text) = *asked;
         let before = repo.clock();
-        assert_same_at(rt, outcome(alloc, repo, *asked)?, *wanted, text);
+        assert_same_at(rt, outcome(rt, alloc, repo, *asked), *wanted, text);
         let clock = if *wanted == "damaged" { before } else { moment };
         assert_same_at(rt, repo.clock(), clock, text);
     }
-    Ok(())
 }
 
 /// An item that is known is damaged; of one that is not the store is not asked.
@@ -94,9 +99,9 @@ fn all_lies() -> [(Asked, &'static str); 12] {
 }
 
 #[test]
-fn nothing_is_found(rt: HostRuntime) -> Result<(), Fail> {
-    let mut repo = archive(rt.alloc(), 0, ALWAYS)?;
-    assert_outcomes(&rt, rt.alloc(), &mut repo, &all_lies())
+fn nothing_is_found(rt: HostRuntime) {
+    let mut repo = archive(&rt, rt.alloc(), 0, ALWAYS);
+    assert_outcomes(&rt, rt.alloc(), &mut repo, &all_lies());
 }
 
 /// A deposit, and what four lies make of another one and of requests.
@@ -116,14 +121,11 @@ fn no_lies() -> [(Asked, &'static str); 1] {
 }
 
 /// The record of the first item.
-fn record_of<V: Versions + Drop>(
-    rt: &impl Abort,
-    repo: &mut Stocked<V>,
-) -> Result<Sequence<u8>, Fail> {
-    let Reply::Page(page) = repo.ask(NEXT_DAY, record(1).as_bytes())? else {
+fn record_of<V: Versions + Drop>(rt: &impl Abort, repo: &mut Stocked<V>) -> Sequence<u8> {
+    let Reply::Page(page) = repo.ask(NEXT_DAY, record(1).as_bytes()).expect(rt, "ask") else {
         panic!(rt; "later")
     };
-    Ok(page)
+    page
 }
 
 /// The record of the first item after these exchanges, over a store of which so many answers are lies
@@ -133,19 +135,18 @@ fn record_after(
     alloc: Global,
     lies: u64,
     exchanges: &[(Asked, &str)],
-) -> Result<Sequence<u8>, Fail> {
-    let mut repo = archive(alloc, 0, lies)?;
-    assert_outcomes(rt, alloc, &mut repo, exchanges)?;
+) -> Sequence<u8> {
+    let mut repo = archive(rt, alloc, 0, lies);
+    assert_outcomes(rt, alloc, &mut repo, exchanges);
     record_of(rt, &mut repo)
 }
 
 /// Once the store lies no more, the item is there as it was.
 #[test]
-fn damage_changes_nothing(rt: HostRuntime) -> Result<(), Fail> {
-    let page = record_after(&rt, rt.alloc(), 4, &four_lies())?;
-    let wanted = record_after(&rt, rt.alloc(), 0, &no_lies())?;
+fn damage_changes_nothing(rt: HostRuntime) {
+    let page = record_after(&rt, rt.alloc(), 4, &four_lies());
+    let wanted = record_after(&rt, rt.alloc(), 0, &no_lies());
     assert_same(&rt, page.as_slice(), wanted.as_slice());
-    Ok(())
 }
 
 /// A list of which the store answers the first part, and then nothing.
@@ -161,9 +162,9 @@ fn missing_part() -> [(Asked, &'static str); 5] {
 
 /// A part that has fewer records than are left is none of the list.
 #[test]
-fn a_missing_part_is_damage(rt: HostRuntime) -> Result<(), Fail> {
-    let mut repo = archive(rt.alloc(), 2, ALWAYS)?;
-    assert_outcomes(&rt, rt.alloc(), &mut repo, &missing_part())
+fn a_missing_part_is_damage(rt: HostRuntime) {
+    let mut repo = archive(&rt, rt.alloc(), 2, ALWAYS);
+    assert_outcomes(&rt, rt.alloc(), &mut repo, &missing_part());
 }
 
 /// A new item, one in its place at the same datestamp and at another, lists, a deletion, and what it
@@ -182,27 +183,22 @@ fn all_kinds() -> [Asked; 8] {
 }
 
 /// Each exchange comes to something.
-fn assert_each_returns<V: Versions + Drop>(
-    alloc: Global,
-    repo: &mut Stocked<V>,
-) -> Result<(), Fail> {
+fn assert_each_returns<V: Versions + Drop>(rt: &impl Abort, alloc: Global, repo: &mut Stocked<V>) {
     for asked in all_kinds() {
-        outcome(alloc, repo, asked)?;
+        outcome(rt, alloc, repo, asked);
     }
-    Ok(())
 }
 
 /// The same over a store that lies after so many answers.
-fn assert_returns(alloc: Global, truths: u64) -> Result<(), Fail> {
-    let mut repo = archive(alloc, truths, ALWAYS)?;
-    assert_each_returns(alloc, &mut repo)
+fn assert_returns(rt: &impl Abort, alloc: Global, truths: u64) {
+    let mut repo = archive(rt, alloc, truths, ALWAYS);
+    assert_each_returns(rt, alloc, &mut repo);
 }
 
 /// Wherever the lies begin, each call returns, with an answer or with damage.
 #[test]
-fn each_call_returns(rt: HostRuntime) -> Result<(), Fail> {
+fn each_call_returns(rt: HostRuntime) {
     for truths in 0..16 {
-        assert_returns(rt.alloc(), truths)?;
+        assert_returns(&rt, rt.alloc(), truths);
     }
-    Ok(())
 }

@@ -10,17 +10,20 @@ use oai_repo::{Refusal, Reply};
 use oai_settings::RepoConfig;
 use std::alloc::Global;
 use std::io::Write;
+use std::panic::Expect;
 use std::process::Abort;
-use std::test::Fail;
 use tests_archives::{Shared, Stocked, Which, archive_a, archive_b, settings_of};
 
 /// The configuration of Archive A, which keeps what is deleted, or of Archive B, which does not.
-fn config_of(alloc: Global, which: Which) -> Result<RepoConfig, Fail> {
+fn config_of(rt: &impl Abort, alloc: Global, which: Which) -> RepoConfig {
     let told = match which {
         Which::First => archive_a(),
         Which::Second => archive_b(),
     };
-    Ok(RepoConfig::new(alloc, settings_of(alloc, told)?)?)
+    RepoConfig::new(alloc, settings_of(alloc, told).expect(rt, "settings_of")).expect(
+        rt,
+        "RepoConfig::new",
+    )
 }
 
 /// What is asked of the two, in turn: items under the same identifiers, at the same moments and at
@@ -52,123 +55,134 @@ fn exchanges() -> [(Which, Asked); 21] {
 }
 
 /// Writes what a change is answered.
-fn write_change(changed: Result<i64, Refusal>, output: &mut Vec<u8>) -> Result<(), Fail> {
+fn write_change(rt: &impl Abort, changed: Result<i64, Refusal>, output: &mut Vec<u8>) {
     match changed {
-        Ok(stamp) => Ok(writeln!(output, "ok {stamp}")?),
-        Err(Refusal::Refused(cause)) => Ok(writeln!(output, "{}", cause.answer())?),
-        Err(Refusal::Fault(fault)) => Err(Fail::from(fault)),
+        Ok(stamp) => writeln!(output, "ok {stamp}").expect(rt, "memory"),
+        Err(Refusal::Refused(cause)) => writeln!(output, "{}", cause.answer()).expect(rt, "memory"),
+        Err(Refusal::Fault(fault)) => panic!(rt; "{fault:?}"),
     }
 }
 
 /// Writes what a request is answered.
-fn write_page(asked: Result<Reply, Fault>, output: &mut Vec<u8>) -> Result<(), Fail> {
-    match asked? {
-        Reply::Page(page) => Ok(output.extend_from_slice(page.as_slice())?),
-        Reply::Later(seconds) => Ok(writeln!(output, "later {seconds}")?),
+fn write_page(rt: &impl Abort, asked: Result<Reply, Fault>, output: &mut Vec<u8>) {
+    match asked.expect(rt, "asked") {
+        Reply::Page(page) => output
+            .extend_from_slice(page.as_slice())
+            .expect(rt, "memory"),
+        Reply::Later(seconds) => writeln!(output, "later {seconds}").expect(rt, "memory"),
     }
 }
 
 /// Writes what a repository with a store of its own answers.
 fn write_alone<V: Versions + Drop>(
+    rt: &impl Abort,
     alloc: Global,
     repo: &mut Stocked<V>,
     asked: Asked,
     output: &mut Vec<u8>,
-) -> Result<(), Fail> {
+) {
     let (moment, text) = asked;
-    match change_in(alloc, text)? {
-        Some(change) => write_change(repo.change(moment, &change), output),
-        None => write_page(repo.ask(moment, text.as_bytes()), output),
+    match change_in(rt, alloc, text) {
+        Some(change) => write_change(rt, repo.change(moment, &change), output),
+        None => write_page(rt, repo.ask(moment, text.as_bytes()), output),
     }
 }
 
 /// Writes what one of two repositories in one store answers.
 fn write_beside<V: Versions + Drop>(
+    rt: &impl Abort,
     alloc: Global,
     shared: &mut Shared<V>,
     which: Which,
     asked: Asked,
     output: &mut Vec<u8>,
-) -> Result<(), Fail> {
+) {
     let (moment, text) = asked;
-    match change_in(alloc, text)? {
-        Some(change) => write_change(shared.change(which, moment, &change), output),
-        None => write_page(shared.ask(which, moment, text.as_bytes()), output),
+    match change_in(rt, alloc, text) {
+        Some(change) => write_change(rt, shared.change(which, moment, &change), output),
+        None => write_page(rt, shared.ask(which, moment, text.as_bytes()), output),
     }
 }
 
 /// What a repository with a store of its own answers to what that one of the two is asked.
 fn answers_alone<V: Versions + Drop>(
+    rt: &impl Abort,
     alloc: Global,
     repo: &mut Stocked<V>,
     which: Which,
-) -> Result<Vec<u8>, Fail> {
+) -> Vec<u8> {
     let mut output = Vec::new(alloc);
     for (of, asked) in exchanges() {
         if of == which {
-            write_alone(alloc, repo, asked, &mut output)?;
+            write_alone(rt, alloc, repo, asked, &mut output);
         }
     }
-    Ok(output)
+    output
 }
 
 /// What that repository answers where it is alone.
-fn alone(alloc: Global, which: Which) -> Result<Vec<u8>, Fail> {
-    let mut repo = Stocked::new(alloc, config_of(alloc, which)?, PlainVersions::new(alloc))?;
-    answers_alone(alloc, &mut repo, which)
+fn alone(rt: &impl Abort, alloc: Global, which: Which) -> Vec<u8> {
+    let mut repo = Stocked::new(
+        alloc,
+        config_of(rt, alloc, which),
+        PlainVersions::new(alloc),
+    )
+    .expect(rt, "Stocked::new");
+    answers_alone(rt, alloc, &mut repo, which)
 }
 
 /// The two repositories in one store.
-fn neighbours(alloc: Global) -> Result<Shared<PlainVersions>, Fail> {
-    let first = config_of(alloc, Which::First)?;
-    let second = config_of(alloc, Which::Second)?;
-    Ok(Shared::new(alloc, first, second, PlainVersions::new(alloc))?)
+fn neighbours(rt: &impl Abort, alloc: Global) -> Shared<PlainVersions> {
+    let first = config_of(rt, alloc, Which::First);
+    let second = config_of(rt, alloc, Which::Second);
+    Shared::new(alloc, first, second, PlainVersions::new(alloc)).expect(rt, "Shared::new")
 }
 
 /// Asks one of the two, and writes what it answers if it is that one.
 fn write_of<V: Versions + Drop>(
+    rt: &impl Abort,
     alloc: Global,
     shared: &mut Shared<V>,
     of: Which,
     which: Which,
     asked: Asked,
     output: &mut Vec<u8>,
-) -> Result<(), Fail> {
+) {
     if of == which {
-        return write_beside(alloc, shared, of, asked, output);
+        return write_beside(rt, alloc, shared, of, asked, output);
     }
     let mut unseen = Vec::new(alloc);
-    write_beside(alloc, shared, of, asked, &mut unseen)
+    write_beside(rt, alloc, shared, of, asked, &mut unseen);
 }
 
 /// What that one of the two answers where they are asked in turn.
 fn answers_beside<V: Versions + Drop>(
+    rt: &impl Abort,
     alloc: Global,
     shared: &mut Shared<V>,
     which: Which,
-) -> Result<Vec<u8>, Fail> {
+) -> Vec<u8> {
     let mut output = Vec::new(alloc);
     for (of, asked) in exchanges() {
-        write_of(alloc, shared, of, which, asked, &mut output)?;
+        write_of(rt, alloc, shared, of, which, asked, &mut output);
     }
-    Ok(output)
+    output
 }
 
 /// What that repository answers beside the other one.
-fn beside(alloc: Global, which: Which) -> Result<Vec<u8>, Fail> {
-    let mut shared = neighbours(alloc)?;
-    answers_beside(alloc, &mut shared, which)
+fn beside(rt: &impl Abort, alloc: Global, which: Which) -> Vec<u8> {
+    let mut shared = neighbours(rt, alloc);
+    answers_beside(rt, alloc, &mut shared, which)
 }
 
 /// That repository answers beside the other one as it does alone.
-fn assert_alone(rt: &impl Abort, alloc: Global, which: Which) -> Result<(), Fail> {
-    let wanted = alone(alloc, which)?;
-    assert_same(rt, beside(alloc, which)?.as_slice(), wanted.as_slice());
-    Ok(())
+fn assert_alone(rt: &impl Abort, alloc: Global, which: Which) {
+    let wanted = alone(rt, alloc, which);
+    assert_same(rt, beside(rt, alloc, which).as_slice(), wanted.as_slice());
 }
 
 #[test]
-fn neighbours_are_not_seen(rt: HostRuntime) -> Result<(), Fail> {
-    assert_alone(&rt, rt.alloc(), Which::First)?;
-    assert_alone(&rt, rt.alloc(), Which::Second)
+fn neighbours_are_not_seen(rt: HostRuntime) {
+    assert_alone(&rt, rt.alloc(), Which::First);
+    assert_alone(&rt, rt.alloc(), Which::Second);
 }

@@ -2,7 +2,6 @@
 use crate::transcripts::{assert_transcript, assert_transcript_over};
 use oai_answers::DeletedRecord;
 use oai_catalogue::{FaultyVersions, PlainVersions};
-use std::test::Fail;
 use tests_archives::{Told, archive_a, archive_b, archive_c};
 
 /// Of two items, the most that there may be, one is deleted, and forgotten a second later: below the
@@ -35,21 +34,20 @@ DOC <responseDate>2024-01-01T00:00:12Z</responseDate><request verb="ListIdentifi
 }
 
 #[test]
-fn forgotten(rt: HostRuntime) -> Result<(), Fail> {
-    assert_transcript(&rt, rt.alloc(), archive_c(), forgotten_asked())
+fn forgotten(rt: HostRuntime) {
+    assert_transcript(&rt, rt.alloc(), archive_c(), forgotten_asked());
 }
 
 /// The store fails at each of the calls in turn that these lines make after the repository's first: a
 /// new item makes one, a deletion four, a purge that removes one item three, one that removes none one,
 /// a request for a record that is there one, and one for a list two.
 #[test]
-fn each_call_fails(rt: HostRuntime) -> Result<(), Fail> {
+fn each_call_fails(rt: HostRuntime) {
     let alloc = rt.alloc();
     for k in 2..=15 {
         let store = FaultyVersions::new(PlainVersions::new(alloc), k);
-        assert_transcript_over(&rt, alloc, archive_c(), store, forgotten_asked())?;
+        assert_transcript_over(&rt, alloc, archive_c(), store, forgotten_asked());
     }
-    Ok(())
 }
 
 /// Two of three deleted items are forgotten while a list is read, which tells them as they were. What is
@@ -95,13 +93,13 @@ DOC <responseDate>2024-01-01T00:00:08Z</responseDate><request verb="ListIdentifi
 }
 
 #[test]
-fn forgotten_in_a_list(rt: HostRuntime) -> Result<(), Fail> {
+fn forgotten_in_a_list(rt: HostRuntime) {
     let told = Told {
         items: Some(1_000),
         prefixes: Some("jnl"),
         ..archive_c()
     };
-    assert_transcript(&rt, rt.alloc(), told, forgotten_in_a_list_asked())
+    assert_transcript(&rt, rt.alloc(), told, forgotten_in_a_list_asked());
 }
 
 /// In a repository of days a bound of seconds is too fine, and a day as a bound spares that day.
@@ -123,12 +121,12 @@ refused 13 no-such-item"#
 }
 
 #[test]
-fn forgotten_by_days(rt: HostRuntime) -> Result<(), Fail> {
+fn forgotten_by_days(rt: HostRuntime) {
     let told = Told {
         deleted: DeletedRecord::Transient,
         ..archive_b()
     };
-    assert_transcript(&rt, rt.alloc(), told, forgotten_by_days_asked())
+    assert_transcript(&rt, rt.alloc(), told, forgotten_by_days_asked());
 }
 
 /// What is kept for ever, or not at all, is not forgotten later, whatever the bound.
@@ -140,7 +138,7 @@ refused 15 not-transient"#
 }
 
 #[test]
-fn not_forgotten(rt: HostRuntime) -> Result<(), Fail> {
-    assert_transcript(&rt, rt.alloc(), archive_a(), not_forgotten_asked())?;
-    assert_transcript(&rt, rt.alloc(), archive_b(), not_forgotten_asked())
+fn not_forgotten(rt: HostRuntime) {
+    assert_transcript(&rt, rt.alloc(), archive_a(), not_forgotten_asked());
+    assert_transcript(&rt, rt.alloc(), archive_b(), not_forgotten_asked());
 }

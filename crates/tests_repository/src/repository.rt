@@ -6,9 +6,9 @@ use oai_deposit::{LineFault, read_line};
 use oai_item::{ChangeRefusal, Fault};
 use oai_repo::{Refusal, Reply};
 use oai_settings::RepoConfig;
-use std::alloc::{AllocError, Global};
+use std::alloc::Global;
+use std::panic::Expect;
 use std::process::Abort;
-use std::test::Fail;
 use tests_archives::{Stocked, Told, archive_b, settings_of};
 
 /// A repository over a store of plain lists.
@@ -17,33 +17,30 @@ type Archive = Stocked<PlainVersions>;
 const MIDNIGHT: i64 = 1_704_067_200;
 
 /// A repository of at most two items, which keeps that of deleted ones.
-fn repository(alloc: Global, deleted: DeletedRecord) -> Result<Archive, Fail> {
+fn repository(rt: &impl Abort, alloc: Global, deleted: DeletedRecord) -> Archive {
     let told = Told {
         deleted,
         items: Some(2),
         ..archive_b()
     };
-    let config = RepoConfig::new(alloc, settings_of(alloc, told)?)?;
-    Ok(Stocked::new(alloc, config, PlainVersions::new(alloc))?)
+    let config = RepoConfig::new(alloc, settings_of(alloc, told).expect(rt, "settings_of")).expect(
+        rt,
+        "RepoConfig::new",
+    );
+    Stocked::new(alloc, config, PlainVersions::new(alloc)).expect(rt, "Stocked::new")
 }
 
 /// Archive B.
-fn repository_b(alloc: Global) -> Result<Archive, Fail> {
-    repository(alloc, DeletedRecord::No)
+fn repository_b(rt: &impl Abort, alloc: Global) -> Archive {
+    repository(rt, alloc, DeletedRecord::No)
 }
 
 /// The repository answers the query with these bytes, at the first midnight of 2024.
-fn assert_page(
-    rt: &impl Abort,
-    repo: &mut Archive,
-    query: &[u8],
-    wanted: &str,
-) -> Result<(), Fail> {
-    let Reply::Page(page) = repo.ask(MIDNIGHT, query)? else {
+fn assert_page(rt: &impl Abort, repo: &mut Archive, query: &[u8], wanted: &str) {
+    let Reply::Page(page) = repo.ask(MIDNIGHT, query).expect(rt, "ask") else {
         panic!(rt; "later")
     };
     assert_same(rt, page.as_slice(), wanted.as_bytes());
-    Ok(())
 }
 
 fn identify_of_b() -> &'static str {
@@ -55,17 +52,17 @@ fn bad_argument_at_b() -> &'static str {
 }
 
 #[test]
-fn identify(rt: HostRuntime) -> Result<(), Fail> {
-    let mut repo = repository_b(rt.alloc())?;
-    assert_page(&rt, &mut repo, b"verb=Identify", identify_of_b())
+fn identify(rt: HostRuntime) {
+    let mut repo = repository_b(&rt, rt.alloc());
+    assert_page(&rt, &mut repo, b"verb=Identify", identify_of_b());
 }
 
 /// A bound of seconds is finer than the days of the repository.
 #[test]
-fn too_fine_a_bound(rt: HostRuntime) -> Result<(), Fail> {
-    let mut repo = repository_b(rt.alloc())?;
+fn too_fine_a_bound(rt: HostRuntime) {
+    let mut repo = repository_b(&rt, rt.alloc());
     let query = b"verb=ListIdentifiers&metadataPrefix=oai_dc&from=2024-01-01T00:00:00Z";
-    assert_page(&rt, &mut repo, query, bad_argument_at_b())
+    assert_page(&rt, &mut repo, query, bad_argument_at_b());
 }
 
 /// The clock begins at midnight, and goes no further than the last second of the year 9998.
@@ -78,26 +75,26 @@ fn assert_clock(rt: &impl Abort, repo: &mut Archive) {
 }
 
 #[test]
-fn clock(rt: HostRuntime) -> Result<(), Fail> {
-    let mut repo = repository_b(rt.alloc())?;
+fn clock(rt: HostRuntime) {
+    let mut repo = repository_b(&rt, rt.alloc());
     assert_clock(&rt, &mut repo);
-    Ok(())
 }
 
 /// What a deposit line is answered at the moment: a datestamp, or the line that refuses it.
 fn deposited(
+    rt: &impl Abort,
     alloc: Global,
     repo: &mut Archive,
     moment: i64,
     line: &str,
-) -> Result<Result<i64, &'static str>, Fail> {
+) -> Result<i64, &'static str> {
     match read_line(alloc, line.as_bytes()) {
-        Err(LineFault::NoMemory) => Err(Fail::from(AllocError)),
-        Err(LineFault::Refused(cause)) => Ok(Err(cause.answer())),
+        Err(LineFault::NoMemory) => panic!(rt; "out of memory"),
+        Err(LineFault::Refused(cause)) => Err(cause.answer()),
         Ok(change) => match repo.change(moment, &change) {
-            Ok(stamp) => Ok(Ok(stamp)),
-            Err(Refusal::Refused(cause)) => Ok(Err(cause.answer())),
-            Err(Refusal::Fault(fault)) => Err(Fail::from(fault)),
+            Ok(stamp) => Ok(stamp),
+            Err(Refusal::Refused(cause)) => Err(cause.answer()),
+            Err(Refusal::Fault(fault)) => panic!(rt; "{fault:?}"),
         },
     }
 }
@@ -114,21 +111,15 @@ fn deposit_of(number: u8) -> &'static str {
 type Answered<'a> = (i64, &'a str, Result<i64, &'a str>);
 
 /// The lines are answered so, one after the other.
-fn assert_deposits(
-    rt: &impl Abort,
-    alloc: Global,
-    repo: &mut Archive,
-    lines: &[Answered<'_>],
-) -> Result<(), Fail> {
+fn assert_deposits(rt: &impl Abort, alloc: Global, repo: &mut Archive, lines: &[Answered<'_>]) {
     for (moment, line, wanted) in lines {
-        let answer = deposited(alloc, repo, *moment, line)?;
+        let answer = deposited(rt, alloc, repo, *moment, line);
         assert_same_at(rt, answer, *wanted, line);
     }
-    Ok(())
 }
 
 /// A third item is refused, and one of the two is deposited again.
-fn assert_third_item(rt: &impl Abort, alloc: Global, repo: &mut Archive) -> Result<(), Fail> {
+fn assert_third_item(rt: &impl Abort, alloc: Global, repo: &mut Archive) {
     let next = 1_704_153_600;
     let lines = [
         (MIDNIGHT + 5, deposit_of(2), Ok(MIDNIGHT)),
@@ -136,15 +127,14 @@ fn assert_third_item(rt: &impl Abort, alloc: Global, repo: &mut Archive) -> Resu
         (next, deposit_of(3), Err("refused 12 too-many-items")),
         (next, deposit_of(2), Ok(next)),
     ];
-    assert_deposits(rt, alloc, repo, &lines)?;
+    assert_deposits(rt, alloc, repo, &lines);
     assert_same(rt, repo.clock(), next);
-    Ok(())
 }
 
 #[test]
-fn third_item_of_two(rt: HostRuntime) -> Result<(), Fail> {
-    let mut repo = repository_b(rt.alloc())?;
-    assert_third_item(&rt, rt.alloc(), &mut repo)
+fn third_item_of_two(rt: HostRuntime) {
+    let mut repo = repository_b(&rt, rt.alloc());
+    assert_third_item(&rt, rt.alloc(), &mut repo);
 }
 
 fn deletion() -> &'static str {
@@ -156,38 +146,33 @@ fn no_such_item_at_b() -> &'static str {
 }
 
 /// An item is deposited and deleted; a second deletion is answered so.
-fn assert_deletion(
-    rt: &impl Abort,
-    alloc: Global,
-    repo: &mut Archive,
-    again: &str,
-) -> Result<(), Fail> {
+fn assert_deletion(rt: &impl Abort, alloc: Global, repo: &mut Archive, again: &str) {
     let lines = [
         (MIDNIGHT, deposit_of(1), Ok(MIDNIGHT)),
         (MIDNIGHT, deletion(), Ok(MIDNIGHT)),
         (MIDNIGHT, deletion(), Err(again)),
     ];
-    assert_deposits(rt, alloc, repo, &lines)
+    assert_deposits(rt, alloc, repo, &lines);
 }
 
 /// Where nothing is kept of deleted records, the item goes.
 #[test]
-fn deletion_without_trace(rt: HostRuntime) -> Result<(), Fail> {
-    let mut repo = repository_b(rt.alloc())?;
-    assert_deletion(&rt, rt.alloc(), &mut repo, "refused 13 no-such-item")?;
+fn deletion_without_trace(rt: HostRuntime) {
+    let mut repo = repository_b(&rt, rt.alloc());
+    assert_deletion(&rt, rt.alloc(), &mut repo, "refused 13 no-such-item");
     let query = b"verb=GetRecord&identifier=oai:b:1&metadataPrefix=oai_dc";
-    assert_page(&rt, &mut repo, query, no_such_item_at_b())
+    assert_page(&rt, &mut repo, query, no_such_item_at_b());
 }
 
 /// A repository that may forget deleted records keeps them all the same, until they are purged.
 #[test]
-fn deletion_with_a_trace(rt: HostRuntime) -> Result<(), Fail> {
-    let mut repo = repository(rt.alloc(), DeletedRecord::Transient)?;
-    assert_deletion(&rt, rt.alloc(), &mut repo, "refused 14 already-deleted")
+fn deletion_with_a_trace(rt: HostRuntime) {
+    let mut repo = repository(&rt, rt.alloc(), DeletedRecord::Transient);
+    assert_deletion(&rt, rt.alloc(), &mut repo, "refused 14 already-deleted");
 }
 
 #[test]
-fn refusals_are_told(rt: HostRuntime) -> Result<(), Fail> {
+fn refusals_are_told(rt: HostRuntime) {
     for (refusal, text) in [
         (
             Refusal::Refused(ChangeRefusal::AlreadyDeleted),
@@ -195,7 +180,6 @@ fn refusals_are_told(rt: HostRuntime) -> Result<(), Fail> {
         ),
         (Refusal::Fault(Fault::Device), "the device failed"),
     ] {
-        assert_shown(&rt, rt.alloc(), refusal, text)?;
+        assert_shown(&rt, rt.alloc(), refusal, text);
     }
-    Ok(())
 }

@@ -2,7 +2,8 @@
 use oai_deposit::read_line;
 use oai_item::Change;
 use std::alloc::Global;
-use std::test::Fail;
+use std::panic::Expect;
+use std::process::Abort;
 
 /// A moment, and a deposit line or the query of a request.
 pub(crate) type Asked = (i64, &'static str);
@@ -61,10 +62,10 @@ pub(crate) fn next_records() -> &'static str {
 }
 
 /// The change that the text asks for, where it is a deposit line.
-pub(crate) fn change_in(alloc: Global, text: &str) -> Result<Option<Change>, Fail> {
+pub(crate) fn change_in(rt: &impl Abort, alloc: Global, text: &str) -> Option<Change> {
     if text.starts_with('{') {
-        Ok(Some(read_line(alloc, text.as_bytes())?))
+        Some(read_line(alloc, text.as_bytes()).expect(rt, "read_line"))
     } else {
-        Ok(None)
+        None
     }
 }

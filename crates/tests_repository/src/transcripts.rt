@@ -9,23 +9,27 @@ use oai_repo::{Refusal, Reply};
 use oai_settings::RepoConfig;
 use std::alloc::Global;
 use std::io::Write;
+use std::panic::Expect;
 use std::process::Abort;
-use std::test::Fail;
 use tests_archives::{Stocked, Told, settings_of};
 use tests_worked::wanted_in;
 
 /// The repository of which that is told, over the store, with room for two open lists.
 fn repository<V: Versions + Drop>(
+    rt: &impl Abort,
     alloc: Global,
     told: Told<'_>,
     store: V,
-) -> Result<Stocked<V>, Fail> {
+) -> Stocked<V> {
     let told = Told {
         lists: Some(2),
         ..told
     };
-    let config = RepoConfig::new(alloc, settings_of(alloc, told)?)?;
-    Ok(Stocked::new(alloc, config, store)?)
+    let config = RepoConfig::new(alloc, settings_of(alloc, told).expect(rt, "settings_of")).expect(
+        rt,
+        "RepoConfig::new",
+    );
+    Stocked::new(alloc, config, store).expect(rt, "Stocked::new")
 }
 
 /// Makes the change, and makes it again where the store fails.
@@ -53,40 +57,42 @@ fn asked<V: Versions + Drop>(
 }
 
 /// Writes what a change is answered.
-fn write_change(changed: Result<i64, Refusal>, output: &mut Vec<u8>) -> Result<(), Fail> {
+fn write_change(rt: &impl Abort, changed: Result<i64, Refusal>, output: &mut Vec<u8>) {
     match changed {
-        Ok(stamp) => Ok(writeln!(output, "ok {stamp}")?),
-        Err(Refusal::Refused(cause)) => Ok(writeln!(output, "{}", cause.answer())?),
-        Err(Refusal::Fault(fault)) => Err(Fail::from(fault)),
+        Ok(stamp) => writeln!(output, "ok {stamp}").expect(rt, "memory"),
+        Err(Refusal::Refused(cause)) => writeln!(output, "{}", cause.answer()).expect(rt, "memory"),
+        Err(Refusal::Fault(fault)) => panic!(rt; "{fault:?}"),
     }
 }
 
 /// Writes what a request is answered.
-fn write_reply(asked: Result<Reply, Fault>, output: &mut Vec<u8>) -> Result<(), Fail> {
-    match asked? {
-        Reply::Page(page) => Ok(output.extend_from_slice(page.as_slice())?),
-        Reply::Later(seconds) => Ok(writeln!(output, "later {seconds}")?),
+fn write_reply(rt: &impl Abort, asked: Result<Reply, Fault>, output: &mut Vec<u8>) {
+    match asked.expect(rt, "asked") {
+        Reply::Page(page) => output
+            .extend_from_slice(page.as_slice())
+            .expect(rt, "memory"),
+        Reply::Later(seconds) => writeln!(output, "later {seconds}").expect(rt, "memory"),
     }
 }
 
 /// Performs a deposit line or a query at the moment, and writes what it is answered; or moves the clock
 /// there, and writes nothing.
 fn write_answer<V: Versions + Drop>(
+    rt: &impl Abort,
     alloc: Global,
     repo: &mut Stocked<V>,
     moment: i64,
     text: &str,
     output: &mut Vec<u8>,
-) -> Result<(), Fail> {
+) {
     if text == "advance" {
         repo.advance(moment);
-        return Ok(());
+    } else if text.starts_with('{') {
+        let change = read_line(alloc, text.as_bytes()).expect(rt, "read_line");
+        write_change(rt, changed(repo, moment, &change), output);
+    } else {
+        write_reply(rt, asked(repo, moment, text.as_bytes()), output);
     }
-    if text.starts_with('{') {
-        let change = read_line(alloc, text.as_bytes())?;
-        return write_change(changed(repo, moment, &change), output);
-    }
-    write_reply(asked(repo, moment, text.as_bytes()), output)
 }
 
 /// Performs a line: a moment, a space, and what is asked at it.
@@ -96,21 +102,23 @@ fn write_line<V: Versions + Drop>(
     repo: &mut Stocked<V>,
     line: &str,
     output: &mut Vec<u8>,
-) -> Result<(), Fail> {
+) {
     match line.split_once(' ') {
-        Some((moment, text)) => write_answer(alloc, repo, moment.parse::<i64>()?, text, output),
+        Some((moment, text)) => write_answer(
+            rt,
+            alloc,
+            repo,
+            moment.parse::<i64>().expect(rt, "parse"),
+            text,
+            output,
+        ),
         None => panic!(rt; "no moment: {line}"),
     }
 }
 
 /// A new repository of which that is told answers the transcript's lines as it says.
-pub(crate) fn assert_transcript(
-    rt: &impl Abort,
-    alloc: Global,
-    told: Told<'_>,
-    transcript: &str,
-) -> Result<(), Fail> {
-    assert_transcript_over(rt, alloc, told, PlainVersions::new(alloc), transcript)
+pub(crate) fn assert_transcript(rt: &impl Abort, alloc: Global, told: Told<'_>, transcript: &str) {
+    assert_transcript_over(rt, alloc, told, PlainVersions::new(alloc), transcript);
 }
 
 /// A new repository of which that is told, over the store, answers the transcript's lines as it says.
@@ -120,9 +128,9 @@ pub(crate) fn assert_transcript_over<V: Versions + Drop>(
     told: Told<'_>,
     store: V,
     transcript: &str,
-) -> Result<(), Fail> {
-    let mut repo = repository(alloc, told, store)?;
-    assert_answers(rt, alloc, &mut repo, transcript)
+) {
+    let mut repo = repository(rt, alloc, told, store);
+    assert_answers(rt, alloc, &mut repo, transcript);
 }
 
 /// The repository answers the transcript's lines as it says.
@@ -131,12 +139,11 @@ fn assert_answers<V: Versions + Drop>(
     alloc: Global,
     repo: &mut Stocked<V>,
     transcript: &str,
-) -> Result<(), Fail> {
+) {
     let mut output = Vec::new(alloc);
-    write_answers(rt, alloc, repo, transcript, &mut output)?;
-    let wanted = wanted_in(alloc, transcript)?;
+    write_answers(rt, alloc, repo, transcript, &mut output);
+    let wanted = wanted_in(alloc, transcript).expect(rt, "wanted_in");
     assert_same_at(rt, output.as_slice(), wanted.as_bytes(), transcript);
-    Ok(())
 }
 
 /// Performs the transcript's lines that begin with `> `, and writes what they are answered.
@@ -146,11 +153,10 @@ fn write_answers<V: Versions + Drop>(
     repo: &mut Stocked<V>,
     transcript: &str,
     output: &mut Vec<u8>,
-) -> Result<(), Fail> {
+) {
     for line in transcript.lines() {
         if let Some(asked) = line.strip_prefix("> ") {
-            write_line(rt, alloc, repo, asked, output)?;
+            write_line(rt, alloc, repo, asked, output);
         }
     }
-    Ok(())
 }

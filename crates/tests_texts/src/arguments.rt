@@ -4,29 +4,29 @@ use crate::assertions::{assert_same, assert_same_at, assert_shown};
 use oai_args::{ArgFault, Ask, read_request};
 use oai_names::{ListVerb, Text};
 use oai_time::Granularity;
-use std::alloc::{AllocError, Global};
+use std::alloc::Global;
+use std::panic::Expect;
 use std::process::Abort;
-use std::test::Fail;
 
 /// Adds a part of a request.
-fn push_part(words: &mut String, part: Option<&str>) -> Result<(), AllocError> {
+fn push_part(rt: &impl Abort, words: &mut String, part: Option<&str>) {
     match part {
         Some(text) => {
-            words.push_str(" [")?;
-            words.push_str(text)?;
-            words.push(']')
+            words.push_str(" [").expect(rt, "memory");
+            words.push_str(text).expect(rt, "memory");
+            words.push(']').expect(rt, "memory");
         }
-        None => words.push_str(" -"),
+        None => words.push_str(" -").expect(rt, "memory"),
     }
 }
 
 /// What is asked for, and its parts.
-fn in_words(alloc: Global, asked: &str, parts: &[Option<&str>]) -> Result<String, AllocError> {
-    let mut words = String::from_str(alloc, asked)?;
+fn in_words(rt: &impl Abort, alloc: Global, asked: &str, parts: &[Option<&str>]) -> String {
+    let mut words = String::from_str(alloc, asked).expect(rt, "memory");
     for part in parts {
-        push_part(&mut words, *part)?;
+        push_part(rt, &mut words, *part);
     }
-    Ok(words)
+    words
 }
 
 fn given(text: &Option<Text>) -> Option<&str> {
@@ -45,14 +45,19 @@ fn name_of(verb: ListVerb) -> &'static str {
 }
 
 /// The request in words, its parts in the order in which `Ask` has them.
-fn request_in_words(alloc: Global, ask: &Ask) -> Result<String, AllocError> {
+fn request_in_words(rt: &impl Abort, alloc: Global, ask: &Ask) -> String {
     match ask {
-        Ask::Identify => in_words(alloc, "Identify", &[]),
-        Ask::Formats { identifier } => in_words(alloc, "ListMetadataFormats", &[given(identifier)]),
-        Ask::Sets => in_words(alloc, "ListSets", &[]),
+        Ask::Identify => in_words(rt, alloc, "Identify", &[]),
+        Ask::Formats { identifier } => in_words(
+            rt,
+            alloc,
+            "ListMetadataFormats",
+            &[given(identifier)],
+        ),
+        Ask::Sets => in_words(rt, alloc, "ListSets", &[]),
         Ask::Get { identifier, prefix } => {
             let parts = [Some(identifier.as_str()), Some(prefix.as_str())];
-            in_words(alloc, "GetRecord", &parts)
+            in_words(rt, alloc, "GetRecord", &parts)
         }
         Ask::List {
             verb,
@@ -62,22 +67,22 @@ fn request_in_words(alloc: Global, ask: &Ask) -> Result<String, AllocError> {
             set,
         } => {
             let parts = [Some(prefix.as_str()), given(from), given(until), given(set)];
-            in_words(alloc, name_of(*verb), &parts)
+            in_words(rt, alloc, name_of(*verb), &parts)
         }
         Ask::Resume { verb, token } => {
             let parts = [Some(name_of(*verb)), Some(token.as_str())];
-            in_words(alloc, "resumed", &parts)
+            in_words(rt, alloc, "resumed", &parts)
         }
     }
 }
 
 /// What the query is answered, in words; want of memory fails the test.
-fn answer_to(alloc: Global, query: &str, granularity: Granularity) -> Result<String, AllocError> {
+fn answer_to(rt: &impl Abort, alloc: Global, query: &str, granularity: Granularity) -> String {
     match read_request(alloc, query.as_bytes(), granularity) {
-        Ok(ask) => request_in_words(alloc, &ask),
-        Err(ArgFault::BadVerb) => String::from_str(alloc, "badVerb"),
-        Err(ArgFault::BadArgument) => String::from_str(alloc, "badArgument"),
-        Err(ArgFault::NoMemory) => Err(AllocError),
+        Ok(ask) => request_in_words(rt, alloc, &ask),
+        Err(ArgFault::BadVerb) => String::from_str(alloc, "badVerb").expect(rt, "memory"),
+        Err(ArgFault::BadArgument) => String::from_str(alloc, "badArgument").expect(rt, "memory"),
+        Err(ArgFault::NoMemory) => panic!(rt; "out of memory"),
     }
 }
 
@@ -88,29 +93,26 @@ fn assert_answer(
     query: &str,
     granularity: Granularity,
     wanted: &str,
-) -> Result<(), Fail> {
-    let answer = answer_to(alloc, query, granularity)?;
+) {
+    let answer = answer_to(rt, alloc, query, granularity);
     assert_same_at(rt, answer.as_str(), wanted, query);
-    Ok(())
 }
 
 /// Each row of the table holds in a repository of seconds.
-fn assert_table(rt: &impl Abort, alloc: Global, rows: &str) -> Result<(), Fail> {
+fn assert_table(rt: &impl Abort, alloc: Global, rows: &str) {
     for row in rows.lines() {
         match row.split_once(" => ") {
-            Some((query, wanted)) => assert_answer(rt, alloc, query, Granularity::Second, wanted)?,
+            Some((query, wanted)) => assert_answer(rt, alloc, query, Granularity::Second, wanted),
             None => panic!(rt; "no answer in {row}"),
         }
     }
-    Ok(())
 }
 
 /// Each of the queries, one a line, is answered so in a repository of seconds.
-fn assert_each(rt: &impl Abort, alloc: Global, queries: &str, wanted: &str) -> Result<(), Fail> {
+fn assert_each(rt: &impl Abort, alloc: Global, queries: &str, wanted: &str) {
     for query in queries.lines() {
-        assert_answer(rt, alloc, query, Granularity::Second, wanted)?;
+        assert_answer(rt, alloc, query, Granularity::Second, wanted);
     }
-    Ok(())
 }
 
 fn requests_without_arguments() -> &'static str {
@@ -121,8 +123,8 @@ verb=ListMetadataFormats => ListMetadataFormats -"
 }
 
 #[test]
-fn reads_requests_without_arguments(rt: HostRuntime) -> Result<(), Fail> {
-    assert_table(&rt, rt.alloc(), requests_without_arguments())
+fn reads_requests_without_arguments(rt: HostRuntime) {
+    assert_table(&rt, rt.alloc(), requests_without_arguments());
 }
 
 fn requests_of_items() -> &'static str {
@@ -131,8 +133,8 @@ verb=ListMetadataFormats&identifier= => ListMetadataFormats []"
 }
 
 #[test]
-fn reads_items(rt: HostRuntime) -> Result<(), Fail> {
-    assert_table(&rt, rt.alloc(), requests_of_items())
+fn reads_items(rt: HostRuntime) {
+    assert_table(&rt, rt.alloc(), requests_of_items());
 }
 
 /// A byte that is no UTF-8 becomes U+FFFD, and a `%` without two digits stays.
@@ -141,8 +143,8 @@ fn request_that_is_not_utf8() -> &'static str {
 }
 
 #[test]
-fn decodes_what_is_not_utf8(rt: HostRuntime) -> Result<(), Fail> {
-    assert_table(&rt, rt.alloc(), request_that_is_not_utf8())
+fn decodes_what_is_not_utf8(rt: HostRuntime) {
+    assert_table(&rt, rt.alloc(), request_that_is_not_utf8());
 }
 
 fn requests_with_tokens() -> &'static str {
@@ -152,14 +154,14 @@ verb=ListSets&resumptionToken= => resumed [ListSets] []"
 }
 
 #[test]
-fn reads_tokens(rt: HostRuntime) -> Result<(), Fail> {
-    assert_table(&rt, rt.alloc(), requests_with_tokens())
+fn reads_tokens(rt: HostRuntime) {
+    assert_table(&rt, rt.alloc(), requests_with_tokens());
 }
 
 #[test]
-fn reads_lists(rt: HostRuntime) -> Result<(), Fail> {
+fn reads_lists(rt: HostRuntime) {
     let row = "verb=ListRecords&metadataPrefix=p&set=a:b => ListRecords [p] - - [a:b]";
-    assert_table(&rt, rt.alloc(), row)
+    assert_table(&rt, rt.alloc(), row);
 }
 
 fn request_of_one_day() -> &'static str {
@@ -167,53 +169,53 @@ fn request_of_one_day() -> &'static str {
 }
 
 #[test]
-fn bounds_of_one_day_make_a_list(rt: HostRuntime) -> Result<(), Fail> {
+fn bounds_of_one_day_make_a_list(rt: HostRuntime) {
     let query = request_of_one_day();
     let wanted = "ListRecords [oai_dc] [2024-01-01] [2024-01-01] -";
-    assert_answer(&rt, rt.alloc(), query, Granularity::Second, wanted)?;
-    assert_answer(&rt, rt.alloc(), query, Granularity::Day, wanted)
+    assert_answer(&rt, rt.alloc(), query, Granularity::Second, wanted);
+    assert_answer(&rt, rt.alloc(), query, Granularity::Day, wanted);
 }
 
 /// The front, letters up to so many bytes in all, and the back.
-fn padded(alloc: Global, front: &str, len: usize, back: &str) -> Result<String, AllocError> {
-    let mut text = String::from_str(alloc, front)?;
+fn padded(rt: &impl Abort, alloc: Global, front: &str, len: usize, back: &str) -> String {
+    let mut text = String::from_str(alloc, front).expect(rt, "memory");
     for _ in front.len()..len {
-        text.push('a')?;
+        text.push('a').expect(rt, "memory");
     }
-    text.push_str(back)?;
-    Ok(text)
+    text.push_str(back).expect(rt, "memory");
+    text
 }
 
 /// The token is what is left of 8,001 bytes.
 #[test]
-fn long_queries_are_read(rt: HostRuntime) -> Result<(), Fail> {
+fn long_queries_are_read(rt: HostRuntime) {
     let alloc = rt.alloc();
-    let query = padded(alloc, "verb=ListSets&resumptionToken=", 8_001, "")?;
+    let query = padded(&rt, alloc, "verb=ListSets&resumptionToken=", 8_001, "");
     assert_same(&rt, query.len(), 8_001);
-    let wanted = padded(alloc, "resumed [ListSets] [", 7_991, "]")?;
+    let wanted = padded(&rt, alloc, "resumed [ListSets] [", 7_991, "]");
     assert_answer(
         &rt,
         alloc,
         query.as_str(),
         Granularity::Second,
         wanted.as_str(),
-    )
+    );
 }
 
 /// An identifier of 12,000 bytes.
 #[test]
-fn long_identifiers_are_read(rt: HostRuntime) -> Result<(), Fail> {
+fn long_identifiers_are_read(rt: HostRuntime) {
     let alloc = rt.alloc();
     let front = "verb=GetRecord&metadataPrefix=oai_dc&identifier=oai:";
-    let query = padded(alloc, front, 12_048, "")?;
-    let wanted = padded(alloc, "GetRecord [oai:", 12_011, "] [oai_dc]")?;
+    let query = padded(&rt, alloc, front, 12_048, "");
+    let wanted = padded(&rt, alloc, "GetRecord [oai:", 12_011, "] [oai_dc]");
     assert_answer(
         &rt,
         alloc,
         query.as_str(),
         Granularity::Second,
         wanted.as_str(),
-    )
+    );
 }
 
 fn text_of(fault: ArgFault) -> &'static str {
@@ -225,11 +227,10 @@ fn text_of(fault: ArgFault) -> &'static str {
 }
 
 #[test]
-fn faults_are_told(rt: HostRuntime) -> Result<(), Fail> {
+fn faults_are_told(rt: HostRuntime) {
     for fault in [ArgFault::BadVerb, ArgFault::BadArgument, ArgFault::NoMemory] {
-        assert_shown(&rt, rt.alloc(), fault, text_of(fault))?;
+        assert_shown(&rt, rt.alloc(), fault, text_of(fault));
     }
-    Ok(())
 }
 
 /// The first of them is empty.
@@ -247,8 +248,8 @@ verb=Identify&x=1&verb=ListSets"
 }
 
 #[test]
-fn refuses_verbs(rt: HostRuntime) -> Result<(), Fail> {
-    assert_each(&rt, rt.alloc(), queries_with_bad_verbs(), "badVerb")
+fn refuses_verbs(rt: HostRuntime) {
+    assert_each(&rt, rt.alloc(), queries_with_bad_verbs(), "badVerb");
 }
 
 fn queries_with_bad_keys() -> &'static str {
@@ -267,8 +268,8 @@ verb=ListRecords&metadataPrefix=p&Set=x"
 }
 
 #[test]
-fn refuses_keys(rt: HostRuntime) -> Result<(), Fail> {
-    assert_each(&rt, rt.alloc(), queries_with_bad_keys(), "badArgument")
+fn refuses_keys(rt: HostRuntime) {
+    assert_each(&rt, rt.alloc(), queries_with_bad_keys(), "badArgument");
 }
 
 fn queries_with_bad_numbers_of_keys() -> &'static str {
@@ -286,13 +287,13 @@ verb=ListSets&resumptionToken=1&from=2024-01-01"
 }
 
 #[test]
-fn refuses_numbers_of_keys(rt: HostRuntime) -> Result<(), Fail> {
+fn refuses_numbers_of_keys(rt: HostRuntime) {
     assert_each(
         &rt,
         rt.alloc(),
         queries_with_bad_numbers_of_keys(),
         "badArgument",
-    )
+    );
 }
 
 fn queries_with_bad_values() -> &'static str {
@@ -305,8 +306,8 @@ verb=ListIdentifiers&metadataPrefix=p&set="
 }
 
 #[test]
-fn refuses_values(rt: HostRuntime) -> Result<(), Fail> {
-    assert_each(&rt, rt.alloc(), queries_with_bad_values(), "badArgument")
+fn refuses_values(rt: HostRuntime) {
+    assert_each(&rt, rt.alloc(), queries_with_bad_values(), "badArgument");
 }
 
 fn queries_with_bad_bounds() -> &'static str {
@@ -319,8 +320,8 @@ verb=ListIdentifiers&metadataPrefix=p&from=2024-01-01T00:00:01Z&until=2024-01-01
 }
 
 #[test]
-fn refuses_bounds(rt: HostRuntime) -> Result<(), Fail> {
-    assert_each(&rt, rt.alloc(), queries_with_bad_bounds(), "badArgument")
+fn refuses_bounds(rt: HostRuntime) {
+    assert_each(&rt, rt.alloc(), queries_with_bad_bounds(), "badArgument");
 }
 
 fn request_from_a_second() -> &'static str {
@@ -328,9 +329,9 @@ fn request_from_a_second() -> &'static str {
 }
 
 #[test]
-fn seconds_are_too_fine_for_days(rt: HostRuntime) -> Result<(), Fail> {
+fn seconds_are_too_fine_for_days(rt: HostRuntime) {
     let query = request_from_a_second();
     let wanted = "ListIdentifiers [p] [2024-01-01T00:00:00Z] - -";
-    assert_answer(&rt, rt.alloc(), query, Granularity::Day, "badArgument")?;
-    assert_answer(&rt, rt.alloc(), query, Granularity::Second, wanted)
+    assert_answer(&rt, rt.alloc(), query, Granularity::Day, "badArgument");
+    assert_answer(&rt, rt.alloc(), query, Granularity::Second, wanted);
 }

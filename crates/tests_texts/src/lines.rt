@@ -4,8 +4,8 @@ use oai_deposit::{LineFault, read_line};
 use oai_item::{Change, Field, LineRefusal};
 use oai_names::{Sequence, SetSpec, Text};
 use std::alloc::{AllocError, Global};
+use std::panic::Expect;
 use std::process::Abort;
-use std::test::Fail;
 
 /// What a line is answered that is read, or refused; want of memory fails the test.
 fn answer_to(alloc: Global, line: &[u8]) -> Result<&'static str, AllocError> {
@@ -17,18 +17,22 @@ fn answer_to(alloc: Global, line: &[u8]) -> Result<&'static str, AllocError> {
 }
 
 /// The line is answered so.
-fn assert_answer(rt: &impl Abort, alloc: Global, line: &str, want: &str) -> Result<(), Fail> {
-    assert_same_at(rt, answer_to(alloc, line.as_bytes())?, want, line);
-    Ok(())
+fn assert_answer(rt: &impl Abort, alloc: Global, line: &str, want: &str) {
+    assert_same_at(
+        rt,
+        answer_to(alloc, line.as_bytes()).expect(rt, "answer_to"),
+        want,
+        line,
+    );
 }
 
 /// The text of so many bytes that begins with the front and goes on with `a`.
-fn long(alloc: Global, front: &str, bytes: usize) -> Result<String, AllocError> {
-    let mut text = String::from_str(alloc, front)?;
+fn long(rt: &impl Abort, alloc: Global, front: &str, bytes: usize) -> String {
+    let mut text = String::from_str(alloc, front).expect(rt, "memory");
     for _ in front.len()..bytes {
-        text.push('a')?;
+        text.push('a').expect(rt, "memory");
     }
-    Ok(text)
+    text
 }
 
 /// A deposit of that identifier into that set, of no records.
@@ -81,8 +85,8 @@ fn assert_two_records(rt: &impl Abort, records: &[(Text, Sequence<Field>)]) {
 
 /// The sets are in the order of the line, the records in that of their prefixes.
 #[test]
-fn reads_a_deposit(rt: HostRuntime) -> Result<(), Fail> {
-    let change = read_line(rt.alloc(), a_deposit().as_bytes())?;
+fn reads_a_deposit(rt: HostRuntime) {
+    let change = read_line(rt.alloc(), a_deposit().as_bytes()).expect(&rt, "read_line");
     let Change::Deposit {
         identifier,
         sets,
@@ -94,49 +98,47 @@ fn reads_a_deposit(rt: HostRuntime) -> Result<(), Fail> {
     assert_same(&rt, identifier.as_str(), "oai:x:1");
     assert_b_and_a(&rt, sets.as_slice());
     assert_two_records(&rt, records.as_slice());
-    Ok(())
 }
 
 #[test]
-fn reads_a_deletion(rt: HostRuntime) -> Result<(), Fail> {
-    let change = read_line(rt.alloc(), br#"{"delete":"oai:a:1"}"#)?;
+fn reads_a_deletion(rt: HostRuntime) {
+    let change = read_line(rt.alloc(), br#"{"delete":"oai:a:1"}"#).expect(&rt, "read_line");
     let Change::Delete { identifier } = &change else {
         panic!(rt; "no deletion")
     };
     assert_same(&rt, identifier.as_str(), "oai:a:1");
-    Ok(())
 }
 
 /// The bound is as it was given: the repository looks at it.
 #[test]
-fn reads_a_purge(rt: HostRuntime) -> Result<(), Fail> {
-    let change = read_line(rt.alloc(), br#"{"purge":"2024-02-30"}"#)?;
+fn reads_a_purge(rt: HostRuntime) {
+    let change = read_line(rt.alloc(), br#"{"purge":"2024-02-30"}"#).expect(&rt, "read_line");
     let Change::Purge { before } = &change else {
         panic!(rt; "no purge")
     };
     assert_same(&rt, before.as_str(), "2024-02-30");
-    Ok(())
 }
 
 #[test]
-fn reads_a_new_set(rt: HostRuntime) -> Result<(), Fail> {
-    let change = read_line(rt.alloc(), br#"{"set":"x:y","name":"X & Y"}"#)?;
+fn reads_a_new_set(rt: HostRuntime) {
+    let change = read_line(rt.alloc(), br#"{"set":"x:y","name":"X & Y"}"#).expect(&rt, "read_line");
     let Change::AddSet { spec, name } = &change else {
         panic!(rt; "no new set")
     };
     assert_same(&rt, (spec.as_str(), name.as_str()), ("x:y", "X & Y"));
-    Ok(())
 }
 
 /// Of two members of one name the last counts, and once.
 #[test]
-fn last_member_of_a_name_counts(rt: HostRuntime) -> Result<(), Fail> {
-    let change = read_line(rt.alloc(), br#"{"set":1,"name":"X","set":"y"}"#)?;
+fn last_member_of_a_name_counts(rt: HostRuntime) {
+    let change = read_line(rt.alloc(), br#"{"set":1,"name":"X","set":"y"}"#).expect(
+        &rt,
+        "read_line",
+    );
     let Change::AddSet { spec, name } = &change else {
         panic!(rt; "no new set")
     };
     assert_same(&rt, (spec.as_str(), name.as_str()), ("y", "X"));
-    Ok(())
 }
 
 /// Lines and, behind ` => `, what each is answered: what is no JSON text in UTF-8 (RFC 8259) comes
@@ -172,81 +174,83 @@ fn lines_and_answers() -> &'static str {
 }
 
 #[test]
-fn refuses_by_the_first_cause(rt: HostRuntime) -> Result<(), Fail> {
+fn refuses_by_the_first_cause(rt: HostRuntime) {
     for row in lines_and_answers().lines() {
         match row.split_once(" => ") {
-            Some((line, want)) => assert_answer(&rt, rt.alloc(), line, want)?,
+            Some((line, want)) => assert_answer(&rt, rt.alloc(), line, want),
             None => panic!(rt; "no answer in {row}"),
         }
     }
-    assert_answer(&rt, rt.alloc(), "\u{FEFF}{}", "refused 1 bad-json")
+    assert_answer(&rt, rt.alloc(), "\u{FEFF}{}", "refused 1 bad-json");
 }
 
 #[test]
-fn refuses_what_is_not_utf_8(rt: HostRuntime) -> Result<(), Fail> {
-    assert_same(&rt, answer_to(rt.alloc(), &[0xFF])?, "refused 1 bad-json");
-    Ok(())
+fn refuses_what_is_not_utf_8(rt: HostRuntime) {
+    assert_same(
+        &rt,
+        answer_to(rt.alloc(), &[0xFF]).expect(&rt, "answer_to"),
+        "refused 1 bad-json",
+    );
 }
 
 /// An array in an array, and so on, of that depth.
-fn nested(alloc: Global, depth: usize) -> Result<String, AllocError> {
+fn nested(rt: &impl Abort, alloc: Global, depth: usize) -> String {
     let mut text = String::new(alloc);
     for _ in 0..depth {
-        text.push('[')?;
+        text.push('[').expect(rt, "memory");
     }
     for _ in 0..depth {
-        text.push(']')?;
+        text.push(']').expect(rt, "memory");
     }
-    Ok(text)
+    text
 }
 
 /// JSON of a depth of 127 is read, and is no command.
 #[test]
-fn refuses_deep_json(rt: HostRuntime) -> Result<(), Fail> {
+fn refuses_deep_json(rt: HostRuntime) {
     let alloc = rt.alloc();
     for (depth, want) in [(127, "refused 2 bad-command"), (128, "refused 1 bad-json")] {
-        assert_answer(&rt, alloc, nested(alloc, depth)?.as_str(), want)?;
+        assert_answer(&rt, alloc, nested(&rt, alloc, depth).as_str(), want);
     }
-    Ok(())
 }
 
 /// A deposit of an identifier of so many bytes is answered so.
-fn assert_identifier(rt: &impl Abort, alloc: Global, bytes: usize, want: &str) -> Result<(), Fail> {
-    let identifier = long(alloc, "a:", bytes)?;
-    let line = deposit(alloc, identifier.as_str(), "x")?;
-    assert_answer(rt, alloc, line.as_str(), want)
+fn assert_identifier(rt: &impl Abort, alloc: Global, bytes: usize, want: &str) {
+    let identifier = long(rt, alloc, "a:", bytes);
+    let line = deposit(alloc, identifier.as_str(), "x").expect(rt, "deposit");
+    assert_answer(rt, alloc, line.as_str(), want);
 }
 
 /// A deposit into a set of a setSpec of so many bytes is answered so, and a new set of that setSpec.
-fn assert_set_spec(rt: &impl Abort, alloc: Global, bytes: usize, want: &str) -> Result<(), Fail> {
-    let spec = long(alloc, "a", bytes)?;
-    let line = deposit(alloc, "a:b", spec.as_str())?;
-    assert_answer(rt, alloc, line.as_str(), want)?;
-    let line = new_set(alloc, spec.as_str(), "X")?;
-    assert_answer(rt, alloc, line.as_str(), want)
+fn assert_set_spec(rt: &impl Abort, alloc: Global, bytes: usize, want: &str) {
+    let spec = long(rt, alloc, "a", bytes);
+    let line = deposit(alloc, "a:b", spec.as_str()).expect(rt, "deposit");
+    assert_answer(rt, alloc, line.as_str(), want);
+    let line = new_set(alloc, spec.as_str(), "X").expect(rt, "new_set");
+    assert_answer(rt, alloc, line.as_str(), want);
 }
 
 /// A new set of a name of so many bytes is answered so.
-fn assert_name(rt: &impl Abort, alloc: Global, bytes: usize, want: &str) -> Result<(), Fail> {
-    let name = long(alloc, "a", bytes)?;
-    let line = new_set(alloc, "x", name.as_str())?;
-    assert_answer(rt, alloc, line.as_str(), want)
+fn assert_name(rt: &impl Abort, alloc: Global, bytes: usize, want: &str) {
+    let name = long(rt, alloc, "a", bytes);
+    let line = new_set(alloc, "x", name.as_str()).expect(rt, "new_set");
+    assert_answer(rt, alloc, line.as_str(), want);
 }
 
 /// An identifier has at most 512 bytes, a setSpec 256, a setName 512.
 #[test]
-fn refuses_long_texts(rt: HostRuntime) -> Result<(), Fail> {
+fn refuses_long_texts(rt: HostRuntime) {
     let alloc = rt.alloc();
-    assert_identifier(&rt, alloc, 512, "read")?;
-    assert_identifier(&rt, alloc, 513, "refused 3 bad-identifier")?;
-    assert_set_spec(&rt, alloc, 256, "read")?;
-    assert_set_spec(&rt, alloc, 257, "refused 4 bad-set-spec")?;
-    assert_name(&rt, alloc, 512, "read")?;
-    assert_name(&rt, alloc, 513, "refused 5 bad-text")
+    assert_identifier(&rt, alloc, 512, "read");
+    assert_identifier(&rt, alloc, 513, "refused 3 bad-identifier");
+    assert_set_spec(&rt, alloc, 256, "read");
+    assert_set_spec(&rt, alloc, 257, "refused 4 bad-set-spec");
+    assert_name(&rt, alloc, 512, "read");
+    assert_name(&rt, alloc, 513, "refused 5 bad-text");
 }
 
 #[test]
-fn tells_why_a_line_was_not_read(rt: HostRuntime) -> Result<(), Fail> {
+fn tells_why_a_line_was_not_read(rt: HostRuntime) {
     let alloc = rt.alloc();
     for (fault, want) in [
         (LineFault::NoMemory, "out of memory"),
@@ -255,7 +259,6 @@ fn tells_why_a_line_was_not_read(rt: HostRuntime) -> Result<(), Fail> {
             "the line is refused: the line is not JSON",
         ),
     ] {
-        assert_shown(&rt, alloc, fault, want)?;
+        assert_shown(&rt, alloc, fault, want);
     }
-    Ok(())
 }

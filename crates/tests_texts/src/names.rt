@@ -4,17 +4,17 @@ use oai_names::{
     Identifier, NameFault, Prefix, Sequence, SetFault, SetSpec, SetTree, Text, escape_attr,
     escape_text, is_set_spec, is_xml_text, parent_of,
 };
-use std::alloc::{AllocError, Global};
+use std::alloc::Global;
+use std::panic::Expect;
 use std::process::Abort;
-use std::test::Fail;
 
 /// `front`, and then so many letters.
-fn with_letters(alloc: Global, front: &str, letters: usize) -> Result<String, AllocError> {
-    let mut text = String::from_str(alloc, front)?;
+fn with_letters(rt: &impl Abort, alloc: Global, front: &str, letters: usize) -> String {
+    let mut text = String::from_str(alloc, front).expect(rt, "memory");
     for _ in 0..letters {
-        text.push('a')?;
+        text.push('a').expect(rt, "memory");
     }
-    Ok(text)
+    text
 }
 
 fn assert_read(rt: &impl Abort, read: Result<Prefix, NameFault>, text: &str) {
@@ -32,32 +32,30 @@ fn assert_refused<T: Drop>(rt: &impl Abort, read: Result<T, NameFault>, fault: N
 }
 
 #[test]
-fn prefixes_are_read(rt: HostRuntime) -> Result<(), Fail> {
+fn prefixes_are_read(rt: HostRuntime) {
     let alloc = rt.alloc();
-    let most = with_letters(alloc, "", 64)?;
+    let most = with_letters(&rt, alloc, "", 64);
     for text in ["oai_dc", "a-_.!~*'()Z9", most.as_str()] {
         assert_read(&rt, Prefix::read(alloc, text), text);
     }
-    Ok(())
 }
 
 #[test]
-fn bad_prefixes_are_refused(rt: HostRuntime) -> Result<(), Fail> {
+fn bad_prefixes_are_refused(rt: HostRuntime) {
     let alloc = rt.alloc();
     let spaces = "                                                                 ";
     assert_same(&rt, spaces.len(), 65);
     for text in ["", "a b", "a:b", "é", "a/b", spaces] {
         assert_refused(&rt, Prefix::read(alloc, text), NameFault::Syntax);
     }
-    let long = with_letters(alloc, "", 65)?;
+    let long = with_letters(&rt, alloc, "", 65);
     assert_refused(&rt, Prefix::read(alloc, long.as_str()), NameFault::TooLong);
-    Ok(())
 }
 
 #[test]
-fn identifiers_are_read(rt: HostRuntime) -> Result<(), Fail> {
+fn identifiers_are_read(rt: HostRuntime) {
     let alloc = rt.alloc();
-    let most = with_letters(alloc, "oai:", 508)?;
+    let most = with_letters(&rt, alloc, "oai:", 508);
     for text in [
         "oai:a:1",
         "a+b-c.d:/?#[]@!$&'()*+,;=%",
@@ -69,56 +67,62 @@ fn identifiers_are_read(rt: HostRuntime) -> Result<(), Fail> {
             Err(fault) => panic!(rt; "{text}: {fault}"),
         }
     }
-    Ok(())
 }
 
 #[test]
-fn bad_identifiers_are_refused(rt: HostRuntime) -> Result<(), Fail> {
+fn bad_identifiers_are_refused(rt: HostRuntime) {
     let alloc = rt.alloc();
     for text in [
         "", "x", "oai:", "1a:b", ":b", "oai:a b", "oai:é", "o_i:a", "oai:a\"", "oai:<",
     ] {
         assert_refused(&rt, Identifier::read(alloc, text), NameFault::Syntax);
     }
-    let long = with_letters(alloc, "oai:", 509)?;
+    let long = with_letters(&rt, alloc, "oai:", 509);
     assert_refused(
         &rt,
         Identifier::read(alloc, long.as_str()),
         NameFault::TooLong,
     );
-    Ok(())
 }
 
-fn assert_prefix_is_copied(rt: &impl Abort, alloc: Global, text: &str) -> Result<(), Fail> {
-    let prefix = Prefix::read(alloc, text)?;
-    assert_same(rt, prefix.copy(alloc)?.as_str(), text);
-    Ok(())
+fn assert_prefix_is_copied(rt: &impl Abort, alloc: Global, text: &str) {
+    let prefix = Prefix::read(alloc, text).expect(rt, "Prefix::read");
+    assert_same(rt, prefix.copy(alloc).expect(rt, "memory").as_str(), text);
 }
 
-fn assert_identifier_is_copied(rt: &impl Abort, alloc: Global, text: &str) -> Result<(), Fail> {
-    let identifier = Identifier::read(alloc, text)?;
-    assert_same(rt, identifier.copy(alloc)?.as_str(), text);
-    Ok(())
+fn assert_identifier_is_copied(rt: &impl Abort, alloc: Global, text: &str) {
+    let identifier = Identifier::read(alloc, text).expect(rt, "Identifier::read");
+    assert_same(
+        rt,
+        identifier.copy(alloc).expect(rt, "memory").as_str(),
+        text,
+    );
 }
 
 #[test]
-fn copies_are_equal(rt: HostRuntime) -> Result<(), Fail> {
+fn copies_are_equal(rt: HostRuntime) {
     let alloc = rt.alloc();
-    assert_prefix_is_copied(&rt, alloc, "oai_dc")?;
-    assert_identifier_is_copied(&rt, alloc, "oai:a:1")?;
-    assert_same(&rt, Text::new(alloc, "é\n")?.copy(alloc)?.as_str(), "é\n");
-    Ok(())
+    assert_prefix_is_copied(&rt, alloc, "oai_dc");
+    assert_identifier_is_copied(&rt, alloc, "oai:a:1");
+    assert_same(
+        &rt,
+        Text::new(alloc, "é\n")
+            .expect(&rt, "memory")
+            .copy(alloc)
+            .expect(&rt, "memory")
+            .as_str(),
+        "é\n",
+    );
 }
 
 #[test]
-fn texts_keep_their_strings(rt: HostRuntime) -> Result<(), Fail> {
-    let mut text = Text::from_string(String::from_str(rt.alloc(), "é\n")?);
+fn texts_keep_their_strings(rt: HostRuntime) {
+    let mut text = Text::from_string(String::from_str(rt.alloc(), "é\n").expect(&rt, "memory"));
     assert_same(&rt, text.as_str(), "é\n");
     let mut string = text.into_string();
-    string.push('x')?;
+    string.push('x').expect(&rt, "memory");
     text = Text::from_string(string);
     assert_same(&rt, text.as_str(), "é\nx");
-    Ok(())
 }
 
 fn text_of_name_fault(fault: NameFault) -> &'static str {
@@ -139,9 +143,9 @@ fn text_of_set_fault(fault: SetFault) -> &'static str {
 }
 
 #[test]
-fn faults_are_told(rt: HostRuntime) -> Result<(), Fail> {
+fn faults_are_told(rt: HostRuntime) {
     for fault in [NameFault::Syntax, NameFault::TooLong, NameFault::NoMemory] {
-        assert_shown(&rt, rt.alloc(), fault, text_of_name_fault(fault))?;
+        assert_shown(&rt, rt.alloc(), fault, text_of_name_fault(fault));
     }
     for fault in [
         SetFault::Exists,
@@ -149,17 +153,15 @@ fn faults_are_told(rt: HostRuntime) -> Result<(), Fail> {
         SetFault::TooMany,
         SetFault::NoMemory,
     ] {
-        assert_shown(&rt, rt.alloc(), fault, text_of_set_fault(fault))?;
+        assert_shown(&rt, rt.alloc(), fault, text_of_set_fault(fault));
     }
-    Ok(())
 }
 
 #[test]
-fn sequences_keep_their_values(rt: HostRuntime) -> Result<(), Fail> {
-    let sequence = Sequence::new(vec![in rt.alloc(); 3, 1, 2]?);
+fn sequences_keep_their_values(rt: HostRuntime) {
+    let sequence = Sequence::new(vec![in rt.alloc(); 3, 1, 2].expect(&rt, "memory"));
     assert_same(&rt, sequence.as_slice(), [3, 1, 2].as_slice());
     assert_same(&rt, sequence.into_vec().as_slice(), [3, 1, 2].as_slice());
-    Ok(())
 }
 
 #[test]
@@ -186,40 +188,38 @@ fn characters_of_a_document(rt: HostRuntime) {
 }
 
 /// Behind a byte that stood there, the text is written so as text.
-fn assert_text(rt: &impl Abort, alloc: Global, text: &str, wanted: &str) -> Result<(), Fail> {
-    let mut out = vec![in alloc; b'-']?;
-    escape_text(text, &mut out)?;
+fn assert_text(rt: &impl Abort, alloc: Global, text: &str, wanted: &str) {
+    let mut out = vec![in alloc; b'-'].expect(rt, "memory");
+    escape_text(text, &mut out).expect(rt, "escape_text");
     assert_same(rt, out.as_slice(), wanted.as_bytes());
-    Ok(())
 }
 
 /// Behind a byte that stood there, the text is written so in an attribute.
-fn assert_attr(rt: &impl Abort, alloc: Global, text: &str, wanted: &str) -> Result<(), Fail> {
-    let mut out = vec![in alloc; b'-']?;
-    escape_attr(text, &mut out)?;
+fn assert_attr(rt: &impl Abort, alloc: Global, text: &str, wanted: &str) {
+    let mut out = vec![in alloc; b'-'].expect(rt, "memory");
+    escape_attr(text, &mut out).expect(rt, "escape_attr");
     assert_same(rt, out.as_slice(), wanted.as_bytes());
-    Ok(())
 }
 
 #[test]
-fn escapes(rt: HostRuntime) -> Result<(), Fail> {
+fn escapes(rt: HostRuntime) {
     let alloc = rt.alloc();
-    assert_text(&rt, alloc, "a<b\r\"", "-a&lt;b&#13;\"")?;
-    assert_attr(&rt, alloc, "\"\t>", "-&quot;&#9;&gt;")?;
-    assert_text(&rt, alloc, "A & B > é'\t\n", "-A &amp; B &gt; é'\t\n")?;
-    assert_attr(&rt, alloc, "&<\n\r'", "-&amp;&lt;&#10;&#13;'")?;
-    assert_text(&rt, alloc, "long run, no escape", "-long run, no escape")?;
-    assert_attr(&rt, alloc, "", "-")?;
-    assert_attr(&rt, alloc, "<<a long run\"", "-&lt;&lt;a long run&quot;")
+    assert_text(&rt, alloc, "a<b\r\"", "-a&lt;b&#13;\"");
+    assert_attr(&rt, alloc, "\"\t>", "-&quot;&#9;&gt;");
+    assert_text(&rt, alloc, "A & B > é'\t\n", "-A &amp; B &gt; é'\t\n");
+    assert_attr(&rt, alloc, "&<\n\r'", "-&amp;&lt;&#10;&#13;'");
+    assert_text(&rt, alloc, "long run, no escape", "-long run, no escape");
+    assert_attr(&rt, alloc, "", "-");
+    assert_attr(&rt, alloc, "<<a long run\"", "-&lt;&lt;a long run&quot;");
 }
 
 #[test]
-fn long_texts_are_escaped(rt: HostRuntime) -> Result<(), Fail> {
+fn long_texts_are_escaped(rt: HostRuntime) {
     let alloc = rt.alloc();
-    let text = with_letters(alloc, "<", 100_000)?;
-    let wanted = with_letters(alloc, "-&lt;", 100_000)?;
-    assert_text(&rt, alloc, text.as_str(), wanted.as_str())?;
-    assert_attr(&rt, alloc, text.as_str(), wanted.as_str())
+    let text = with_letters(&rt, alloc, "<", 100_000);
+    let wanted = with_letters(&rt, alloc, "-&lt;", 100_000);
+    assert_text(&rt, alloc, text.as_str(), wanted.as_str());
+    assert_attr(&rt, alloc, text.as_str(), wanted.as_str());
 }
 
 fn set_spec(rt: &impl Abort, alloc: Global, text: &str) -> SetSpec {
@@ -230,28 +230,26 @@ fn set_spec(rt: &impl Abort, alloc: Global, text: &str) -> SetSpec {
 }
 
 #[test]
-fn set_specs_are_read(rt: HostRuntime) -> Result<(), Fail> {
+fn set_specs_are_read(rt: HostRuntime) {
     let alloc = rt.alloc();
-    let most = with_letters(alloc, "", 256)?;
+    let most = with_letters(&rt, alloc, "", 256);
     for text in ["x", "x:y", "a-_.!~*'()Z9:b:c", most.as_str()] {
         let spec = set_spec(&rt, alloc, text);
         assert_same(&rt, spec.as_str(), text);
-        assert_same(&rt, spec.copy(alloc)?.as_str(), text);
+        assert_same(&rt, spec.copy(alloc).expect(&rt, "memory").as_str(), text);
     }
-    Ok(())
 }
 
 #[test]
-fn bad_set_specs_are_refused(rt: HostRuntime) -> Result<(), Fail> {
+fn bad_set_specs_are_refused(rt: HostRuntime) {
     let alloc = rt.alloc();
     for text in ["", ":", "x::y", ":x", "x:", "x y", "é"] {
         assert!(rt; !is_set_spec(text), "{text:?}");
         assert_refused(&rt, SetSpec::read(alloc, text), NameFault::Syntax);
     }
-    let long = with_letters(alloc, "", 257)?;
+    let long = with_letters(&rt, alloc, "", 257);
     assert!(rt; is_set_spec(long.as_str()));
     assert_refused(&rt, SetSpec::read(alloc, long.as_str()), NameFault::TooLong);
-    Ok(())
 }
 
 #[test]
@@ -328,19 +326,18 @@ fn sets_are_added(rt: HostRuntime) {
 }
 
 /// Adds the sets `0`, `1` and so on, so many.
-fn add_numbered(rt: &impl Abort, alloc: Global, sets: &mut SetTree, many: u32) -> Result<(), Fail> {
+fn add_numbered(rt: &impl Abort, alloc: Global, sets: &mut SetTree, many: u32) {
     for i in 0..many {
-        let spec = format!(in alloc; "{i}")?;
+        let spec = format!(in alloc; "{i}").expect(rt, "memory");
         assert_added(rt, alloc, sets, (spec.as_str(), "A set"), Ok(()));
     }
-    Ok(())
 }
 
 #[test]
-fn sets_are_at_most_10000(rt: HostRuntime) -> Result<(), Fail> {
+fn sets_are_at_most_10000(rt: HostRuntime) {
     let alloc = rt.alloc();
     let mut sets = SetTree::new(alloc);
-    add_numbered(&rt, alloc, &mut sets, 10_000)?;
+    add_numbered(&rt, alloc, &mut sets, 10_000);
     assert_added(&rt, alloc, &mut sets, ("777", "X"), Err(SetFault::Exists));
     assert_added(&rt, alloc, &mut sets, ("x:y", "X"), Err(SetFault::NoParent));
     assert_added(
@@ -353,5 +350,4 @@ fn sets_are_at_most_10000(rt: HostRuntime) -> Result<(), Fail> {
     assert_added(&rt, alloc, &mut sets, ("x", "X"), Err(SetFault::TooMany));
     assert_same(&rt, sets.len(), 10_000);
     assert_shows(&rt, &sets, 9_999, "9999", "A set");
-    Ok(())
 }

@@ -4,7 +4,6 @@ use oai_time::{
     BadDate, Bound, Clock, Granularity, is_no_finer_than, lower, read_bound, stamp, upper,
     write_datestamp, write_day, write_second,
 };
-use std::test::Fail;
 
 #[test]
 fn writes_seconds(rt: HostRuntime) {
@@ -45,15 +44,14 @@ fn granularities_are_compared(rt: HostRuntime) {
 }
 
 #[test]
-fn faults_are_told(rt: HostRuntime) -> Result<(), Fail> {
+fn faults_are_told(rt: HostRuntime) {
     let fault = BadDate;
     assert_shown(
         &rt,
         rt.alloc(),
         fault,
         "not a date of the form YYYY-MM-DD or YYYY-MM-DDThh:mm:ssZ",
-    )?;
-    Ok(())
+    );
 }
 
 #[test]
