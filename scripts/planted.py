@@ -30,7 +30,13 @@ CALL = re.compile(r"\b(\w+)(?:::<[^>]*>)?\(")
 IMPL = re.compile(r"^impl(?:<[^\n]*?>)? (?:([\w:<>, ]+) for )?(\w+)", re.M)
 
 # What a check says of a proof file that names something which the edit took away.
-TAKEN_AWAY = re.compile(r"has no field|is not in scope|has no `|was not admitted")
+TAKEN_AWAY = re.compile(r"has no field|is not in scope|has no `|which was (?:not admitted|rejected)")
+
+# What a check says of a proof file that stands in the folder of no function: of its lemmas.
+OF_LEMMAS = re.compile(r"^(?:\./)?proofs/\w+\.antt:\S+: error: (.*)$", re.M)
+
+# What a check says of a definition that the edit made one that cannot be read: then nothing was tried.
+OF_SPECS = re.compile(r"^(?:\./)?specs/\S+: error: ", re.M)
 
 # What is told of a bug that a check judged.
 REFUSED, NAMED, PROVED = "refused", "only named", "NOT REFUSED"
@@ -228,6 +234,11 @@ def is_only_named(said, functions):
     return True
 
 
+def refutes_a_lemma(said):
+    """Whether a check says of a lemma more than that it names what is gone: then a function whose proof stands on it is not refused for a name."""
+    return not all(TAKEN_AWAY.search(it) for it in OF_LEMMAS.findall(said))
+
+
 def batches_of(edits, texts):
     """The edits that may share a check in batches, with the texts that each makes."""
     calls = calls_in(texts)
@@ -253,21 +264,21 @@ def try_alone(crate, edit, texts):
     said = check(crate, changed, texts)
     if "logic=proved" in said:
         return PROVED
-    if "logic=not-proved" not in said:
+    if "logic=not-proved" not in said or OF_SPECS.search(said):
         return "CANNOT BE READ"
-    return NAMED if is_only_named(said, unproved(said)) else REFUSED
+    return NAMED if is_only_named(said, unproved(said)) and not refutes_a_lemma(said) else REFUSED
 
 
 def try_batches(crate, edits, texts, judged):
-    """Tries edits that may share a check in batches, and keeps what became of those that a batch tells of."""
+    """Tries edits that may share a check in batches, and keeps which of them a batch refuses by more than a name."""
     for batch, changed in batches_of(edits, texts):
         said = check(crate, changed, texts)
         own = unproved(said)
         if "logic=not-proved" not in said:
             continue
         for edit in batch:
-            if edit.functions & own:
-                judged.add(edit, NAMED if is_only_named(said, edit.functions & own) else REFUSED)
+            if edit.functions & own and not is_only_named(said, edit.functions & own):
+                judged.add(edit, REFUSED)
 
 
 def try_all(crate, edits, texts, judged):
