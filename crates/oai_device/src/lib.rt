@@ -1,0 +1,16 @@
+//! Page devices: pages of 16,384 bytes under numbers, in memory or in a file; and two devices for tests,
+//! one that fails and one that lies.
+#![tactic(auto)]
+
+mod devices;
+mod faulty;
+mod file;
+mod flipping;
+mod memory;
+mod written;
+
+pub use devices::{DeviceFault, MOST_FAILURES, PAGE_BYTES, Page, PageDevice};
+pub use faulty::FaultyDevice;
+pub use file::FileDevice;
+pub use flipping::FlippingDevice;
+pub use memory::MemoryDevice;
