@@ -1,0 +1,2 @@
+pub mod CacheLemmas
+pub mod NamesLemmas

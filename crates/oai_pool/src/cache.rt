@@ -1,0 +1,85 @@
+ghost use Rattle.std.specs.Prelude.{◌≡◌, ◌≢◌, ◌⊎◌, ◌<◌, ◌≤◌, ℕ, List, None, Some, IfOk, IfSome, length};
+ghost use Rattle.std.specs.NonZero.{non_zero_usize_get};
+
+use lru::LruCache;
+use oai_device::Page;
+use std::alloc::{AllocError, AllocFailed, Global};
+use std::num::NonZeroUsize;
+use std::rc::Rc;
+
+/// The pages that were used last, at most so many.
+#[derive(Drop)]
+pub struct PageCache {
+    pages: LruCache<u32, Rc<Page>>,
+}
+
+#[tactic(auto, unfolding(crate::specs::Held::held))]
+impl PageCache {
+    ghost use Rattle.oai_pool.specs.Held.{held};
+
+    /// A cache of at most `size` pages, which holds none.
+    pub fn new(alloc: Global, size: NonZeroUsize) -> Result<PageCache, AllocError>
+        ensures size { IfOk result (λ cache. cache.pages.cap ≡ non_zero_usize_get size) }
+        ensures empty { IfOk result (λ cache. (n : ℕ) → held cache n ≡ None) }
+    {
+        let pages = LruCache::new(alloc, size)?;
+        Ok(PageCache { pages })
+    }
+
+    /// The page of that number, where the cache holds it and it can be shared once more.
+    pub fn find(&mut self, no: u32) -> Option<Rc<Page>>
+        ensures found { IfSome result (λ page. held self.old no ≡ Some page.value) }
+        ensures kept { (n : ℕ) → held self.new n ≡ held self.old n }
+        ensures size { self.new.pages.cap ≡ self.old.pages.cap }
+    {
+        match self.pages.get(&no) {
+            Some(page) => page.clone().ok(),
+            None => None,
+        }
+    }
+
+    /// Holds the page under that number. Where there is no room another page, the one that was used longest
+    /// ago, leaves; where memory is refused, this one is not held. Answers the page that is not held.
+    pub fn keep(&mut self, no: u32, page: Rc<Page>) -> Option<Rc<Page>>
+        ensures this { (bytes : List ℕ) → held self.new no ≡ Some bytes
+            → (held self.old no ≡ Some bytes) ⊎ (page.value ≡ bytes) }
+        ensures others { (n : ℕ) (bytes : List ℕ) → n ≢ no
+            → held self.new n ≡ Some bytes → held self.old n ≡ Some bytes }
+        ensures size { self.new.pages.cap ≡ self.old.pages.cap }
+    {
+        left_over(self.pages.push(no, page))
+    }
+
+    /// Holds no page under that number. Answers the one that it held.
+    pub fn forget(&mut self, no: u32) -> Option<Rc<Page>>
+        ensures this { held self.new no ≡ None }
+        ensures others { (n : ℕ) (bytes : List ℕ)
+            → held self.new n ≡ Some bytes → held self.old n ≡ Some bytes }
+        ensures size { self.new.pages.cap ≡ self.old.pages.cap }
+    {
+        let _pages = self.pages.len();
+        self.pages.pop(&no)
+    }
+
+    /// How many pages the cache holds.
+    pub fn len(&self) -> usize
+        ensures pages { result ≡ length self.now.pages.entries }
+        ensures within { result ≤ self.now.pages.cap }
+    {
+        self.pages.len()
+    }
+}
+
+/// The page that a push into a cache left over.
+fn left_over(
+    pushed: Result<Option<(u32, Rc<Page>)>, AllocFailed<(u32, Rc<Page>)>>,
+) -> Option<Rc<Page>> {
+    match pushed {
+        Ok(Some((_, page))) => Some(page),
+        Ok(None) => None,
+        Err(refused) => {
+            let (_, page) = refused.value;
+            Some(page)
+        }
+    }
+}

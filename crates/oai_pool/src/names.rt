@@ -1,0 +1,119 @@
+ghost use Rattle.std.specs.Prelude.{◌≡◌, ◌≢◌, ◌+◌, ◌<◌, ◌≤◌, ◌==◌, if◌then◌else◌, ℕ, [], IfErr, IfOk, IsErrOf, OnErr, OnOk, length, max, vec_len, vec_capacity};
+ghost use Rattle.oai_pool.specs.Counts.{AddsName, count_of, used_of};
+ghost use Rattle.oai_pool.specs.Names.{is_free, next_of, times};
+ghost use Rattle.oai_pool.specs.declared.pools.PoolFault.TheVariants as fault;
+ghost use Rattle.oai_pool.specs.declared.pools.TheConstants.{MOST_PAGES};
+
+use crate::pools::{MOST_PAGES, PoolFault};
+use std::alloc::Global;
+
+/// How often each number is named, and the numbers that are free to be given again. A number that was never
+/// given is the next one behind the counts.
+#[derive(Drop)]
+pub struct Names {
+    counts: Vec<u32>,
+    free: Vec<u32>,
+    ghost few: { vec_len counts ≤ MOST_PAGES },
+    ghost free_has_room: { vec_len counts ≤ vec_capacity free },
+    ghost parted: { vec_len free + used_of counts.items ≡ vec_len counts },
+    ghost listed: { (n : ℕ) → times n free.items ≡ (if is_free counts.items n then 1 else 0) },
+}
+
+impl Names {
+    /// No number is named, nor was one given.
+    pub fn new(alloc: Global) -> Names
+        ensures { result.counts.items ≡ [] }
+    {
+        Names {
+            counts: Vec::new(alloc),
+            free: Vec::new(alloc),
+        }
+    }
+
+    /// The number that `name` will name, after the room was made in which `name` works, and later `drop_name`
+    /// on that number. NoMemory, or TooManyPages where each number is named.
+    pub fn next(&mut self) -> Result<u32, PoolFault>
+        ensures counts { self.new.counts.items ≡ self.old.counts.items }
+        ensures number { IfOk result (λ no. no ≡ next_of self.new.counts.items self.new.free.items) }
+        ensures free { IfOk result (λ no. count_of self.new.counts.items no ≡ 0) }
+        ensures room { OnOk result (vec_len self.new.free ≡ 0
+            → vec_len self.new.counts < vec_capacity self.new.counts) }
+        ensures free_room { OnOk result (vec_len self.new.free ≡ 0
+            → vec_len self.new.counts < vec_capacity self.new.free) }
+        ensures few { OnOk result (vec_len self.new.free ≡ 0 → vec_len self.new.counts < MOST_PAGES) }
+        ensures fault { IfErr result (λ cause. cause ≢ fault.Device) }
+        ensures full { IsErrOf result PoolFault.TooManyPages → MOST_PAGES ≤ used_of self.old.counts.items }
+    {
+        let free = self.free.len();
+        if free > 0 {
+            return Ok(self.free[free - 1]);
+        }
+        let no = self.counts.len();
+        if no >= MOST_PAGES as usize {
+            return Err(PoolFault::TooManyPages);
+        }
+        self.counts.reserve(1)?;
+        self.free.reserve(no + 1)?;
+        Ok(no as u32)
+    }
+
+    /// Names the number that `next` gave once.
+    pub fn name(&mut self)
+        requires room { vec_len self.old.free ≡ 0
+            → vec_len self.old.counts < vec_capacity self.old.counts }
+        requires free_room { vec_len self.old.free ≡ 0
+            → vec_len self.old.counts < vec_capacity self.old.free }
+        requires few { vec_len self.old.free ≡ 0 → vec_len self.old.counts < MOST_PAGES }
+        ensures counts { let no = next_of self.old.counts.items self.old.free.items in
+            AddsName no self.old.counts.items self.new.counts.items }
+        ensures dense { length self.new.counts.items
+            ≡ max (length self.old.counts.items) (used_of self.old.counts.items + 1) }
+        ensures used { used_of self.new.counts.items ≡ used_of self.old.counts.items + 1 }
+    {
+        match self.free.pop() {
+            Some(no) => self.counts[no as usize] = 1,
+            None => {
+                let _ = self.counts.push(1);
+            }
+        }
+    }
+
+    /// Names a number that is named once more. TooManyPages, where it is named 4,294,967,295 times.
+    pub fn share(&mut self, no: u32) -> Result<(), PoolFault>
+        requires { 0 < count_of self.old.counts.items no }
+        ensures counts { OnOk result (AddsName no self.old.counts.items self.new.counts.items) }
+        ensures used { used_of self.new.counts.items ≡ used_of self.old.counts.items }
+        ensures err { OnErr result (self.new.counts.items ≡ self.old.counts.items) }
+        ensures fault { IfErr result (λ cause. cause ≡ fault.TooManyPages) }
+        ensures full { OnErr result (MOST_PAGES ≤ count_of self.old.counts.items no) }
+    {
+        let count = self.counts[no as usize];
+        if count == MOST_PAGES {
+            return Err(PoolFault::TooManyPages);
+        }
+        self.counts[no as usize] = count + 1;
+        Ok(())
+    }
+
+    /// Names a number that is named once less; whether it is now named no more, and free.
+    pub fn drop_name(&mut self, no: u32) -> bool
+        requires { 0 < count_of self.old.counts.items no }
+        ensures counts { AddsName no self.new.counts.items self.old.counts.items }
+        ensures used { used_of self.new.counts.items ≤ used_of self.old.counts.items }
+        ensures free { result ≡ (count_of self.new.counts.items no == 0) }
+    {
+        let count = self.counts[no as usize] - 1;
+        self.counts[no as usize] = count;
+        if count == 0 {
+            let _ = self.free.push(no);
+        }
+        count == 0
+    }
+
+    /// How many numbers are named.
+    pub fn used(&self) -> usize
+        ensures { result ≡ used_of self.now.counts.items }
+    {
+        self.counts.len() - self.free.len()
+    }
+}

@@ -1,0 +1,123 @@
+ghost use Rattle.std.specs.Prelude.{◌≡◌, ◌<◌, ◌≤◌, ℕ, List, [], None, Some, length, IfErr, IfOk, IsSome, IsTrue, OnErr, OnOk};
+ghost use Rattle.oai_pool.specs.Counts.{count_of, room_of};
+ghost use Rattle.oai_pool.specs.Held.{held};
+
+use crate::cache::PageCache;
+use crate::names::Names;
+use crate::pools::{MOST_PAGES, PageNo, PagePool, PoolFault};
+use crate::transfers::{copied, load, store};
+use oai_device::{Page, PageDevice};
+use std::alloc::Global;
+use std::num::NonZeroUsize;
+use std::rc::Rc;
+
+/// A pool of pages on a device, with a cache. Beside the pages of its cache it keeps one page more in
+/// memory, for the next one to be read.
+#[derive(Drop)]
+pub struct Pool<D: PageDevice> {
+    alloc: Global,
+    device: D,
+    names: Names,
+    cache: PageCache,
+    spare: Option<Rc<Page>>,
+    ghost written: { (n : ℕ) → 0 < count_of names.counts.items n → IsSome (D.pages device n) },
+    ghost cached_are_named: { (n : ℕ) (bytes : List ℕ)
+        → held cache n ≡ Some bytes → 0 < count_of names.counts.items n },
+    ghost agrees: { IsTrue (D.honest device) → (n : ℕ) (bytes : List ℕ)
+        → held cache n ≡ Some bytes → D.pages device n ≡ Some bytes },
+}
+
+impl<D: PageDevice> PagePool for Pool<D> {
+    ghost use Rattle.oai_pool.specs.Pool.{device_of};
+
+    ghost counts = { λ p. p.names.counts.items };
+
+    ghost pages = { λ p. D.pages (device_of p) };
+
+    ghost failures = { λ p. D.failures (device_of p) };
+
+    ghost honest = { λ p. D.honest (device_of p) };
+
+    ghost room = { λ p. room_of p.names.counts.items };
+
+    ghost cached_pages = { λ p. length p.cache.pages.entries };
+
+    ghost cache_size = { λ p. p.cache.pages.cap };
+
+    fn add(&mut self, page: &Page) -> Result<PageNo, PoolFault> {
+        let no = self.names.next()?;
+        store(&mut self.device, no, page)?;
+        self.names.name();
+        if let Ok(copy) = copied(self.alloc, self.spare.take(), page) {
+            self.spare = self.cache.keep(no, copy);
+        }
+        Ok(no)
+    }
+
+    fn share(&mut self, no: PageNo) -> Result<(), PoolFault> {
+        self.names.share(no)
+    }
+
+    fn drop_ref(&mut self, no: PageNo) {
+        if self.names.drop_name(no) {
+            if let Some(page) = self.cache.forget(no) {
+                self.spare = Some(page);
+            }
+        }
+    }
+
+    fn read(&mut self, no: PageNo) -> Result<Rc<Page>, PoolFault> {
+        if let Some(page) = self.cache.find(no) {
+            return Ok(page);
+        }
+        let page = load(self.alloc, &mut self.device, no, self.spare.take())?;
+        if let Ok(kept) = page.clone() {
+            self.spare = self.cache.keep(no, kept);
+        }
+        Ok(page)
+    }
+
+    fn used(&self) -> usize {
+        self.names.used()
+    }
+
+    fn cached(&self) -> usize {
+        self.cache.len()
+    }
+
+    ghost use Rattle.oai_pool.specs.Limits.{count_of-past};
+
+    ghost limited = { λ p n above. count_of-past p.names.counts.items _ _ n p.names.counts.ok.0 p.names.few above };
+}
+
+impl<D: PageDevice> Pool<D> {
+    ghost use Rattle.std.specs.Prelude.{◌≡◌, IfOk};
+    ghost use Rattle.oai_pool.specs.Pool.{device_of};
+
+    /// A pool of no pages on that device, with a cache of at most `cache_pages` pages. NoMemory.
+    pub fn new(alloc: Global, device: D, cache_pages: usize) -> Result<Pool<D>, PoolFault>
+        requires { 0 < cache_pages }
+        ensures counts { IfOk result (λ pool. ⟦<Pool<D> as PagePool>⟧.counts pool ≡ []) }
+        ensures room { IfOk result (λ pool. ⟦<Pool<D> as PagePool>⟧.room pool ≡ MOST_PAGES) }
+        ensures cache { IfOk result (λ pool. ⟦<Pool<D> as PagePool>⟧.cache_size pool ≡ cache_pages) }
+        ensures device { IfOk result (λ pool. device_of pool ≡ device) }
+        ensures fault { IfErr result (λ cause. cause ≡ PoolFault.NoMemory) }
+    {
+        let size = NonZeroUsize::new(cache_pages).unwrap();
+        let cache = PageCache::new(alloc, size)?;
+        Ok(Pool {
+            alloc,
+            device,
+            names: Names::new(alloc),
+            cache,
+            spare: None,
+        })
+    }
+
+    /// The device on which the pages are.
+    pub fn device(&self) -> &D
+        ensures { result.now ≡ device_of self.now }
+    {
+        &self.device
+    }
+}

@@ -1,0 +1,109 @@
+//! Pages between a device and memory.
+ghost use Rattle.std.specs.Prelude.{◌≡◌, ◌≢◌, ℕ, Some, IfErr, IfOk, IsSome, IsTrue, OnOk};
+ghost use Rattle.oai_pool.specs.Faults.{IsCounted};
+ghost use Rattle.oai_pool.specs.declared.pools.PoolFault.TheVariants as fault;
+
+use crate::pools::PoolFault;
+use oai_device::{DeviceFault, PAGE_BYTES, Page, PageDevice};
+use std::alloc::{AllocError, Global};
+use std::rc::Rc;
+
+/// Writes the page on the device. Device or NoMemory.
+pub(crate) fn store<D: PageDevice>(device: &mut D, no: u32, page: &Page) -> Result<(), PoolFault>
+    ensures written { OnOk result (D.pages device.new no ≡ Some page.now) }
+    ensures others { (n : ℕ) → n ≢ no → D.pages device.new n ≡ D.pages device.old n }
+    ensures fault { IfErr result (λ cause. cause ≢ fault.TooManyPages) }
+    ensures device { IsCounted result (D.failures device.old) (D.failures device.new) }
+    ensures honesty { D.honest device.new ≡ D.honest device.old }
+{
+    match device.write(no, page) {
+        Ok(()) => Ok(()),
+        Err(DeviceFault::Failed) => Err(PoolFault::Device),
+        Err(DeviceFault::NoMemory) => Err(PoolFault::NoMemory),
+    }
+}
+
+/// The page of that number, read from the device into the page `spare` where nobody else has it, and
+/// otherwise into one of its own. Device or NoMemory; memory is asked for before the device is.
+pub(crate) fn load<D: PageDevice>(
+    alloc: Global,
+    device: &mut D,
+    no: u32,
+    spare: Option<Rc<Page>>,
+) -> Result<Rc<Page>, PoolFault>
+    requires { IsSome (D.pages device.old no) }
+    ensures value { IfOk result
+        (λ page. IsTrue (D.honest device.old) → D.pages device.old no ≡ Some page.value) }
+    ensures same { D.pages device.new ≡ D.pages device.old }
+    ensures fault { IfErr result (λ cause. cause ≢ fault.TooManyPages) }
+    ensures device { IsCounted result (D.failures device.old) (D.failures device.new) }
+    ensures honesty { D.honest device.new ≡ D.honest device.old }
+{
+    let mut page = room_for_a_page(alloc, spare)?;
+    match Rc::get_mut(&mut page) {
+        Some(bytes) => match fetch(device, no, bytes) {
+            Ok(()) => Ok(page),
+            Err(cause) => Err(cause),
+        },
+        None => load_anew(alloc, device, no),
+    }
+}
+
+/// A copy of the page, in the page `spare` where nobody else has it, and otherwise in one of its own.
+pub(crate) fn copied(
+    alloc: Global,
+    spare: Option<Rc<Page>>,
+    page: &Page,
+) -> Result<Rc<Page>, AllocError>
+    ensures { IfOk result (λ copy. copy.value ≡ page.now) }
+{
+    let mut copy = room_for_a_page(alloc, spare)?;
+    match Rc::get_mut(&mut copy) {
+        Some(bytes) => {
+            *bytes = *page;
+            Ok(copy)
+        }
+        None => Ok(Rc::new(alloc, *page)?),
+    }
+}
+
+/// The page of that number, read from the device into a page of its own.
+fn load_anew<D: PageDevice>(alloc: Global, device: &mut D, no: u32) -> Result<Rc<Page>, PoolFault>
+    requires { IsSome (D.pages device.old no) }
+    ensures value { IfOk result
+        (λ page. IsTrue (D.honest device.old) → D.pages device.old no ≡ Some page.value) }
+    ensures same { D.pages device.new ≡ D.pages device.old }
+    ensures fault { IfErr result (λ cause. cause ≢ fault.TooManyPages) }
+    ensures device { IsCounted result (D.failures device.old) (D.failures device.new) }
+    ensures honesty { D.honest device.new ≡ D.honest device.old }
+{
+    let mut bytes = [0; PAGE_BYTES];
+    match fetch(device, no, &mut bytes) {
+        Ok(()) => Ok(Rc::new(alloc, bytes)?),
+        Err(cause) => Err(cause),
+    }
+}
+
+/// Reads the page from the device. Device or NoMemory.
+fn fetch<D: PageDevice>(device: &mut D, no: u32, page: &mut Page) -> Result<(), PoolFault>
+    requires { IsSome (D.pages device.old no) }
+    ensures value { OnOk result (IsTrue (D.honest device.old) → D.pages device.old no ≡ Some page.new) }
+    ensures same { D.pages device.new ≡ D.pages device.old }
+    ensures fault { IfErr result (λ cause. cause ≢ fault.TooManyPages) }
+    ensures device { IsCounted result (D.failures device.old) (D.failures device.new) }
+    ensures honesty { D.honest device.new ≡ D.honest device.old }
+{
+    match device.read(no, page) {
+        Ok(()) => Ok(()),
+        Err(DeviceFault::Failed) => Err(PoolFault::Device),
+        Err(DeviceFault::NoMemory) => Err(PoolFault::NoMemory),
+    }
+}
+
+/// The spare page, or a new one of zeros, which is made where it stays and not copied there.
+fn room_for_a_page(alloc: Global, spare: Option<Rc<Page>>) -> Result<Rc<Page>, AllocError> {
+    match spare {
+        Some(page) => Ok(page),
+        None => Ok(Rc::new(alloc, [0; PAGE_BYTES])?),
+    }
+}
