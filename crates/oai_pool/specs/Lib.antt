@@ -1,5 +1,5 @@
 pub mod Counts
-pub mod Faults
+pub mod Calls
 pub mod Limits
 pub mod Names
 pub mod Held

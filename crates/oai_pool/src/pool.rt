@@ -87,6 +87,8 @@ impl<D: PageDevice> PagePool for Pool<D> {
 
     ghost use Rattle.oai_pool.specs.Limits.{count_of-past};
 
+    ghost stored = { λ p. p.written };
+
     ghost limited = { λ p n above. count_of-past p.names.counts.items _ _ n p.names.counts.ok.0 p.names.few above };
 }
 

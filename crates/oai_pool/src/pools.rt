@@ -1,6 +1,6 @@
-ghost use Rattle.std.specs.Prelude.{◌≡◌, ◌≢◌, ◌+◌, ◌<◌, ◌≤◌, ℕ, Bool, List, Option, Some, max, length, IfErr, IfOk, IsErrOf, IsTrue, OnErr, OnOk};
+ghost use Rattle.std.specs.Prelude.{◌≡◌, ◌+◌, ◌<◌, ◌≤◌, ℕ, Bool, List, Option, Some, max, length, IfErr, IfOk, IsSome, IsTrue, OnErr, OnOk};
 ghost use Rattle.oai_pool.specs.Counts.{AddsName, KeepsNamed, StaysNamed, count_of, used_of};
-ghost use Rattle.oai_pool.specs.Faults.{IsCounted};
+ghost use Rattle.oai_pool.specs.Calls.{Spares, Spends};
 ghost use Rattle.oai_pool.specs.declared.pools.PoolFault.TheVariants as fault;
 ghost use Rattle.oai_pool.specs.declared.pools.TheConstants.{MOST_PAGES};
 
@@ -83,11 +83,7 @@ pub trait PagePool {
 
         ensures kept { KeepsNamed (counts self.old) (pages self.old) (pages self.new) }
         ensures named { StaysNamed (counts self.old) (counts self.new) }
-        ensures full { IsErrOf result PoolFault.TooManyPages → room self.old < 1 }
-        ensures room { room self.old ≤ room self.new + 1 }
-        ensures device { IsCounted result (failures self.old) (failures self.new) }
-        ensures honesty { honest self.new ≡ honest self.old }
-        ensures cache { cache_size self.new ≡ cache_size self.old };
+        ensures pool { Spends room failures cache_size honest 1 result self.old self.new };
 
     /// Names a page that is named once more. TooManyPages, where it is named 4,294,967,295 times. It takes
     /// no memory, and calls no device.
@@ -100,10 +96,7 @@ pub trait PagePool {
 
         ensures same { pages self.new ≡ pages self.old }
         ensures named { StaysNamed (counts self.old) (counts self.new) }
-        ensures room { room self.old ≤ room self.new }
-        ensures failures { failures self.new ≡ failures self.old }
-        ensures honesty { honest self.new ≡ honest self.old }
-        ensures cache { cache_size self.new ≡ cache_size self.old };
+        ensures pool { Spares room failures cache_size honest self.old self.new };
 
     /// Names a page that is named once less. Where it is then named no more, its number is free to be given
     /// again, and it leaves the cache. It takes no memory, calls no device, and cannot fail.
@@ -112,10 +105,7 @@ pub trait PagePool {
         ensures counts { AddsName no (counts self.new) (counts self.old) }
 
         ensures kept { KeepsNamed (counts self.new) (pages self.old) (pages self.new) }
-        ensures room { room self.old ≤ room self.new }
-        ensures failures { failures self.new ≡ failures self.old }
-        ensures honesty { honest self.new ≡ honest self.old }
-        ensures cache { cache_size self.new ≡ cache_size self.old };
+        ensures pool { Spares room failures cache_size honest self.old self.new };
 
     /// The page of a number that is named: over an honest device the one that was added under it. Device or
     /// NoMemory.
@@ -125,12 +115,7 @@ pub trait PagePool {
             (λ page. IsTrue (honest self.old) → pages self.old no ≡ Some page.value) }
         ensures counts { counts self.new ≡ counts self.old }
         ensures same { pages self.new ≡ pages self.old }
-        ensures fault { IfErr result (λ cause. cause ≢ fault.TooManyPages) }
-
-        ensures room { room self.old ≤ room self.new }
-        ensures device { IsCounted result (failures self.old) (failures self.new) }
-        ensures honesty { honest self.new ≡ honest self.old }
-        ensures cache { cache_size self.new ≡ cache_size self.old };
+        ensures pool { Spends room failures cache_size honest 0 result self.old self.new };
 
     /// How many pages are named.
     fn used(&self) -> usize
@@ -140,6 +125,9 @@ pub trait PagePool {
     fn cached(&self) -> usize
         ensures pages { result ≡ cached_pages self.now }
         ensures within { result ≤ cache_size self.now };
+
+    /// A page that is named was added.
+    ghost stored: { (p : Self) (n : ℕ) → 0 < count_of (counts p) n → IsSome (pages p n) };
 
     /// No number at the limit or above it is named.
     ghost limited: { (p : Self) (n : ℕ) → MOST_PAGES ≤ n → count_of (counts p) n ≡ 0 };

@@ -1,6 +1,6 @@
 //! Pages between a device and memory.
 ghost use Rattle.std.specs.Prelude.{◌≡◌, ◌≢◌, ℕ, Some, IfErr, IfOk, IsSome, IsTrue, OnOk};
-ghost use Rattle.oai_pool.specs.Faults.{IsCounted};
+ghost use Rattle.oai_pool.specs.Calls.{IsCounted};
 ghost use Rattle.oai_pool.specs.declared.pools.PoolFault.TheVariants as fault;
 
 use crate::pools::PoolFault;
