@@ -1,0 +1,38 @@
+//! What the tests of this crate compare with, as functions: what `assert_eq!` writes is proved wherever it stands.
+use oai_device::{PAGE_BYTES, Page};
+use std::alloc::Global;
+use std::fmt::{Debug, Display};
+use std::panic::Expect;
+use std::process::Abort;
+
+/// Fails the test, and shows both values, where they are not equal.
+pub(crate) fn assert_same<T: PartialEq + Debug + Drop>(rt: &impl Abort, found: T, wanted: T) {
+    assert_eq!(rt; found, wanted);
+}
+
+/// Fails the test where the value is not told as the text that is wanted, and shows both; or for want of memory.
+pub(crate) fn assert_shown<T: Display + Drop>(
+    rt: &impl Abort,
+    alloc: Global,
+    value: T,
+    wanted: &str,
+) {
+    assert_eq!(rt;
+        value.to_string(alloc).expect(rt, "memory").as_str(),
+        wanted
+    );
+}
+
+/// A page of its own for each number.
+pub(crate) fn page_of(number: u16) -> Page {
+    let [high, low] = number.to_be_bytes();
+    let mut page = [low; PAGE_BYTES];
+    page[0] = high;
+    page
+}
+
+/// Fails the test where the page is not that of the number, and shows the number that it is of.
+pub(crate) fn assert_page(rt: &impl Abort, found: &Page, number: u16) {
+    assert_same(rt, u16::from_be_bytes([found[0], found[1]]), number);
+    assert!(rt; *found == page_of(number));
+}

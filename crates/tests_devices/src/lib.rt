@@ -1,0 +1,23 @@
+//! Tests of page devices (`oai_device`) and of the pool of pages (`oai_pool`); and a device that counts its
+//! calls, for the tests of what stands on pools too.
+#![tactic(auto)]
+
+#[cfg(test)]
+mod assertions;
+mod counting;
+#[cfg(test)]
+mod devices;
+#[cfg(test)]
+mod failing;
+#[cfg(test)]
+mod files;
+#[cfg(test)]
+mod filled;
+#[cfg(test)]
+mod pools;
+#[cfg(test)]
+mod steps;
+#[cfg(test)]
+mod worn;
+
+pub use counting::CountingDevice;

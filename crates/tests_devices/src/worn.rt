@@ -1,0 +1,35 @@
+//! A device that has failed as often as can be counted.
+
+use oai_device::{DeviceFault, MOST_FAILURES, Page, PageDevice};
+
+/// A device over another one whose count of failures stands at its last value.
+#[derive(Drop)]
+pub(crate) struct WornDevice<D: PageDevice> {
+    pub(crate) inner: D,
+}
+
+impl<D: PageDevice> PageDevice for WornDevice<D> {
+    ghost use Rattle.oai_device.specs.declared.devices.TheConstants.{MOST_FAILURES};
+
+    ghost pages = { λ d. D.pages d.inner };
+
+    ghost failures = { λ _. MOST_FAILURES };
+
+    ghost honest = { λ d. D.honest d.inner };
+
+    ghost reads_take_memory = { D.reads_take_memory };
+
+    ghost writes_take_memory = { D.writes_take_memory };
+
+    fn read(&mut self, no: u32, page: &mut Page) -> Result<(), DeviceFault> {
+        self.inner.read(no, page)
+    }
+
+    fn write(&mut self, no: u32, page: &Page) -> Result<(), DeviceFault> {
+        self.inner.write(no, page)
+    }
+
+    fn faults(&self) -> u64 {
+        MOST_FAILURES
+    }
+}
