@@ -1,7 +1,7 @@
 #!/usr/bin/env bash
 # Measures the pool of pages: a program is made in a copy of oai_device and oai_pool, proved, built and run; it prints for each kind of call how
 # many were made and how many nanoseconds one took. Files lie in the copy, so they stand in the system's page cache. It judges nothing, and
-# stands beside the gate. It takes some three gigabytes of memory.
+# stands beside the gate. It takes some three gigabytes of memory. COPY is a folder for the copy, which then stays: for other tools to look at.
 # Usage: scripts/pool-speed.sh
 set -eu
 cd "$(dirname "$0")/.."
@@ -9,8 +9,8 @@ if ! command -v rt >/dev/null; then
     echo "pool-speed.sh needs the Rattle kit's command rt, which is not on the PATH" >&2
     exit 2
 fi
-copy=$(mktemp -d)
-trap 'rm -rf "$copy"' EXIT
+copy=${COPY:-$(mktemp -d)}
+trap '[ -n "${COPY:-}" ] || rm -rf "$copy"' EXIT
 mkdir "$copy/crates"
 cp -r crates/oai_device crates/oai_pool "$copy/crates"
 {
@@ -56,14 +56,16 @@ fn fill<P: PagePool>(rt: &impl Abort, pool: &mut P, pages: u32)
     }
 }
 
-/// Reads each page once.
-fn read_in_order<P: PagePool>(rt: &impl Abort, pool: &mut P, pages: u32)
-    requires { (n : ℕ) → n < pages → 0 < count_of (P.counts pool.old) n }
+/// Reads so many of the pages, one after the other, over and over.
+fn read_in_order<P: PagePool>(rt: &impl Abort, pool: &mut P, pages: u32, calls: u32)
+    requires some { 0 < pages }
+    requires named { (n : ℕ) → n < pages → 0 < count_of (P.counts pool.old) n }
     ensures { P.counts pool.new ≡ P.counts pool.old }
 {
-    for number in 0..pages {
-        let page = pool.read(number).expect(rt, "read");
-        assert!(rt; page[0] == (number % 256) as u8);
+    for number in 0..calls {
+        let no = number % pages;
+        let page = pool.read(no).expect(rt, "read");
+        assert!(rt; page[0] == (no % 256) as u8);
     }
 }
 
@@ -111,23 +113,33 @@ fn add_and_drop<P: PagePool>(rt: &impl Abort, pool: &mut P, calls: u32) {
     }
 }
 
-/// Measures a pool of 2,000 pages over the device, with a cache of 1,000.
-fn measure<D: PageDevice>(rt: &(impl Print + Clock + Abort), alloc: Global, device: D, name: &str) {
+/// Measures a pool of twice as many pages over the device as its cache holds.
+fn measure<D: PageDevice>(
+    rt: &(impl Print + Clock + Abort),
+    alloc: Global,
+    device: D,
+    cache: u16,
+    name: &str,
+)
+    requires { 0 < cache }
+{
     println!(rt; "{name}").expect(rt, "println");
-    let mut pool = Pool::new(alloc, device, 1_000).expect(rt, "Pool::new");
+    let cached = u32::from(cache);
+    let pages = 2 * cached;
+    let mut pool = Pool::new(alloc, device, usize::from(cache)).expect(rt, "Pool::new");
     let start = Instant::now(rt).expect(rt, "now");
-    fill(rt, &mut pool, 2_000);
-    tell(rt, "  add of a new page", 2_000, start);
-    read_in_order(rt, &mut pool, 2_000);
+    fill(rt, &mut pool, pages);
+    tell(rt, "  add of a new page", pages, start);
+    read_in_order(rt, &mut pool, pages, pages);
     let start = Instant::now(rt).expect(rt, "now");
-    read_in_order(rt, &mut pool, 2_000);
-    tell(rt, "  read that misses", 2_000, start);
-    read_in_order(rt, &mut pool, 1_000);
+    read_in_order(rt, &mut pool, pages, 100_000);
+    tell(rt, "  read that misses", 100_000, start);
+    read_in_order(rt, &mut pool, cached, cached);
     let start = Instant::now(rt).expect(rt, "now");
-    read_at_random(rt, &mut pool, 1_000, 10_000_000);
+    read_at_random(rt, &mut pool, cached, 10_000_000);
     tell(rt, "  read from the cache", 10_000_000, start);
     let start = Instant::now(rt).expect(rt, "now");
-    share_and_drop_each(rt, &mut pool, 2_000, 10_000_000);
+    share_and_drop_each(rt, &mut pool, pages, 10_000_000);
     tell(rt, "  share and drop_ref", 10_000_000, start);
     let start = Instant::now(rt).expect(rt, "now");
     add_and_drop(rt, &mut pool, 100_000);
@@ -144,9 +156,9 @@ fn measure_much(rt: &(impl Print + Clock + Abort), alloc: Global) {
     fill(rt, &mut pool, 70_000);
     tell(rt, "  add of a new page", 70_000, start);
     let start = Instant::now(rt).expect(rt, "now");
-    read_in_order(rt, &mut pool, 70_000);
+    read_in_order(rt, &mut pool, 70_000, 70_000);
     tell(rt, "  read that misses", 70_000, start);
-    read_in_order(rt, &mut pool, 65_000);
+    read_in_order(rt, &mut pool, 65_000, 65_000);
     let start = Instant::now(rt).expect(rt, "now");
     read_at_random(rt, &mut pool, 65_000, 10_000_000);
     tell(rt, "  read from the cache", 10_000_000, start);
@@ -168,9 +180,12 @@ fn empty_file<R: Files<File = File> + Abort>(rt: &R, path: &str) -> File {
 fn main(rt: HostRuntime) {
     let alloc = rt.alloc();
     println!(&rt; "{:<48} {:>10} {:>10}", "call", "calls", "ns").expect(&rt, "println");
-    measure(&rt, alloc, MemoryDevice::new(alloc), "2,000 pages in memory, a cache of 1,000");
-    let file = empty_file(&rt, "pool-speed.pages");
-    measure(&rt, alloc, FileDevice::new(file), "2,000 pages in a file, a cache of 1,000");
+    measure(&rt, alloc, MemoryDevice::new(alloc), 16, "32 pages in memory, a cache of 16");
+    measure(&rt, alloc, MemoryDevice::new(alloc), 1_000, "2,000 pages in memory, a cache of 1,000");
+    let file = empty_file(&rt, "few.pages");
+    measure(&rt, alloc, FileDevice::new(file), 16, "32 pages in a file, a cache of 16");
+    let file = empty_file(&rt, "many.pages");
+    measure(&rt, alloc, FileDevice::new(file), 1_000, "2,000 pages in a file, a cache of 1,000");
     measure_much(&rt, alloc);
 }
 RATTLE
@@ -181,7 +196,7 @@ for function in fill read_in_order read_at_random share_and_drop_each; do
     *) invariant='g.P.PagePool.counts l.pool ≡ g.P.PagePool.counts l.fn.pool' ;;
     esac
     loop=number
-    if [ $function = read_at_random ]; then loop=_call; fi
+    if [ $function = read_at_random ]; then loop=call; fi
     cat >"$program/proofs/$function/Invariants.antt" <<ANTT
 use Rattle.std.proofs.Common.{◌≡◌, ◌<◌, ℕ}
 use Rattle.oai_pool.specs.Counts.{count_of}
