@@ -8,7 +8,7 @@ use Rattle.std.proofs.lemmas.List.{map-append}
 use Rattle.std.proofs.lemmas.List.Elements.{filter-append}
 use Rattle.oai_host.proofs.RunLemmas.{answered_last, answered_none, exchanged_last}
 use Rattle.oai_host.specs.Hosts.{Hosting}
-use Rattle.oai_host.specs.declared.exchanges.Call.{Call}
+use Rattle.oai_http.specs.declared.exchanges.Call.{Call}
 use Rattle.oai_edge.specs.Asked.{AreAsked, AreDone}
 use Rattle.oai_edge.specs.Inputs.{IsNext, IsUnread, left, unread}
 use Rattle.oai_edge.specs.Lines.{IsLineDone, IsUnsaid, is_bad, is_filled, shown, spelled}

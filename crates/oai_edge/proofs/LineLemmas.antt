@@ -1,7 +1,7 @@
 -- What the parts of a line tell is what the line tells.
 use Rattle.std.proofs.Common.{◌≡◌, ℕ, ℤ, ◌==◌, true, nat_le, List, Option, Some, None, refl}
 use Rattle.std.specs.List.{count_by}
-use Rattle.oai_host.specs.declared.exchanges.Call.{Call}
+use Rattle.oai_http.specs.declared.exchanges.Call.{Call}
 use Rattle.oai_edge.specs.Events.{coming, told}
 use Rattle.oai_edge.specs.Lines.{is_space, part, rest, spelled, type_of}
 use Rattle.oai_edge.specs.Numbers.{moment_of, number_in}

@@ -15,7 +15,7 @@ use Rattle.std.proofs.lemmas.List.Sums.{position_or_len_is}
 use Rattle.hex.proofs.HexLemmas.{decode_of-encode_lower, decode_of-ok, length-encode_with}
 use Rattle.hex.specs.Hex.{IsBytes, encode_lower, is_hex_digit, lower_digits}
 use Rattle.oai_host.specs.Bodies.{is_line_end}
-use Rattle.oai_host.specs.declared.exchanges.Call.{Call}
+use Rattle.oai_http.specs.declared.exchanges.Call.{Call}
 use Rattle.oai_edge.specs.Places.{lines_of}
 use Rattle.oai_edge.specs.Events.{IsReadBack, IsTellable, coming, coming_text, event_line, told}
 use Rattle.oai_edge.specs.Lines.{IsSpellable, call_line, is_space, part, rest, spelled, type_of}

@@ -3,8 +3,8 @@ use Rattle.std.specs.Prelude.{◌≡◌, ℕ, true, List, map, filter, Some, Res
 use Rattle.std.specs.List.{flat_map}
 use Rattle.oai_host.specs.Exchanged.{AreExchanged}
 use Rattle.oai_host.specs.Hosts.{AreAnswered, Hosting}
-use Rattle.oai_host.specs.declared.exchanges.Answer.{Answer}
-use Rattle.oai_host.specs.declared.exchanges.Call.{Call}
+use Rattle.oai_http.specs.declared.exchanges.Answer.{Answer}
+use Rattle.oai_http.specs.declared.exchanges.Call.{Call}
 use Rattle.oai_edge.specs.Lines.{IsUnsaid, is_bad, is_filled, shown, spelled}
 use Rattle.oai_edge.specs.Places.{AreFirst, IsAt}
 use Rattle.oai_edge.specs.declared.stop.Stop.{Stop}

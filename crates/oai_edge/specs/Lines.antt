@@ -7,11 +7,11 @@ use Rattle.std.specs.Int.{w64}
 use Rattle.oai_host.specs.Exchanged.{IsExchanged}
 use Rattle.oai_host.specs.Hosts.{Hosting}
 use Rattle.oai_host.specs.Optional.{◌>>=◌, tested}
-use Rattle.oai_host.specs.Statuses.{number_of}
-use Rattle.oai_host.specs.Tasks.{call_of}
-use Rattle.oai_host.specs.declared.exchanges.Answer.{Answer}
-use Rattle.oai_host.specs.declared.exchanges.Call.{Call}
-use Rattle.oai_host.specs.declared.exchanges.Exchange.{Exchange}
+use Rattle.oai_http.specs.Statuses.{number_of}
+use Rattle.oai_http.specs.Exchanges.{call_of}
+use Rattle.oai_http.specs.declared.exchanges.Answer.{Answer}
+use Rattle.oai_http.specs.declared.exchanges.Call.{Call}
+use Rattle.oai_http.specs.declared.exchanges.Exchange.{Exchange}
 use Rattle.oai_edge.specs.Numbers.{moment_of}
 
 -- ---- a line: `<moment> <METHOD> <target>`, and then for a body one space and the body to the end of the line

@@ -4,7 +4,7 @@ ghost use Rattle.std.specs.Fmt.{signed_decimal};
 ghost use Rattle.std.specs.Io.KnownBytes.{Appends};
 ghost use Rattle.oai_edge.specs.Lines as spec;
 
-use oai_host::Answer;
+use oai_http::Answer;
 use std::io::{self, Write};
 
 /// Writes an answer: its status with the numbers that it has, a line end, and its body.

@@ -3,7 +3,7 @@ ghost use Rattle.std.specs.Prelude.{◌≡◌, ◌≢◌, ◌^◌, ◌<◌, ℕ,
 ghost use Rattle.std.specs.Fmt.{signed_decimal};
 ghost use Rattle.std.specs.Int.{w64};
 ghost use Rattle.hex.specs.Hex.{IsBytes};
-ghost use Rattle.oai_host.specs.declared.exchanges.Call.{Call};
+ghost use Rattle.oai_http.specs.declared.exchanges.Call.{Call};
 ghost use Rattle.oai_edge.specs.Events.{IsReadBack, IsTellable, event_line, told};
 ghost use Rattle.oai_edge.specs.Lines.{IsSpellable, call_line, spelled};
 ghost use Rattle.oai_edge.specs.Numbers.{moment_of, number_in};

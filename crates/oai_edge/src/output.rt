@@ -8,7 +8,8 @@ ghost use Rattle.oai_edge.specs.declared.output.TheConstants.{SHORT_BYTES};
 ghost use Rattle.oai_edge.specs.declared.stop.Stop.TheVariants.{NoMemory};
 
 use crate::stop::Stop;
-use oai_front::{ConnId, Front, Handler};
+use oai_front::{ConnId, Front};
+use oai_http::Handler;
 use std::alloc::{AllocError, Global};
 use std::io::{self, Write};
 

@@ -5,7 +5,8 @@ ghost use Rattle.std.specs.Net.Socket.{v4_ip, v4_port};
 
 use crate::serving::serve_stream;
 use crate::stop::Stop;
-use oai_front::{Front, Handler};
+use oai_front::Front;
+use oai_http::Handler;
 use std::alloc::Global;
 use std::io::{self, Read, Write};
 use std::net::{Ipv4Addr, Net, OpenListener, OpenStream, SocketAddr, SocketAddrV4};

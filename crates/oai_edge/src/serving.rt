@@ -10,7 +10,8 @@ ghost use Rattle.oai_edge.specs.declared.limits.TheConstants.{READ_BYTES};
 
 use crate::limits::{MOST_READS, READ_BYTES};
 use crate::output::{Gathered, put_out};
-use oai_front::{ConnId, Front, Handler, OpenFault, PieceFault};
+use oai_front::{ConnId, Front, OpenFault, PieceFault};
+use oai_http::Handler;
 use std::alloc::Global;
 use std::io::{Read, Write};
 use std::rt::Clock;

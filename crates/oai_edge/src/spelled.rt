@@ -4,7 +4,7 @@ ghost use Rattle.std.specs.Option.{option_copied, option_map};
 ghost use Rattle.oai_edge.specs.Lines as spec;
 
 use crate::parts::{cut, read_moment, spaces};
-use oai_host::{Exchange, FORM};
+use oai_http::{Exchange, FORM};
 
 /// Reads a line: three or four parts between single spaces, of which the last goes to the end. It is a
 /// moment in seconds from 1970 on, a method, a target and a body; the body of a POST is a form.

@@ -16,16 +16,16 @@ use Rattle.std.proofs.lemmas.List.Folds.{list_all-append}
 use Rattle.httparse.specs.Grammar.{Field, IsField, IsResponseHead, ResponseHead, crlf, is_ows, is_token_byte, is_value_byte, print_field, print_response, skip_ows, trim_ows}
 use Rattle.httparse.specs.Spans.{name_and_value}
 use Rattle.httparse.proofs.TrimLemmas.{trim_ows_space}
-use Rattle.oai_host.specs.Statuses.{number_of, phrase_of}
-use Rattle.oai_host.specs.declared.exchanges.Answer.{Answer}
-use Rattle.oai_host.specs.declared.statuses.Status.{Status}
-use Rattle.oai_host.specs.declared.statuses.Status.TheVariants as status
+use Rattle.oai_http.specs.Statuses.{number_of, phrase_of}
+use Rattle.oai_http.specs.declared.exchanges.Answer.{Answer}
+use Rattle.oai_http.specs.declared.statuses.Status.{Status}
+use Rattle.oai_http.specs.declared.statuses.Status.TheVariants as status
 use Rattle.oai_front.specs.Clients.{IsReadBack}
 use Rattle.oai_front.specs.Fields.{any_close, is_alike, is_named, lists_close, values_named}
 use Rattle.oai_front.specs.Heads.{allow_field, answer_bytes, answer_head, close_field, done_field, fault_bytes, field, head_told, length_field, plain, retry_field, status_fields, status_line, type_field}
 use Rattle.oai_front.specs.declared.heads.AnswerHead.{AnswerHead}
-use Rattle.oai_front.specs.declared.heads.Place.{Place}
-use Rattle.oai_front.specs.declared.heads.Place.TheVariants.{Requests, Deposits, Elsewhere}
+use Rattle.oai_http.specs.declared.targets.Endpoint.{Endpoint}
+use Rattle.oai_http.specs.declared.targets.Endpoint.TheVariants.{Requests, Deposits}
 
 -- ---- numbers
 
@@ -147,37 +147,37 @@ one name value sizes closes valid size coding close = record {
 
 -- ---- the lines of a head
 
-type_told : (place : Place) → Tells (type_field place) [] []
+type_told : (endpoint : Option Endpoint) → Tells (type_field endpoint) [] []
 unfolding type_field plain values_named is_alike is_token_byte
-type_told Requests = one (codes "Content-Type") (codes "text/xml") [] [] (line_valid _ _ (omega arith) refl refl) refl refl refl
-type_told Deposits = one (codes "Content-Type") (codes "text/plain; charset=utf-8") [] [] (line_valid _ _ (omega arith) refl refl) refl refl refl
-type_told Elsewhere = nothing
+type_told (Some Requests) = one (codes "Content-Type") (codes "text/xml") [] [] (line_valid _ _ (omega arith) refl refl) refl refl refl
+type_told (Some Deposits) = one (codes "Content-Type") (codes "text/plain; charset=utf-8") [] [] (line_valid _ _ (omega arith) refl refl) refl refl refl
+type_told None = nothing
 
-allow_told : (place : Place) → Tells (allow_field place) [] []
+allow_told : (endpoint : Option Endpoint) → Tells (allow_field endpoint) [] []
 unfolding allow_field plain values_named is_alike is_token_byte
-allow_told Requests = one (codes "Allow") (codes "GET, POST") [] [] (line_valid _ _ (omega arith) refl refl) refl refl refl
-allow_told Deposits = one (codes "Allow") (codes "POST") [] [] (line_valid _ _ (omega arith) refl refl) refl refl refl
-allow_told Elsewhere = nothing
+allow_told (Some Requests) = one (codes "Allow") (codes "GET, POST") [] [] (line_valid _ _ (omega arith) refl refl) refl refl refl
+allow_told (Some Deposits) = one (codes "Allow") (codes "POST") [] [] (line_valid _ _ (omega arith) refl refl) refl refl refl
+allow_told None = nothing
 
 retry_told : (seconds : Option ℤ) → Tells (retry_field seconds) [] []
 unfolding retry_field values_named is_alike is_token_byte
 retry_told None = nothing
 retry_told (Some seconds) = one (codes "Retry-After") (signed_decimal seconds) [] [] (line_valid _ _ (omega arith) refl (signed_is_value seconds)) refl refl refl
 
-done_told : (place : Place) (lines : Option ℕ) → Tells (done_field place lines) [] []
+done_told : (endpoint : Option Endpoint) (lines : Option ℕ) → Tells (done_field endpoint lines) [] []
 unfolding done_field values_named is_alike is_token_byte
-done_told Deposits (Some lines) =
+done_told (Some Deposits) (Some lines) =
     one (codes "X-Lines-Done") (decimal lines) [] [] (line_valid _ _ (omega arith) refl (digits_are_value (decimal lines) (decimal_passes lines))) refl refl refl
-done_told Deposits None = nothing
-done_told Requests lines = nothing
-done_told Elsewhere lines = nothing
+done_told (Some Deposits) None = nothing
+done_told (Some Requests) lines = nothing
+done_told None lines = nothing
 
 status_told : (of : Status) (head : AnswerHead) → Tells (status_fields of head) [] []
 unfolding status_fields
-status_told status.Ok head = type_told head.place
-status_told status.MethodNotAllowed head = allow_told head.place
-status_told status.InternalServerError head = done_told head.place head.done
-status_told status.ServiceUnavailable head = both (retry_field head.seconds) (done_field head.place head.done) [] [] [] [] (retry_told head.seconds) (done_told head.place head.done)
+status_told status.Ok head = type_told head.endpoint
+status_told status.MethodNotAllowed head = allow_told head.endpoint
+status_told status.InternalServerError head = done_told head.endpoint head.done
+status_told status.ServiceUnavailable head = both (retry_field head.seconds) (done_field head.endpoint head.done) [] [] [] [] (retry_told head.seconds) (done_told head.endpoint head.done)
 status_told other head = nothing
 
 abbrev close_values : Bool → List (List ℕ)
@@ -293,4 +293,4 @@ answer_read target last answer others =
 
 pub fault_read : (of : Status) (others : List ℕ) → IsReadBack (fault_bytes of ++ others) of true [] others
 unfolding fault_bytes
-fault_read of others = head_read (record { place = Elsewhere; status = of; seconds = None; done = None; last = true; size = 0 }) [] others refl
+fault_read of others = head_read (record { endpoint = None; status = of; seconds = None; done = None; last = true; size = 0 }) [] others refl

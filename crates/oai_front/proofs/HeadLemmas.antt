@@ -11,7 +11,7 @@ use Rattle.httparse.specs.declared.spans.HeaderSpan.{HeaderSpan}
 use Rattle.httparse.specs.declared.spans.RequestSpans.{RequestSpans}
 use Rattle.httparse.specs.declared.spans.Span.{Span}
 use Rattle.httparse.proofs.GrammarLemmas.{ReadsRequest-append}
-use Rattle.oai_host.specs.declared.statuses.Status.{Status}
+use Rattle.oai_http.specs.declared.statuses.Status.{Status}
 use Rattle.oai_front.specs.Fields.{first_value, plan_of, values_named}
 use Rattle.oai_front.specs.Messages.{Begins, HasNoHead, IsRefused, NeverHasHead, fields_of, plan_behind}
 use Rattle.oai_front.specs.Workings.{IsBeginning, IsHead, IsKept}

@@ -7,4 +7,3 @@ pub mod Numbered
 pub mod FrontLemmas
 pub mod StreamLemmas
 pub mod RunLemmas
-pub mod HostRunLemmas

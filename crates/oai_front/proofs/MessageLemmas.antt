@@ -5,10 +5,11 @@ use Rattle.std.specs.Prelude.{IfSome}
 use Rattle.std.proofs.lemmas.List.{append-nil, drop-drop, length-append, length-drop, length-take-le, take-append-drop}
 use Rattle.std.proofs.lemmas.List.Concat.{flat_map-append}
 use Rattle.httparse.proofs.GrammarLemmas.{request_unique}
-use Rattle.oai_host.specs.declared.statuses.Status.{Status}
-use Rattle.oai_host.specs.declared.exchanges.Answer.{Answer}
+use Rattle.oai_http.specs.declared.statuses.Status.{Status}
+use Rattle.oai_http.specs.declared.exchanges.Answer.{Answer}
 use Rattle.oai_front.specs.Heads.{answer_bytes, fault_bytes}
-use Rattle.oai_front.specs.Messages.{Asked, Begins, End, HasNoHead, HasWhole, IsClosing, IsFault, IsUnfinished, MayBegin, Message, Reads, Splits, closes, faults, plan_behind, waits}
+use Rattle.oai_http.specs.Exchanges.{Asked}
+use Rattle.oai_front.specs.Messages.{Begins, End, HasNoHead, HasWhole, IsClosing, IsFault, IsUnfinished, MayBegin, Message, Reads, Splits, closes, faults, plan_behind, waits}
 use Rattle.oai_front.specs.Performing.{Completes, Done, Performs, Run, Steps, answers_of, done_bytes, end_bytes, messages_of}
 use Rattle.oai_front.specs.Workings.{IsHead, IsSoFar, Writes, behind, message_behind}
 use Rattle.oai_front.specs.declared.beginnings.Head.{Head}

@@ -11,7 +11,7 @@ use Rattle.std.proofs.lemmas.List.Elements.{All-cons, All-nil, filter-append}
 use Rattle.std.proofs.lemmas.List.Folds.{list_any-append}
 use Rattle.std.proofs.lemmas.List.Sums.{sum_by-append, sum_by-cons}
 use Rattle.httparse.specs.Grammar.{IsRequestHead, RequestHead, crlf, is_token_byte, is_uri_byte, print_request}
-use Rattle.oai_host.specs.declared.statuses.Status.{Status}
+use Rattle.oai_http.specs.declared.statuses.Status.{Status}
 use Rattle.oai_front.proofs.HeadLemmas.{head_has_bytes}
 use Rattle.oai_front.proofs.StreamLemmas.{splits_join, splits_more, stream_join, stream_over}
 use Rattle.oai_front.specs.Connections.{Connection, IsEnded, bytes_with, connection_at, fresh, rest_at, stage_at}

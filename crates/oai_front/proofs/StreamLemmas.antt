@@ -6,8 +6,8 @@ use Rattle.std.proofs.Math.Seq.{drop-append_seam, take-append_seam}
 use Rattle.std.specs.Prelude.{Option, codes}
 use Rattle.httparse.specs.Grammar.{HasNoRequest, NeverHasRequest, RequestHead}
 use Rattle.httparse.proofs.GrammarLemmas.{request_unique}
-use Rattle.oai_host.specs.declared.statuses.Status.{Status}
-use Rattle.oai_host.specs.declared.statuses.Status.TheVariants.{BadRequest}
+use Rattle.oai_http.specs.declared.statuses.Status.{Status}
+use Rattle.oai_http.specs.declared.statuses.Status.TheVariants.{BadRequest}
 use Rattle.oai_front.specs.Fields.{first_value, values_named}
 use Rattle.oai_front.specs.Messages.{fields_of, AreAlike, Begins, End, HasNoHead, IsClosing, IsFault, IsRefused, IsUnfinished, Message, NeverHasHead, Reads, Splits, Stream, closes, faults, plan_behind, waits}
 use Rattle.oai_front.specs.declared.beginnings.TheConstants.{MOST_HEAD_BYTES}

@@ -3,8 +3,8 @@ use Rattle.std.specs.Prelude.{◌≡◌, ℕ, Bool, List, [], ◌∷◌, ◌++�
 use Rattle.std.specs.Fmt.{decimal}
 use Rattle.httparse.specs.Grammar.{ReadsResponse, ResponseHead, status_code}
 use Rattle.httparse.specs.Spans.{name_and_value}
-use Rattle.oai_host.specs.Statuses.{number_of}
-use Rattle.oai_host.specs.declared.statuses.Status.{Status}
+use Rattle.oai_http.specs.Statuses.{number_of}
+use Rattle.oai_http.specs.declared.statuses.Status.{Status}
 use Rattle.oai_front.specs.Fields.{any_close, values_named}
 
 -- the fields of the head, each its name and its value

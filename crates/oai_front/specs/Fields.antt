@@ -7,7 +7,7 @@ use Rattle.std.specs.Str.{str_eq_ignore_ascii_case}
 use Rattle.std.specs.Str.Parse.{digits_value}
 use Rattle.httparse.specs.Ascii.{comma}
 use Rattle.httparse.specs.Grammar.{trim_ows}
-use Rattle.oai_host.specs.declared.statuses.Status.TheVariants.{BadRequest, ContentTooLarge, NotImplemented}
+use Rattle.oai_http.specs.declared.statuses.Status.TheVariants.{BadRequest, ContentTooLarge, NotImplemented}
 use Rattle.oai_front.specs.declared.plans.Plan.{Plan}
 use Rattle.oai_front.specs.declared.plans.Plan.TheVariants.{Refused, Followed}
 use Rattle.oai_front.specs.declared.plans.TheConstants.{MOST_BODY_BYTES, MOST_LENGTH_DIGITS}

@@ -1,14 +1,14 @@
 -- The bytes of an answer: RFC 9112, sections 4 and 5; RFC 9110, sections 8.3, 8.6, 10.2.1, 10.2.3 and 7.6.1. Which fields stand in a head,
 -- and in which order, is this repository's own, and so is X-Lines-Done.
-use Rattle.std.specs.Prelude.{ℕ, ℤ, Bool, true, if◌then◌else◌, List, [], ◌++◌, length, take, codes, Option, Some, None}
+use Rattle.std.specs.Prelude.{ℕ, ℤ, Bool, true, if◌then◌else◌, List, [], ◌++◌, length, codes, Option, Some, None}
 use Rattle.std.specs.Fmt.{decimal, signed_decimal}
-use Rattle.std.specs.Str.{bytes_eq}
-use Rattle.oai_host.specs.Statuses.{number_of, phrase_of}
-use Rattle.oai_host.specs.declared.exchanges.Answer.{Answer}
-use Rattle.oai_host.specs.declared.statuses.Status.{Status}
-use Rattle.oai_host.specs.declared.statuses.Status.TheVariants as status
-use Rattle.oai_front.specs.declared.heads.Place.{Place}
-use Rattle.oai_front.specs.declared.heads.Place.TheVariants.{Requests, Deposits, Elsewhere}
+use Rattle.oai_http.specs.Statuses.{number_of, phrase_of}
+use Rattle.oai_http.specs.declared.exchanges.Answer.{Answer}
+use Rattle.oai_http.specs.declared.statuses.Status.{Status}
+use Rattle.oai_http.specs.declared.statuses.Status.TheVariants as status
+use Rattle.oai_http.specs.Targets.{endpoint_of}
+use Rattle.oai_http.specs.declared.targets.Endpoint.{Endpoint}
+use Rattle.oai_http.specs.declared.targets.Endpoint.TheVariants.{Requests, Deposits}
 use Rattle.oai_front.specs.declared.heads.AnswerHead.{AnswerHead}
 
 -- bytes as they stand; named so that the search does not spell them out
@@ -24,24 +24,17 @@ unfoldable pub status_line : Status → List ℕ
 status_line status =
     plain (codes "HTTP/1.1 ") ++ decimal (number_of status) ++ plain (codes " ") ++ phrase_of status ++ plain (codes "\r\n")
 
--- what stands at a target: the requests or the deposits of a repository, by how the target begins
-abbrev pub place_of : List ℕ → Place
-place_of target =
-    if bytes_eq (take 5 target) (codes "/oai/") then Requests
-    else (if bytes_eq (take 9 target) (codes "/deposit/") then Deposits
-    else Elsewhere)
-
 -- the type of a 200: RFC 9110, section 8.3; of requests OAI-PMH 2.0, section 3.1.2.1
-unfoldable pub type_field : Place → List ℕ
-type_field Requests = field (codes "Content-Type") (plain (codes "text/xml"))
-type_field Deposits = field (codes "Content-Type") (plain (codes "text/plain; charset=utf-8"))
-type_field Elsewhere = []
+unfoldable pub type_field : Option Endpoint → List ℕ
+type_field (Some Requests) = field (codes "Content-Type") (plain (codes "text/xml"))
+type_field (Some Deposits) = field (codes "Content-Type") (plain (codes "text/plain; charset=utf-8"))
+type_field None = []
 
 -- the methods that a target takes, where it was asked with another: RFC 9110, sections 10.2.1 and 15.5.6
-unfoldable pub allow_field : Place → List ℕ
-allow_field Requests = field (codes "Allow") (plain (codes "GET, POST"))
-allow_field Deposits = field (codes "Allow") (plain (codes "POST"))
-allow_field Elsewhere = []
+unfoldable pub allow_field : Option Endpoint → List ℕ
+allow_field (Some Requests) = field (codes "Allow") (plain (codes "GET, POST"))
+allow_field (Some Deposits) = field (codes "Allow") (plain (codes "POST"))
+allow_field None = []
 
 -- after how many seconds to ask again: RFC 9110, section 10.2.3, and OAI-PMH 2.0, section 3.1.2.2
 unfoldable pub retry_field : Option ℤ → List ℕ
@@ -49,16 +42,16 @@ retry_field None = []
 retry_field (Some seconds) = field (codes "Retry-After") (signed_decimal seconds)
 
 -- how many lines of a deposit were done before it failed
-unfoldable pub done_field : Place → Option ℕ → List ℕ
-done_field Deposits (Some lines) = field (codes "X-Lines-Done") (decimal lines)
-done_field place lines = []
+unfoldable pub done_field : Option Endpoint → Option ℕ → List ℕ
+done_field (Some Deposits) (Some lines) = field (codes "X-Lines-Done") (decimal lines)
+done_field endpoint lines = []
 
 -- the fields that the status asks for
 unfoldable pub status_fields : Status → AnswerHead → List ℕ
-status_fields status.Ok head = type_field head.place
-status_fields status.MethodNotAllowed head = allow_field head.place
-status_fields status.InternalServerError head = done_field head.place head.done
-status_fields status.ServiceUnavailable head = retry_field head.seconds ++ done_field head.place head.done
+status_fields status.Ok head = type_field head.endpoint
+status_fields status.MethodNotAllowed head = allow_field head.endpoint
+status_fields status.InternalServerError head = done_field head.endpoint head.done
+status_fields status.ServiceUnavailable head = retry_field head.seconds ++ done_field head.endpoint head.done
 status_fields other head = []
 
 -- RFC 9110, section 7.6.1: the connection is closed after the answer
@@ -81,7 +74,7 @@ answer_head head =
 -- what the head of an answer to that target tells, where the connection is closed after it or not
 abbrev pub head_told : List ℕ → Bool → Answer → AnswerHead
 head_told target last answer = record {
-  place = place_of target;
+  endpoint = endpoint_of target;
   status = answer.status;
   seconds = answer.seconds;
   done = answer.done;
@@ -95,4 +88,4 @@ answer_bytes target last answer = answer_head (head_told target last answer) ++ 
 
 -- the answer to a connection fault, after which the connection is closed
 unfoldable pub fault_bytes : Status → List ℕ
-fault_bytes status = answer_head (record { place = Elsewhere; status = status; seconds = None; done = None; last = true; size = 0 })
+fault_bytes status = answer_head (record { endpoint = None; status = status; seconds = None; done = None; last = true; size = 0 })

@@ -12,4 +12,3 @@ pub mod Fronts
 pub mod Places
 pub mod FrontInside
 pub mod Runs
-pub mod HostRuns

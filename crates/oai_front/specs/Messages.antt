@@ -1,21 +1,15 @@
 -- The messages of a connection: RFC 9112, sections 2, 3, 6 and 9. The bytes that come are one message behind the other, and then what
 -- belongs to none. A head is one of the grammar of `httparse`.
-use Rattle.std.specs.Prelude.{◌≡◌, ℕ, ◌<◌, ◌≤◌, ◌⊎◌, Bool, true, false, List, [], ◌∷◌, ◌++◌, length, map, codes, Option, ⊤}
+use Rattle.std.specs.Prelude.{◌≡◌, ℕ, ◌<◌, ◌≤◌, ◌⊎◌, Bool, true, false, List, [], ◌∷◌, ◌++◌, length, map, codes, ⊤}
 use Rattle.httparse.specs.Grammar.{MayBecomeRequest, NeverHasRequest, ReadsRequest, RequestHead, print_request}
 use Rattle.httparse.specs.Spans.{RequestExceeds, name_and_value}
-use Rattle.oai_host.specs.declared.statuses.Status.{Status}
-use Rattle.oai_host.specs.declared.statuses.Status.TheVariants.{BadRequest}
+use Rattle.oai_http.specs.declared.statuses.Status.{Status}
+use Rattle.oai_http.specs.declared.statuses.Status.TheVariants.{BadRequest}
+use Rattle.oai_http.specs.Exchanges.{Asked}
 use Rattle.oai_front.specs.Fields.{first_value, plan_of, values_named}
 use Rattle.oai_front.specs.declared.plans.Plan.{Plan}
 use Rattle.oai_front.specs.declared.plans.Plan.TheVariants.{Followed, Refused}
 use Rattle.oai_front.specs.declared.beginnings.TheConstants.{MOST_HEAD_FIELDS, MOST_HEAD_BYTES}
-
--- what a message asks: its method, its target, the value of its first field Content-Type, and its body
-pub record Asked : Type 0 where
-  pub method : List ℕ
-  pub target : List ℕ
-  pub content_type : Option (List ℕ)
-  pub body : List ℕ
 
 -- a message, and whether the connection is closed after it
 pub record Message : Type 0 where

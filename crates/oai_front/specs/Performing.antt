@@ -2,20 +2,10 @@
 -- repository's own.
 use Rattle.std.specs.Prelude.{◌≡◌, ℕ, ℤ, List, [], ◌∷◌, ◌++◌, map}
 use Rattle.std.specs.List.{flat_map}
-use Rattle.std.specs.Option.{option_copied}
-use Rattle.oai_host.specs.declared.exchanges.Answer.{Answer}
-use Rattle.oai_host.specs.declared.exchanges.Exchange.{Exchange}
+use Rattle.oai_http.specs.declared.exchanges.Answer.{Answer}
 use Rattle.oai_front.specs.Heads.{answer_bytes, fault_bytes}
-use Rattle.oai_front.specs.Messages.{Asked, End, Message, Splits, Stream, waits, closes, faults}
-
--- what an exchange asks, as plain data
-abbrev pub asked_by : Exchange → Asked
-asked_by exchange = record {
-  method = exchange.method.now;
-  target = exchange.target.now;
-  content_type = option_copied exchange.content_type;
-  body = exchange.body.now;
-}
+use Rattle.oai_http.specs.Exchanges.{Asked}
+use Rattle.oai_front.specs.Messages.{End, Message, Splits, Stream, waits, closes, faults}
 
 -- what a handler does: from what it was, at a moment, it may give that answer to what is asked, and go on as what it then is
 abbrev pub Steps : Type 0 → Type 1

@@ -4,7 +4,8 @@ use Rattle.std.specs.Option.{option_map}
 use Rattle.httparse.specs.Grammar.{RequestHead, print_request}
 use Rattle.httparse.specs.Spans.{IsWithin, span_bytes}
 use Rattle.oai_front.specs.Fields.{first_value, values_named}
-use Rattle.oai_front.specs.Messages.{Asked, Begins, End, HasNoHead, HasWhole, IsClosing, IsFault, IsRefused, IsUnfinished, MayBegin, fields_of, plan_behind, waits}
+use Rattle.oai_http.specs.Exchanges.{Asked}
+use Rattle.oai_front.specs.Messages.{Begins, End, HasNoHead, HasWhole, IsClosing, IsFault, IsRefused, IsUnfinished, MayBegin, fields_of, plan_behind, waits}
 use Rattle.oai_front.specs.Performing.{Completes, Performs, Steps}
 use Rattle.oai_front.specs.declared.messages.Next.{Next}
 use Rattle.oai_front.specs.declared.messages.Next.TheVariants.{Unfinished, Faulty, Message}
@@ -14,7 +15,7 @@ use Rattle.oai_front.specs.declared.beginnings.Beginning.{Beginning}
 use Rattle.oai_front.specs.declared.beginnings.Beginning.TheVariants.{Unknown, Fault, Whole}
 use Rattle.oai_front.specs.declared.beginnings.Head.{Head}
 use Rattle.oai_front.specs.declared.beginnings.TheConstants.{MOST_HEAD_BYTES}
-use Rattle.oai_host.specs.declared.statuses.Status.TheVariants.{BadRequest}
+use Rattle.oai_http.specs.declared.statuses.Status.TheVariants.{BadRequest}
 use Rattle.oai_front.specs.declared.plans.Plan.TheVariants.{Followed}
 
 -- the bytes begin with a head that is followed by a body, and this is what is kept of it

@@ -6,7 +6,7 @@ use crate::fields::first_named;
 use crate::plans::{Plan, plan_of};
 use httparse::spans::{EMPTY_HEADER_SPAN, HeaderSpan, RequestSpans, Span, parse_request};
 use httparse::{Error, Status as Parsed};
-use oai_host::Status;
+use oai_http::Status;
 
 /// The longest head, in bytes. Empty lines before it count.
 pub const MOST_HEAD_BYTES: usize = 16_384;

@@ -4,10 +4,10 @@ ghost use Rattle.oai_front.specs.Stages.{is_closing};
 
 use crate::beginnings::Head;
 use crate::faults::PieceFault;
-use crate::handlers::Handler;
 use crate::messages::{Left, Next, next_in, perform_all};
 use crate::queues::{drop_front, drop_taken, left_of};
 use crate::stages::Stage;
+use oai_http::Handler;
 use oai_names::Sequence;
 use std::alloc::{AllocError, Global};
 use std::collections::VecDeque;

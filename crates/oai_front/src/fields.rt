@@ -6,8 +6,8 @@ ghost use Rattle.std.specs.Prelude.{IfSome};
 ghost use Rattle.oai_front.specs.Fields as spec;
 
 use crate::plans::MOST_LENGTH_DIGITS;
-use crate::texts::trim;
 use httparse::spans::{HeaderSpan, Span};
+use oai_http::trim;
 
 /// How many of the fields have that name.
 #[tactic(auto, unfolding(crate::specs::Fields::values_named))]

@@ -7,8 +7,8 @@ ghost use Rattle.oai_front.specs.Stages.{is_closing};
 
 use crate::connections::Connection;
 use crate::faults::{NoSuchConnection, OpenFault, PieceFault};
-use crate::handlers::Handler;
 use crate::numbers::{ConnId, LAST_NUMBER};
+use oai_http::Handler;
 use std::alloc::Global;
 use std::marker::Model;
 

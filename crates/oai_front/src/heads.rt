@@ -3,24 +3,13 @@ ghost use Rattle.std.specs.Fmt.{signed_decimal};
 ghost use Rattle.oai_front.specs.Heads as spec;
 
 use itoa::Buffer;
-use oai_host::{DEPOSITS_FRONT, REQUESTS_FRONT, Status};
-
-/// What stands at a target.
-#[derive(Clone, Copy, PartialEq, Eq)]
-pub enum Place {
-    /// The requests of a repository: the path begins with `/oai/`.
-    Requests,
-    /// The deposits of a repository: the path begins with `/deposit/`.
-    Deposits,
-    /// Neither.
-    Elsewhere,
-}
+use oai_http::{Endpoint, Status};
 
 /// What the head of an answer tells.
 #[derive(Clone, Copy)]
 pub struct AnswerHead {
-    /// What stands at the target that was asked for.
-    pub place: Place,
+    /// What the target is for that was asked.
+    pub endpoint: Option<Endpoint>,
     /// The status.
     pub status: Status,
     /// After how many seconds to ask again, in a 503.
@@ -38,19 +27,6 @@ pub const HEAD_ROOM: usize = 512;
 
 /// Room enough for a line of a head, in bytes.
 pub const LINE_ROOM: usize = 64;
-
-/// What stands at the target, by how its path begins.
-pub(crate) fn place_of(target: &[u8]) -> Place
-    ensures { result ≡ spec.place_of target.now }
-{
-    if target.starts_with(REQUESTS_FRONT.as_bytes()) {
-        Place::Requests
-    } else if target.starts_with(DEPOSITS_FRONT.as_bytes()) {
-        Place::Deposits
-    } else {
-        Place::Elsewhere
-    }
-}
 
 /// Writes the head of an answer, with the empty line behind it, into room that is there (RFC 9112,
 /// sections 4 and 5).
@@ -92,12 +68,12 @@ fn write_fields(head: &AnswerHead, out: &mut Vec<u8>)
     ensures room { vec_capacity out.old ≤ vec_capacity out.new }
 {
     match head.status {
-        Status::Ok => write_type(head.place, out),
-        Status::MethodNotAllowed => write_allow(head.place, out),
-        Status::InternalServerError => write_done(head.place, head.done, out),
+        Status::Ok => write_type(head.endpoint, out),
+        Status::MethodNotAllowed => write_allow(head.endpoint, out),
+        Status::InternalServerError => write_done(head.endpoint, head.done, out),
         Status::ServiceUnavailable => {
             write_retry(head.seconds, out);
-            write_done(head.place, head.done, out);
+            write_done(head.endpoint, head.done, out);
         }
         _ => {}
     }
@@ -105,31 +81,31 @@ fn write_fields(head: &AnswerHead, out: &mut Vec<u8>)
 
 /// Writes the type of what a 200 has (RFC 9110, section 8.3).
 #[tactic(auto, unfolding(crate::specs::Heads::plain, crate::specs::Heads::type_field))]
-fn write_type(place: Place, out: &mut Vec<u8>)
+fn write_type(endpoint: Option<Endpoint>, out: &mut Vec<u8>)
     requires { vec_len out.old + LINE_ROOM ≤ vec_capacity out.old }
-    ensures items { out.new.items ≡ out.old.items ++ spec.type_field place }
+    ensures items { out.new.items ≡ out.old.items ++ spec.type_field endpoint }
     ensures len { vec_len out.new ≤ vec_len out.old + LINE_ROOM }
     ensures room { vec_capacity out.old ≤ vec_capacity out.new }
 {
-    match place {
-        Place::Requests => write_field("Content-Type", b"text/xml", out),
-        Place::Deposits => write_field("Content-Type", b"text/plain; charset=utf-8", out),
-        Place::Elsewhere => {}
+    match endpoint {
+        Some(Endpoint::Requests) => write_field("Content-Type", b"text/xml", out),
+        Some(Endpoint::Deposits) => write_field("Content-Type", b"text/plain; charset=utf-8", out),
+        None => {}
     }
 }
 
 /// Writes which methods may be used, where another was (RFC 9110, section 10.2.1).
 #[tactic(auto, unfolding(crate::specs::Heads::plain, crate::specs::Heads::allow_field))]
-fn write_allow(place: Place, out: &mut Vec<u8>)
+fn write_allow(endpoint: Option<Endpoint>, out: &mut Vec<u8>)
     requires { vec_len out.old + LINE_ROOM ≤ vec_capacity out.old }
-    ensures items { out.new.items ≡ out.old.items ++ spec.allow_field place }
+    ensures items { out.new.items ≡ out.old.items ++ spec.allow_field endpoint }
     ensures len { vec_len out.new ≤ vec_len out.old + LINE_ROOM }
     ensures room { vec_capacity out.old ≤ vec_capacity out.new }
 {
-    match place {
-        Place::Requests => write_field("Allow", b"GET, POST", out),
-        Place::Deposits => write_field("Allow", b"POST", out),
-        Place::Elsewhere => {}
+    match endpoint {
+        Some(Endpoint::Requests) => write_field("Allow", b"GET, POST", out),
+        Some(Endpoint::Deposits) => write_field("Allow", b"POST", out),
+        None => {}
     }
 }
 
@@ -152,14 +128,14 @@ fn write_retry(seconds: Option<i64>, out: &mut Vec<u8>)
 
 /// Writes how many lines of a deposit were done before it failed, where it is told.
 #[tactic(auto, unfolding(crate::specs::Heads::done_field))]
-fn write_done(place: Place, done: Option<u64>, out: &mut Vec<u8>)
+fn write_done(endpoint: Option<Endpoint>, done: Option<u64>, out: &mut Vec<u8>)
     requires { vec_len out.old + LINE_ROOM ≤ vec_capacity out.old }
-    ensures items { out.new.items ≡ out.old.items ++ spec.done_field place done }
+    ensures items { out.new.items ≡ out.old.items ++ spec.done_field endpoint done }
     ensures len { vec_len out.new ≤ vec_len out.old + LINE_ROOM }
     ensures room { vec_capacity out.old ≤ vec_capacity out.new }
 {
-    match (place, done) {
-        (Place::Deposits, Some(lines)) => {
+    match (endpoint, done) {
+        (Some(Endpoint::Deposits), Some(lines)) => {
             let mut text = Buffer::new();
             write_field("X-Lines-Done", text.format(lines).as_bytes(), out)
         }

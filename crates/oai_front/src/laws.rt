@@ -1,20 +1,16 @@
-ghost use Rattle.std.specs.Prelude.{◌≡◌, ℕ, Bool, true, List, [], ◌++◌, IsTrue};
-ghost use Rattle.oai_host.specs.Hosts.{Hosting};
-ghost use Rattle.oai_host.specs.declared.exchanges.Answer.{Answer as Given};
-ghost use Rattle.oai_host.specs.declared.statuses.Status.{Status};
+ghost use Rattle.std.specs.Prelude.{◌≡◌, ℕ, Bool, true, List, [], ◌++◌};
+ghost use Rattle.oai_http.specs.declared.exchanges.Answer.{Answer as Given};
+ghost use Rattle.oai_http.specs.declared.statuses.Status.{Status};
 ghost use Rattle.oai_front.specs.Clients.{IsReadBack};
 ghost use Rattle.oai_front.specs.Fronts.{State};
 ghost use Rattle.oai_front.specs.Heads.{answer_bytes, fault_bytes};
 ghost use Rattle.oai_front.specs.Messages.{AreAlike, End, IsClosing, IsUnfinished, Message, Splits, Stream, waits};
-ghost use Rattle.oai_front.specs.HostRuns.{AreServedByHost};
 ghost use Rattle.oai_front.specs.Runs.{AreServed, Comes, Coming};
 
 use crate::beginnings::{MOST_HEAD_BYTES, MOST_HEAD_FIELDS};
-use crate::handlers::Handler;
 use crate::numbers::LAST_NUMBER;
 use crate::plans::{MOST_BODY_BYTES, MOST_LENGTH_DIGITS};
-use oai_catalogue::Versions;
-use oai_host::Host;
+use oai_http::Handler;
 
 /// The messages of bytes are these and no others, however many there are, and all that is told of their end
 /// is alike. It does nothing.
@@ -50,15 +46,6 @@ pub fn run_law<H: Handler>()
     ensures served { (old new : State H) (calls : List Coming)
         → Comes H.step old calls new → AreServed H.step old new calls }
     ensures begun { IsUnfinished [] }
-{}
-
-/// The same, where a host performs the messages over a store that gives back what was written to it. At
-/// each of its repositories the answers are a run of its own exchanges, and where none failed, those that
-/// it alone gives. It does nothing.
-pub fn host_law<V: Versions + Drop>()
-    ensures hosted { (old new : State Hosting) (calls : List Coming)
-        → Comes ⟦<Host<V> as Handler>⟧.step old calls new → IsTrue old.handler.honest
-        → AreServedByHost old new calls }
 {}
 
 /// What a client reads of an answer, by the grammar of `httparse` and whatever comes behind it: the status,

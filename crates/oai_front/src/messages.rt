@@ -2,15 +2,14 @@ ghost use Rattle.std.specs.Prelude.{◌≡◌, ◌≤◌, ℕ, length, drop, IfS
 ghost use Rattle.std.specs.List.{concat};
 ghost use Rattle.std.specs.Option.{option_copied, option_map};
 ghost use Rattle.httparse.specs.Spans.{IsWithin, span_bytes};
-ghost use Rattle.oai_front.specs.Performing.{asked_by};
+ghost use Rattle.oai_http.specs.Exchanges.{asked_by};
 ghost use Rattle.oai_front.specs.Queues.{AreFilled, IsTaken};
 ghost use Rattle.oai_front.specs.Workings.{IsHead, IsLeft, IsNext, behind, message_behind};
 
 use crate::beginnings::{Beginning, Head, read_beginning};
-use crate::handlers::Handler;
 use crate::queues::{perform, put_fault};
 use httparse::spans::Span;
-use oai_host::{Exchange, Status};
+use oai_http::{Exchange, Handler, Status};
 use oai_names::Sequence;
 use std::alloc::Global;
 use std::collections::VecDeque;

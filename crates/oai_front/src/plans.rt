@@ -4,7 +4,7 @@ ghost use Rattle.oai_front.specs.Fields as spec;
 
 use crate::fields::{count_named, is_last, length_given};
 use httparse::spans::HeaderSpan;
-use oai_host::Status;
+use oai_http::Status;
 
 /// The longest body of a message, in bytes.
 pub const MOST_BODY_BYTES: usize = 1_048_576;

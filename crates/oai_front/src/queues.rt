@@ -1,16 +1,15 @@
 ghost use Rattle.std.specs.Prelude.{◌≡◌, ◌+◌, ◌++◌, ◌≤◌, ℕ, [], length, drop, vec_capacity, OnErr, OnOk};
 ghost use Rattle.std.specs.List.{concat};
 ghost use Rattle.std.specs.VecDeque.{deque_capacity, deque_len};
-ghost use Rattle.oai_host.specs.declared.exchanges.Answer.{Answer as Given};
+ghost use Rattle.oai_http.specs.declared.exchanges.Answer.{Answer as Given};
 ghost use Rattle.oai_front.specs.Heads.{answer_bytes, fault_bytes};
-ghost use Rattle.oai_front.specs.Performing.{asked_by};
+ghost use Rattle.oai_http.specs.Exchanges.{asked_by};
 ghost use Rattle.oai_front.specs.Connections.{IsFrontOf};
 ghost use Rattle.oai_front.specs.Queues.{AreFilled, IsTaken};
 ghost use Rattle.oai_front.specs.Queues as spec;
 
-use crate::handlers::Handler;
-use crate::heads::{AnswerHead, HEAD_ROOM, Place, place_of, write_head};
-use oai_host::{Answer, Exchange, Status};
+use crate::heads::{AnswerHead, HEAD_ROOM, write_head};
+use oai_http::{Answer, Exchange, Handler, Status, endpoint_of};
 use oai_names::Sequence;
 use std::alloc::{AllocError, Global};
 use std::collections::VecDeque;
@@ -57,7 +56,7 @@ pub(crate) fn put_fault(
     queue.try_reserve(1)?;
     let mut answer = Vec::with_capacity(alloc, HEAD_ROOM)?;
     let head = AnswerHead {
-        place: Place::Elsewhere,
+        endpoint: None,
         status,
         seconds: None,
         done: None,
@@ -88,7 +87,7 @@ fn put_answer(
     ensures taken { (taken : ℕ) → IsTaken taken queue.old.items → IsTaken taken queue.new.items }
 {
     let head = AnswerHead {
-        place: place_of(target),
+        endpoint: endpoint_of(target),
         status: answer.status,
         seconds: answer.seconds,
         done: answer.done,

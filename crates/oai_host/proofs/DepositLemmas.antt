@@ -12,7 +12,8 @@ use Rattle.oai_repo.specs.Machine.{Outcome, act_at, changing, written}
 use Rattle.oai_repo.specs.State.{State}
 use Rattle.oai_repo.proofs.NumberLemmas.{kept_same, kept_twice}
 use Rattle.oai_host.specs.Alone.{IsTried, after_line, after_lines, with_end}
-use Rattle.oai_host.specs.Answers.{Tells, answered_with, failed}
+use Rattle.oai_host.specs.Answers.{Tells}
+use Rattle.oai_http.specs.Answers.{answered_with, failed}
 use Rattle.oai_host.specs.Bodies.{is_line_end}
 use Rattle.oai_host.specs.Housed.{IsKept}
 use Rattle.oai_host.specs.Tasks.{depositing}

@@ -6,9 +6,10 @@ use Rattle.oai_item.specs.declared.faults.Fault.{Fault}
 use Rattle.oai_item.specs.declared.faults.Fault.TheVariants.{Damaged, Device, NoMemory, TooManyPages}
 use Rattle.oai_catalogue.specs.Store.{IsCounted, IsHonest}
 use Rattle.oai_catalogue.specs.declared.versions.TheConstants.{MOST_FAILURES}
-use Rattle.oai_host.specs.Answers.{AreCounted, AreHonest, OnFailed, Tells, failed, failure_in}
+use Rattle.oai_host.specs.Answers.{AreCounted, AreHonest, OnFailed, Tells, failure_in}
+use Rattle.oai_http.specs.Answers.{failed}
 use Rattle.oai_host.specs.Tasks.{asking, depositing}
-use Rattle.oai_host.specs.declared.exchanges.Answer.{Answer}
+use Rattle.oai_http.specs.declared.exchanges.Answer.{Answer}
 
 -- ---- the count of failures
 

@@ -9,16 +9,17 @@ use Rattle.oai_host.specs.Configs.{AreNamed, Hosted, names_of}
 use Rattle.oai_host.specs.Hosts.{IsAnswered, IsStep, Repository, begun, is_of_none, refused}
 use Rattle.oai_host.specs.Housed.{housed_names, place_in, repositories_of}
 use Rattle.oai_settings.specs.Config.{is_repository_name}
-use Rattle.oai_host.specs.Targets.{front_of, leads_to_repository, path_of}
+use Rattle.oai_http.specs.Targets.{front_of, leads_to_repository, path_of}
 use Rattle.oai_host.specs.Workings.{IsPlace, LeadsNowhere}
-use Rattle.oai_host.specs.declared.exchanges.Answer.{Answer}
-use Rattle.oai_host.specs.declared.exchanges.Call.{Call}
+use Rattle.oai_http.specs.declared.exchanges.Answer.{Answer}
+use Rattle.oai_http.specs.declared.exchanges.Call.{Call}
 use Rattle.oai_host.specs.declared.housed.Housed.{Housed}
-use Rattle.oai_host.specs.declared.routes.Kind.{Kind}
-use Rattle.oai_host.proofs.PlaceLemmas.{bytes_same, bytes_turned, clash, leads_by, leads_there, nothing_there, place_none, place_there, same_one}
+use Rattle.oai_http.specs.declared.targets.Endpoint.{Endpoint}
+use Rattle.oai_http.proofs.TargetLemmas.{bytes_same, bytes_turned, clash, leads_by, leads_there}
+use Rattle.oai_host.proofs.PlaceLemmas.{nothing_there, place_none, place_there, same_one}
 
 -- a path that is none of the two
-pub nowhere_path : (housed : List Housed) (target : List ℕ) → list_all is_repository_name (housed_names housed) ≡ true → ((kind : Kind) (name : List ℕ) → is_repository_name name ≡ true → path_of target ≡ front_of kind ++ name → ⊥)
+pub nowhere_path : (housed : List Housed) (target : List ℕ) → list_all is_repository_name (housed_names housed) ≡ true → ((endpoint : Endpoint) (name : List ℕ) → is_repository_name name ≡ true → path_of target ≡ front_of endpoint ++ name → ⊥)
     → LeadsNowhere housed target
 nowhere_path [] target named never = tt
 nowhere_path (x ∷ housed) target named never =
@@ -27,7 +28,7 @@ nowhere_path (x ∷ housed) target named never =
 
 -- a name that none has
 nowhere_among : (housed : List Housed) (target name : List ℕ) → list_all is_repository_name (housed_names housed) ≡ true → list_any (λ (one : List ℕ). bytes_eq one name) (housed_names housed) ≡ false
-    → ((kind : Kind) (other : List ℕ) → is_repository_name other ≡ true → path_of target ≡ front_of kind ++ other → name ≡ other) → LeadsNowhere housed target
+    → ((endpoint : Endpoint) (other : List ℕ) → is_repository_name other ≡ true → path_of target ≡ front_of endpoint ++ other → name ≡ other) → LeadsNowhere housed target
 nowhere_among [] target name named none only = tt
 nowhere_among (x ∷ housed) target name named none only =
     let parts = and_parts (is_repository_name x.name) (list_all is_repository_name (housed_names housed)) named in
@@ -39,13 +40,13 @@ nowhere_among (x ∷ housed) target name named none only =
     )
 
 pub nowhere_name : (housed : List Housed) (target name : List ℕ) → list_all is_repository_name (housed_names housed) ≡ true → place_in (housed_names housed) name ≡ None
-    → ((kind : Kind) (other : List ℕ) → is_repository_name other ≡ true → path_of target ≡ front_of kind ++ other → name ≡ other) → LeadsNowhere housed target
+    → ((endpoint : Endpoint) (other : List ℕ) → is_repository_name other ≡ true → path_of target ≡ front_of endpoint ++ other → name ≡ other) → LeadsNowhere housed target
 nowhere_name housed target name named none only = nowhere_among housed target name named (place_none (housed_names housed) name none) only
 
-pub place_found : (housed : List Housed) (target name : List ℕ) (place : ℕ) (kind : Kind) → place_in (housed_names housed) name ≡ Some place → path_of target ≡ front_of kind ++ name → IsPlace housed place kind target
-place_found housed target name place kind found path =
+pub place_found : (housed : List Housed) (target name : List ℕ) (place : ℕ) (endpoint : Endpoint) → place_in (housed_names housed) name ≡ Some place → path_of target ≡ front_of endpoint ++ name → IsPlace housed place endpoint target
+place_found housed target name place endpoint found path =
     let there = place_there housed name place found in
-    record { one = there.0; there = there.1; path = path ∙ ap (λ (n : List ℕ). front_of kind ++ n) (sym there.2) }
+    record { one = there.0; there = there.1; path = path ∙ ap (λ (n : List ℕ). front_of endpoint ++ n) (sym there.2) }
 
 -- ---- answers
 
@@ -59,12 +60,12 @@ owned (x ∷ housed) zero one lists call there leads none =
 owned (x ∷ housed) (suc i) one lists call there leads none =
     owned housed i one lists call there leads (and_parts (not (leads_to_repository x.name call.target)) (is_of_none (repositories_of housed lists) call) none).1
 
-pub owned_there : {P : Type 0} (housed : List Housed) (i : ℕ) (kind : Kind) (lists : Lists) (call : Call) → IsPlace housed i kind call.target → is_of_none (repositories_of housed lists) call ≡ true → P
-owned_there housed i kind lists call place none = owned housed i place.one lists call place.there (leads_there kind place.one.name call.target place.path) none
+pub owned_there : {P : Type 0} (housed : List Housed) (i : ℕ) (endpoint : Endpoint) (lists : Lists) (call : Call) → IsPlace housed i endpoint call.target → is_of_none (repositories_of housed lists) call ≡ true → P
+owned_there housed i endpoint lists call place none = owned housed i place.one lists call place.there (leads_there endpoint place.one.name call.target place.path) none
 
-pub none_there : (housed : List Housed) (i : ℕ) (kind : Kind) (lists : Lists) (call : Call) (answer : Answer) → IsPlace housed i kind call.target
+pub none_there : (housed : List Housed) (i : ℕ) (endpoint : Endpoint) (lists : Lists) (call : Call) (answer : Answer) → IsPlace housed i endpoint call.target
     → is_of_none (repositories_of housed lists) call ≡ true → answer ≡ refused call
-none_there housed i kind lists call answer place none = owned_there housed i kind lists call place none
+none_there housed i endpoint lists call answer place none = owned_there housed i endpoint lists call place none
 
 -- the exchange is no repository's
 pub none_nowhere : (housed : List Housed) (lists : Lists) (call : Call) → LeadsNowhere housed call.target → is_of_none (repositories_of housed lists) call ≡ true
@@ -73,9 +74,9 @@ none_nowhere (x ∷ housed) lists call nowhere =
     and_from (not (leads_to_repository x.name call.target)) (is_of_none (repositories_of housed lists) call) (not_from_false (leads_to_repository x.name call.target) nowhere.0)
     (none_nowhere housed lists call nowhere.1)
 
-pub answered_there : (housed : List Housed) (i : ℕ) (kind : Kind) (lists : Lists) (call : Call) (answer : Answer) (after : List Repository) → IsPlace housed i kind call.target
+pub answered_there : (housed : List Housed) (i : ℕ) (endpoint : Endpoint) (lists : Lists) (call : Call) (answer : Answer) (after : List Repository) → IsPlace housed i endpoint call.target
     → AllZip (IsStep call answer) (repositories_of housed lists) after → IsAnswered call answer (repositories_of housed lists) after
-answered_there housed i kind lists call answer after place each = record { each = each; none = none_there housed i kind lists call answer place }
+answered_there housed i endpoint lists call answer after place each = record { each = each; none = none_there housed i endpoint lists call answer place }
 
 none_steps : (housed : List Housed) (lists : Lists) (call : Call) (answer : Answer) → LeadsNowhere housed call.target → AllZip (IsStep call answer) (repositories_of housed lists) (repositories_of housed lists)
 none_steps [] lists call answer nowhere = tt

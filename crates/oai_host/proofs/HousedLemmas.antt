@@ -18,14 +18,15 @@ use Rattle.oai_host.specs.Answers.{OnFailed}
 use Rattle.oai_host.specs.Hosts.{IsLeft, IsStep, LeavesOthers, Repository, begun}
 use Rattle.oai_host.specs.Housed.{AllApart, AllHeld, AllStand, AreApart, AreHoused, IsApart, IsKept, housed_names, repositories_of, repository_of}
 use Rattle.oai_settings.specs.Config.{is_repository_name}
-use Rattle.oai_host.specs.Targets.{front_of, leads_to_repository, path_of}
-use Rattle.oai_host.specs.Tasks.{task_in}
-use Rattle.oai_host.specs.declared.exchanges.Answer.{Answer}
-use Rattle.oai_host.specs.declared.exchanges.Call.{Call}
+use Rattle.oai_http.specs.Targets.{front_of, leads_to_repository, path_of}
+use Rattle.oai_host.specs.Tasks.{task_at, task_in}
+use Rattle.oai_http.specs.declared.exchanges.Answer.{Answer}
+use Rattle.oai_http.specs.declared.exchanges.Call.{Call}
 use Rattle.oai_host.specs.declared.housed.Housed.{Housed}
-use Rattle.oai_host.specs.declared.routes.Kind.{Kind}
+use Rattle.oai_http.specs.declared.targets.Endpoint.{Endpoint}
 use Rattle.oai_host.proofs.FaultLemmas.{left_then}
-use Rattle.oai_host.proofs.PlaceLemmas.{bytes_turned, clash, kind_is, leads_not, leads_there, named_last, names_last, names_set, nothing_there, same_one}
+use Rattle.oai_http.proofs.TargetLemmas.{bytes_turned, clash, endpoint_is, leads_not, leads_there}
+use Rattle.oai_host.proofs.PlaceLemmas.{named_last, names_last, names_set, nothing_there, same_one}
 
 -- ---- another one stands for what it stood for
 
@@ -79,14 +80,14 @@ module _ (old new : Held) (before after : Lists) (kept : KeepsOthers (numbers_of
     other = λ _. state_same x.repo before after (same_lists x.repo stands apart);
   }
 
-  rest_steps : (call : Call) (answer : Answer) (kind : Kind) (name : List ℕ) (others : List Housed) → AllStand others before → IsApart old others
-      → path_of call.target ≡ front_of kind ++ name → list_any (bytes_eq name) (housed_names others) ≡ false
+  rest_steps : (call : Call) (answer : Answer) (endpoint : Endpoint) (name : List ℕ) (others : List Housed) → AllStand others before → IsApart old others
+      → path_of call.target ≡ front_of endpoint ++ name → list_any (bytes_eq name) (housed_names others) ≡ false
       → AllZip (IsStep call answer) (repositories_of others before) (repositories_of others after)
-  rest_steps call answer kind name [] stand apart path unused = tt
-  rest_steps call answer kind name (x ∷ others) stand apart path unused =
+  rest_steps call answer endpoint name [] stand apart path unused = tt
+  rest_steps call answer endpoint name (x ∷ others) stand apart path unused =
       let parts = or_parts (bytes_eq name x.name) (list_any (bytes_eq name) (housed_names others)) unused in (
-        other_step call answer x stand.0 (apart_turned old x.repo apart.0) (leads_not kind name x.name call.target path parts.0),
-        rest_steps call answer kind name others stand.1 apart.1 path parts.1,
+        other_step call answer x stand.0 (apart_turned old x.repo apart.0) (leads_not endpoint name x.name call.target path parts.0),
+        rest_steps call answer endpoint name others stand.1 apart.1 path parts.1,
       )
 
   rest_others : (target : List ℕ) (others : List Housed) → AllStand others before → IsApart old others → LeavesOthers target (repositories_of others before) (repositories_of others after)
@@ -147,40 +148,40 @@ module _ (one : Housed) (new : Held) (before after : Lists) (kept : KeepsOthers 
   set_apart (x ∷ housed) (suc i) there stand apart =
       (apart_set x.repo housed i changed apart.0 (still_apart one.repo new x.repo before after kept stand.0 (apart_at x.repo housed i one there apart.0)), set_apart housed i there stand.1 apart.1)
 
-  set_steps : (call : Call) (answer : Answer) (kind : Kind) (housed : List Housed) (i : ℕ) → slice_get housed i ≡ Some one → AllStand housed before → AllApart housed
-      → has_repeat (housed_names housed) ≡ false → path_of call.target ≡ front_of kind ++ one.name
+  set_steps : (call : Call) (answer : Answer) (endpoint : Endpoint) (housed : List Housed) (i : ℕ) → slice_get housed i ≡ Some one → AllStand housed before → AllApart housed
+      → has_repeat (housed_names housed) ≡ false → path_of call.target ≡ front_of endpoint ++ one.name
       → IsStep call answer (repository_of before one) (repository_of after changed)
       → AllZip (IsStep call answer) (repositories_of housed before) (repositories_of (slice_set housed i changed) after)
-  set_steps call answer kind [] i there stand apart distinct path step = nothing_there one there
-  set_steps call answer kind (x ∷ housed) zero there stand apart distinct path step =
+  set_steps call answer endpoint [] i there stand apart distinct path step = nothing_there one there
+  set_steps call answer endpoint (x ∷ housed) zero there stand apart distinct path step =
       let same = same_one x one there in
       let parts = or_parts (list_any (bytes_eq x.name) (housed_names housed)) (has_repeat (housed_names housed)) distinct in (
         subst (λ (y : Housed). IsStep call answer (repository_of before y) (repository_of after changed)) (sym same) step,
-        rest_steps one.repo new before after kept call answer kind one.name housed stand.1 (subst (λ (y : Housed). IsApart y.repo housed) same apart.0) path
+        rest_steps one.repo new before after kept call answer endpoint one.name housed stand.1 (subst (λ (y : Housed). IsApart y.repo housed) same apart.0) path
             (subst (λ (y : Housed). list_any (bytes_eq y.name) (housed_names housed) ≡ false) same parts.0),
       )
-  set_steps call answer kind (x ∷ housed) (suc i) there stand apart distinct path step =
+  set_steps call answer endpoint (x ∷ housed) (suc i) there stand apart distinct path step =
       let parts = or_parts (list_any (bytes_eq x.name) (housed_names housed)) (has_repeat (housed_names housed)) distinct in
       let differ = unused_at x.name housed i one there parts.0 in (
-        other_step one.repo new before after kept call answer x stand.0 (apart_at x.repo housed i one there apart.0) (leads_not kind one.name x.name call.target path (bytes_turned x.name one.name differ)),
-        set_steps call answer kind housed i there stand.1 apart.1 parts.1 path step,
+        other_step one.repo new before after kept call answer x stand.0 (apart_at x.repo housed i one there apart.0) (leads_not endpoint one.name x.name call.target path (bytes_turned x.name one.name differ)),
+        set_steps call answer endpoint housed i there stand.1 apart.1 parts.1 path step,
       )
 
-  set_others : (target : List ℕ) (kind : Kind) (housed : List Housed) (i : ℕ) → new.config ≡ one.repo.config → slice_get housed i ≡ Some one → AllStand housed before → AllApart housed
-      → path_of target ≡ front_of kind ++ one.name → LeavesOthers target (repositories_of housed before) (repositories_of (slice_set housed i changed) after)
-  set_others target kind [] i config there stand apart path = nothing_there one there
-  set_others target kind (x ∷ housed) zero config there stand apart path =
+  set_others : (target : List ℕ) (endpoint : Endpoint) (housed : List Housed) (i : ℕ) → new.config ≡ one.repo.config → slice_get housed i ≡ Some one → AllStand housed before → AllApart housed
+      → path_of target ≡ front_of endpoint ++ one.name → LeavesOthers target (repositories_of housed before) (repositories_of (slice_set housed i changed) after)
+  set_others target endpoint [] i config there stand apart path = nothing_there one there
+  set_others target endpoint (x ∷ housed) zero config there stand apart path =
       let same = same_one x one there in (
         record {
           name = ap (λ (y : Housed). y.name) (sym same);
           config = config ∙ ap (λ (y : Housed). y.repo.config) (sym same);
-          other = λ elsewhere. clash (leads_to_repository x.name target) (ap (λ (y : Housed). leads_to_repository y.name target) same ∙ leads_there kind one.name target path) elsewhere;
+          other = λ elsewhere. clash (leads_to_repository x.name target) (ap (λ (y : Housed). leads_to_repository y.name target) same ∙ leads_there endpoint one.name target path) elsewhere;
         },
         rest_others one.repo new before after kept target housed stand.1 (subst (λ (y : Housed). IsApart y.repo housed) same apart.0),
       )
-  set_others target kind (x ∷ housed) (suc i) config there stand apart path = (
+  set_others target endpoint (x ∷ housed) (suc i) config there stand apart path = (
     left_same target (repository_of before x) (repository_of after x) (repository_same one.repo new before after kept x stand.0 (apart_at x.repo housed i one there apart.0)),
-    set_others target kind housed i config there stand.1 apart.1 path,
+    set_others target endpoint housed i config there stand.1 apart.1 path,
   )
 
 -- all of it
@@ -193,23 +194,23 @@ housed_set was is housed i one new before after same there old kept = record {
   apart = set_apart one new before after kept.others housed i there old.stand old.apart;
 }
 
-pub steps_set : (was : Bool) (call : Call) (answer : Answer) (kind : Kind) (housed : List Housed) (i : ℕ) (one : Housed) (new : Held) (before after : Lists) → slice_get housed i ≡ Some one → AreHoused was housed before
-    → IsKept was one.repo before new after → has_repeat (housed_names housed) ≡ false → path_of call.target ≡ front_of kind ++ one.name
-    → IsTried one.repo.config (state_of one.repo before) call.moment (task_in kind call) answer (state_of new after)
+pub steps_set : (was : Bool) (call : Call) (answer : Answer) (endpoint : Endpoint) (housed : List Housed) (i : ℕ) (one : Housed) (new : Held) (before after : Lists) → slice_get housed i ≡ Some one → AreHoused was housed before
+    → IsKept was one.repo before new after → has_repeat (housed_names housed) ≡ false → path_of call.target ≡ front_of endpoint ++ one.name
+    → IsTried one.repo.config (state_of one.repo before) call.moment (task_in endpoint call) answer (state_of new after)
     → AllZip (IsStep call answer) (repositories_of housed before) (repositories_of (slice_set housed i (record { name = one.name; repo = new })) after)
-steps_set was call answer kind housed i one new before after there old kept distinct path tried =
-    set_steps one new before after kept.others call answer kind housed i there old.stand old.apart distinct path (record {
+steps_set was call answer endpoint housed i one new before after there old kept distinct path tried =
+    set_steps one new before after kept.others call answer endpoint housed i there old.stand old.apart distinct path (record {
       name = refl;
       config = kept.config;
-      own = λ _. subst (λ (k : Kind). IsTried one.repo.config (state_of one.repo before) call.moment (task_in k call) answer (state_of new after)) (sym (kind_is kind one.name call.target path)) tried;
-      other = λ elsewhere. clash (leads_to_repository one.name call.target) (leads_there kind one.name call.target path) (not-true (leads_to_repository one.name call.target) elsewhere);
+      own = λ _. subst (λ (at : Option Endpoint). IsTried one.repo.config (state_of one.repo before) call.moment (task_at at call) answer (state_of new after)) (sym (endpoint_is endpoint one.name call.target path)) tried;
+      other = λ elsewhere. clash (leads_to_repository one.name call.target) (leads_there endpoint one.name call.target path) (not-true (leads_to_repository one.name call.target) elsewhere);
     })
 
-pub others_set : (was : Bool) (target : List ℕ) (kind : Kind) (housed : List Housed) (i : ℕ) (one : Housed) (new : Held) (before after : Lists) → slice_get housed i ≡ Some one → AreHoused was housed before
-    → IsKept was one.repo before new after → path_of target ≡ front_of kind ++ one.name
+pub others_set : (was : Bool) (target : List ℕ) (endpoint : Endpoint) (housed : List Housed) (i : ℕ) (one : Housed) (new : Held) (before after : Lists) → slice_get housed i ≡ Some one → AreHoused was housed before
+    → IsKept was one.repo before new after → path_of target ≡ front_of endpoint ++ one.name
     → LeavesOthers target (repositories_of housed before) (repositories_of (slice_set housed i (record { name = one.name; repo = new })) after)
-others_set was target kind housed i one new before after there old kept path =
-    set_others one new before after kept.others target kind housed i kept.config there old.stand old.apart path
+others_set was target endpoint housed i one new before after there old kept path =
+    set_others one new before after kept.others target endpoint housed i kept.config there old.stand old.apart path
 
 set_same : (housed : List Housed) (i : ℕ) (one : Housed) (new : Held) → slice_get housed i ≡ Some one → new ≡ one.repo → slice_set housed i (record { name = one.name; repo = new }) ≡ housed
 set_same [] i one new there same = nothing_there one there

@@ -7,7 +7,6 @@ pub mod TextLemmas
 pub mod MemberLemmas
 pub mod WordLemmas
 pub mod ShapeLemmas
-pub mod InkLemmas
 pub mod RouteLemmas
 pub mod PlaceLemmas
 pub mod FaultLemmas

@@ -1,88 +1,16 @@
 -- Names, and the repositories under them.
-use Rattle.std.proofs.Common.{◌≡◌, ◌∙◌, ◌+◌, inl, inr, nat_lt, ℕ, zero, suc, Bool, true, false, not, ◌||◌, List, [], ◌∷◌, ◌++◌, length, take, Option, None, Some, is_some, unwrap_or, cond, slice_set, refl, sym, ap, subst, arith}
+use Rattle.std.proofs.Common.{◌≡◌, ◌∙◌, ◌+◌, inl, inr, nat_lt, ℕ, zero, suc, Bool, true, false, not, List, [], ◌∷◌, ◌++◌, length, Option, None, Some, is_some, unwrap_or, cond, slice_set, refl, sym, ap, subst, arith}
 use Rattle.std.specs.List.{list_all, list_any, position_or_len, slice_get}
 use Rattle.std.specs.Option.{option_map}
 use Rattle.std.specs.Str.{bytes_eq}
-use Rattle.std.proofs.lemmas.Bool.{and_from, and_parts, cases_Bool, cases_lt, cond-true, cond-false, eq-eqb, eqb-true, false≢true, false_from_ne_true, le-ltb, lt-ltb, or_from, or_left, or_parts}
+use Rattle.std.proofs.lemmas.Bool.{and_from, and_parts, cases_Bool, cases_lt, cond-true, cond-false, false≢true, le-ltb, lt-ltb, or_from, or_parts}
 use Rattle.oai_repo.specs.Held.{Held}
+use Rattle.oai_http.proofs.TargetLemmas.{bytes_equal, bytes_turned}
 use Rattle.oai_item.specs.Rules.{has_repeat}
 use Rattle.oai_host.specs.Configs.{AreNamed}
 use Rattle.oai_host.specs.Housed.{housed_names, place_in}
 use Rattle.oai_settings.specs.Config.{is_repository_name}
-use Rattle.oai_host.specs.Targets.{front_of, leads_to, leads_to_repository, path_of}
-use Rattle.oai_host.specs.Tasks.{kind_of}
 use Rattle.oai_host.specs.declared.housed.Housed.{Housed}
-use Rattle.oai_host.specs.declared.routes.Kind.{Kind}
-use Rattle.oai_host.specs.declared.routes.Kind.TheVariants.{Deposits, Requests}
-
-pub clash : {P : Type 0} (b : Bool) → b ≡ true → b ≡ false → P
-clash b is lacks = absurd (false≢true (sym lacks ∙ is))
-
--- ---- equal names
-
-pub bytes_same : (xs : List ℕ) → bytes_eq xs xs ≡ true
-bytes_same [] = refl
-bytes_same (x ∷ xs) = and_from _ (bytes_eq xs xs) (eq-eqb x x refl) (bytes_same xs)
-
-pub bytes_equal : (xs ys : List ℕ) → bytes_eq xs ys ≡ true → xs ≡ ys
-bytes_equal [] [] h = refl
-bytes_equal [] (y ∷ ys) h = absurd (false≢true h)
-bytes_equal (x ∷ xs) [] h = absurd (false≢true h)
-bytes_equal (x ∷ xs) (y ∷ ys) h =
-    let parts = and_parts _ (bytes_eq xs ys) h in
-    ap (λ (z : ℕ). z ∷ xs) (eqb-true x y parts.0) ∙ ap (λ (zs : List ℕ). y ∷ zs) (bytes_equal xs ys parts.1)
-
-pub bytes_turned : (xs ys : List ℕ) → bytes_eq xs ys ≡ false → bytes_eq ys xs ≡ false
-bytes_turned xs ys h = false_from_ne_true (bytes_eq ys xs) (λ same. clash (bytes_eq xs ys) (ap (bytes_eq xs) (bytes_equal ys xs same) ∙ bytes_same xs) h)
-
--- ---- where a path leads
-
--- the path of one repository is not another's
-leads_other : (kind k : Kind) (one other : List ℕ) → bytes_eq one other ≡ false → bytes_eq (front_of kind ++ one) (front_of k ++ other) ≡ false
-leads_other Requests Requests one other h = h
-leads_other Requests Deposits one other h = refl
-leads_other Deposits Requests one other h = refl
-leads_other Deposits Deposits one other h = h
-
-pub leads_not : (kind : Kind) (one other target : List ℕ) → path_of target ≡ front_of kind ++ one → bytes_eq one other ≡ false → leads_to_repository other target ≡ false
-leads_not kind one other target path apart =
-    or_from (bytes_eq (path_of target) (front_of Requests ++ other)) (bytes_eq (path_of target) (front_of Deposits ++ other))
-    (ap (λ (p : List ℕ). bytes_eq p (front_of Requests ++ other)) path ∙ leads_other kind Requests one other apart)
-    (ap (λ (p : List ℕ). bytes_eq p (front_of Deposits ++ other)) path ∙ leads_other kind Deposits one other apart)
-
-leads_own : (kind : Kind) (one : List ℕ) → (bytes_eq (front_of kind ++ one) (front_of Requests ++ one) || bytes_eq (front_of kind ++ one) (front_of Deposits ++ one)) ≡ true
-leads_own Requests one = or_left (bytes_eq one one) false (bytes_same one)
-leads_own Deposits one = bytes_same one
-
-pub leads_there : (kind : Kind) (one target : List ℕ) → path_of target ≡ front_of kind ++ one → leads_to_repository one target ≡ true
-leads_there kind one target path = ap (λ (p : List ℕ). bytes_eq p (front_of Requests ++ one) || bytes_eq p (front_of Deposits ++ one)) path ∙ leads_own kind one
-
--- a path that leads there is one of the two
-pub leads_by : (one target : List ℕ) → leads_to_repository one target ≡ true → (kind : Kind) × (path_of target ≡ front_of kind ++ one)
-leads_by one target leads = elim (cases_Bool (bytes_eq (path_of target) (front_of Requests ++ one))) [
-  | inl asks ↦ (Requests, bytes_equal (path_of target) (front_of Requests ++ one) asks)
-  | inr not_so ↦ (Deposits, bytes_equal (path_of target) (front_of Deposits ++ one) (sym (ap (λ b. b || bytes_eq (path_of target) (front_of Deposits ++ one)) not_so) ∙ leads))
-]
-
-kind_there : (kind : Kind) (one : List ℕ) → cond (bytes_eq (take 9 (front_of kind ++ one)) (front_of Deposits)) Deposits Requests ≡ kind
-kind_there Requests one = refl
-kind_there Deposits one = refl
-
-pub kind_is : (kind : Kind) (one target : List ℕ) → path_of target ≡ front_of kind ++ one → kind_of target ≡ kind
-kind_is kind one target path = ap (λ (p : List ℕ). cond (bytes_eq (take 9 p) (front_of Deposits)) Deposits Requests) path ∙ kind_there kind one
-
--- what a path leads to tells what its target is for
-pub kind_leads : (kind : Kind) (name target : List ℕ) → leads_to kind name target ≡ true → kind_of target ≡ kind
-kind_leads kind name target leads = kind_is kind name target (bytes_equal (path_of target) (front_of kind ++ name) leads)
-
--- and it leads to one repository
-pub one_leads : (one other target : List ℕ) → leads_to_repository one target ≡ true → leads_to_repository other target ≡ true → one ≡ other
-one_leads one other target first second =
-    let by = leads_by one target first in
-    elim (cases_Bool (bytes_eq one other)) [
-      | inl same ↦ bytes_equal one other same
-      | inr apart ↦ clash (leads_to_repository other target) second (leads_not by.0 one other target by.1 apart)
-    ]
 
 -- ---- places
 

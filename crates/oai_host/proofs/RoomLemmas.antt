@@ -13,18 +13,20 @@ use Rattle.oai_deposit.specs.Lines.{line_of}
 use Rattle.oai_settings.specs.Config.{Config}
 use Rattle.oai_repo.specs.Calls.{room_to_change}
 use Rattle.oai_repo.specs.Held.{Held, IsHeld, items_on}
-use Rattle.oai_host.specs.Answers.{failed, failure_in}
+use Rattle.oai_http.specs.Answers.{failed}
+use Rattle.oai_host.specs.Answers.{failure_in}
 use Rattle.oai_host.specs.Housed.{housed_names, repositories_of}
 use Rattle.oai_host.specs.Room.{FindsRoom, room_for_line, room_for_lines, room_for_task}
-use Rattle.oai_host.specs.Targets.{front_of, leads_to_repository, path_of}
-use Rattle.oai_host.specs.Tasks.{task_in, task_of}
+use Rattle.oai_http.specs.Targets.{front_of, leads_to_repository, path_of}
+use Rattle.oai_host.specs.Tasks.{task_at, task_in, task_of}
 use Rattle.oai_host.specs.Workings.{LeadsNowhere}
-use Rattle.oai_host.specs.declared.exchanges.Answer.{Answer}
-use Rattle.oai_host.specs.declared.exchanges.Call.{Call}
+use Rattle.oai_http.specs.declared.exchanges.Answer.{Answer}
+use Rattle.oai_http.specs.declared.exchanges.Call.{Call}
 use Rattle.oai_host.specs.declared.housed.Housed.{Housed}
-use Rattle.oai_host.specs.declared.routes.Kind.{Kind}
+use Rattle.oai_http.specs.declared.targets.Endpoint.{Endpoint}
 use Rattle.oai_host.proofs.HousedLemmas.{unused_at}
-use Rattle.oai_host.proofs.PlaceLemmas.{bytes_turned, clash, kind_is, leads_not, nothing_there, same_one}
+use Rattle.oai_http.proofs.TargetLemmas.{bytes_turned, clash, endpoint_is, leads_not}
+use Rattle.oai_host.proofs.PlaceLemmas.{nothing_there, same_one}
 
 -- ---- one line
 
@@ -83,35 +85,35 @@ room_failed config text left all was mid is done fault so_far need =
 -- ---- one of many repositories
 
 module _ (call : Call) (answer : Answer) (lists : Lists) (old new : ℕ) where
-  elsewhere : (kind : Kind) (name : List ℕ) (others : List Housed) → path_of call.target ≡ front_of kind ++ name → list_any (bytes_eq name) (housed_names others) ≡ false
+  elsewhere : (endpoint : Endpoint) (name : List ℕ) (others : List Housed) → path_of call.target ≡ front_of endpoint ++ name → list_any (bytes_eq name) (housed_names others) ≡ false
       → FindsRoom call answer (repositories_of others lists) old new
-  elsewhere kind name [] path unused = tt
-  elsewhere kind name (x ∷ others) path unused =
+  elsewhere endpoint name [] path unused = tt
+  elsewhere endpoint name (x ∷ others) path unused =
       let parts = or_parts (bytes_eq name x.name) (list_any (bytes_eq name) (housed_names others)) unused in
-      (λ leads. clash (leads_to_repository x.name call.target) leads (leads_not kind name x.name call.target path parts.0), elsewhere kind name others path parts.1)
+      (λ leads. clash (leads_to_repository x.name call.target) leads (leads_not endpoint name x.name call.target path parts.0), elsewhere endpoint name others path parts.1)
 
   pub room_nowhere : (housed : List Housed) → LeadsNowhere housed call.target → FindsRoom call answer (repositories_of housed lists) old new
   room_nowhere [] nowhere = tt
   room_nowhere (x ∷ housed) nowhere = (λ leads. clash (leads_to_repository x.name call.target) leads nowhere.0, room_nowhere housed nowhere.1)
 
-  at_place : (kind : Kind) (housed : List Housed) (i : ℕ) (one : Housed) → slice_get housed i ≡ Some one → has_repeat (housed_names housed) ≡ false
-      → path_of call.target ≡ front_of kind ++ one.name → NeedsRoom (room_for_task one.repo.config (task_of call)) (failure_in answer) old new
+  at_place : (endpoint : Endpoint) (housed : List Housed) (i : ℕ) (one : Housed) → slice_get housed i ≡ Some one → has_repeat (housed_names housed) ≡ false
+      → path_of call.target ≡ front_of endpoint ++ one.name → NeedsRoom (room_for_task one.repo.config (task_of call)) (failure_in answer) old new
       → FindsRoom call answer (repositories_of housed lists) old new
-  at_place kind [] i one there distinct path need = nothing_there one there
-  at_place kind (x ∷ housed) zero one there distinct path need =
+  at_place endpoint [] i one there distinct path need = nothing_there one there
+  at_place endpoint (x ∷ housed) zero one there distinct path need =
       let parts = or_parts (list_any (bytes_eq x.name) (housed_names housed)) (has_repeat (housed_names housed)) distinct in
       let same = same_one x one there in (
         λ _. subst (λ (y : Housed). NeedsRoom (room_for_task y.repo.config (task_of call)) (failure_in answer) old new) (sym same) need,
-        elsewhere kind one.name housed path (subst (λ (y : Housed). list_any (bytes_eq y.name) (housed_names housed) ≡ false) same parts.0),
+        elsewhere endpoint one.name housed path (subst (λ (y : Housed). list_any (bytes_eq y.name) (housed_names housed) ≡ false) same parts.0),
       )
-  at_place kind (x ∷ housed) (suc i) one there distinct path need =
+  at_place endpoint (x ∷ housed) (suc i) one there distinct path need =
       let parts = or_parts (list_any (bytes_eq x.name) (housed_names housed)) (has_repeat (housed_names housed)) distinct in
       let apart = bytes_turned x.name one.name (unused_at x.name housed i one there parts.0) in
-      (λ leads. clash (leads_to_repository x.name call.target) leads (leads_not kind one.name x.name call.target path apart), at_place kind housed i one there parts.1 path need)
+      (λ leads. clash (leads_to_repository x.name call.target) leads (leads_not endpoint one.name x.name call.target path apart), at_place endpoint housed i one there parts.1 path need)
 
-  pub room_set : (kind : Kind) (housed : List Housed) (i : ℕ) (one : Housed) → slice_get housed i ≡ Some one → has_repeat (housed_names housed) ≡ false
-      → path_of call.target ≡ front_of kind ++ one.name → NeedsRoom (room_for_task one.repo.config (task_in kind call)) (failure_in answer) old new
+  pub room_set : (endpoint : Endpoint) (housed : List Housed) (i : ℕ) (one : Housed) → slice_get housed i ≡ Some one → has_repeat (housed_names housed) ≡ false
+      → path_of call.target ≡ front_of endpoint ++ one.name → NeedsRoom (room_for_task one.repo.config (task_in endpoint call)) (failure_in answer) old new
       → FindsRoom call answer (repositories_of housed lists) old new
-  room_set kind housed i one there distinct path need =
-      at_place kind housed i one there distinct path
-      (subst (λ (k : Kind). NeedsRoom (room_for_task one.repo.config (task_in k call)) (failure_in answer) old new) (sym (kind_is kind one.name call.target path)) need)
+  room_set endpoint housed i one there distinct path need =
+      at_place endpoint housed i one there distinct path
+      (subst (λ (at : Option Endpoint). NeedsRoom (room_for_task one.repo.config (task_at at call)) (failure_in answer) old new) (sym (endpoint_is endpoint one.name call.target path)) need)

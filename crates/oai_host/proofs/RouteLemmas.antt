@@ -7,10 +7,10 @@ use Rattle.std.proofs.lemmas.Str.{IsUtf8-from_ascii}
 use Rattle.matchit.specs.Rows.{RowsOf, param_token}
 use Rattle.matchit.specs.Seek.{first, has_slash, or_else, own, param_step, seek, step}
 use Rattle.oai_settings.specs.Config.{is_repository_byte, is_repository_name}
-use Rattle.oai_host.specs.Rows.{both_rows, deposits_row, kind_in, requests_row}
-use Rattle.oai_host.specs.Targets.{front_of}
-use Rattle.oai_host.specs.declared.routes.Kind.{Kind}
-use Rattle.oai_host.specs.declared.routes.Kind.TheVariants.{Deposits, Requests}
+use Rattle.oai_host.specs.Rows.{both_rows, deposits_row, endpoint_in, requests_row}
+use Rattle.oai_http.specs.Targets.{front_of}
+use Rattle.oai_http.specs.declared.targets.Endpoint.{Endpoint}
+use Rattle.oai_http.specs.declared.targets.Endpoint.TheVariants.{Deposits, Requests}
 
 none_after : {T : Type 0} (t : Bool) (n : ℕ) (path : List ℕ) → ((skip : ℕ) → seek {K = T} skip [] path ≡ None)
     → or_else (seek {K = T} ((cond {A = ℕ × RowsOf T} t (0, []) (n, [])).0 - 1) (cond {A = ℕ × RowsOf T} t (0, []) (n, [])).1 path) None ≡ None
@@ -69,18 +69,18 @@ no_slash (b ∷ name) h =
 no_token : (b : ℕ) → b < 128 → (param_token == b) ≡ false
 no_token b low = grind (arith, tests)
 
-pub found_kind : (kind : Kind) (name : List ℕ) → is_repository_name name ≡ true → kind_in (first both_rows (front_of kind ++ name)) ≡ Some kind
+pub found_endpoint : (endpoint : Endpoint) (name : List ℕ) → is_repository_name name ≡ true → endpoint_in (first both_rows (front_of endpoint ++ name)) ≡ Some endpoint
 unfolding is_repository_name
-found_kind kind [] named = absurd (false≢true named)
-found_kind Requests (b ∷ name) named =
+found_endpoint endpoint [] named = absurd (false≢true named)
+found_endpoint Requests (b ∷ name) named =
     let bytes = (and_parts _ _ named).1 in
     let end = at_end requests_row.1 b name (no_token b (byte_plain b (and_parts _ _ bytes).0).1) (no_slash (b ∷ name) bytes) in
-    ap kind_in (on both_rows 47 (111 ∷ 97 ∷ 105 ∷ 47 ∷ b ∷ name) requests_row.1
+    ap endpoint_in (on both_rows 47 (111 ∷ 97 ∷ 105 ∷ 47 ∷ b ∷ name) requests_row.1
     (on _ 111 (97 ∷ 105 ∷ 47 ∷ b ∷ name) requests_row.1 (on _ 97 (105 ∷ 47 ∷ b ∷ name) requests_row.1 (on _ 105 (47 ∷ b ∷ name) requests_row.1 (on _ 47 (b ∷ name) requests_row.1 end)))))
-found_kind Deposits (b ∷ name) named =
+found_endpoint Deposits (b ∷ name) named =
     let bytes = (and_parts _ _ named).1 in
     let end = at_end deposits_row.1 b name (no_token b (byte_plain b (and_parts _ _ bytes).0).1) (no_slash (b ∷ name) bytes) in
-    ap kind_in (on both_rows 47 (100 ∷ 101 ∷ 112 ∷ 111 ∷ 115 ∷ 105 ∷ 116 ∷ 47 ∷ b ∷ name) deposits_row.1
+    ap endpoint_in (on both_rows 47 (100 ∷ 101 ∷ 112 ∷ 111 ∷ 115 ∷ 105 ∷ 116 ∷ 47 ∷ b ∷ name) deposits_row.1
     (on _ 100 (101 ∷ 112 ∷ 111 ∷ 115 ∷ 105 ∷ 116 ∷ 47 ∷ b ∷ name) deposits_row.1 (on _ 101 (112 ∷ 111 ∷ 115 ∷ 105 ∷ 116 ∷ 47 ∷ b ∷ name) deposits_row.1
     (on _ 112 (111 ∷ 115 ∷ 105 ∷ 116 ∷ 47 ∷ b ∷ name) deposits_row.1 (on _ 111 (115 ∷ 105 ∷ 116 ∷ 47 ∷ b ∷ name) deposits_row.1 (on _ 115 (105 ∷ 116 ∷ 47 ∷ b ∷ name) deposits_row.1
     (on _ 105 (116 ∷ 47 ∷ b ∷ name) deposits_row.1 (on _ 116 (47 ∷ b ∷ name) deposits_row.1 (on _ 47 (b ∷ name) deposits_row.1 end)))))))))
@@ -102,18 +102,18 @@ ascii_where [] h i = lit< tt
 ascii_where (b ∷ text) h zero = ltb-true b 128 (and_parts (nat_lt b 128) (list_all (λ b. nat_lt b 128) text) h).0
 ascii_where (b ∷ text) h (suc i) = ascii_where text (and_parts (nat_lt b 128) (list_all (λ b. nat_lt b 128) text) h).1 i
 
-front_ascii : (kind : Kind) → IsAscii (front_of kind)
+front_ascii : (endpoint : Endpoint) → IsAscii (front_of endpoint)
 front_ascii Requests = ascii_where (codes "/oai/") refl
 front_ascii Deposits = ascii_where (codes "/deposit/") refl
 
-pub path_utf8 : (kind : Kind) (name : List ℕ) → is_repository_name name ≡ true → IsUtf8 (front_of kind ++ name)
+pub path_utf8 : (endpoint : Endpoint) (name : List ℕ) → is_repository_name name ≡ true → IsUtf8 (front_of endpoint ++ name)
 unfolding is_repository_name
-path_utf8 kind name named = IsUtf8-from_ascii (front_of kind ++ name) (ascii_behind (front_of kind) name (front_ascii kind) (ascii_name name (and_parts _ _ named).1))
+path_utf8 endpoint name named = IsUtf8-from_ascii (front_of endpoint ++ name) (ascii_behind (front_of endpoint) name (front_ascii endpoint) (ascii_name name (and_parts _ _ named).1))
 
 -- ---- what was found
 
-pub same_some : (x y : Kind) → Some x ≡ Some y → x ≡ y
-same_some x y h = ap (λ (o : Option Kind). unwrap_or o x) h
+pub same_some : (x y : Endpoint) → Some x ≡ Some y → x ≡ y
+same_some x y h = ap (λ (o : Option Endpoint). unwrap_or o x) h
 
-pub not_some : (x : Kind) → None ≡ Some x → ⊥
-not_some x h = false≢true (ap (λ (o : Option Kind). is_some o) h)
+pub not_some : (x : Endpoint) → None ≡ Some x → ⊥
+not_some x h = false≢true (ap (λ (o : Option Endpoint). is_some o) h)

@@ -8,14 +8,14 @@ use Rattle.oai_item.specs.declared.faults.Fault.TheVariants.{Damaged, Device, No
 use Rattle.oai_settings.specs.Config.{Config}
 use Rattle.oai_repo.specs.State.{State}
 use Rattle.oai_host.specs.Alone.{HasFailed, IsExchange, IsRun, answers_alone, own_answers, own_calls}
-use Rattle.oai_host.specs.Answers.{failed}
+use Rattle.oai_http.specs.Answers.{failed}
 use Rattle.oai_host.specs.Exchanged.{AreExchanged, IsExchanged}
 use Rattle.oai_host.specs.Hosts.{AreAnswered, AreAsAlone, AreRefused, Hosting, IsAnswered, IsOwnRun, IsStep, Repository, is_of_none, none_failed, refused}
-use Rattle.oai_host.specs.Targets.{leads_to_repository}
+use Rattle.oai_http.specs.Targets.{leads_to_repository}
 use Rattle.oai_host.specs.Tasks.{Task, asking, depositing, refusing, task_of}
-use Rattle.oai_host.specs.declared.exchanges.Answer.{Answer}
-use Rattle.oai_host.specs.declared.exchanges.Call.{Call}
-use Rattle.oai_host.proofs.PlaceLemmas.{clash}
+use Rattle.oai_http.specs.declared.exchanges.Answer.{Answer}
+use Rattle.oai_http.specs.declared.exchanges.Call.{Call}
+use Rattle.oai_http.proofs.TargetLemmas.{clash}
 
 -- ---- one more exchange
 

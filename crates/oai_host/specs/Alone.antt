@@ -6,11 +6,12 @@ use Rattle.oai_item.specs.declared.faults.Fault.{Fault}
 use Rattle.oai_settings.specs.Config.{Config}
 use Rattle.oai_repo.specs.Machine.{Told, bytes, line, query, step, wait}
 use Rattle.oai_repo.specs.State.{State}
-use Rattle.oai_host.specs.Answers.{answer_of, answered, answered_with, failed}
-use Rattle.oai_host.specs.Targets.{leads_to_repository}
+use Rattle.oai_host.specs.Answers.{answer_of}
+use Rattle.oai_http.specs.Answers.{answered, answered_with, failed}
+use Rattle.oai_http.specs.Targets.{leads_to_repository}
 use Rattle.oai_host.specs.Tasks.{Task, asking, depositing, refusing, task_of}
-use Rattle.oai_host.specs.declared.exchanges.Answer.{Answer}
-use Rattle.oai_host.specs.declared.exchanges.Call.{Call}
+use Rattle.oai_http.specs.declared.exchanges.Answer.{Answer}
+use Rattle.oai_http.specs.declared.exchanges.Call.{Call}
 
 -- ---- the machine alone
 

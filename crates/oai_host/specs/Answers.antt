@@ -1,47 +1,18 @@
--- What an exchange is answered: RFC 9110, sections 10.2.3 and 15; that a request is to be made again later, OAI-PMH 2.0, section 3.1.2.2.
-use Rattle.std.specs.Prelude.{◌≡◌, ◌<◌, ◌≤◌, ℕ, ℤ, pos, Bool, List, [], length, Option, None, Some, IfSome, IsSomeAnd, MatchOption, unwrap_or, Result, Ok, Err}
+-- What an exchange is answered, and what may be told of it: OAI-PMH 2.0, section 3.1.2, and this repository's own words.
+use Rattle.std.specs.Prelude.{◌≡◌, ◌<◌, ◌≤◌, ℕ, Bool, List, length, Option, None, Some, IfSome, IsSomeAnd, MatchOption, unwrap_or, Result, Ok, Err}
 use Rattle.std.specs.List.{AllByRecursion, count_by}
 use Rattle.oai_catalogue.specs.Store.{IsCounted, IsHonest}
 use Rattle.oai_item.specs.declared.faults.Fault.{Fault}
-use Rattle.oai_item.specs.declared.faults.Fault.TheVariants.{Damaged, Device, NoMemory, TooManyPages}
 use Rattle.oai_repo.specs.Machine.{Told, bytes, wait}
+use Rattle.oai_http.specs.Answers.{answered, answered_with, asked_to_wait, failed}
+use Rattle.oai_http.specs.declared.exchanges.Answer.{Answer}
 use Rattle.oai_host.specs.Bodies.{is_line_end}
 use Rattle.oai_host.specs.Tasks.{Task, asking, depositing, refusing}
-use Rattle.oai_host.specs.declared.exchanges.Answer.{Answer}
-use Rattle.oai_host.specs.declared.statuses.Status.{Status}
-use Rattle.oai_host.specs.declared.statuses.Status.TheVariants as status
-
--- a status and nothing else
-abbrev pub answered : Status → Answer
-answered status = record { status = status; seconds = None; done = None; body = []; fault = None }
-
--- it was performed, and this is the body
-abbrev pub answered_with : List ℕ → Answer
-answered_with body = record { status = status.Ok; seconds = None; done = None; body = body; fault = None }
-
--- it may be made again after so many seconds: OAI-PMH 2.0, section 3.1.2.2
-abbrev pub asked_to_wait : ℤ → Answer
-asked_to_wait seconds = record { status = status.ServiceUnavailable; seconds = Some seconds; done = None; body = []; fault = None }
 
 -- what a repository tells
 abbrev pub answer_of : Told → Answer
 answer_of (bytes body) = answered_with body
 answer_of (wait seconds) = asked_to_wait seconds
-
--- it failed for want of room, and may be made again after a minute: OAI-PMH 2.0, section 3.1.2.2
-abbrev pub without_room : Fault → Option ℕ → Answer
-without_room fault done = record { status = status.ServiceUnavailable; seconds = Some (pos 60); done = done; body = []; fault = Some fault }
-
--- it failed
-abbrev pub broken : Fault → Option ℕ → Answer
-broken fault done = record { status = status.InternalServerError; seconds = None; done = done; body = []; fault = Some fault }
-
--- the answer to an exchange that failed; of a deposit, with the number of its lines that were done
-abbrev pub failed : Fault → Option ℕ → Answer
-failed NoMemory done = without_room NoMemory done
-failed TooManyPages done = without_room TooManyPages done
-failed Device done = broken Device done
-failed Damaged done = broken Damaged done
 
 -- Ok, or why an exchange failed
 abbrev pub failure : Option Fault → Result (Unit {0}) Fault

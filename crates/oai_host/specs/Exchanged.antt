@@ -1,12 +1,13 @@
 -- What holds of an exchange with a host over every store, also over one that does not give back what was written to it. This repository's own.
-use Rattle.std.specs.Prelude.{◌≡◌, true, false, IsTrue, List, [], ◌∷◌}
+use Rattle.std.specs.Prelude.{◌≡◌, true, false, ℤ, IsTrue, List, [], ◌∷◌}
 use Rattle.oai_catalogue.specs.Store.{IsCounted, IsHonest}
 use Rattle.oai_host.specs.Answers.{OnFailed, Tells, failure_in}
 use Rattle.oai_host.specs.Hosts.{Hosting, IsAnswered, LeavesOthers, is_of_none, refused}
 use Rattle.oai_host.specs.Room.{FindsRoom}
 use Rattle.oai_host.specs.Tasks.{task_of}
-use Rattle.oai_host.specs.declared.exchanges.Answer.{Answer}
-use Rattle.oai_host.specs.declared.exchanges.Call.{Call}
+use Rattle.oai_http.specs.Exchanges.{Asked, call_at}
+use Rattle.oai_http.specs.declared.exchanges.Answer.{Answer}
+use Rattle.oai_http.specs.declared.exchanges.Call.{Call}
 
 -- over a store that gives back what was written to it, it is answered as `IsAnswered` says. Over every store the repositories of others stay; an
 -- exchange of none is refused, and leaves the host as it was; of any other only that is told which may be told of what it asks; what failed
@@ -21,6 +22,10 @@ pub record IsExchanged (call : Call) (answer : Answer) (before after : Hosting) 
   pub room : IsTrue before.honest → FindsRoom call answer before.repositories before.room after.room
   pub device : IsCounted (failure_in answer) before.failures after.failures
   pub honesty : IsHonest (failure_in answer) before.honest after.honest
+
+-- the same of what is asked at a moment, as a front has its messages performed
+abbrev pub IsHandled : Hosting → ℤ → Asked → Answer → Hosting → Type 0
+IsHandled before moment asked answer after = IsExchanged (call_at moment asked) answer before after
 
 -- exchanges, one after the other, each with its answer
 abbrev pub AreExchanged : List Call → List Answer → Hosting → Hosting → Type 0

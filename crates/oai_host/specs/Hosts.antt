@@ -4,12 +4,12 @@ use Rattle.std.specs.List.{AllByRecursion, AllZip, list_all}
 use Rattle.oai_settings.specs.Config.{Config}
 use Rattle.oai_repo.specs.State.{State, empty_state}
 use Rattle.oai_host.specs.Alone.{IsExchange, IsRun, answers_alone, own_answers, own_calls}
-use Rattle.oai_host.specs.Answers.{answered}
+use Rattle.oai_http.specs.Answers.{answered}
 use Rattle.oai_host.specs.Configs.{Hosted}
-use Rattle.oai_host.specs.Targets.{is_rooted, leads_to_repository}
-use Rattle.oai_host.specs.declared.exchanges.Answer.{Answer}
-use Rattle.oai_host.specs.declared.exchanges.Call.{Call}
-use Rattle.oai_host.specs.declared.statuses.Status.TheVariants as status
+use Rattle.oai_http.specs.Targets.{is_rooted, leads_to_repository}
+use Rattle.oai_http.specs.declared.exchanges.Answer.{Answer}
+use Rattle.oai_http.specs.declared.exchanges.Call.{Call}
+use Rattle.oai_http.specs.declared.statuses.Status.TheVariants as status
 
 -- a repository of a host: its name, its configuration and its state
 pub record Repository : Type 0 where

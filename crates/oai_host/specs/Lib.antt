@@ -6,8 +6,6 @@ pub mod Written
 pub mod Causes
 pub mod Reading
 pub mod ReadingWork
-pub mod Statuses
-pub mod Targets
 pub mod Bodies
 pub mod Cuts
 pub mod Answers

@@ -11,10 +11,10 @@ use Rattle.oai_settings.specs.Config.{Config}
 use Rattle.oai_repo.specs.Calls.{room_to_ask, room_to_change}
 use Rattle.oai_host.specs.Answers.{failure_in}
 use Rattle.oai_host.specs.Hosts.{Repository}
-use Rattle.oai_host.specs.Targets.{leads_to_repository}
+use Rattle.oai_http.specs.Targets.{leads_to_repository}
 use Rattle.oai_host.specs.Tasks.{Task, asking, depositing, refusing, task_of}
-use Rattle.oai_host.specs.declared.exchanges.Answer.{Answer}
-use Rattle.oai_host.specs.declared.exchanges.Call.{Call}
+use Rattle.oai_http.specs.declared.exchanges.Answer.{Answer}
+use Rattle.oai_http.specs.declared.exchanges.Call.{Call}
 
 -- a line of a deposit, as it was read: what its change may want where the repository has as many items as it may; and nothing where it is refused
 abbrev pub room_for_line : Config → Result Change LineRefusal → ℕ

@@ -1,25 +1,14 @@
 -- What an exchange asks of the repository that its path leads to: RFC 9110, sections 9.3, 15.5.6 and 15.5.16; OAI-PMH 2.0, section 3.1.1.
-use Rattle.std.specs.Prelude.{ℕ, ℤ, Bool, if◌then◌else◌, List, take, codes}
-use Rattle.std.specs.Option.{option_copied}
+use Rattle.std.specs.Prelude.{ℕ, Bool, if◌then◌else◌, List, codes, Option, None, Some}
 use Rattle.std.specs.Str.{bytes_eq}
-use Rattle.oai_host.specs.Bodies.{is_form, lines_in}
-use Rattle.oai_host.specs.Targets.{front_of, path_of, query_of}
-use Rattle.oai_host.specs.declared.exchanges.Call.{Call}
-use Rattle.oai_host.specs.declared.exchanges.Exchange.{Exchange}
-use Rattle.oai_host.specs.declared.routes.Kind.{Kind}
-use Rattle.oai_host.specs.declared.routes.Kind.TheVariants.{Deposits, Requests}
-use Rattle.oai_host.specs.declared.statuses.Status.{Status}
-use Rattle.oai_host.specs.declared.statuses.Status.TheVariants as status
-
--- an exchange that comes at that moment
-abbrev pub call_of : ℤ → Exchange → Call
-call_of moment exchange = record {
-  moment = moment;
-  method = exchange.method.now;
-  target = exchange.target.now;
-  content_type = option_copied exchange.content_type;
-  body = exchange.body.now;
-}
+use Rattle.oai_http.specs.Bodies.{is_form}
+use Rattle.oai_http.specs.Targets.{endpoint_of, is_rooted, query_of}
+use Rattle.oai_http.specs.declared.exchanges.Call.{Call}
+use Rattle.oai_http.specs.declared.statuses.Status.{Status}
+use Rattle.oai_http.specs.declared.statuses.Status.TheVariants as status
+use Rattle.oai_http.specs.declared.targets.Endpoint.{Endpoint}
+use Rattle.oai_http.specs.declared.targets.Endpoint.TheVariants.{Deposits, Requests}
+use Rattle.oai_host.specs.Bodies.{lines_in}
 
 -- nothing, since it is answered that status; a request of OAI-PMH, by the bytes of its arguments; or deposit lines
 pub data Task : Type 0 where
@@ -44,13 +33,14 @@ request_in call =
 abbrev pub deposit_in : Call → Task
 deposit_in call = if is_post call.method then depositing (lines_in call.body) else refusing status.MethodNotAllowed
 
-abbrev pub task_in : Kind → Call → Task
+abbrev pub task_in : Endpoint → Call → Task
 task_in Requests call = request_in call
 task_in Deposits call = deposit_in call
 
--- what a target is for, where its path is a repository's; of any other it says `Requests`
-abbrev pub kind_of : List ℕ → Kind
-kind_of target = if bytes_eq (take 9 (path_of target)) (front_of Deposits) then Deposits else Requests
+-- what a call asks, by what its target is for; nothing where it is for neither
+abbrev pub task_at : Option Endpoint → Call → Task
+task_at None call = refusing (if is_rooted call.target then status.NotFound else status.BadRequest)
+task_at (Some endpoint) call = task_in endpoint call
 
 abbrev pub task_of : Call → Task
-task_of call = task_in (kind_of call.target) call
+task_of call = task_at (endpoint_of call.target) call

@@ -8,9 +8,9 @@ use Rattle.oai_repo.specs.Held.{Held, state_of}
 use Rattle.oai_repo.specs.Machine.{line, step}
 use Rattle.oai_host.specs.Alone.{with_end}
 use Rattle.oai_host.specs.Bodies.{is_line_end}
-use Rattle.oai_host.specs.Targets.{front_of, leads_to_repository, path_of}
+use Rattle.oai_http.specs.Targets.{front_of, leads_to_repository, path_of}
 use Rattle.oai_host.specs.declared.housed.Housed.{Housed}
-use Rattle.oai_host.specs.declared.routes.Kind.{Kind}
+use Rattle.oai_http.specs.declared.targets.Endpoint.{Endpoint}
 
 -- a line was performed, as it was read, and the line for it stands behind the others
 pub record IsLineDone (old : Held) (before : Lists) (moment : ℤ) (read : Result Change LineRefusal) (was : List ℕ) (new : Held) (after : Lists) (is : List ℕ) : Type 0 where
@@ -21,11 +21,11 @@ pub record IsLineDone (old : Held) (before : Lists) (moment : ℤ) (read : Resul
 abbrev pub HasMoreLines : List ℕ → List ℕ → Type 0
 HasMoreLines was is = count_by is_line_end was < count_by is_line_end is
 
--- the path of the exchange is of that kind and ends with the name of the repository at the place
-pub record IsPlace (housed : List Housed) (place : ℕ) (kind : Kind) (target : List ℕ) : Type 0 where
+-- the path of the exchange is of that endpoint and ends with the name of the repository at the place
+pub record IsPlace (housed : List Housed) (place : ℕ) (endpoint : Endpoint) (target : List ℕ) : Type 0 where
   pub one : Housed
   pub there : slice_get housed place ≡ Some one
-  pub path : path_of target ≡ front_of kind ++ one.name
+  pub path : path_of target ≡ front_of endpoint ++ one.name
 
 -- the path of the target is no repository's
 abbrev pub LeadsNowhere : List Housed → List ℕ → Type 0

@@ -14,10 +14,10 @@ ghost use Rattle.oai_host.specs.Room.{room_for_line, room_for_task};
 ghost use Rattle.oai_host.specs.Tasks.{depositing};
 ghost use Rattle.oai_host.specs.Workings.{HasMoreLines, IsLineDone};
 
-use crate::exchanges::Answer;
 use crate::lines::Lines;
 use oai_catalogue::Versions;
 use oai_deposit::{LineFault, read_line};
+use oai_http::Answer;
 use oai_item::{Change, Fault, LineRefusal};
 use oai_names::Sequence;
 use oai_repo::{Refusal, Repo};

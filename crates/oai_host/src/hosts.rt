@@ -12,17 +12,17 @@ ghost use Rattle.oai_host.specs.Hosts.{AreAnswered, AreAsAlone, IsAnswered, Leav
 ghost use Rattle.oai_host.specs.Housed.{AreHoused, housed_names};
 ghost use Rattle.oai_host.specs.Props.{housed_props};
 ghost use Rattle.oai_host.specs.Room.{FindsRoom};
-ghost use Rattle.oai_host.specs.Targets as spec;
-ghost use Rattle.oai_host.specs.Tasks.{call_of, task_of};
-ghost use Rattle.oai_host.specs.declared.statuses.Status.TheVariants as status;
+ghost use Rattle.oai_http.specs.Targets as spec;
+ghost use Rattle.oai_http.specs.Exchanges.{call_of};
+ghost use Rattle.oai_host.specs.Tasks.{task_of};
+ghost use Rattle.oai_http.specs.declared.statuses.Status.TheVariants as status;
 ghost use Rattle.oai_host.specs.Workings.{IsPlace, LeadsNowhere};
 
 use crate::config::Config;
-use crate::exchanges::{Answer, Call, Exchange};
 use crate::repositories::Repositories;
-use crate::routes::{Kind, Routes, is_rooted, path_of};
-use crate::statuses::Status;
+use crate::routes::Routes;
 use oai_catalogue::Versions;
+use oai_http::{Answer, Call, Endpoint, Exchange, Status, is_rooted, path_of};
 use oai_item::Fault;
 use oai_names::Sequence;
 use std::alloc::{AllocError, Global};
@@ -109,9 +109,9 @@ impl<V: Versions + Drop> Host<V> {
         ensures honesty { IsHonest (failure_in result) self.old.honest self.new.honest }
     {
         match find(&self.routes, &self.repositories, exchange.target) {
-            Some((kind, place)) => {
+            Some((endpoint, place)) => {
                 self.repositories
-                    .perform(&mut self.store, place, kind, moment, exchange)
+                    .perform(&mut self.store, place, endpoint, moment, exchange)
             }
             None => Answer::of_status(self.alloc, status_of(exchange.target)),
         }
@@ -151,14 +151,14 @@ impl<V: Versions + Drop> Host<V> {
 }
 
 /// What the path of the target is for, and the place of the repository whose it is.
-fn find(routes: &Routes, repositories: &Repositories, target: &[u8]) -> Option<(Kind, usize)>
+fn find(routes: &Routes, repositories: &Repositories, target: &[u8]) -> Option<(Endpoint, usize)>
     requires { list_all is_repository_name (housed_names repositories.now) ≡ true }
     ensures place { IfSome result (λ found. IsPlace repositories.now found.1 found.0 target.now) }
     ensures nowhere { IfNone result (LeadsNowhere repositories.now target.now) }
 {
-    let (kind, name) = routes.find(path_of(target))?;
+    let (endpoint, name) = routes.find(path_of(target))?;
     let place = repositories.place_of(name)?;
-    Some((kind, place))
+    Some((endpoint, place))
 }
 
 /// The status for a target that is no repository's.

@@ -2,12 +2,10 @@
 //! for, what it is answered, and that nothing that happens at one repository is seen at another.
 #![tactic(auto)]
 
-mod bodies;
-mod bytes;
 mod config;
 mod deposits;
-mod exchanges;
 mod faults;
+mod handlers;
 mod hosts;
 mod housed;
 mod lines;
@@ -16,13 +14,9 @@ mod readings;
 mod repositories;
 mod requests;
 mod routes;
-mod statuses;
 
-pub use bodies::FORM;
 pub use config::{Config, HostedConfig};
-pub use exchanges::{Answer, Call, Exchange};
 pub use faults::{ReadFault, fault_law};
 pub use hosts::Host;
+pub use oai_http::{Answer, Call, Exchange, Status};
 pub use readings::told::shape_law;
-pub use routes::{DEPOSITS_FRONT, REQUESTS_FRONT, path_law};
-pub use statuses::Status;

@@ -5,7 +5,7 @@ ghost use Rattle.oai_host.specs.Bodies as spec;
 ghost use Rattle.oai_host.specs.Bodies.{lines_in};
 ghost use Rattle.oai_host.specs.Cuts.{bytes_left, from_line, lines_left};
 
-use crate::bytes::len_before;
+use oai_http::len_before;
 use std::marker::Model;
 
 /// The lines of a deposit that are still to be taken: its body is cut at each line end, and a line of

@@ -6,14 +6,13 @@ ghost use Rattle.oai_host.specs.Alone.{IsTried};
 ghost use Rattle.oai_host.specs.Answers.{OnFailed, Tells, failure_in};
 ghost use Rattle.oai_host.specs.Housed.{IsKept};
 ghost use Rattle.oai_host.specs.Room.{room_for_task};
-ghost use Rattle.oai_host.specs.Tasks.{call_of, task_in};
+ghost use Rattle.oai_http.specs.Exchanges.{call_of};
+ghost use Rattle.oai_host.specs.Tasks.{task_in};
 
 use crate::deposits::perform_lines;
-use crate::exchanges::{Answer, Exchange};
 use crate::requests::{arguments_of, is_post, perform_request};
-use crate::routes::Kind;
-use crate::statuses::Status;
 use oai_catalogue::Versions;
+use oai_http::{Answer, Endpoint, Exchange, Status};
 use oai_repo::Repo;
 use std::alloc::Global;
 
@@ -23,31 +22,31 @@ pub(crate) fn perform<V: Versions>(
     repo: &mut Repo,
     store: &mut V,
     moment: i64,
-    kind: Kind,
+    endpoint: Endpoint,
     exchange: &Exchange<'_>,
 ) -> Answer
     requires stands { StandsIn repo.old (V.lists store.old) }
     requires held { IsTrue (V.honest store.old) → IsHeld repo.old (V.lists store.old) }
     ensures tried { IsTrue (V.honest store.old)
         → IsTried repo.old.config (state_of repo.old (V.lists store.old)) moment
-        (task_in kind (call_of moment exchange.now)) result (state_of repo.new (V.lists store.new)) }
+        (task_in endpoint (call_of moment exchange.now)) result (state_of repo.new (V.lists store.new)) }
     ensures left { OnFailed result ((repo.new ≡ repo.old)
         × (V.lists store.new ≡ V.lists store.old)) }
-    ensures told { Tells (task_in kind (call_of moment exchange.now)) result }
+    ensures told { Tells (task_in endpoint (call_of moment exchange.now)) result }
     ensures kept { IsKept (V.honest store.old) repo.old (V.lists store.old) repo.new
         (V.lists store.new) }
     ensures room { IsTrue (V.honest store.old) → NeedsRoom (room_for_task repo.old.config
-        (task_in kind (call_of moment exchange.now))) (failure_in result) (V.room store.old)
+        (task_in endpoint (call_of moment exchange.now))) (failure_in result) (V.room store.old)
         (V.room store.new) }
     ensures device { IsCounted (failure_in result) (V.failures store.old) (V.failures store.new) }
     ensures honesty { IsHonest (failure_in result) (V.honest store.old) (V.honest store.new) }
 {
-    match kind {
-        Kind::Requests => match arguments_of(exchange) {
+    match endpoint {
+        Endpoint::Requests => match arguments_of(exchange) {
             Ok(arguments) => perform_request(alloc, repo, store, moment, arguments),
             Err(status) => Answer::of_status(alloc, status),
         },
-        Kind::Deposits => {
+        Endpoint::Deposits => {
             if is_post(exchange.method) {
                 perform_lines(alloc, repo, store, moment, exchange.body)
             } else {

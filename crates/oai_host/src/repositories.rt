@@ -9,16 +9,16 @@ ghost use Rattle.oai_host.specs.Hosts.{IsStep, LeavesOthers, begun};
 ghost use Rattle.oai_host.specs.Housed.{AreHoused, housed_names, place_in, repositories_of};
 ghost use Rattle.oai_host.specs.Room.{FindsRoom};
 ghost use Rattle.oai_settings.specs.Config.{is_repository_name};
-ghost use Rattle.oai_host.specs.Targets.{front_of, path_of};
-ghost use Rattle.oai_host.specs.Tasks.{call_of, task_in};
+ghost use Rattle.oai_http.specs.Targets.{front_of, path_of};
+ghost use Rattle.oai_http.specs.Exchanges.{call_of};
+ghost use Rattle.oai_host.specs.Tasks.{task_in};
 ghost use Rattle.oai_host.specs.Workings.{IsPlace};
 
 use crate::config::HostedConfig;
-use crate::exchanges::{Answer, Exchange};
 use crate::housed::Housed;
 use crate::performances::perform;
-use crate::routes::Kind;
 use oai_catalogue::Versions;
+use oai_http::{Answer, Endpoint, Exchange};
 use oai_item::Fault;
 use oai_names::Text;
 use oai_repo::Repo;
@@ -109,11 +109,11 @@ impl Repositories {
         &mut self,
         store: &mut V,
         place: usize,
-        kind: Kind,
+        endpoint: Endpoint,
         moment: i64,
         exchange: &Exchange<'_>,
     ) -> Answer
-        requires place { IsPlace self.old place kind exchange.now.target.now }
+        requires place { IsPlace self.old place endpoint exchange.now.target.now }
         requires housed { AreHoused (V.honest store.old) self.old (V.lists store.old) }
         ensures steps { IsTrue (V.honest store.old) → AllZip (IsStep (call_of moment exchange.now) result)
             (repositories_of self.old (V.lists store.old)) (repositories_of self.new (V.lists store.new)) }
@@ -121,7 +121,7 @@ impl Repositories {
             (repositories_of self.old (V.lists store.old)) (repositories_of self.new (V.lists store.new)) }
         ensures left { OnFailed result ((self.new ≡ self.old)
             × (V.lists store.new ≡ V.lists store.old)) }
-        ensures told { Tells (task_in kind (call_of moment exchange.now)) result }
+        ensures told { Tells (task_in endpoint (call_of moment exchange.now)) result }
         ensures housed { AreHoused (V.honest store.new) self.new (V.lists store.new) }
         ensures room { IsTrue (V.honest store.old) → FindsRoom (call_of moment exchange.now) result
             (repositories_of self.old (V.lists store.old)) (V.room store.old) (V.room store.new) }
@@ -129,7 +129,7 @@ impl Repositories {
         ensures honesty { IsHonest (failure_in result) (V.honest store.old) (V.honest store.new) }
     {
         let repo = &mut self.housed[place].repo;
-        perform(self.alloc, repo, store, moment, kind, exchange)
+        perform(self.alloc, repo, store, moment, endpoint, exchange)
     }
 }
 

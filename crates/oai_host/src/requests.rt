@@ -7,13 +7,10 @@ ghost use Rattle.oai_host.specs.Answers.{OnFailed, Tells, failure_in};
 ghost use Rattle.oai_host.specs.Housed.{IsKept};
 ghost use Rattle.oai_host.specs.Room.{room_for_task};
 ghost use Rattle.oai_host.specs.Tasks as spec;
-ghost use Rattle.oai_host.specs.Tasks.{call_of};
+ghost use Rattle.oai_http.specs.Exchanges.{call_of};
 
-use crate::bodies::is_form;
-use crate::exchanges::{Answer, Exchange};
-use crate::routes::query_of;
-use crate::statuses::Status;
 use oai_catalogue::Versions;
+use oai_http::{Answer, Exchange, Status, is_form, query_of};
 use oai_repo::{Reply, Repo};
 use std::alloc::Global;
 

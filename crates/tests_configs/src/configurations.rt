@@ -2,7 +2,8 @@
 use crate::answers::answer_to;
 use crate::assertions::{assert_same, assert_same_at};
 use crate::worked::{assert_table, worked_with};
-use oai_host::{Config, fault_law, path_law, shape_law};
+use oai_host::{Config, fault_law, shape_law};
+use oai_http::path_law;
 use std::alloc::Global;
 use std::panic::Expect;
 use std::process::Abort;

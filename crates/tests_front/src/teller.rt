@@ -2,8 +2,8 @@
 ghost use Rattle.std.specs.Prelude.{⊤};
 
 use crate::assertions::{assert_same, assert_same_at};
-use oai_front::{ConnId, Front, Handler, OpenFault, PieceFault};
-use oai_host::{Answer, Exchange, Status};
+use oai_front::{ConnId, Front, OpenFault, PieceFault};
+use oai_http::{Answer, Exchange, Handler, Status};
 use oai_names::Sequence;
 use std::alloc::{AllocError, Global};
 use std::panic::Expect;

@@ -2,7 +2,7 @@
 use Rattle.std.proofs.Common.{List, ℕ, length, FitsSigned, w64, to_z-of_z, ap, arith}
 use Rattle.std.specs.List.{concat}
 use Rattle.oai_front.proofs.MessageLemmas.{length_behind, sofar_fault, sofar_last, sofar_more, sofar_none, sofar_refused, sofar_untold}
-use Rattle.oai_front.specs.Performing.{asked_by}
+use Rattle.oai_http.specs.Exchanges.{asked_by}
 use Rattle.oai_front.proofs.messages.perform_all.Goals as goal
 
 pub messages-init : goal.messages-init

@@ -3,20 +3,20 @@ use Rattle.std.proofs.Common.{◌∙◌, sym}
 use Rattle.oai_host.proofs.HostLemmas.{nowhere_name, nowhere_path, place_found}
 use Rattle.oai_host.proofs.hosts.find.Goals as goal
 
-pub returns-in_err-kind-clause-nowhere : goal.returns-in_err-kind-clause-nowhere
-returns-in_err-kind-clause-nowhere c =
+pub returns-in_err-endpoint-clause-nowhere : goal.returns-in_err-endpoint-clause-nowhere
+returns-in_err-endpoint-clause-nowhere c =
     let housed = c.args.repositories.now in
-    let never = rw c.path_of.ensures at c.in_err-kind.ensures.only in
+    let never = rw c.path_of.ensures at c.in_err-endpoint.ensures.only in
     rw c.from_residual.ensures (nowhere_path housed c.args.target.now c.requires never)
 
 pub returns-in_err-place-clause-nowhere : goal.returns-in_err-place-clause-nowhere
 returns-in_err-place-clause-nowhere c =
     let housed = c.args.repositories.now in
-    let only = rw c.path_of.ensures at c.in_ok-kind.ensures.only in
-    rw c.from_residual-in_err-place.ensures (nowhere_name housed c.args.target.now c.in_ok-kind.name.now c.requires (sym c.place_of.ensures ∙ c.in_err-place.was) (λ kind other named is. (only kind other named is).1))
+    let only = rw c.path_of.ensures at c.in_ok-endpoint.ensures.only in
+    rw c.from_residual-in_err-place.ensures (nowhere_name housed c.args.target.now c.in_ok-endpoint.name.now c.requires (sym c.place_of.ensures ∙ c.in_err-place.was) (λ endpoint other named is. (only endpoint other named is).1))
 
 pub returns-clause-place : goal.returns-clause-place
 returns-clause-place c =
     let housed = c.args.repositories.now in
-    let path = rw c.path_of.ensures at c.in_ok-kind.ensures.found in
-    place_found housed c.args.target.now c.in_ok-kind.name.now c.in_ok-place.place c.in_ok-kind.kind (sym c.place_of.ensures ∙ c.in_ok-place.was) path
+    let path = rw c.path_of.ensures at c.in_ok-endpoint.ensures.found in
+    place_found housed c.args.target.now c.in_ok-endpoint.name.now c.in_ok-place.place c.in_ok-endpoint.endpoint (sym c.place_of.ensures ∙ c.in_ok-place.was) path

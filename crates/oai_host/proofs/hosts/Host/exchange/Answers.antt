@@ -1,19 +1,20 @@
 -- An exchange is done by the repository at the place, or is no repository's.
-use Rattle.std.proofs.Common.{◌≡◌, ◌∙◌, Bool, List, FitsSigned, IsTrue, ap, ap₂, refl, subst, sym, true, w64}
+use Rattle.std.proofs.Common.{◌≡◌, ◌∙◌, Bool, List, FitsSigned, IsTrue, ap, ap₂, refl, subst, sym, true, w64, Option}
 use Rattle.std.proofs.lemmas.Int.{to_z-of_z}
 use Rattle.oai_host.specs.Hosts.{Hosting, IsAnswered, LeavesOthers, Repository, is_of_none}
 use Rattle.oai_host.specs.Housed.{AreHoused, repositories_of}
 use Rattle.oai_host.specs.Props.{housed_props}
 use Rattle.oai_host.specs.Answers.{Tells}
-use Rattle.oai_host.specs.Tasks.{call_of, task_in}
+use Rattle.oai_http.specs.Exchanges.{call_of}
+use Rattle.oai_host.specs.Tasks.{task_at, task_in}
 use Rattle.oai_host.specs.Room.{FindsRoom}
 use Rattle.oai_host.specs.declared.housed.Housed.{Housed}
-use Rattle.oai_host.specs.declared.routes.Kind.{Kind}
+use Rattle.oai_http.specs.declared.targets.Endpoint.{Endpoint}
 use Rattle.oai_catalogue.specs.Store.{Lists}
 use Rattle.oai_host.proofs.FaultLemmas.{left_then}
 use Rattle.oai_host.proofs.HostLemmas.{answered_nowhere, answered_there, none_nowhere, none_there, owned_there}
 use Rattle.oai_host.proofs.HousedLemmas.{others_same}
-use Rattle.oai_host.proofs.PlaceLemmas.{clash, kind_is}
+use Rattle.oai_http.proofs.TargetLemmas.{clash, endpoint_is}
 use Rattle.oai_host.proofs.RoomLemmas.{room_nowhere}
 use Rattle.oai_host.proofs.hosts.Host.exchange.Goals as goal
 
@@ -36,7 +37,7 @@ returns-in-Some-clause-answered g c = λ honest.
     let before : repositories_of host.repositories (V.lists host.store) ≡ c.args.self.now.repositories = ap (λ (h : Hosting). h.repositories) c.self.view_is in
     let then_so : IsTrue (V.honest host.store) = subst (λ (b : Bool). IsTrue b) (sym (ap (λ (h : Hosting). h.honest) c.self.view_is)) honest in
     subst (λ (rs : List Repository). IsAnswered (call_of c.args.moment c.args.exchange.now) c.perform.result rs (repositories_of c.perform.new.self (V.lists c.perform.new.store))) before
-    (answered_there host.repositories c.in-Some.place c.in-Some.kind (V.lists host.store) (call_of c.args.moment c.args.exchange.now) c.perform.result (repositories_of c.perform.new.self (V.lists c.perform.new.store))
+    (answered_there host.repositories c.in-Some.place c.in-Some.endpoint (V.lists host.store) (call_of c.args.moment c.args.exchange.now) c.perform.result (repositories_of c.perform.new.self (V.lists c.perform.new.store))
     c.in-Some.ensures.place (simp to_z-of_z at (c.perform.ensures.steps then_so)))
 
 pub returns-in-None-clause-answered : goal.returns-in-None-clause-answered
@@ -84,7 +85,7 @@ returns-in-Some-clause-none g c = λ none.
     let call = call_of c.args.moment c.args.exchange.now in
     let before : repositories_of host.repositories (V.lists host.store) ≡ c.args.self.now.repositories = ap (λ (h : Hosting). h.repositories) c.self.view_is in
     let of_none : is_of_none (repositories_of host.repositories (V.lists host.store)) call ≡ true = ap (λ (rs : List Repository). is_of_none rs call) before ∙ none in
-    none_there host.repositories c.in-Some.place c.in-Some.kind (V.lists host.store) call c.perform.result c.in-Some.ensures.place of_none
+    none_there host.repositories c.in-Some.place c.in-Some.endpoint (V.lists host.store) call c.perform.result c.in-Some.ensures.place of_none
 
 pub returns-in-None-clause-none : goal.returns-in-None-clause-none
 returns-in-None-clause-none g c = λ _. rw c.status_of.ensures at c.of_status.ensures
@@ -96,7 +97,7 @@ returns-in-Some-clause-still g c = λ none.
     let call = call_of c.args.moment c.args.exchange.now in
     let before : repositories_of host.repositories (V.lists host.store) ≡ c.args.self.now.repositories = ap (λ (h : Hosting). h.repositories) c.self.view_is in
     let of_none : is_of_none (repositories_of host.repositories (V.lists host.store)) call ≡ true = ap (λ (rs : List Repository). is_of_none rs call) before ∙ none in
-    owned_there host.repositories c.in-Some.place c.in-Some.kind (V.lists host.store) call c.in-Some.ensures.place of_none
+    owned_there host.repositories c.in-Some.place c.in-Some.endpoint (V.lists host.store) call c.in-Some.ensures.place of_none
 
 pub returns-in-None-clause-still : goal.returns-in-None-clause-still
 returns-in-None-clause-still g c = λ _. refl
@@ -106,8 +107,8 @@ returns-in-Some-clause-told g c = λ _.
     let fits : FitsSigned w64 c.args.moment = c.ranges.moment in
     let place = c.in-Some.ensures.place in
     let call = call_of c.args.moment c.args.exchange.now in
-    let told : Tells (task_in c.in-Some.kind call) c.perform.result = simp to_z-of_z at c.perform.ensures.told in
-    subst (λ (kind : Kind). Tells (task_in kind call) c.perform.result) (sym (kind_is c.in-Some.kind place.one.name call.target place.path)) told
+    let told : Tells (task_in c.in-Some.endpoint call) c.perform.result = simp to_z-of_z at c.perform.ensures.told in
+    subst (λ (at : Option Endpoint). Tells (task_at at call) c.perform.result) (sym (endpoint_is c.in-Some.endpoint place.one.name call.target place.path)) told
 
 pub returns-in-None-clause-told : goal.returns-in-None-clause-told
 returns-in-None-clause-told g c = λ some.

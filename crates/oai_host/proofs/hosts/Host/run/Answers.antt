@@ -1,6 +1,6 @@
 -- One more exchange is answered, and in the end all are; those of each repository without failures are those that it alone answers.
 use Rattle.std.proofs.Common.{◌≡◌, ◌∙◌, ◌+◌, ◌∷◌, ◌++◌, [], suc, take, Bool, IsTrue, arith, rules, refl, sym, ap, subst}
-use Rattle.oai_host.specs.declared.exchanges.Call.{Call}
+use Rattle.oai_http.specs.declared.exchanges.Call.{Call}
 use Rattle.oai_host.proofs.FaultLemmas.{counted_last, honest_last}
 use Rattle.oai_host.proofs.RunLemmas.{all_alone, answered_last, answered_none, exchanged_last, one_longer, take_more, take_whole}
 use Rattle.oai_host.proofs.hosts.Host.run.Goals as goal

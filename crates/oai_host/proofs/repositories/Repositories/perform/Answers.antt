@@ -2,7 +2,7 @@
 use Rattle.std.proofs.Common.{◌≡◌, ◌∙◌, FitsSigned, w64}
 use Rattle.std.proofs.lemmas.Int.{to_z-of_z}
 use Rattle.std.proofs.lemmas.Option.{get_or_from_slice_get}
-use Rattle.oai_host.specs.Tasks.{call_of}
+use Rattle.oai_http.specs.Exchanges.{call_of}
 use Rattle.oai_host.proofs.HousedLemmas.{held_at, housed_set, left_set, others_set, stands_at, steps_set}
 use Rattle.oai_host.proofs.PlaceLemmas.{names_set}
 use Rattle.oai_host.proofs.RoomLemmas.{room_set}
@@ -41,7 +41,7 @@ returns-clause-steps g c = λ honest.
     let kept = rw one at c.perform.ensures.kept in
     let tried = rw one at (simp to_z-of_z at (c.perform.ensures.tried honest)) in
     rw (← c.self.view_is, one)
-    (steps_set (V.honest c.args.store.now) (call_of c.args.moment c.args.exchange.now) c.perform.result c.args.kind inside c.args.place p.one c.perform.new.repo (V.lists c.args.store.now) (V.lists c.perform.new.store) there housed kept
+    (steps_set (V.honest c.args.store.now) (call_of c.args.moment c.args.exchange.now) c.perform.result c.args.endpoint inside c.args.place p.one c.perform.new.repo (V.lists c.args.store.now) (V.lists c.perform.new.store) there housed kept
     housed.named.distinct p.path tried)
 
 pub returns-clause-housed : goal.returns-clause-housed
@@ -65,7 +65,7 @@ returns-clause-others g c =
     let housed = rw (← c.self.view_is) at c.requires.housed in
     let kept = rw one at c.perform.ensures.kept in
     rw (← c.self.view_is, one)
-    (others_set (V.honest c.args.store.now) c.args.exchange.now.target.now c.args.kind inside c.args.place p.one c.perform.new.repo (V.lists c.args.store.now) (V.lists c.perform.new.store) there housed kept p.path)
+    (others_set (V.honest c.args.store.now) c.args.exchange.now.target.now c.args.endpoint inside c.args.place p.one c.perform.new.repo (V.lists c.args.store.now) (V.lists c.perform.new.store) there housed kept p.path)
 
 pub returns-clause-left : goal.returns-clause-left
 returns-clause-left g c =
@@ -88,4 +88,4 @@ returns-clause-room g c = λ honest.
     let housed = rw (← c.self.view_is) at c.requires.housed in
     let need = rw one at (simp to_z-of_z at (c.perform.ensures.room honest)) in
     rw (← c.self.view_is)
-    (room_set (call_of c.args.moment c.args.exchange.now) c.perform.result (V.lists c.args.store.now) (V.room c.args.store.now) (V.room c.perform.new.store) c.args.kind inside c.args.place p.one there housed.named.distinct p.path need)
+    (room_set (call_of c.args.moment c.args.exchange.now) c.perform.result (V.lists c.args.store.now) (V.room c.args.store.now) (V.room c.perform.new.store) c.args.endpoint inside c.args.place p.one there housed.named.distinct p.path need)

@@ -1,0 +1,5 @@
+pub mod Statuses
+pub mod Exchanges
+pub mod Answers
+pub mod Bodies
+pub mod Targets

@@ -1,0 +1,21 @@
+//! What is asked over HTTP and what is answered: exchanges and their statuses, where a target leads, the type
+//! of a body, and what performs messages.
+#![tactic(auto)]
+
+mod bodies;
+mod bytes;
+mod exchanges;
+mod handlers;
+mod statuses;
+mod targets;
+mod texts;
+
+pub use bodies::{FORM, is_form};
+pub use bytes::len_before;
+pub use exchanges::{Answer, Call, Exchange};
+pub use handlers::Handler;
+pub use statuses::Status;
+pub use targets::{
+    DEPOSITS_FRONT, Endpoint, REQUESTS_FRONT, endpoint_of, is_rooted, path_law, path_of, query_of,
+};
+pub use texts::trim;

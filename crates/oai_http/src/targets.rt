@@ -1,0 +1,82 @@
+//! Where a target leads.
+ghost use Rattle.std.specs.Prelude.{◌≡◌, ℕ, List, true, Some};
+ghost use Rattle.oai_http.specs.Targets as spec;
+
+use crate::bytes::len_before;
+
+/// What stands before the name of a repository in the path of its requests.
+pub const REQUESTS_FRONT: &str = "/oai/";
+
+/// What stands before the name of a repository in the path of its deposits.
+pub const DEPOSITS_FRONT: &str = "/deposit/";
+
+/// What a target is for.
+#[derive(Clone, Copy, Debug, PartialEq, Eq)]
+pub enum Endpoint {
+    /// The requests of a repository: the path begins with `/oai/`.
+    Requests,
+    /// The deposits of a repository: the path begins with `/deposit/`.
+    Deposits,
+}
+
+impl Endpoint {
+    /// What stands before the name of a repository in a path of this endpoint.
+    pub fn front(self) -> &'static str
+        ensures { result.now ≡ spec.front_of self }
+    {
+        match self {
+            Endpoint::Requests => REQUESTS_FRONT,
+            Endpoint::Deposits => DEPOSITS_FRONT,
+        }
+    }
+}
+
+/// What the target is for, by how its path begins, whether its repository is there or not; `None` where it
+/// begins in neither way.
+pub fn endpoint_of(target: &[u8]) -> Option<Endpoint>
+    ensures { result ≡ spec.endpoint_of target.now }
+{
+    let path = path_of(target);
+    if path.starts_with(REQUESTS_FRONT.as_bytes()) {
+        Some(Endpoint::Requests)
+    } else if path.starts_with(DEPOSITS_FRONT.as_bytes()) {
+        Some(Endpoint::Deposits)
+    } else {
+        None
+    }
+}
+
+/// Whether the target begins with `/`.
+pub fn is_rooted(target: &[u8]) -> bool
+    ensures { result ≡ spec.is_rooted target.now }
+{
+    target.strip_prefix(b"/").is_some()
+}
+
+/// What stands before the first `?`; all of the target where there is none.
+pub fn path_of(target: &[u8]) -> &[u8]
+    ensures { result.now ≡ spec.path_of target.now }
+{
+    &target[..len_before(b'?', target)]
+}
+
+/// What stands behind the first `?`; nothing where there is none.
+pub fn query_of(target: &[u8]) -> &[u8]
+    ensures { result.now ≡ spec.query_of target.now }
+{
+    let path = len_before(b'?', target);
+    if path < target.len() {
+        &target[path + 1..]
+    } else {
+        &[]
+    }
+}
+
+/// What a target is for is what its path leads to, at whatever repository; and no target leads to two
+/// repositories. The contract is the law; the call does nothing.
+pub fn path_law()
+    ensures endpoint { (endpoint : Endpoint) (name target : List ℕ)
+        → spec.leads_to endpoint name target ≡ true → spec.endpoint_of target ≡ Some endpoint }
+    ensures one { (one other target : List ℕ) → spec.leads_to_repository one target ≡ true
+        → spec.leads_to_repository other target ≡ true → one ≡ other }
+{}
