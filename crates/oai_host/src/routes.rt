@@ -1,8 +1,7 @@
 //! Where a target leads.
 ghost use Rattle.std.specs.Prelude.{◌≡◌, ◌++◌, ℕ, List, true, IfSome, MatchOption};
 ghost use Rattle.oai_settings.specs.Config.{is_repository_name};
-ghost use Rattle.matchit.specs.Seek.{first};
-ghost use Rattle.oai_host.specs.Rows.{both_rows, endpoint_in};
+ghost use Rattle.oai_host.specs.Rows.{both_rows};
 ghost use Rattle.oai_http.specs.Targets as spec;
 
 use matchit::Router;
@@ -50,31 +49,12 @@ impl Routes {
             → path.now ≡ spec.front_of endpoint ++ name
             → MatchOption result ⊥ (λ route. (route.0 ≡ endpoint) × (route.1.now ≡ name)) }
     {
-        match endpoint_at(&self.router, path) {
-            Some(endpoint) => with_name(endpoint, path),
-            None => None,
+        match self.router.at(path) {
+            Ok(found) => match found.params.get("name") {
+                Some(name) => Some((*found.value, name)),
+                None => None,
+            },
+            Err(_) => None,
         }
-    }
-}
-
-/// The endpoint with the name that the path ends with.
-fn with_name(endpoint: Endpoint, path: &str) -> Option<(Endpoint, &str)>
-    ensures found { IfSome result (λ route. path.now ≡ spec.front_of route.0 ++ route.1.now) }
-    ensures only { (name : List ℕ) → path.now ≡ spec.front_of endpoint ++ name
-        → MatchOption result ⊥ (λ route. (route.0 ≡ endpoint) × (route.1.now ≡ name)) }
-{
-    match path.strip_prefix(endpoint.front()) {
-        Some(name) => Some((endpoint, name)),
-        None => None,
-    }
-}
-
-/// What the route is for that the path matches, if it matches one.
-fn endpoint_at(router: &Router<Endpoint>, path: &str) -> Option<Endpoint>
-    ensures { result ≡ endpoint_in (first router.now path.now) }
-{
-    match router.at(path) {
-        Ok(found) => Some(*found.value),
-        Err(_) => None,
     }
 }
