@@ -25,7 +25,7 @@ CHUNK = 100
 # How many letters the description of an item has: its record has some 1,600 bytes of XML, from <record> to </record>.
 DESCRIPTION = 940
 
-# For how many seconds redeposits, and then first pages, are made; and for how many a record is asked for.
+# For how many seconds redeposits, and then first parts, are made; and for how many a record is asked for.
 LONG = float(os.environ.get("LONG", "30"))
 SHORT = 5
 
@@ -38,7 +38,7 @@ COLUMNS = {
     "gets": "GetRecord/s",
     "memory": "peak memory MB",
     "redeposits": "redeposits",
-    "firsts": "first pages",
+    "firsts": "first parts",
     "copies": "peak memory MB, with these",
 }
 
@@ -141,7 +141,7 @@ def redeposits(connection, size):
     return as_many(lambda: post_all(connection, bodies_of([item(chance.randrange(size), next(versions))])), LONG)
 
 
-def first_pages(connection):
+def first_parts(connection):
     """How many lists begin in LONG seconds, and how many of the requests were told to wait, since as many lists were open as may be."""
     answered = []
     as_many(lambda: answered.append(get(connection, "verb=ListRecords&metadataPrefix=oai_dc")[0]), LONG)
@@ -167,7 +167,7 @@ def measure(size):
         connection = server.connect()
         load(connection, size)
         row["redeposits"] = redeposits(connection, size)
-        row["firsts"] = first_pages(connection)
+        row["firsts"] = first_parts(connection)
         connection.close()
         row["copies"] = megabytes(server.most_memory())
     return row

@@ -55,7 +55,7 @@ const FIRST_ROOM: usize = 4_096;
 
 /// Appends the XML document (OAI-PMH 2.0, section 3.2), in UTF-8. The date, the earliest datestamp
 /// of an answer to Identify and the moment at which a token expires are of the years 0000 to 9999.
-/// The error is want of memory; it leaves the buffer as it was.
+/// The error is out of memory; it leaves the buffer as it was.
 ///
 /// It costs one pass over the texts of the document, and a search among the records of an item for
 /// each record, and for each format that is listed of an item. The document is written into a buffer

@@ -1,4 +1,3 @@
 pub mod Store
+pub mod Calls
 pub mod Plain
-pub mod Faulty
-pub mod Changes

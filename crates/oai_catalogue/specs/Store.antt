@@ -3,7 +3,7 @@
 use Rattle.std.specs.Prelude.{◌≡◌, ◌⊎◌, ◌+◌, ◌<◌, ◌≤◌, ℕ, Bool, true, false, not, ◌==◌, if◌then◌else◌, List, [], Option, None, Some, filter, unwrap_or, Result, IfErr}
 use Rattle.std.specs.List.{list_any}
 use Rattle.oai_item.specs.Item.{ItemState}
-use Rattle.oai_item.specs.Items.{is_at, with_item, without_at}
+use Rattle.oai_item.specs.Items.{is_at}
 use Rattle.oai_item.specs.Order.{are_in_order}
 use Rattle.oai_item.specs.declared.faults.Fault.{Fault}
 use Rattle.oai_item.specs.declared.faults.Fault.TheVariants.{Device, Damaged, TooManyPages}
@@ -58,21 +58,18 @@ pub record NeedsRoom {A : Type 0} (calls : ℕ) (result : Result A Fault) (old n
   pub enough : IfErr result (λ fault. fault ≡ TooManyPages → old < calls)
   pub used : old ≤ new + calls
 
--- ---- a change of one list
+-- what a call of a store spends, by the store's room, its count of failures and its honesty: room for so many calls is enough, failures
+-- are counted, and the device stays as honest as it was
+pub record Spends {V A : Type 0} (room_of failures_of : V → ℕ) (honest_of : V → Bool) (calls : ℕ) (result : Result A Fault) (old new : V) : Type 0 where
+  pub room : NeedsRoom calls result (room_of old) (room_of new)
+  pub device : IsCounted result (failures_of old) (failures_of new)
+  pub honesty : IsHonest result (honest_of old) (honest_of new)
 
--- the items without that one, by its datestamp and identifier, where one is given
-abbrev pub without_given : Option ItemState → List ItemState → List ItemState
-without_given None items = items
-without_given (Some gone) items = without_at gone.stamp gone.identifier items
-
--- the items with that one, where one is given
-abbrev pub with_given : Option ItemState → List ItemState → List ItemState
-with_given None items = items
-with_given (Some new) items = with_item new items
-
--- the items without the one and with the other, each where it is given
-abbrev pub with_change : Option ItemState → Option ItemState → List ItemState → List ItemState
-with_change gone new items = with_given new (without_given gone items)
+-- the same of a call that cannot fail: it leaves no less room, the count of failures and the honesty as they were
+pub record Spares {V : Type 0} (room_of failures_of : V → ℕ) (honest_of : V → Bool) (old new : V) : Type 0 where
+  pub room : room_of old ≤ room_of new
+  pub count : failures_of new ≡ failures_of old
+  pub honesty : honest_of new ≡ honest_of old
 
 -- ---- several items taken out of one list
 

@@ -49,7 +49,7 @@ impl Filter {
         &self.prefix
     }
 
-    /// An equal filter. The error is want of memory.
+    /// An equal filter. The error is out of memory.
     pub fn copy(&self, alloc: Global) -> Result<Filter, AllocError>
         ensures { IfOk result (λ copy. copy ≡ self.now) }
     {

@@ -1,11 +1,11 @@
-ghost use Rattle.std.specs.Prelude.{◌≡◌, [], true, length, take, drop, is_some, IfOk, OnErr, OnOk};
+ghost use Rattle.std.specs.Prelude.{◌≡◌, ◌<◌, ◌≤◌, [], true, length, take, drop, is_some, vec_capacity, vec_len, IfOk, OnErr, OnOk};
 ghost use Rattle.std.specs.Option.{option_copied};
-ghost use Rattle.oai_item.specs.Items.{item_at, with_item, without_at};
+ghost use Rattle.oai_item.specs.Items.{item_at, items_after, with_item, without_at};
 ghost use Rattle.oai_item.specs.Order.{are_in_order};
 ghost use Rattle.oai_item.specs.Selection.{selected};
 
 use crate::filters::Filter;
-use oai_item::{Item, place_of};
+use oai_item::{Item, items_after, place_of};
 use oai_names::Sequence;
 use std::alloc::{AllocError, Global};
 use std::marker::Model;
@@ -38,7 +38,7 @@ impl Items {
         }
     }
 
-    /// Copies of the items. The error is want of memory.
+    /// Copies of the items. The error is out of memory.
     pub(crate) fn copy(&self, alloc: Global) -> Result<Items, AllocError>
         ensures copy { IfOk result (λ copy. copy ≡ self.now) }
         ensures rising { are_in_order self.now ≡ true }
@@ -49,31 +49,15 @@ impl Items {
     }
 
     /// Puts a copy of the item in, in place of the one of its datestamp and identifier where there is
-    /// one. The error is want of memory; the items are then as before.
+    /// one. The error is out of memory; the items are then as before.
     pub(crate) fn put_copy(&mut self, alloc: Global, item: &Item) -> Result<(), AllocError>
         ensures ok { OnOk result (self.new ≡ with_item item.now self.old) }
         ensures err { OnErr result (self.new ≡ self.old) }
         ensures rising { are_in_order self.new ≡ true }
     {
         self.items.try_reserve(1)?;
-        self.put(item.copy(alloc)?)
-    }
-
-    /// Puts the item in, in place of the one of its datestamp and identifier where there is one. The
-    /// error is want of memory; the items are then as before.
-    fn put(&mut self, item: Item) -> Result<(), AllocError>
-        ensures ok { OnOk result (self.new ≡ with_item item self.old) }
-        ensures err { OnErr result (self.new ≡ self.old) }
-        ensures rising { are_in_order self.new ≡ true }
-    {
-        match place_of(
-            self.items.as_slice(),
-            item.stamp(),
-            item.identifier().as_str(),
-        ) {
-            Ok(at) => self.items[at] = item,
-            Err(at) => self.items.insert(at, item)?,
-        }
+        let copy = item.copy(alloc)?;
+        put(&mut self.items, copy);
         Ok(())
     }
 
@@ -84,13 +68,31 @@ impl Items {
         ensures left { self.new ≡ without_at stamp identifier.now self.old }
         ensures rising { are_in_order self.new ≡ true }
     {
-        match place_of(self.items.as_slice(), stamp, identifier) {
-            Ok(at) => {
-                self.items.remove(at);
-                true
-            }
-            Err(_) => false,
-        }
+        take_out(&mut self.items, stamp, identifier)
+    }
+
+    /// Takes the item of that datestamp, in seconds from 1970 on, and identifier out, puts a copy of the
+    /// other item in, as `remove` and `put_copy` do, and answers whether there was one to take out. The
+    /// error is out of memory; the items are then as before.
+    pub(crate) fn replace(
+        &mut self,
+        alloc: Global,
+        stamp: i64,
+        identifier: &str,
+        item: &Item,
+    ) -> Result<bool, AllocError>
+        ensures found { IfOk result
+            (λ found. found ≡ is_some (item_at stamp identifier.now self.old)) }
+        ensures ok { OnOk result
+            (self.new ≡ with_item item.now (without_at stamp identifier.now self.old)) }
+        ensures err { OnErr result (self.new ≡ self.old) }
+        ensures rising { are_in_order self.new ≡ true }
+    {
+        self.items.try_reserve(1)?;
+        let copy = item.copy(alloc)?;
+        let found = take_out(&mut self.items, stamp, identifier);
+        put(&mut self.items, copy);
+        Ok(found)
     }
 
     /// The item of that datestamp, in seconds from 1970 on, and identifier.
@@ -112,7 +114,7 @@ impl Items {
         count(self.items.as_slice(), filter)
     }
 
-    /// Copies of the selected items after the first `skip`, at most `most` of them. The error is want
+    /// Copies of the selected items after the first `skip`, at most `most` of them. The error is out
     /// of memory.
     pub(crate) fn part(
         &self,
@@ -126,6 +128,57 @@ impl Items {
         ensures rising { are_in_order self.now ≡ true }
     {
         part(alloc, self.items.as_slice(), filter, skip, most)
+    }
+
+    /// Copies of the selected items that stand behind this datestamp, in seconds from 1970 on, and
+    /// identifier, at most `most` of them. The error is out of memory.
+    pub(crate) fn part_after(
+        &self,
+        alloc: Global,
+        filter: &Filter,
+        stamp: i64,
+        identifier: &str,
+        most: usize,
+    ) -> Result<Sequence<Item>, AllocError>
+        ensures part { IfOk result (λ part. part
+            ≡ take most (selected filter.now (items_after stamp identifier.now self.now))) }
+        ensures rising { are_in_order self.now ≡ true }
+    {
+        let behind = items_after(self.items.as_slice(), stamp, identifier);
+        part(alloc, behind, filter, 0, most)
+    }
+}
+
+/// Puts the item among the others, which are in their order, in place of the one of its datestamp and
+/// identifier where there is one. It takes no memory: there is room for one item more.
+fn put(items: &mut Vec<Item>, item: Item)
+    requires rising { are_in_order items.old.items ≡ true }
+    requires room { vec_len items.old < vec_capacity items.old }
+    ensures with { items.new.items ≡ with_item item items.old.items }
+    ensures rising { are_in_order items.new.items ≡ true }
+{
+    match place_of(items.as_slice(), item.stamp(), item.identifier().as_str()) {
+        Ok(at) => items[at] = item,
+        Err(at) => items.insert(at, item).unwrap(),
+    }
+}
+
+/// Takes the item of that datestamp and identifier out of the items, which are in their order, and
+/// answers whether there was one.
+fn take_out(items: &mut Vec<Item>, stamp: i64, identifier: &str) -> bool
+    requires { are_in_order items.old.items ≡ true }
+    ensures found { result ≡ is_some (item_at stamp identifier.now items.old.items) }
+    ensures left { items.new.items ≡ without_at stamp identifier.now items.old.items }
+    ensures rising { are_in_order items.new.items ≡ true }
+    ensures fewer { vec_len items.new ≤ vec_len items.old }
+    ensures capacity { vec_capacity items.new ≡ vec_capacity items.old }
+{
+    match place_of(items.as_slice(), stamp, identifier) {
+        Ok(at) => {
+            items.remove(at);
+            true
+        }
+        Err(_) => false,
     }
 }
 

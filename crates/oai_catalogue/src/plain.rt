@@ -17,7 +17,7 @@ use std::collections::BTreeMap;
 /// The number that no version gets.
 pub const LAST_VERSION: u64 = 18_446_744_073_709_551_615;
 
-/// A store that keeps each version as a list of its own. Its faults are want of memory and, where no
+/// A store that keeps each version as a list of its own. Its faults are `NoMemory` and, where no
 /// number is left, `TooManyPages`. A list is searched by halves, and copied whole to be frozen.
 #[derive(Drop)]
 pub struct PlainVersions {
@@ -63,6 +63,20 @@ impl Versions for PlainVersions {
         Ok(items.remove(stamp, identifier.as_str()))
     }
 
+    fn replace(
+        &mut self,
+        v: u64,
+        stamp: i64,
+        identifier: &Identifier,
+        item: &Item,
+    ) -> Result<bool, Fault> {
+        let alloc = self.alloc;
+        let Some(items) = self.versions.get_mut(&v) else {
+            unreachable!()
+        };
+        Ok(items.replace(alloc, stamp, identifier.as_str(), item)?)
+    }
+
     fn find(&mut self, v: u64, stamp: i64, identifier: &Identifier) -> Result<Option<Item>, Fault> {
         match self.list(v).find(stamp, identifier.as_str()) {
             Some(item) => Ok(Some(item.copy(self.alloc)?)),
@@ -82,6 +96,20 @@ impl Versions for PlainVersions {
         most: usize,
     ) -> Result<Sequence<Item>, Fault> {
         Ok(self.list(v).part(self.alloc, filter, skip, most)?)
+    }
+
+    fn part_after(
+        &mut self,
+        v: u64,
+        filter: &Filter,
+        stamp: i64,
+        identifier: &Identifier,
+        most: usize,
+    ) -> Result<Sequence<Item>, Fault> {
+        Ok(
+            self.list(v)
+                .part_after(self.alloc, filter, stamp, identifier.as_str(), most)?,
+        )
     }
 
     fn release(&mut self, v: u64) {

@@ -1,10 +1,10 @@
 ghost use Rattle.std.specs.Prelude.{◌≡◌, ◌≤◌, ℕ, Bool, List, [], None, Option, length, take, drop, is_some, IfOk, IsSome, IsTrue, OnErr, OnOk};
 ghost use Rattle.oai_item.specs.Encoding.{encoded};
 ghost use Rattle.oai_item.specs.Item.{ItemState};
-ghost use Rattle.oai_item.specs.Items.{item_at, with_item, without_at};
+ghost use Rattle.oai_item.specs.Items.{item_at, items_after, with_item, without_at};
 ghost use Rattle.oai_item.specs.Selection.{selected};
 ghost use Rattle.oai_item.specs.declared.sizes.TheConstants.{MOST_ITEM_BYTES};
-ghost use Rattle.oai_catalogue.specs.Store.{AreInOrder, ChangesOnly, IsCounted, IsHonest, NeedsRoom, list_at, with_list, without_list};
+ghost use Rattle.oai_catalogue.specs.Store.{AreInOrder, ChangesOnly, Spares, Spends, list_at, with_list, without_list};
 
 use crate::filters::Filter;
 use oai_item::{Fault, Item};
@@ -40,9 +40,7 @@ pub trait Versions {
         ensures ok { IfOk result (λ v. lists self.new ≡ with_list v [] (lists self.old)) }
         ensures err { OnErr result (lists self.new ≡ lists self.old) }
         ensures rising { OnOk result (AreInOrder (lists self.old) × AreInOrder (lists self.new)) }
-        ensures room { NeedsRoom 1 result (room self.old) (room self.new) }
-        ensures device { IsCounted result (failures self.old) (failures self.new) }
-        ensures honesty { IsHonest result (honest self.old) (honest self.new) };
+        ensures store { Spends room failures honest 1 result self.old self.new };
 
     /// A number that was not in use, for what `v` holds now. Any fault may come.
     fn freeze(&mut self, v: u64) -> Result<u64, Fault>
@@ -52,9 +50,7 @@ pub trait Versions {
             (λ w. lists self.new ≡ with_list w (list_at (lists self.old) v) (lists self.old)) }
         ensures err { OnErr result (lists self.new ≡ lists self.old) }
         ensures rising { OnOk result (AreInOrder (lists self.old) × AreInOrder (lists self.new)) }
-        ensures room { NeedsRoom 1 result (room self.old) (room self.new) }
-        ensures device { IsCounted result (failures self.old) (failures self.new) }
-        ensures honesty { IsHonest result (honest self.old) (honest self.new) };
+        ensures store { Spends room failures honest 1 result self.old self.new };
 
     /// Puts the item into the list, in place of the one of its datestamp and identifier where there is
     /// one. Its spelling has at most 16,000 bytes. Any fault may come.
@@ -66,9 +62,7 @@ pub trait Versions {
             → list_at (lists self.new) v ≡ with_item item.now (list_at (lists self.old) v)) }
         ensures err { OnErr result (lists self.new ≡ lists self.old) }
         ensures rising { OnOk result (AreInOrder (lists self.old) × AreInOrder (lists self.new)) }
-        ensures room { NeedsRoom 1 result (room self.old) (room self.new) }
-        ensures device { IsCounted result (failures self.old) (failures self.new) }
-        ensures honesty { IsHonest result (honest self.old) (honest self.new) };
+        ensures store { Spends room failures honest 1 result self.old self.new };
 
     /// Takes the item of that datestamp, in seconds from 1970 on, and identifier out of the list, and
     /// answers whether there was one. Any fault may come.
@@ -81,9 +75,29 @@ pub trait Versions {
             ≡ without_at stamp identifier.now (list_at (lists self.old) v)) }
         ensures err { OnErr result (lists self.new ≡ lists self.old) }
         ensures rising { OnOk result (AreInOrder (lists self.old) × AreInOrder (lists self.new)) }
-        ensures room { NeedsRoom 1 result (room self.old) (room self.new) }
-        ensures device { IsCounted result (failures self.old) (failures self.new) }
-        ensures honesty { IsHonest result (honest self.old) (honest self.new) };
+        ensures store { Spends room failures honest 1 result self.old self.new };
+
+    /// Takes the item of that datestamp, in seconds from 1970 on, and identifier out of the list and puts
+    /// the other item in, as `remove` and then `put` do, and answers whether there was one to take out. A
+    /// call that fails has done neither. The spelling of the item has at most 16,000 bytes. Any fault may
+    /// come.
+    fn replace(
+        &mut self,
+        v: u64,
+        stamp: i64,
+        identifier: &Identifier,
+        item: &Item,
+    ) -> Result<bool, Fault>
+        requires stands { IsSome (lists self.old v) }
+        requires fits { length (encoded item.now) ≤ MOST_ITEM_BYTES }
+        ensures found { IfOk result (λ found. IsTrue (honest self.old)
+            → found ≡ is_some (item_at stamp identifier.now (list_at (lists self.old) v))) }
+        ensures ok { OnOk result (ChangesOnly v (lists self.old) (lists self.new)) }
+        ensures list { OnOk result (IsTrue (honest self.old) → list_at (lists self.new) v
+            ≡ with_item item.now (without_at stamp identifier.now (list_at (lists self.old) v))) }
+        ensures err { OnErr result (lists self.new ≡ lists self.old) }
+        ensures rising { OnOk result (AreInOrder (lists self.old) × AreInOrder (lists self.new)) }
+        ensures store { Spends room failures honest 1 result self.old self.new };
 
     /// The item of that datestamp, in seconds from 1970 on, and identifier, or None. Any fault but
     /// `TooManyPages` may come.
@@ -93,9 +107,7 @@ pub trait Versions {
             → item ≡ item_at stamp identifier.now (list_at (lists self.old) v)) }
         ensures same { lists self.new ≡ lists self.old }
         ensures rising { OnOk result (AreInOrder (lists self.old)) }
-        ensures room { NeedsRoom 0 result (room self.old) (room self.new) }
-        ensures device { IsCounted result (failures self.old) (failures self.new) }
-        ensures honesty { IsHonest result (honest self.old) (honest self.new) };
+        ensures store { Spends room failures honest 0 result self.old self.new };
 
     /// How many items are selected. Any fault but `TooManyPages` may come.
     fn count(&mut self, v: u64, filter: &Filter) -> Result<usize, Fault>
@@ -104,9 +116,7 @@ pub trait Versions {
             → n ≡ length (selected filter.now (list_at (lists self.old) v))) }
         ensures same { lists self.new ≡ lists self.old }
         ensures rising { OnOk result (AreInOrder (lists self.old)) }
-        ensures room { NeedsRoom 0 result (room self.old) (room self.new) }
-        ensures device { IsCounted result (failures self.old) (failures self.new) }
-        ensures honesty { IsHonest result (honest self.old) (honest self.new) };
+        ensures store { Spends room failures honest 0 result self.old self.new };
 
     /// Of the selected items, in their order, those after the first `skip`, at most `most` of them.
     /// Any fault but `TooManyPages` may come.
@@ -122,16 +132,31 @@ pub trait Versions {
             → items ≡ take most (drop skip (selected filter.now (list_at (lists self.old) v)))) }
         ensures same { lists self.new ≡ lists self.old }
         ensures rising { OnOk result (AreInOrder (lists self.old)) }
-        ensures room { NeedsRoom 0 result (room self.old) (room self.new) }
-        ensures device { IsCounted result (failures self.old) (failures self.new) }
-        ensures honesty { IsHonest result (honest self.old) (honest self.new) };
+        ensures store { Spends room failures honest 0 result self.old self.new };
+
+    /// Of the selected items, in their order, those that stand behind this datestamp, in seconds from 1970
+    /// on, and identifier, whether or not an item has these; at most `most` of them. Any fault but
+    /// `TooManyPages` may come.
+    fn part_after(
+        &mut self,
+        v: u64,
+        filter: &Filter,
+        stamp: i64,
+        identifier: &Identifier,
+        most: usize,
+    ) -> Result<Sequence<Item>, Fault>
+        requires { IsSome (lists self.old v) }
+        ensures part { IfOk result (λ items. IsTrue (honest self.old)
+            → items ≡ take most (selected filter.now
+            (items_after stamp identifier.now (list_at (lists self.old) v)))) }
+        ensures same { lists self.new ≡ lists self.old }
+        ensures rising { OnOk result (AreInOrder (lists self.old)) }
+        ensures store { Spends room failures honest 0 result self.old self.new };
 
     /// Lets the list go; its number is in use no more. It takes no memory and cannot fail.
     fn release(&mut self, v: u64)
         requires { IsSome (lists self.old v) }
         ensures ok { lists self.new ≡ without_list v (lists self.old) }
         ensures rising { AreInOrder (lists self.old) × AreInOrder (lists self.new) }
-        ensures room { room self.old ≤ room self.new }
-        ensures count { failures self.old ≤ failures self.new }
-        ensures honesty { honest self.new ≡ honest self.old };
+        ensures store { Spares room failures honest self.old self.new };
 }

@@ -16,7 +16,7 @@ stop_text OutputFault = codes "output fault"
 stop_text SocketFault = codes "socket fault"
 stop_text NoMemory = codes "out of memory"
 
--- 2 where the arguments or the configuration do not serve; want of memory, and a port that cannot be listened on, are 1
+-- 2 where the arguments or the configuration do not serve; out of memory, and a port that cannot be listened on, are 1
 abbrev pub status_of : Stop → ℕ
 status_of Usage = 2
 status_of CannotRead = 2

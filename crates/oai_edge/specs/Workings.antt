@@ -46,7 +46,7 @@ IsEnded front line old (Err stop) new count Writes = (stop ≡ OutputFault) × A
 abbrev pub tracing : {H : Type 0} → State H → BTreeMap ℕ (Option ConnId) → Tracing H
 tracing front labels = record { front = front; names = get nat_cmp labels }
 
--- no connection stands for the label of the line of that number, and why; it is not want of memory where too many are open
+-- no connection stands for the label of the line of that number, and why; it is not out of memory where too many are open
 abbrev pub IsUnopened : {H : Type 0} → ℕ → ℕ → Tracing H → State H → Stop → Type 0
 IsUnopened number label old new (TooManyConnections at) = (at ≡ number) × IsRefused label old new
 IsUnopened number label old new stop = (stop ≡ NoMemory) × (length old.front.connections < old.front.limit)

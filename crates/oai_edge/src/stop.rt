@@ -33,7 +33,7 @@ pub enum Stop {
 
 impl Stop {
     /// The program's exit status: 2 where the arguments are wrong, or the configuration cannot be read or
-    /// has a fault, and 1 for each other cause, also for want of memory before the work, and for a port that
+    /// has a fault, and 1 for each other cause, also where memory runs out before the work, and for a port that
     /// cannot be listened on.
     pub fn status(self) -> u8
         ensures { result ≡ spec.status_of self }

@@ -163,7 +163,7 @@ sofar_fault step moment old new bytes before mid after rest known status s f e =
       tt,
     )
 
--- want of memory: the message that stands there was not performed
+-- out of memory: the message that stands there was not performed
 pub sofar_refused : {H : Type 0} (step : Steps H) (moment : ℤ) (old mid new : H) (bytes before between after rest : List ℕ) (known : Option Head) (kept : Head)
     → IsSoFar step moment old mid bytes before between rest known → IsHead rest kept → kept.size ≤ length (drop kept.start rest) → new ≡ mid → after ≡ between
     → Writes before after (Performs step moment old new bytes (drop (length bytes - length rest) bytes)) × (length bytes - length rest ≤ length bytes)
@@ -176,7 +176,7 @@ sofar_refused {H} step moment old mid new bytes before between after rest known 
     subst (λ (xs : List ℕ). Writes before after (Performs step moment old new bytes xs) × (length bytes - length rest ≤ length bytes) × IsHead xs kept × HasWhole xs) s.end
     ((p.0, e ∙ p.1, performed), few, h, left)
 
--- want of memory: the fault that stands there was not answered
+-- out of memory: the fault that stands there was not answered
 pub sofar_untold : {H : Type 0} (step : Steps H) (moment : ℤ) (old new : H) (bytes before between after rest : List ℕ) (known : Option Head) (status : Status)
     → IsSoFar step moment old new bytes before between rest known → IsFault rest status → after ≡ between
     → Writes before after (Performs step moment old new bytes (drop (length bytes - length rest) bytes)) × (length bytes - length rest ≤ length bytes) × Unit {0}

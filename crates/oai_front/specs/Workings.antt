@@ -79,7 +79,7 @@ abbrev pub Writes : List ℕ → List ℕ → (List ℕ → Type 0) → Type 0
 Writes before after P = (written : List ℕ) × (after ≡ before ++ written) × P written
 
 -- what is left of the bytes, after the messages that were performed: so many bytes were theirs, and the others wait for more; nothing, since
--- the connection is closed; so many bytes were theirs, and want of memory ended it
+-- the connection is closed; so many bytes were theirs, and it ended where memory ran out
 abbrev pub IsLeft : {H : Type 0} → Steps H → ℤ → H → H → List ℕ → List ℕ → List ℕ → Left → Type 0
 IsLeft step moment old new bytes before after (Waiting begun kept) =
     Writes before after (Completes step moment old new bytes (waits (drop begun bytes))) × (begun ≤ length bytes) × IfSome kept (IsHead (drop begun bytes))

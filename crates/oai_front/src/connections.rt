@@ -113,7 +113,7 @@ impl Connection {
         }
     }
 
-    /// Puts a piece behind the bytes, where it is still read. The error is want of memory; nothing changes
+    /// Puts a piece behind the bytes, where it is still read. The error is out of memory; nothing changes
     /// then.
     fn read(&mut self, piece: &[u8]) -> Result<(), AllocError>
         ensures ok { OnOk result (self.new ≡ record self.old { rest = bytes_with self.old piece.now }) }

@@ -32,7 +32,7 @@ pub enum Left {
     Waiting(usize, Option<Head>),
     /// Nothing: the connection is closed.
     Nothing,
-    /// Behind so many bytes what could not be answered for want of memory, with its head where that is
+    /// Behind so many bytes what could not be answered where memory runs out, with its head where that is
     /// whole.
     Refused(usize, Option<Head>),
 }

@@ -16,7 +16,7 @@ use std::collections::VecDeque;
 
 /// Performs a message and puts its answer behind what waits to be written. Room for the answer's head, and
 /// for its places in the queue, is taken before the message is performed; the body is moved in as it is. The
-/// error is want of memory; nothing was performed then.
+/// error is out of memory; nothing was performed then.
 pub(crate) fn perform<H: Handler>(
     alloc: Global,
     handler: &mut H,
@@ -39,7 +39,7 @@ pub(crate) fn perform<H: Handler>(
     Ok(())
 }
 
-/// Puts the answer to a connection fault behind what waits to be written. The error is want of memory;
+/// Puts the answer to a connection fault behind what waits to be written. The error is out of memory;
 /// nothing was put then.
 #[tactic(auto, unfolding(crate::specs::Heads::fault_bytes))]
 pub(crate) fn put_fault(

@@ -7,34 +7,33 @@ use Rattle.oai_item.specs.declared.changes.Change.{Change}
 use Rattle.oai_item.specs.declared.faults.Fault.{Fault}
 use Rattle.oai_catalogue.specs.Store.{Lists}
 use Rattle.oai_settings.specs.Config.{Config}
-use Rattle.oai_repo.specs.Held.{Held, IsHeld, StandsIn, numbers_of, state_of}
-use Rattle.oai_repo.specs.Machine.{Outcome, act_at, changing, written}
-use Rattle.oai_repo.specs.State.{State}
+use Rattle.oai_repo.specs.Fields.{IsStored, Keeps, RepoFields, StandsIn, numbers_of, state_of}
+use Rattle.oai_repo.specs.Machine.{Outcome, act_at, changing, outcome_output}
+use Rattle.oai_repo.specs.State.{RepoState}
 use Rattle.oai_repo.proofs.NumberLemmas.{kept_same, kept_twice}
 use Rattle.oai_host.specs.Alone.{IsTried, after_line, after_lines, with_end}
 use Rattle.oai_host.specs.Answers.{Tells}
 use Rattle.oai_http.specs.Answers.{answered_with, failed}
 use Rattle.oai_host.specs.Bodies.{is_line_end}
-use Rattle.oai_host.specs.Housed.{IsKept}
 use Rattle.oai_host.specs.Tasks.{depositing}
 use Rattle.oai_host.specs.Workings.{HasMoreLines, IsLineDone}
 
 -- a change that was performed or refused is a step, of which this is told
-pub told_line : (old : Held) (before : Lists) (moment : ℤ) (change : Change) (outcome : Outcome) (new : Held) (after : Lists) (was is text : List ℕ)
+pub told_line : (old : RepoFields) (before : Lists) (moment : ℤ) (change : Change) (outcome : Outcome) (new : RepoFields) (after : Lists) (was is text : List ℕ)
     → act_at old.config (state_of old before) moment (changing change) ≡ (outcome, state_of new after)
-    → with_end (written old.config.granularity outcome) ≡ text → is ≡ was ++ text
+    → with_end (outcome_output old.config.granularity outcome) ≡ text → is ≡ was ++ text
     → IsLineDone old before moment (Ok change) was new after is
 told_line old before moment change outcome new after was is text acted told appended = record {
-  told = appended ∙ ap (λ (t : List ℕ). was ++ t) (sym (ap (λ (done : Outcome × _). with_end (written old.config.granularity done.0)) acted ∙ told));
+  told = appended ∙ ap (λ (t : List ℕ). was ++ t) (sym (ap (λ (done : Outcome × _). with_end (outcome_output old.config.granularity done.0)) acted ∙ told));
   state = sym (ap (λ (done : Outcome × _). done.1) acted);
 }
 
 -- ---- what is kept
 
-pub kept_start : (honest : Bool) (old : Held) (before : Lists) → StandsIn old before → (IsTrue honest → IsHeld old before) → IsKept honest old before old before
+pub kept_start : (honest : Bool) (old : RepoFields) (before : Lists) → StandsIn old before → (IsTrue honest → IsStored old before) → Keeps honest old before old before
 kept_start honest old before stands held = record { config = refl; stands = stands; held = held; others = kept_same (numbers_of old) before }
 
-pub kept_on : (honest : Bool) (old mid new : Held) (before between after : Lists) → IsKept honest old before mid between → IsKept honest mid between new after → IsKept honest old before new after
+pub kept_on : (honest : Bool) (old mid new : RepoFields) (before between after : Lists) → Keeps honest old before mid between → Keeps honest mid between new after → Keeps honest old before new after
 kept_on honest old mid new before between after first second = record {
   config = second.config ∙ first.config;
   stands = second.stands;
@@ -53,7 +52,7 @@ nothing_behind [] = refl
 nothing_behind (x ∷ xs) = ap (λ (all : List ℕ). x ∷ all) (nothing_behind xs)
 
 -- the last of some lines
-after_last : (config : Config) (moment : ℤ) (state : State) (lines : List (List ℕ)) (text : List ℕ)
+after_last : (config : Config) (moment : ℤ) (state : RepoState) (lines : List (List ℕ)) (text : List ℕ)
     → after_lines config moment state (lines ++ text ∷ []) ≡ (
       (after_lines config moment state lines).0 ++ (after_line config moment (after_lines config moment state lines).1 text).0,
       (after_line config moment (after_lines config moment state lines).1 text).1,
@@ -65,18 +64,18 @@ after_last config moment state (one ∷ lines) text =
     let first = after_line config moment state one in
     let others = after_lines config moment first.1 lines in
     let this = after_line config moment others.1 text in
-    ap (λ (p : List ℕ × State). (first.0 ++ p.0, p.1)) (after_last config moment first.1 lines text)
+    ap (λ (p : List ℕ × RepoState). (first.0 ++ p.0, p.1)) (after_last config moment first.1 lines text)
     ∙ ap (λ (t : List ℕ). (t, this.1)) (sym (join first.0 others.0 this.0))
 
 -- the lines that were performed so far, and those that are left
-pub record AreDone (honest : Bool) (old : Held) (before : Lists) (moment : ℤ) (all left : List (List ℕ)) (told : List ℕ) (done : ℕ) (new : Held) (after : Lists) : Type 0 where
+pub record AreDone (honest : Bool) (old : RepoFields) (before : Lists) (moment : ℤ) (all left : List (List ℕ)) (told : List ℕ) (done : ℕ) (new : RepoFields) (after : Lists) : Type 0 where
   pub front : List (List ℕ)
   pub whole : all ≡ front ++ left
   pub many : done ≡ length front
   pub state : IsTrue honest → after_lines old.config moment (state_of old before) front ≡ (told, state_of new after)
-  pub kept : IsKept honest old before new after
+  pub kept : Keeps honest old before new after
 
-pub none_done : (honest : Bool) (old : Held) (before : Lists) (moment : ℤ) (all : List (List ℕ)) → StandsIn old before → (IsTrue honest → IsHeld old before) → AreDone honest old before moment all all [] 0 old before
+pub none_done : (honest : Bool) (old : RepoFields) (before : Lists) (moment : ℤ) (all : List (List ℕ)) → StandsIn old before → (IsTrue honest → IsStored old before) → AreDone honest old before moment all all [] 0 old before
 none_done honest old before moment all stands held =
     record { front = []; whole = refl; many = refl; state = λ _. refl; kept = kept_start honest old before stands held }
 
@@ -88,9 +87,9 @@ one_more : (front : List (List ℕ)) (text : List ℕ) → suc (length front) �
 one_more [] text = refl
 one_more (one ∷ front) text = ap suc (one_more front text)
 
-pub one_done : (honest : Bool) (old mid new : Held) (before between after : Lists) (moment : ℤ) (all left : List (List ℕ)) (text told tells : List ℕ) (done : ℕ)
+pub one_done : (honest : Bool) (old mid new : RepoFields) (before between after : Lists) (moment : ℤ) (all left : List (List ℕ)) (text told tells : List ℕ) (done : ℕ)
     → AreDone honest old before moment all (text ∷ left) told done mid between
-    → (IsTrue honest → IsLineDone mid between moment (line_of text) told new after tells) → IsKept honest mid between new after
+    → (IsTrue honest → IsLineDone mid between moment (line_of text) told new after tells) → Keeps honest mid between new after
     → AreDone honest old before moment all left tells (done + 1) new after
 one_done honest old mid new before between after moment all left text told tells done so_far line_done kept = record {
   front = so_far.front ++ text ∷ [];
@@ -101,9 +100,9 @@ one_done honest old mid new before between after moment all left text told tells
       let this = subst (λ (config : Config). (tells ≡ told ++ (after_line config moment (state_of mid between) text).0) × (state_of new after ≡ (after_line config moment (state_of mid between) text).1)) so_far.kept.config
       ((line_done honestly).told, (line_done honestly).state) in
       after_last old.config moment (state_of old before) so_far.front text
-      ∙ ap (λ (p : List ℕ × State). (p.0 ++ (after_line old.config moment p.1 text).0, (after_line old.config moment p.1 text).1)) first
+      ∙ ap (λ (p : List ℕ × RepoState). (p.0 ++ (after_line old.config moment p.1 text).0, (after_line old.config moment p.1 text).1)) first
       ∙ ap (λ (t : List ℕ). (t, (after_line old.config moment (state_of mid between) text).1)) (sym this.0)
-      ∙ ap (λ (s : State). (tells, s)) (sym this.1);
+      ∙ ap (λ (s : RepoState). (tells, s)) (sym this.1);
   kept = kept_on honest old mid new before between after so_far.kept kept;
 }
 
@@ -112,13 +111,13 @@ ends_here [] = refl
 ends_here (one ∷ front) = ap (λ (xs : List (List ℕ)). one ∷ xs) (ends_here front)
 
 -- no line is left
-pub all_done : (honest : Bool) (old new : Held) (before after : Lists) (moment : ℤ) (all left : List (List ℕ)) (told : List ℕ) (done : ℕ)
+pub all_done : (honest : Bool) (old new : RepoFields) (before after : Lists) (moment : ℤ) (all left : List (List ℕ)) (told : List ℕ) (done : ℕ)
     → AreDone honest old before moment all left told done new after → left ≡ []
     → IsTrue honest → IsTried old.config (state_of old before) moment (depositing all) (answered_with told) (state_of new after)
 all_done honest old new before after moment all left told done so_far none honestly =
     let whole : all ≡ so_far.front = so_far.whole ∙ ap (λ (xs : List (List ℕ)). so_far.front ++ xs) none ∙ ends_here so_far.front in
     inl (ap (λ (lines : List (List ℕ)). let ended = after_lines old.config moment (state_of old before) lines in (answered_with ended.0, ended.1)) whole
-    ∙ ap (λ (p : List ℕ × State). (answered_with p.0, p.1)) (so_far.state honestly))
+    ∙ ap (λ (p : List ℕ × RepoState). (answered_with p.0, p.1)) (so_far.state honestly))
 
 less : (front left : List (List ℕ)) (text : List ℕ) → length front < length (front ++ text ∷ left)
 less [] left text = omega arith
@@ -128,7 +127,7 @@ front_of_all : (front left : List (List ℕ)) → take (length front) (front ++ 
 front_of_all [] left = refl
 front_of_all (one ∷ front) left = ap (λ (xs : List (List ℕ)). one ∷ xs) (front_of_all front left)
 
-pub below : (honest : Bool) (old new : Held) (before after : Lists) (moment : ℤ) (all left : List (List ℕ)) (text told : List ℕ) (done : ℕ)
+pub below : (honest : Bool) (old new : RepoFields) (before after : Lists) (moment : ℤ) (all left : List (List ℕ)) (text told : List ℕ) (done : ℕ)
     → AreDone honest old before moment all (text ∷ left) told done new after → done < length all
 below honest old new before after moment all left text told done so_far =
     let fewer = less so_far.front left text in
@@ -136,7 +135,7 @@ below honest old new before after moment all left text told done so_far =
     subst (λ (lines : List (List ℕ)). done < length lines) (sym so_far.whole) (omega (arith, fewer, many))
 
 -- a line failed
-pub line_failed : (honest : Bool) (old new : Held) (before after : Lists) (moment : ℤ) (all left : List (List ℕ)) (text told : List ℕ) (done : ℕ) (fault : Fault)
+pub line_failed : (honest : Bool) (old new : RepoFields) (before after : Lists) (moment : ℤ) (all left : List (List ℕ)) (text told : List ℕ) (done : ℕ) (fault : Fault)
     → AreDone honest old before moment all (text ∷ left) told done new after
     → IsTrue honest → IsTried old.config (state_of old before) moment (depositing all) (failed fault (Some done)) (state_of new after)
 line_failed honest old new before after moment all left text told done fault so_far honestly =
@@ -146,7 +145,7 @@ line_failed honest old new before after moment all left text told done fault so_
       done,
       below honest old new before after moment all left text told done so_far,
       refl,
-      sym (ap (λ (lines : List (List ℕ)). (after_lines old.config moment (state_of old before) lines).1) front ∙ ap (λ (p : List ℕ × State). p.1) (so_far.state honestly)),
+      sym (ap (λ (lines : List (List ℕ)). (after_lines old.config moment (state_of old before) lines).1) front ∙ ap (λ (p : List ℕ × RepoState). p.1) (so_far.state honestly)),
     )
 
 -- ---- lines of the answer, over every store

@@ -34,7 +34,7 @@ fault_alone s alone.BadDate is = found_alone s (Some alone.BadDate) is
 fault_alone s alone.BadNumber is = found_alone s (Some alone.BadNumber) is
 fault_alone s alone.NoMemory is = tt
 
--- the fault that was found is the lowest, unless it is want of memory
+-- the fault that was found is the lowest, unless it is out of memory
 pub is_lowest : (s : Settings) (fault : ReadFault) → (fault ≡ NoMemory → ⊥) → IsHostedOr s (Err fault) → IsLowest (λ cause. is_wrong_alone cause s) fault
 is_lowest s BadJson other is = is
 is_lowest s BadShape other is = is
@@ -117,7 +117,7 @@ with_bad found lowest hosted whole taken left rest s fault so_far is bad = recor
   hosted_are = λ none. absurd (Some≢None (lower lowest fault) none);
 }
 
--- the fault is no want of memory, or that is what is answered
+-- the fault is not out of memory, or that is what is answered
 as_fault : (causes : ReadFault → Bool) (settings : List Settings) (fault : ReadFault) → IsLowest (or_alone causes settings) fault → AreMade causes settings (Err fault)
 as_fault causes settings BadJson is = is
 as_fault causes settings BadShape is = is

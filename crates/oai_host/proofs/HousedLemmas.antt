@@ -6,9 +6,9 @@ use Rattle.std.proofs.lemmas.Bool.{cond-false, eqb-true, false_from_ne_true, not
 use Rattle.oai_item.specs.Item.{ItemState}
 use Rattle.oai_catalogue.specs.Store.{Lists}
 use Rattle.oai_settings.specs.Config.{Config}
-use Rattle.oai_repo.specs.Held.{Held, IsHeld, IsNew, KeepsOthers, StandsIn, begun_of, has, items_on, numbers_of, state_of, versions_in}
-use Rattle.oai_repo.specs.State.{OpenLists, State}
-use Rattle.oai_repo.proofs.BegunLemmas.{begun_same}
+use Rattle.oai_repo.specs.Fields.{IsNew, IsStored, Keeps, KeepsOthers, RepoFields, StandsIn, has, numbers_of, open_lists_of, state_of, stored_items, versions_in}
+use Rattle.oai_repo.specs.State.{OpenLists, RepoState}
+use Rattle.oai_repo.proofs.OpenListLemmas.{open_lists_same}
 use Rattle.oai_repo.proofs.NeighbourLemmas.{apart_turned, held_where, stands_where, still_apart, still_held, still_stands}
 use Rattle.oai_repo.proofs.NumberLemmas.{same_number, turned, unused_lacks}
 use Rattle.oai_host.specs.Alone.{IsTried}
@@ -16,7 +16,7 @@ use Rattle.oai_item.specs.Rules.{has_repeat}
 use Rattle.oai_host.specs.Configs.{AreNamed, Hosted}
 use Rattle.oai_host.specs.Answers.{OnFailed}
 use Rattle.oai_host.specs.Hosts.{IsLeft, IsStep, LeavesOthers, Repository, begun}
-use Rattle.oai_host.specs.Housed.{AllApart, AllHeld, AllStand, AreApart, AreHoused, IsApart, IsKept, housed_names, repositories_of, repository_of}
+use Rattle.oai_host.specs.Housed.{AllApart, AllHeld, AllStand, AreApart, AreHoused, IsApart, housed_names, repositories_of, repository_of}
 use Rattle.oai_settings.specs.Config.{is_repository_name}
 use Rattle.oai_http.specs.Targets.{front_of, leads_to_repository, path_of}
 use Rattle.oai_host.specs.Tasks.{task_at, task_in}
@@ -30,29 +30,29 @@ use Rattle.oai_host.proofs.PlaceLemmas.{named_last, names_last, names_set, nothi
 
 -- ---- another one stands for what it stood for
 
-state_same : (other : Held) (before after : Lists) → ((n : ℕ) → has (numbers_of other) n ≡ true → after n ≡ before n) → state_of other after ≡ state_of other before
+state_same : (other : RepoFields) (before after : Lists) → ((n : ℕ) → has (numbers_of other) n ≡ true → after n ≡ before n) → state_of other after ≡ state_of other before
 state_same other before after same =
-    let v : ℕ = other.shelf.version in
-    let items : items_on other.shelf after ≡ items_on other.shelf before =
+    let v : ℕ = other.index.version in
+    let items : stored_items other.index after ≡ stored_items other.index before =
     ap (λ (o : Option (List ItemState)). unwrap_or o []) (same v (or_left (eqb v v) (has (versions_in other.table) v) (same_number v)))
     in
-    let open_ones : begun_of other.clock other.table after ≡ begun_of other.clock other.table before =
-    begun_same other.clock other.table before after (λ n there. same n (or_right (eqb v n) (has (versions_in other.table) n) there))
+    let open_ones : open_lists_of other.clock other.table after ≡ open_lists_of other.clock other.table before =
+    open_lists_same other.clock other.table before after (λ n there. same n (or_right (eqb v n) (has (versions_in other.table) n) there))
     in
-    let with : List ItemState → OpenLists → State = λ xs b. record { clock = other.clock; holdings = record { items = xs; sets = other.sets }; begun = b } in
-    ap (λ (xs : List ItemState). with xs (begun_of other.clock other.table after)) items ∙ ap (with (items_on other.shelf before)) open_ones
+    let with : List ItemState → OpenLists → RepoState = λ xs b. record { clock = other.clock; holdings = record { items = xs; sets = other.sets }; open_lists = b } in
+    ap (λ (xs : List ItemState). with xs (open_lists_of other.clock other.table after)) items ∙ ap (with (stored_items other.index before)) open_ones
 
 left_same : (target : List ℕ) (one other : Repository) → other ≡ one → IsLeft target one other
 left_same target one other same =
     record { name = ap (λ (r : Repository). r.name) same; config = ap (λ (r : Repository). r.config) same; other = λ _. same }
 
-module _ (old new : Held) (before after : Lists) (kept : KeepsOthers (numbers_of old) before (numbers_of new) after) where
-  same_lists : (other : Held) → StandsIn other before → AreApart other old → (n : ℕ) → has (numbers_of other) n ≡ true → after n ≡ before n
+module _ (old new : RepoFields) (before after : Lists) (kept : KeepsOthers (numbers_of old) before (numbers_of new) after) where
+  same_lists : (other : RepoFields) → StandsIn other before → AreApart other old → (n : ℕ) → has (numbers_of other) n ≡ true → after n ≡ before n
   same_lists other stands apart n there = kept.others n (apart n there) (still_apart old new other before after kept stands apart n there)
 
   repository_same : (other : Housed) → StandsIn other.repo before → AreApart other.repo old → repository_of after other ≡ repository_of before other
   repository_same other stands apart =
-      let with : State → Repository = λ s. record { name = other.name; config = other.repo.config; state = s } in
+      let with : RepoState → Repository = λ s. record { name = other.name; config = other.repo.config; state = s } in
       ap with (state_same other.repo before after (same_lists other.repo stands apart))
 
   -- ---- those behind it
@@ -97,12 +97,12 @@ module _ (old new : Held) (before after : Lists) (kept : KeepsOthers (numbers_of
 
 -- ---- the one at a place
 
-apart_at : (a : Held) (housed : List Housed) (i : ℕ) (one : Housed) → slice_get housed i ≡ Some one → IsApart a housed → AreApart a one.repo
+apart_at : (a : RepoFields) (housed : List Housed) (i : ℕ) (one : Housed) → slice_get housed i ≡ Some one → IsApart a housed → AreApart a one.repo
 apart_at a [] i one there apart = nothing_there one there
 apart_at a (x ∷ housed) zero one there apart = subst (λ (y : Housed). AreApart a y.repo) (same_one x one there) apart.0
 apart_at a (x ∷ housed) (suc i) one there apart = apart_at a housed i one there apart.1
 
-apart_set : (a : Held) (housed : List Housed) (i : ℕ) (other : Housed) → IsApart a housed → AreApart a other.repo → IsApart a (slice_set housed i other)
+apart_set : (a : RepoFields) (housed : List Housed) (i : ℕ) (other : Housed) → IsApart a housed → AreApart a other.repo → IsApart a (slice_set housed i other)
 apart_set a [] i other apart new = tt
 apart_set a (x ∷ housed) zero other apart new = (new, apart.1)
 apart_set a (x ∷ housed) (suc i) other apart new = (apart.0, apart_set a housed i other apart.1 new)
@@ -112,9 +112,9 @@ stands_at [] i one lists there stand = nothing_there one there
 stands_at (x ∷ housed) zero one lists there stand = subst (λ (y : Housed). StandsIn y.repo lists) (same_one x one there) stand.0
 stands_at (x ∷ housed) (suc i) one lists there stand = stands_at housed i one lists there stand.1
 
-pub held_at : (housed : List Housed) (i : ℕ) (one : Housed) (lists : Lists) → slice_get housed i ≡ Some one → AllHeld housed lists → IsHeld one.repo lists
+pub held_at : (housed : List Housed) (i : ℕ) (one : Housed) (lists : Lists) → slice_get housed i ≡ Some one → AllHeld housed lists → IsStored one.repo lists
 held_at [] i one lists there held = nothing_there one there
-held_at (x ∷ housed) zero one lists there held = subst (λ (y : Housed). IsHeld y.repo lists) (same_one x one there) held.0
+held_at (x ∷ housed) zero one lists there held = subst (λ (y : Housed). IsStored y.repo lists) (same_one x one there) held.0
 held_at (x ∷ housed) (suc i) one lists there held = held_at housed i one lists there held.1
 
 pub unused_at : (name : List ℕ) (housed : List Housed) (i : ℕ) (one : Housed) → slice_get housed i ≡ Some one → list_any (bytes_eq name) (housed_names housed) ≡ false → bytes_eq name one.name ≡ false
@@ -123,7 +123,7 @@ unused_at name (x ∷ housed) zero one there unused =
     subst (λ (y : Housed). bytes_eq name y.name ≡ false) (same_one x one there) (or_parts (bytes_eq name x.name) (list_any (bytes_eq name) (housed_names housed)) unused).0
 unused_at name (x ∷ housed) (suc i) one there unused = unused_at name housed i one there (or_parts (bytes_eq name x.name) (list_any (bytes_eq name) (housed_names housed)) unused).1
 
-module _ (one : Housed) (new : Held) (before after : Lists) (kept : KeepsOthers (numbers_of one.repo) before (numbers_of new) after) where
+module _ (one : Housed) (new : RepoFields) (before after : Lists) (kept : KeepsOthers (numbers_of one.repo) before (numbers_of new) after) where
   abbrev changed : Housed
   changed = record { name = one.name; repo = new }
 
@@ -134,7 +134,7 @@ module _ (one : Housed) (new : Held) (before after : Lists) (kept : KeepsOthers 
   set_stand (x ∷ housed) (suc i) there stand apart stands =
       (still_stands one.repo new x.repo before after kept stand.0 (apart_at x.repo housed i one there apart.0), set_stand housed i there stand.1 apart.1 stands)
 
-  set_held : (housed : List Housed) (i : ℕ) → slice_get housed i ≡ Some one → AllStand housed before → AllApart housed → AllHeld housed before → IsHeld new after → AllHeld (slice_set housed i changed) after
+  set_held : (housed : List Housed) (i : ℕ) → slice_get housed i ≡ Some one → AllStand housed before → AllApart housed → AllHeld housed before → IsStored new after → AllHeld (slice_set housed i changed) after
   set_held [] i there stand apart held holds = tt
   set_held (x ∷ housed) zero there stand apart held holds =
       (holds, rest_held one.repo new before after kept housed stand.1 (subst (λ (y : Housed). IsApart y.repo housed) (same_one x one there) apart.0) held.1)
@@ -185,8 +185,8 @@ module _ (one : Housed) (new : Held) (before after : Lists) (kept : KeepsOthers 
   )
 
 -- all of it
-pub housed_set : (was is : Bool) (housed : List Housed) (i : ℕ) (one : Housed) (new : Held) (before after : Lists) → is ≡ was → slice_get housed i ≡ Some one → AreHoused was housed before
-    → IsKept was one.repo before new after → AreHoused is (slice_set housed i (record { name = one.name; repo = new })) after
+pub housed_set : (was is : Bool) (housed : List Housed) (i : ℕ) (one : Housed) (new : RepoFields) (before after : Lists) → is ≡ was → slice_get housed i ≡ Some one → AreHoused was housed before
+    → Keeps was one.repo before new after → AreHoused is (slice_set housed i (record { name = one.name; repo = new })) after
 housed_set was is housed i one new before after same there old kept = record {
   named = subst (λ (names : List (List ℕ)). AreNamed names) (sym (names_set housed i one new there)) old.named;
   stand = set_stand one new before after kept.others housed i there old.stand old.apart kept.stands;
@@ -194,8 +194,8 @@ housed_set was is housed i one new before after same there old kept = record {
   apart = set_apart one new before after kept.others housed i there old.stand old.apart;
 }
 
-pub steps_set : (was : Bool) (call : Call) (answer : Answer) (endpoint : Endpoint) (housed : List Housed) (i : ℕ) (one : Housed) (new : Held) (before after : Lists) → slice_get housed i ≡ Some one → AreHoused was housed before
-    → IsKept was one.repo before new after → has_repeat (housed_names housed) ≡ false → path_of call.target ≡ front_of endpoint ++ one.name
+pub steps_set : (was : Bool) (call : Call) (answer : Answer) (endpoint : Endpoint) (housed : List Housed) (i : ℕ) (one : Housed) (new : RepoFields) (before after : Lists) → slice_get housed i ≡ Some one → AreHoused was housed before
+    → Keeps was one.repo before new after → has_repeat (housed_names housed) ≡ false → path_of call.target ≡ front_of endpoint ++ one.name
     → IsTried one.repo.config (state_of one.repo before) call.moment (task_in endpoint call) answer (state_of new after)
     → AllZip (IsStep call answer) (repositories_of housed before) (repositories_of (slice_set housed i (record { name = one.name; repo = new })) after)
 steps_set was call answer endpoint housed i one new before after there old kept distinct path tried =
@@ -206,21 +206,21 @@ steps_set was call answer endpoint housed i one new before after there old kept 
       other = λ elsewhere. clash (leads_to_repository one.name call.target) (leads_there endpoint one.name call.target path) (not-true (leads_to_repository one.name call.target) elsewhere);
     })
 
-pub others_set : (was : Bool) (target : List ℕ) (endpoint : Endpoint) (housed : List Housed) (i : ℕ) (one : Housed) (new : Held) (before after : Lists) → slice_get housed i ≡ Some one → AreHoused was housed before
-    → IsKept was one.repo before new after → path_of target ≡ front_of endpoint ++ one.name
+pub others_set : (was : Bool) (target : List ℕ) (endpoint : Endpoint) (housed : List Housed) (i : ℕ) (one : Housed) (new : RepoFields) (before after : Lists) → slice_get housed i ≡ Some one → AreHoused was housed before
+    → Keeps was one.repo before new after → path_of target ≡ front_of endpoint ++ one.name
     → LeavesOthers target (repositories_of housed before) (repositories_of (slice_set housed i (record { name = one.name; repo = new })) after)
 others_set was target endpoint housed i one new before after there old kept path =
     set_others one new before after kept.others target endpoint housed i kept.config there old.stand old.apart path
 
-set_same : (housed : List Housed) (i : ℕ) (one : Housed) (new : Held) → slice_get housed i ≡ Some one → new ≡ one.repo → slice_set housed i (record { name = one.name; repo = new }) ≡ housed
+set_same : (housed : List Housed) (i : ℕ) (one : Housed) (new : RepoFields) → slice_get housed i ≡ Some one → new ≡ one.repo → slice_set housed i (record { name = one.name; repo = new }) ≡ housed
 set_same [] i one new there same = nothing_there one there
 set_same (x ∷ housed) zero one new there same =
-    let with : Held → Housed = λ h. record { name = one.name; repo = h } in
-    ap (λ (h : Held). with h ∷ housed) same ∙ ap (λ (y : Housed). y ∷ housed) (sym (same_one x one there))
+    let with : RepoFields → Housed = λ h. record { name = one.name; repo = h } in
+    ap (λ (h : RepoFields). with h ∷ housed) same ∙ ap (λ (y : Housed). y ∷ housed) (sym (same_one x one there))
 set_same (x ∷ housed) (suc i) one new there same = ap (λ (others : List Housed). x ∷ others) (set_same housed i one new there same)
 
 -- one that was left as it was
-pub left_set : (answer : Answer) (housed : List Housed) (i : ℕ) (one : Housed) (new : Held) (before after : Lists) → slice_get housed i ≡ Some one
+pub left_set : (answer : Answer) (housed : List Housed) (i : ℕ) (one : Housed) (new : RepoFields) (before after : Lists) → slice_get housed i ≡ Some one
     → OnFailed answer ((new ≡ one.repo) × (after ≡ before)) → OnFailed answer ((slice_set housed i (record { name = one.name; repo = new }) ≡ housed) × (after ≡ before))
 left_set answer housed i one new before after there left =
     left_then ((new ≡ one.repo) × (after ≡ before)) ((slice_set housed i (record { name = one.name; repo = new }) ≡ housed) × (after ≡ before)) answer
@@ -234,7 +234,7 @@ others_same target (x ∷ repositories) = (left_same target x x refl, others_sam
 
 -- each of those that were there stays as it was, where a new number is taken
 module _ (w : ℕ) (before after : Lists) (free : before w ≡ None) (listed : (n : ℕ) → eqb n w ≡ false → after n ≡ before n) where
-  untouched : (other : Held) → StandsIn other before → (n : ℕ) → has (numbers_of other) n ≡ true → after n ≡ before n
+  untouched : (other : RepoFields) → StandsIn other before → (n : ℕ) → has (numbers_of other) n ≡ true → after n ≡ before n
   untouched other stands n there =
       listed n (false_from_ne_true (eqb n w) (λ same. clash (has (numbers_of other) n) there (ap (has (numbers_of other)) (eqb-true n w same) ∙ unused_lacks (numbers_of other) before w stands.used free)))
 
@@ -249,10 +249,10 @@ module _ (w : ℕ) (before after : Lists) (free : before w ≡ None) (listed : (
   fresh_same : (housed : List Housed) → AllStand housed before → repositories_of housed after ≡ repositories_of housed before
   fresh_same [] stand = refl
   fresh_same (x ∷ housed) stand =
-      ap (λ (s : State). record { name = x.name; config = x.repo.config; state = s } ∷ repositories_of housed after) (state_same x.repo before after (untouched x.repo stand.0))
+      ap (λ (s : RepoState). record { name = x.name; config = x.repo.config; state = s } ∷ repositories_of housed after) (state_same x.repo before after (untouched x.repo stand.0))
       ∙ ap (λ (rs : List Repository). repository_of before x ∷ rs) (fresh_same housed stand.1)
 
-  fresh_apart : (x : Held) (new : Held) → numbers_of new ≡ w ∷ [] → StandsIn x before → AreApart x new
+  fresh_apart : (x : RepoFields) (new : RepoFields) → numbers_of new ≡ w ∷ [] → StandsIn x before → AreApart x new
   fresh_apart x new alone stands n there =
       ap (λ (numbers : List ℕ). has numbers n) alone
       ∙ or_from (eqb w n) false (turned n w (false_from_ne_true (eqb n w) (λ same. clash (has (numbers_of x) n) there (ap (has (numbers_of x)) (eqb-true n w same) ∙ unused_lacks (numbers_of x) before w stands.used free)))) refl
@@ -261,7 +261,7 @@ module _ (w : ℕ) (before after : Lists) (free : before w ≡ None) (listed : (
   fresh_all_apart [] one alone stand apart = (tt, tt)
   fresh_all_apart (x ∷ housed) one alone stand apart = (apart_last x.repo housed one apart.0 (fresh_apart x.repo one.repo alone stand.0), fresh_all_apart housed one alone stand.1 apart.1)
     where
-      apart_last : (a : Held) (others : List Housed) (one : Housed) → IsApart a others → AreApart a one.repo → IsApart a (others ++ one ∷ [])
+      apart_last : (a : RepoFields) (others : List Housed) (one : Housed) → IsApart a others → AreApart a one.repo → IsApart a (others ++ one ∷ [])
       apart_last a [] one others_apart new = (new, tt)
       apart_last a (y ∷ others) one others_apart new = (others_apart.0, apart_last a others one others_apart.1 new)
 
@@ -269,7 +269,7 @@ stand_last : (housed : List Housed) (one : Housed) (lists : Lists) → AllStand 
 stand_last [] one lists stand stands = (stands, tt)
 stand_last (x ∷ housed) one lists stand stands = (stand.0, stand_last housed one lists stand.1 stands)
 
-held_last : (housed : List Housed) (one : Housed) (lists : Lists) → AllHeld housed lists → IsHeld one.repo lists → AllHeld (housed ++ one ∷ []) lists
+held_last : (housed : List Housed) (one : Housed) (lists : Lists) → AllHeld housed lists → IsStored one.repo lists → AllHeld (housed ++ one ∷ []) lists
 held_last [] one lists held holds = (holds, tt)
 held_last (x ∷ housed) one lists held holds = (held.0, held_last housed one lists held.1 holds)
 
@@ -277,14 +277,14 @@ repositories_last : (housed : List Housed) (one : Housed) (lists : Lists) → re
 repositories_last [] one lists = refl
 repositories_last (x ∷ housed) one lists = ap (λ (rs : List Repository). repository_of lists x ∷ rs) (repositories_last housed one lists)
 
-elsewhere : (config : Config) (before after : Lists) (new : Held) → IsNew config before new after → (n : ℕ) → eqb n new.shelf.version ≡ false → after n ≡ before n
-elsewhere config before after new is_new n other = ap (λ (lists : Lists). lists n) is_new.listed ∙ cond-false (eqb n new.shelf.version) (Some []) (before n) other
+elsewhere : (config : Config) (before after : Lists) (new : RepoFields) → IsNew config before new after → (n : ℕ) → eqb n new.index.version ≡ false → after n ≡ before n
+elsewhere config before after new is_new n other = ap (λ (lists : Lists). lists n) is_new.listed ∙ cond-false (eqb n new.index.version) (Some []) (before n) other
 
-pub housed_last : (was is : Bool) (housed : List Housed) (name : List ℕ) (config : Config) (new : Held) (before after : Lists) → is ≡ was → AreHoused was housed before → is_repository_name name ≡ true → list_any (bytes_eq name) (housed_names housed) ≡ false
+pub housed_last : (was is : Bool) (housed : List Housed) (name : List ℕ) (config : Config) (new : RepoFields) (before after : Lists) → is ≡ was → AreHoused was housed before → is_repository_name name ≡ true → list_any (bytes_eq name) (housed_names housed) ≡ false
     → IsNew config before new after → AreHoused is (housed ++ record { name = name; repo = new } ∷ []) after
 housed_last was is housed name config new before after same old named unused is_new =
     let one : Housed = record { name = name; repo = new } in
-    let w : ℕ = new.shelf.version in
+    let w : ℕ = new.index.version in
     let listed = elsewhere config before after new is_new in
     record {
       named = subst (λ (names : List (List ℕ)). AreNamed names) (sym (names_last housed one)) (named_last (housed_names housed) name old.named named unused);
@@ -293,11 +293,11 @@ housed_last was is housed name config new before after same old named unused is_
       apart = fresh_all_apart w before after is_new.unused listed housed one (ap (λ (numbers : List ℕ). w ∷ numbers) is_new.alone) old.stand old.apart;
     }
 
-pub begun_last : (was : Bool) (housed : List Housed) (hosted : Hosted) (new : Held) (before after : Lists) → AreHoused was housed before → IsNew hosted.config before new after
+pub begun_last : (was : Bool) (housed : List Housed) (hosted : Hosted) (new : RepoFields) (before after : Lists) → AreHoused was housed before → IsNew hosted.config before new after
     → repositories_of (housed ++ record { name = hosted.name; repo = new } ∷ []) after ≡ repositories_of housed before ++ begun hosted ∷ []
 begun_last was housed hosted new before after old is_new =
     let one : Housed = record { name = hosted.name; repo = new } in
     repositories_last housed one after
-    ∙ ap (λ (rs : List Repository). rs ++ repository_of after one ∷ []) (fresh_same new.shelf.version before after is_new.unused (elsewhere hosted.config before after new is_new) housed old.stand)
+    ∙ ap (λ (rs : List Repository). rs ++ repository_of after one ∷ []) (fresh_same new.index.version before after is_new.unused (elsewhere hosted.config before after new is_new) housed old.stand)
     ∙ ap (λ (c : Config). repositories_of housed before ++ record { name = hosted.name; config = c; state = state_of new after } ∷ []) is_new.configured
-    ∙ ap (λ (s : State). repositories_of housed before ++ record { name = hosted.name; config = hosted.config; state = s } ∷ []) is_new.empty
+    ∙ ap (λ (s : RepoState). repositories_of housed before ++ record { name = hosted.name; config = hosted.config; state = s } ∷ []) is_new.empty

@@ -4,7 +4,7 @@ use Rattle.std.specs.List.{list_all, list_any, position_or_len, slice_get}
 use Rattle.std.specs.Option.{option_map}
 use Rattle.std.specs.Str.{bytes_eq}
 use Rattle.std.proofs.lemmas.Bool.{and_from, and_parts, cases_Bool, cases_lt, cond-true, cond-false, false≢true, le-ltb, lt-ltb, or_from, or_parts}
-use Rattle.oai_repo.specs.Held.{Held}
+use Rattle.oai_repo.specs.Fields.{RepoFields}
 use Rattle.oai_http.proofs.TargetLemmas.{bytes_equal, bytes_turned}
 use Rattle.oai_item.specs.Rules.{has_repeat}
 use Rattle.oai_host.specs.Configs.{AreNamed}
@@ -24,7 +24,7 @@ pub nothing_there : {P : Type 0} {A : Type 0} (x : A) → None ≡ Some x → P
 nothing_there {P} {A} x h = absurd (false≢true (ap (λ (o : Option A). is_some o) h))
 
 -- a repository in place of the one of its name
-pub names_set : (housed : List Housed) (i : ℕ) (one : Housed) (repo : Held) → slice_get housed i ≡ Some one → housed_names (slice_set housed i (record { name = one.name; repo = repo })) ≡ housed_names housed
+pub names_set : (housed : List Housed) (i : ℕ) (one : Housed) (repo : RepoFields) → slice_get housed i ≡ Some one → housed_names (slice_set housed i (record { name = one.name; repo = repo })) ≡ housed_names housed
 names_set [] i one repo there = nothing_there one there
 names_set (x ∷ housed) zero one repo there = ap (λ (y : Housed). y.name ∷ housed_names housed) (sym (same_one x one there))
 names_set (x ∷ housed) (suc i) one repo there = ap (λ (names : List (List ℕ)). x.name ∷ names) (names_set housed i one repo there)

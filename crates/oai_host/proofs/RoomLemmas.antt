@@ -12,7 +12,7 @@ use Rattle.oai_catalogue.specs.Store.{Lists, NeedsRoom}
 use Rattle.oai_deposit.specs.Lines.{line_of}
 use Rattle.oai_settings.specs.Config.{Config}
 use Rattle.oai_repo.specs.Calls.{room_to_change}
-use Rattle.oai_repo.specs.Held.{Held, IsHeld, items_on}
+use Rattle.oai_repo.specs.Fields.{RepoFields, IsStored, stored_items}
 use Rattle.oai_http.specs.Answers.{failed}
 use Rattle.oai_host.specs.Answers.{failure_in}
 use Rattle.oai_host.specs.Housed.{housed_names, repositories_of}
@@ -37,12 +37,12 @@ room_less n m (Err fault) old new more need =
     let used = need.used in record { enough = λ is. let few = need.enough is in omega (arith, more, few); used = omega (arith, more, used) }
 
 -- a change of a repository of which an honest store holds what it has to
-pub room_of_change : (old : Held) (lists : Lists) (made : Change) → IsHeld old lists → room_to_change (length old.shelf.notes) made ≤ room_to_change old.config.items made
+pub room_of_change : (old : RepoFields) (lists : Lists) (made : Change) → IsStored old lists → room_to_change (length old.index.entries) made ≤ room_to_change old.config.items made
 room_of_change old lists (change.Deposit identifier sets records) held = omega arith
 room_of_change old lists (change.Delete identifier) held = omega arith
 room_of_change old lists (change.Purge before) held =
-    let many : length old.shelf.notes ≡ length (items_on old.shelf lists) = held.shelved.agrees.many in
-    let few : length (items_on old.shelf lists) ≤ old.config.items = held.shelved.kept.few in
+    let many : length old.index.entries ≡ length (stored_items old.index lists) = held.indexed.agrees.many in
+    let few : length (stored_items old.index lists) ≤ old.config.items = held.indexed.kept.few in
     omega (arith, many, few)
 room_of_change old lists (change.AddSet spec name) held = omega arith
 

@@ -6,7 +6,7 @@ use Rattle.std.proofs.lemmas.Bool.{and_from, and_parts, cases_Bool, cond-true, c
 use Rattle.oai_item.specs.declared.faults.Fault.{Fault}
 use Rattle.oai_item.specs.declared.faults.Fault.TheVariants.{Damaged, Device, NoMemory, TooManyPages}
 use Rattle.oai_settings.specs.Config.{Config}
-use Rattle.oai_repo.specs.State.{State}
+use Rattle.oai_repo.specs.State.{RepoState}
 use Rattle.oai_host.specs.Alone.{HasFailed, IsExchange, IsRun, answers_alone, own_answers, own_calls}
 use Rattle.oai_http.specs.Answers.{failed}
 use Rattle.oai_host.specs.Exchanged.{AreExchanged, IsExchanged}
@@ -19,9 +19,9 @@ use Rattle.oai_http.proofs.TargetLemmas.{clash}
 
 -- ---- one more exchange
 
-run_last : (config : Config) (state between after : State) (calls : List Call) (answers : List Answer) (call : Call) (answer : Answer) → IsRun config state calls answers between
+run_last : (config : Config) (state between after : RepoState) (calls : List Call) (answers : List Answer) (call : Call) (answer : Answer) → IsRun config state calls answers between
     → IsExchange config between call answer after → IsRun config state (calls ++ call ∷ []) (answers ++ answer ∷ []) after
-run_last config state between after [] [] call answer run last = (after, subst (λ (s : State). IsExchange config s call answer after) run last, refl)
+run_last config state between after [] [] call answer run last = (after, subst (λ (s : RepoState). IsExchange config s call answer after) run last, refl)
 run_last config state between after [] (a ∷ answers) call answer run last = absurd run
 run_last config state between after (c ∷ calls) [] call answer run last = absurd run
 run_last config state between after (c ∷ calls) (a ∷ answers) call answer run last = (run.0, run.1, run_last config run.0 between after calls answers call answer run.2 last)
@@ -111,7 +111,7 @@ own_run_last rs calls answers call answer before between after same run step = r
             subst (λ (p : List Call × List Answer). IsRun before.config before.state p.0 p.1 after.state)
             (ap (λ (cs : List Call). (cs, own_answers before.name calls answers)) (sym (other_call_last before.name calls call elsewhere))
             ∙ ap (λ (xs : List Answer). (own_calls before.name (calls ++ call ∷ []), xs)) (sym (other_answer_last rs before.name calls answers call answer same elsewhere)))
-            (subst (λ (s : State). IsRun before.config before.state (own_calls before.name calls) (own_answers before.name calls answers) s) (sym (other (not_from_false (leads_to_repository before.name call.target) elsewhere))) run.run)
+            (subst (λ (s : RepoState). IsRun before.config before.state (own_calls before.name calls) (own_answers before.name calls answers) s) (sym (other (not_from_false (leads_to_repository before.name call.target) elsewhere))) run.run)
       ];
 }
 
@@ -178,13 +178,13 @@ failed_fault TooManyPages lines = refl
 failed_fault Device lines = refl
 failed_fault Damaged lines = refl
 
-failed_told : (config : Config) (before : State) (moment : _) (task : Task) (answer : Answer) (after : State) → HasFailed config before moment task answer after → is_none answer.fault ≡ false
+failed_told : (config : Config) (before : RepoState) (moment : _) (task : Task) (answer : Answer) (after : RepoState) → HasFailed config before moment task answer after → is_none answer.fault ≡ false
 failed_told config before moment (refusing status) answer after failure = absurd failure
 failed_told config before moment (asking arguments) answer after failure = ap (λ (a : Answer). is_none a.fault) failure.1 ∙ failed_fault failure.0 None
 failed_told config before moment (depositing lines) answer after failure = ap (λ (a : Answer). is_none a.fault) failure.3 ∙ failed_fault failure.0 (Some failure.1)
 
 -- a run without failures is what the repository alone answers
-alone_from : (config : Config) (before after : State) (calls : List Call) (answers : List Answer) → IsRun config before calls answers after → none_failed answers ≡ true → answers ≡ answers_alone config before calls
+alone_from : (config : Config) (before after : RepoState) (calls : List Call) (answers : List Answer) → IsRun config before calls answers after → none_failed answers ≡ true → answers ≡ answers_alone config before calls
 alone_from config before after [] [] run none = refl
 alone_from config before after [] (answer ∷ answers) run none = absurd run
 alone_from config before after (call ∷ calls) [] run none = absurd run
@@ -193,7 +193,7 @@ alone_from config before after (call ∷ calls) (answer ∷ answers) run none =
     elim run.1 [
       | inl done ↦
           ap (λ (xs : List Answer). answer ∷ xs) (alone_from config run.0 after calls answers run.2 parts.1)
-          ∙ ap (λ (p : Answer × State). p.0 ∷ answers_alone config p.1 calls) (sym done)
+          ∙ ap (λ (p : Answer × RepoState). p.0 ∷ answers_alone config p.1 calls) (sym done)
       | inr failure ↦ clash (is_none answer.fault) parts.0 (failed_told config before call.moment (task_of call) answer run.0 failure)
     ]
 

@@ -4,8 +4,8 @@ use Rattle.std.specs.List.{zip}
 use Rattle.oai_deposit.specs.Lines.{line_of}
 use Rattle.oai_item.specs.declared.faults.Fault.{Fault}
 use Rattle.oai_settings.specs.Config.{Config}
-use Rattle.oai_repo.specs.Machine.{Told, bytes, line, query, step, wait}
-use Rattle.oai_repo.specs.State.{State}
+use Rattle.oai_repo.specs.Machine.{Output, bytes, line, query, step, wait}
+use Rattle.oai_repo.specs.State.{RepoState}
 use Rattle.oai_host.specs.Answers.{answer_of}
 use Rattle.oai_http.specs.Answers.{answered, answered_with, failed}
 use Rattle.oai_http.specs.Targets.{leads_to_repository}
@@ -16,16 +16,16 @@ use Rattle.oai_http.specs.declared.exchanges.Call.{Call}
 -- ---- the machine alone
 
 -- a line of a deposit is answered a line: the same with its end; no line is told to wait
-abbrev pub with_end : Told → List ℕ
+abbrev pub with_end : Output → List ℕ
 with_end (bytes text) = text ++ 10 ∷ []
 with_end (wait seconds) = []
 
 -- one line, at that moment: what it is answered, and the state that it leaves
-abbrev pub after_line : Config → ℤ → State → List ℕ → List ℕ × State
+abbrev pub after_line : Config → ℤ → RepoState → List ℕ → List ℕ × RepoState
 after_line config moment state text = let done = step config state moment (line (line_of text)) in (with_end done.0, done.1)
 
 -- lines, one after the other, at one moment
-abbrev pub after_lines : Config → ℤ → State → List (List ℕ) → List ℕ × State
+abbrev pub after_lines : Config → ℤ → RepoState → List (List ℕ) → List ℕ × RepoState
 after_lines config moment state [] = ([], state)
 after_lines config moment state (text ∷ lines) =
     let first = after_line config moment state text in
@@ -33,17 +33,17 @@ after_lines config moment state (text ∷ lines) =
     (first.0 ++ others.0, others.1)
 
 -- what is asked of the repository is done: a request is one step, a deposit is its lines
-abbrev pub done_alone : Config → State → ℤ → Task → Answer × State
+abbrev pub done_alone : Config → RepoState → ℤ → Task → Answer × RepoState
 done_alone config state moment (refusing status) = (answered status, state)
 done_alone config state moment (asking arguments) = let done = step config state moment (query arguments) in (answer_of done.0, done.1)
 done_alone config state moment (depositing lines) = let done = after_lines config moment state lines in (answered_with done.0, done.1)
 
 -- an exchange: its answer, and the state that it leaves
-abbrev pub exchanged_alone : Config → State → Call → Answer × State
+abbrev pub exchanged_alone : Config → RepoState → Call → Answer × RepoState
 exchanged_alone config state call = done_alone config state call.moment (task_of call)
 
 -- the answers to exchanges, one after the other
-abbrev pub answers_alone : Config → State → List Call → List Answer
+abbrev pub answers_alone : Config → RepoState → List Call → List Answer
 answers_alone config state [] = []
 answers_alone config state (call ∷ calls) = let done = exchanged_alone config state call in done.0 ∷ answers_alone config done.1 calls
 
@@ -61,24 +61,24 @@ own_answers name calls answers =
 -- ---- with failures
 
 -- it failed. Of a request nothing was done; of a deposit some of its lines, from the first on, but not all
-abbrev pub HasFailed : Config → State → ℤ → Task → Answer → State → Type 0
+abbrev pub HasFailed : Config → RepoState → ℤ → Task → Answer → RepoState → Type 0
 HasFailed config before moment (refusing status) answer after = ⊥
 HasFailed config before moment (asking arguments) answer after = (fault : Fault) × (answer ≡ failed fault None) × (after ≡ before)
 HasFailed config before moment (depositing lines) answer after =
     (fault : Fault) × (done : ℕ) × (done < length lines) × (answer ≡ failed fault (Some done)) × (after ≡ (after_lines config moment before (take done lines)).1)
 
 -- it was done, or it failed
-abbrev pub IsTried : Config → State → ℤ → Task → Answer → State → Type 0
+abbrev pub IsTried : Config → RepoState → ℤ → Task → Answer → RepoState → Type 0
 IsTried config before moment task answer after = (done_alone config before moment task ≡ (answer, after)) ⊎ HasFailed config before moment task answer after
 
 -- an exchange, from a state to a state
-abbrev pub IsExchange : Config → State → Call → Answer → State → Type 0
+abbrev pub IsExchange : Config → RepoState → Call → Answer → RepoState → Type 0
 IsExchange config before call answer after = IsTried config before call.moment (task_of call) answer after
 
 -- exchanges, one after the other
-abbrev pub IsRun : Config → State → List Call → List Answer → State → Type 0
+abbrev pub IsRun : Config → RepoState → List Call → List Answer → RepoState → Type 0
 IsRun config before [] [] after = after ≡ before
 IsRun config before [] (answer ∷ answers) after = ⊥
 IsRun config before (call ∷ calls) [] after = ⊥
 IsRun config before (call ∷ calls) (answer ∷ answers) after =
-    (between : State) × IsExchange config before call answer between × IsRun config between calls answers after
+    (between : RepoState) × IsExchange config before call answer between × IsRun config between calls answers after

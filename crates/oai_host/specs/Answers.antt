@@ -3,14 +3,15 @@ use Rattle.std.specs.Prelude.{◌≡◌, ◌<◌, ◌≤◌, ℕ, Bool, List, le
 use Rattle.std.specs.List.{AllByRecursion, count_by}
 use Rattle.oai_catalogue.specs.Store.{IsCounted, IsHonest}
 use Rattle.oai_item.specs.declared.faults.Fault.{Fault}
-use Rattle.oai_repo.specs.Machine.{Told, bytes, wait}
+use Rattle.oai_item.specs.declared.faults.Fault.TheVariants.{Damaged, Device, NoMemory, TooManyPages}
+use Rattle.oai_repo.specs.Machine.{Output, bytes, wait}
 use Rattle.oai_http.specs.Answers.{answered, answered_with, asked_to_wait, failed}
 use Rattle.oai_http.specs.declared.exchanges.Answer.{Answer}
 use Rattle.oai_host.specs.Bodies.{is_line_end}
 use Rattle.oai_host.specs.Tasks.{Task, asking, depositing, refusing}
 
 -- what a repository tells
-abbrev pub answer_of : Told → Answer
+abbrev pub answer_of : Output → Answer
 answer_of (bytes body) = answered_with body
 answer_of (wait seconds) = asked_to_wait seconds
 

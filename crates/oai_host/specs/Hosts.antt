@@ -2,7 +2,7 @@
 use Rattle.std.specs.Prelude.{◌≡◌, ℕ, Bool, true, false, not, is_none, if◌then◌else◌, List}
 use Rattle.std.specs.List.{AllByRecursion, AllZip, list_all}
 use Rattle.oai_settings.specs.Config.{Config}
-use Rattle.oai_repo.specs.State.{State, empty_state}
+use Rattle.oai_repo.specs.State.{RepoState, empty_state}
 use Rattle.oai_host.specs.Alone.{IsExchange, IsRun, answers_alone, own_answers, own_calls}
 use Rattle.oai_http.specs.Answers.{answered}
 use Rattle.oai_host.specs.Configs.{Hosted}
@@ -15,7 +15,7 @@ use Rattle.oai_http.specs.declared.statuses.Status.TheVariants as status
 pub record Repository : Type 0 where
   pub name : List ℕ
   pub config : Config
-  pub state : State
+  pub state : RepoState
 
 -- as it begins
 abbrev pub begun : Hosted → Repository

@@ -3,7 +3,7 @@ use Rattle.std.specs.Prelude.{◌≡◌, ℕ, Bool, true, false, List, [], ◌�
 use Rattle.std.specs.List.{AllByRecursion, position}
 use Rattle.std.specs.Str.{bytes_eq}
 use Rattle.oai_catalogue.specs.Store.{Lists}
-use Rattle.oai_repo.specs.Held.{Held, IsHeld, KeepsOthers, StandsIn, has, numbers_of, state_of}
+use Rattle.oai_repo.specs.Fields.{RepoFields, IsStored, StandsIn, has, numbers_of, state_of}
 use Rattle.oai_host.specs.Configs.{AreNamed}
 use Rattle.oai_host.specs.Hosts.{Repository}
 use Rattle.oai_host.specs.declared.housed.Housed.{Housed}
@@ -23,11 +23,11 @@ abbrev pub place_in : List (List ℕ) → List ℕ → Option ℕ
 place_in names name = position (λ (one : List ℕ). bytes_eq one name) names
 
 -- no number is one of both
-abbrev pub AreApart : Held → Held → Type 0
+abbrev pub AreApart : RepoFields → RepoFields → Type 0
 AreApart one other = (n : ℕ) → has (numbers_of one) n ≡ true → has (numbers_of other) n ≡ false
 
 -- no number is one of this and of another
-abbrev pub IsApart : Held → List Housed → Type 0
+abbrev pub IsApart : RepoFields → List Housed → Type 0
 IsApart one others = AllByRecursion (λ (other : Housed). AreApart one other.repo) others
 
 abbrev pub AllApart : List Housed → Type 0
@@ -39,7 +39,7 @@ abbrev pub AllStand : List Housed → Lists → Type 0
 AllStand housed lists = AllByRecursion (λ (one : Housed). StandsIn one.repo lists) housed
 
 abbrev pub AllHeld : List Housed → Lists → Type 0
-AllHeld housed lists = AllByRecursion (λ (one : Housed). IsHeld one.repo lists) housed
+AllHeld housed lists = AllByRecursion (λ (one : Housed). IsStored one.repo lists) housed
 
 -- each has a name of its own, and no number is one of two repositories
 pub record AreHoused (honest : Bool) (housed : List Housed) (lists : Lists) : Type 0 where
@@ -47,10 +47,3 @@ pub record AreHoused (honest : Bool) (housed : List Housed) (lists : Lists) : Ty
   pub stand : AllStand housed lists
   pub held : IsTrue honest → AllHeld housed lists
   pub apart : AllApart housed
-
--- what a call keeps of its repository and of the lists of others
-pub record IsKept (honest : Bool) (old : Held) (before : Lists) (new : Held) (after : Lists) : Type 0 where
-  pub config : new.config ≡ old.config
-  pub stands : StandsIn new after
-  pub held : IsTrue honest → IsHeld new after
-  pub others : KeepsOthers (numbers_of old) before (numbers_of new) after

@@ -4,7 +4,7 @@ use Rattle.std.specs.List.{AllByRecursion, count_by, slice_get}
 use Rattle.oai_item.specs.declared.changes.Change.{Change}
 use Rattle.oai_item.specs.declared.refusals.LineRefusal.{LineRefusal}
 use Rattle.oai_catalogue.specs.Store.{Lists}
-use Rattle.oai_repo.specs.Held.{Held, state_of}
+use Rattle.oai_repo.specs.Fields.{RepoFields, state_of}
 use Rattle.oai_repo.specs.Machine.{line, step}
 use Rattle.oai_host.specs.Alone.{with_end}
 use Rattle.oai_host.specs.Bodies.{is_line_end}
@@ -13,7 +13,7 @@ use Rattle.oai_host.specs.declared.housed.Housed.{Housed}
 use Rattle.oai_http.specs.declared.targets.Endpoint.{Endpoint}
 
 -- a line was performed, as it was read, and the line for it stands behind the others
-pub record IsLineDone (old : Held) (before : Lists) (moment : ℤ) (read : Result Change LineRefusal) (was : List ℕ) (new : Held) (after : Lists) (is : List ℕ) : Type 0 where
+pub record IsLineDone (old : RepoFields) (before : Lists) (moment : ℤ) (read : Result Change LineRefusal) (was : List ℕ) (new : RepoFields) (after : Lists) (is : List ℕ) : Type 0 where
   pub told : is ≡ was ++ with_end (step old.config (state_of old before) moment (line read)).0
   pub state : state_of new after ≡ (step old.config (state_of old before) moment (line read)).1
 

@@ -3,13 +3,13 @@ ghost use Rattle.std.specs.Prelude.{◌≡◌, ◌≤◌, ◌+◌, ◌++◌, [],
 ghost use Rattle.oai_time.specs.Stamp.{IsWritable};
 ghost use Rattle.oai_time.specs.TimeTexts.{datestamp_text};
 ghost use Rattle.oai_deposit.specs.Lines.{line_of};
+ghost use Rattle.oai_catalogue.specs.Calls.{Frees};
 ghost use Rattle.oai_catalogue.specs.Store.{IsCounted, IsHonest, NeedsRoom};
-ghost use Rattle.oai_repo.specs.Held.{IsHeld, StandsIn, state_of};
+ghost use Rattle.oai_repo.specs.Fields.{Keeps, Owns, state_of};
 ghost use Rattle.oai_repo.specs.Machine.{line};
 ghost use Rattle.oai_host.specs.Alone.{IsTried};
 ghost use Rattle.oai_host.specs.Answers.{OnFailed, Tells, failure_in};
 ghost use Rattle.oai_host.specs.Bodies.{lines_in};
-ghost use Rattle.oai_host.specs.Housed.{IsKept};
 ghost use Rattle.oai_host.specs.Room.{room_for_line, room_for_task};
 ghost use Rattle.oai_host.specs.Tasks.{depositing};
 ghost use Rattle.oai_host.specs.Workings.{HasMoreLines, IsLineDone};
@@ -37,15 +37,14 @@ pub(crate) fn perform_lines<V: Versions>(
     moment: i64,
     body: &[u8],
 ) -> Answer
-    requires stands { StandsIn repo.old (V.lists store.old) }
-    requires held { IsTrue (V.honest store.old) → IsHeld repo.old (V.lists store.old) }
+    requires owns { Owns (V.honest store.old) repo.old (V.lists store.old) }
     ensures tried { IsTrue (V.honest store.old)
         → IsTried repo.old.config (state_of repo.old (V.lists store.old)) moment
         (depositing (lines_in body.now)) result (state_of repo.new (V.lists store.new)) }
     ensures left { OnFailed result ((repo.new ≡ repo.old)
         × (V.lists store.new ≡ V.lists store.old)) }
     ensures told { Tells (depositing (lines_in body.now)) result }
-    ensures kept { IsKept (V.honest store.old) repo.old (V.lists store.old) repo.new
+    ensures kept { Keeps (V.honest store.old) repo.old (V.lists store.old) repo.new
         (V.lists store.new) }
     ensures room { IsTrue (V.honest store.old) → NeedsRoom (room_for_task repo.old.config
         (depositing (lines_in body.now))) (failure_in result) (V.room store.old) (V.room store.new) }
@@ -74,15 +73,14 @@ fn perform_line<V: Versions>(
     text: &[u8],
     told: &mut Vec<u8>,
 ) -> Result<(), Fault>
-    requires stands { StandsIn repo.old (V.lists store.old) }
-    requires held { IsTrue (V.honest store.old) → IsHeld repo.old (V.lists store.old) }
+    requires owns { Owns (V.honest store.old) repo.old (V.lists store.old) }
     ensures ok { OnOk result (IsTrue (V.honest store.old)
         → IsLineDone repo.old (V.lists store.old) moment (line_of text.now) told.old.items repo.new
         (V.lists store.new) told.new.items) }
     ensures line { OnOk result (HasMoreLines told.old.items told.new.items) }
     ensures err { OnErr result (repo.new ≡ repo.old) }
     ensures err_lists { OnErr result (V.lists store.new ≡ V.lists store.old) }
-    ensures kept { IsKept (V.honest store.old) repo.old (V.lists store.old) repo.new
+    ensures kept { Keeps (V.honest store.old) repo.old (V.lists store.old) repo.new
         (V.lists store.new) }
     ensures room { IsTrue (V.honest store.old) → NeedsRoom (room_for_line repo.old.config
         (line_of text.now)) result (V.room store.old) (V.room store.new) }
@@ -101,7 +99,7 @@ fn perform_line<V: Versions>(
 }
 
 /// Performs a change and writes the line for it, in the room that is there.
-#[tactic(auto, unfolding(oai_repo::specs::Machine::written))]
+#[tactic(auto, unfolding(oai_repo::specs::Machine::outcome_output))]
 fn perform_change<V: Versions>(
     repo: &mut Repo,
     store: &mut V,
@@ -110,15 +108,14 @@ fn perform_change<V: Versions>(
     told: &mut Vec<u8>,
 ) -> Result<(), Fault>
     requires room { vec_len told.old + 32 ≤ vec_capacity told.old }
-    requires stands { StandsIn repo.old (V.lists store.old) }
-    requires held { IsTrue (V.honest store.old) → IsHeld repo.old (V.lists store.old) }
+    requires owns { Owns (V.honest store.old) repo.old (V.lists store.old) }
     ensures ok { OnOk result (IsTrue (V.honest store.old)
         → IsLineDone repo.old (V.lists store.old) moment (Ok change.now) told.old.items repo.new
         (V.lists store.new) told.new.items) }
     ensures line { OnOk result (HasMoreLines told.old.items told.new.items) }
     ensures err { OnErr result (repo.new ≡ repo.old) }
     ensures err_lists { OnErr result (V.lists store.new ≡ V.lists store.old) }
-    ensures kept { IsKept (V.honest store.old) repo.old (V.lists store.old) repo.new
+    ensures kept { Keeps (V.honest store.old) repo.old (V.lists store.old) repo.new
         (V.lists store.new) }
     ensures room { IsTrue (V.honest store.old) → NeedsRoom (room_for_line repo.old.config
         (Ok change.now)) result (V.room store.old) (V.room store.new) }
@@ -135,7 +132,7 @@ fn perform_change<V: Versions>(
 
 /// Moves the clock for a line that is refused as it stands and writes the line for it, in the room that
 /// is there.
-#[tactic(auto, unfolding(oai_repo::specs::Machine::written, oai_repo::specs::Machine::act))]
+#[tactic(auto, unfolding(oai_repo::specs::Machine::outcome_output, oai_repo::specs::Machine::act))]
 fn refuse_line<V: Versions>(
     repo: &mut Repo,
     store: &mut V,
@@ -144,16 +141,13 @@ fn refuse_line<V: Versions>(
     told: &mut Vec<u8>,
 )
     requires room { vec_len told.old + 32 ≤ vec_capacity told.old }
-    requires stands { StandsIn repo.old (V.lists store.old) }
-    requires held { IsTrue (V.honest store.old) → IsHeld repo.old (V.lists store.old) }
+    requires owns { Owns (V.honest store.old) repo.old (V.lists store.old) }
     ensures done { IsLineDone repo.old (V.lists store.old) moment (Err cause) told.old.items repo.new
         (V.lists store.new) told.new.items }
     ensures line { HasMoreLines told.old.items told.new.items }
-    ensures kept { IsKept (V.honest store.old) repo.old (V.lists store.old) repo.new
+    ensures kept { Keeps (V.honest store.old) repo.old (V.lists store.old) repo.new
         (V.lists store.new) }
-    ensures room { V.room store.old ≤ V.room store.new }
-    ensures count { V.failures store.old ≤ V.failures store.new }
-    ensures honesty { V.honest store.new ≡ V.honest store.old }
+    ensures store { Frees V.Versions store.old store.new }
 {
     repo.advance(store, moment);
     put_line(cause.answer(), told);

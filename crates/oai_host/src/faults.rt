@@ -11,7 +11,7 @@ use std::error::Error;
 use std::fmt;
 
 /// Why a text is no configuration. Each cause is looked for in the whole text, and of those that
-/// apply the one of the lowest number is told; want of memory apart, which may come wherever
+/// apply the one of the lowest number is told; out of memory apart, which may come wherever
 /// memory is taken.
 #[derive(Clone, Copy, Debug, PartialEq, Eq)]
 pub enum ReadFault {

@@ -83,7 +83,7 @@ impl<V: Versions + Drop> Host<V> {
         })
     }
 
-    /// Performs an exchange at the moment, in seconds from 1970 on, and answers it. Each fault, want of
+    /// Performs an exchange at the moment, in seconds from 1970 on, and answers it. Each fault, out of
     /// memory too, is told inside the answer.
     ///
     /// Over a store that does not give back what was written to it as well, an exchange leaves all
@@ -124,7 +124,7 @@ impl<V: Versions + Drop> Host<V> {
         self.exchange(call.moment, &call.exchange())
     }
 
-    /// Performs exchanges, one after the other, and answers them in their order. The error is want of
+    /// Performs exchanges, one after the other, and answers them in their order. The error is out of
     /// memory for the list of the answers; nothing was performed then. Over every store each of them is what
     /// `exchange` says.
     pub fn run(&mut self, calls: &[Call]) -> Result<Sequence<Answer>, AllocError>

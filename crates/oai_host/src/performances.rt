@@ -1,10 +1,9 @@
 //! What exchanges ask of a repository, performed.
 ghost use Rattle.std.specs.Prelude.{◌≡◌, IsTrue};
 ghost use Rattle.oai_catalogue.specs.Store.{IsCounted, IsHonest, NeedsRoom};
-ghost use Rattle.oai_repo.specs.Held.{IsHeld, StandsIn, state_of};
+ghost use Rattle.oai_repo.specs.Fields.{Keeps, Owns, state_of};
 ghost use Rattle.oai_host.specs.Alone.{IsTried};
 ghost use Rattle.oai_host.specs.Answers.{OnFailed, Tells, failure_in};
-ghost use Rattle.oai_host.specs.Housed.{IsKept};
 ghost use Rattle.oai_host.specs.Room.{room_for_task};
 ghost use Rattle.oai_http.specs.Exchanges.{call_of};
 ghost use Rattle.oai_host.specs.Tasks.{task_in};
@@ -25,15 +24,14 @@ pub(crate) fn perform<V: Versions>(
     endpoint: Endpoint,
     exchange: &Exchange<'_>,
 ) -> Answer
-    requires stands { StandsIn repo.old (V.lists store.old) }
-    requires held { IsTrue (V.honest store.old) → IsHeld repo.old (V.lists store.old) }
+    requires owns { Owns (V.honest store.old) repo.old (V.lists store.old) }
     ensures tried { IsTrue (V.honest store.old)
         → IsTried repo.old.config (state_of repo.old (V.lists store.old)) moment
         (task_in endpoint (call_of moment exchange.now)) result (state_of repo.new (V.lists store.new)) }
     ensures left { OnFailed result ((repo.new ≡ repo.old)
         × (V.lists store.new ≡ V.lists store.old)) }
     ensures told { Tells (task_in endpoint (call_of moment exchange.now)) result }
-    ensures kept { IsKept (V.honest store.old) repo.old (V.lists store.old) repo.new
+    ensures kept { Keeps (V.honest store.old) repo.old (V.lists store.old) repo.new
         (V.lists store.new) }
     ensures room { IsTrue (V.honest store.old) → NeedsRoom (room_for_task repo.old.config
         (task_in endpoint (call_of moment exchange.now))) (failure_in result) (V.room store.old)

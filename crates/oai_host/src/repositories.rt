@@ -3,7 +3,8 @@ ghost use Rattle.std.specs.Prelude.{◌≡◌, ◌<◌, ◌++◌, ℕ, List, [],
 ghost use Rattle.std.specs.BTreeMap.{IsUnchanged, get_by_text};
 ghost use Rattle.std.specs.List.{AllZip, list_any, position, slice_get};
 ghost use Rattle.std.specs.Str.{bytes_eq};
-ghost use Rattle.oai_catalogue.specs.Store.{IsCounted, IsHonest, NeedsRoom};
+ghost use Rattle.oai_catalogue.specs.Calls.{Uses};
+ghost use Rattle.oai_catalogue.specs.Store.{IsCounted, IsHonest};
 ghost use Rattle.oai_host.specs.Answers.{OnFailed, Tells, failure_in};
 ghost use Rattle.oai_host.specs.Hosts.{IsStep, LeavesOthers, begun};
 ghost use Rattle.oai_host.specs.Housed.{AreHoused, housed_names, place_in, repositories_of};
@@ -80,9 +81,7 @@ impl Repositories {
         ensures begun { OnOk result (repositories_of self.new (V.lists store.new)
             ≡ repositories_of self.old (V.lists store.old) ++ begun hosted ∷ []) }
         ensures housed { OnOk result (AreHoused (V.honest store.new) self.new (V.lists store.new)) }
-        ensures room { NeedsRoom 1 result (V.room store.old) (V.room store.new) }
-        ensures device { IsCounted result (V.failures store.old) (V.failures store.new) }
-        ensures honesty { IsHonest result (V.honest store.old) (V.honest store.new) }
+        ensures store { Uses V.Versions 1 result store.old store.new }
     {
         let HostedConfig { name, config } = hosted;
         let repo = Repo::new(self.alloc, config, store)?;

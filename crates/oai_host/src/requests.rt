@@ -1,10 +1,9 @@
 //! Requests of OAI-PMH, as messages ask them.
 ghost use Rattle.std.specs.Prelude.{◌≡◌, ℤ, IsTrue, MatchResult};
-ghost use Rattle.oai_catalogue.specs.Store.{IsCounted, IsHonest, NeedsRoom};
-ghost use Rattle.oai_repo.specs.Held.{IsHeld, StandsIn, state_of};
+ghost use Rattle.oai_catalogue.specs.Calls.{Uses};
+ghost use Rattle.oai_repo.specs.Fields.{Keeps, Owns, state_of};
 ghost use Rattle.oai_host.specs.Alone.{IsTried};
 ghost use Rattle.oai_host.specs.Answers.{OnFailed, Tells, failure_in};
-ghost use Rattle.oai_host.specs.Housed.{IsKept};
 ghost use Rattle.oai_host.specs.Room.{room_for_task};
 ghost use Rattle.oai_host.specs.Tasks as spec;
 ghost use Rattle.oai_http.specs.Exchanges.{call_of};
@@ -47,20 +46,17 @@ pub(crate) fn perform_request<V: Versions>(
     moment: i64,
     arguments: &[u8],
 ) -> Answer
-    requires stands { StandsIn repo.old (V.lists store.old) }
-    requires held { IsTrue (V.honest store.old) → IsHeld repo.old (V.lists store.old) }
+    requires owns { Owns (V.honest store.old) repo.old (V.lists store.old) }
     ensures tried { IsTrue (V.honest store.old)
         → IsTried repo.old.config (state_of repo.old (V.lists store.old)) moment
         (spec.asking arguments.now) result (state_of repo.new (V.lists store.new)) }
     ensures left { OnFailed result ((repo.new ≡ repo.old)
         × (V.lists store.new ≡ V.lists store.old)) }
     ensures told { Tells (spec.asking arguments.now) result }
-    ensures kept { IsKept (V.honest store.old) repo.old (V.lists store.old) repo.new
+    ensures kept { Keeps (V.honest store.old) repo.old (V.lists store.old) repo.new
         (V.lists store.new) }
-    ensures room { NeedsRoom (room_for_task repo.old.config (spec.asking arguments.now))
-        (failure_in result) (V.room store.old) (V.room store.new) }
-    ensures device { IsCounted (failure_in result) (V.failures store.old) (V.failures store.new) }
-    ensures honesty { IsHonest (failure_in result) (V.honest store.old) (V.honest store.new) }
+    ensures store { Uses V.Versions (room_for_task repo.old.config (spec.asking arguments.now))
+        (failure_in result) store.old store.new }
 {
     match repo.ask(store, moment, arguments) {
         Ok(Reply::Page(page)) => Answer::with_body(page),

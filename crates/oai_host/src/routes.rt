@@ -16,7 +16,7 @@ pub(crate) struct Routes {
 }
 
 impl Routes {
-    /// The two paths. The error is want of memory.
+    /// The two paths. The error is out of memory.
     pub(crate) fn new(alloc: Global) -> Result<Routes, AllocError> {
         let mut router = Router::new(alloc);
         let Ok(()) = router.insert("/oai/{name}", Endpoint::Requests) else {

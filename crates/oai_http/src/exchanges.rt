@@ -51,7 +51,7 @@ pub struct Answer {
     /// The body; empty but with `Ok`.
     pub body: Sequence<u8>,
     /// Why the exchange failed. It is there with `InternalServerError`, and with a `ServiceUnavailable`
-    /// for want of memory or of pages.
+    /// where memory or pages run out.
     pub fault: Option<Fault>,
 }
 

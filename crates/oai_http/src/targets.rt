@@ -19,18 +19,6 @@ pub enum Endpoint {
     Deposits,
 }
 
-impl Endpoint {
-    /// What stands before the name of a repository in a path of this endpoint.
-    pub fn front(self) -> &'static str
-        ensures { result.now ≡ spec.front_of self }
-    {
-        match self {
-            Endpoint::Requests => REQUESTS_FRONT,
-            Endpoint::Deposits => DEPOSITS_FRONT,
-        }
-    }
-}
-
 /// What the target is for, by how its path begins, whether its repository is there or not; `None` where it
 /// begins in neither way.
 pub fn endpoint_of(target: &[u8]) -> Option<Endpoint>

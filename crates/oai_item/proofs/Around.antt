@@ -13,11 +13,11 @@ use Rattle.std.proofs.lemmas.List.Elements.{filter-append}
 use Rattle.std.proofs.lemmas.List.Folds.{list_all-append}
 use Rattle.std.proofs.lemmas.List.Sorted.{searchable_from_sorted}
 use Rattle.std.proofs.lemmas.List.Sums.{list_all-from_AllPass}
-use Rattle.oai_names.proofs.Lists.{all-weaker, cut, filter_all, find_before, find_past, set_cut}
+use Rattle.oai_names.proofs.Lists.{all-weaker, cut, filter_all, filter_none, find_before, find_past, set_cut}
 use Rattle.oai_item.specs.Item.{ItemState}
-use Rattle.oai_item.specs.Items.{is_at, item_at, without_at, placed, with_item}
+use Rattle.oai_item.specs.Items.{is_at, item_at, items_after, without_at, placed, with_item}
 use Rattle.oai_item.specs.Order.{AreAround, IsPlace, place_cmp, item_cmp, precedes, are_in_order}
-use Rattle.oai_item.proofs.OrderLemmas.{behind-precedes, is_at-Equal, not_at-above, not_at-below, not_precedes-above, placed-cons, placed-nil, total}
+use Rattle.oai_item.proofs.OrderLemmas.{behind-precedes, is_at-Equal, not_above-at, not_above-below, not_at-above, not_at-below, not_precedes-above, placed-cons, placed-nil, total}
 
 -- ---- no item before a place, or behind it, is at it
 
@@ -225,3 +225,30 @@ with_item-missing item items at place =
     ap (with_item item) (sym (take-append-drop at items))
     ∙ with_item-around item (take at items) [] (drop at items) place.1
     ∙ ap (λ ys. take at items ++ (ys ++ drop at items)) (placed-nil item)
+
+-- ---- what stands behind a place
+
+behind_around : (stamp : ℤ) (identifier : List ℕ) (before behind : List ItemState) → AreAround stamp identifier before behind
+    → items_after stamp identifier (before ++ behind) ≡ behind
+unfolding items_after
+behind_around stamp identifier before behind around =
+    let above : ItemState → Bool = λ item. is_gt (place_cmp item stamp identifier) in
+    let none : list_all (λ item. not (above item)) before ≡ true =
+    all-weaker (λ (item : ItemState). is_lt (place_cmp item stamp identifier)) (λ item. not (above item)) (λ item below. not_from_false _ (not_above-below stamp identifier item below)) before around.below
+    in
+    filter-append above before behind ∙ ap (λ ys. ys ++ filter above behind) (filter_none above before none) ∙ filter_all above behind around.above
+
+pub items_after-found : (stamp : ℤ) (identifier : List ℕ) (items : List ItemState) (at : ℕ) → IsPlace items stamp identifier (Ok at) → drop (at + 1) items ≡ items_after stamp identifier items
+unfolding items_after
+items_after-found stamp identifier items at place =
+    let d : ItemState = only_place stamp identifier in
+    let x : ItemState = get_or items at d in
+    let above : ItemState → Bool = λ item. is_gt (place_cmp item stamp identifier) in
+    let behind = drop (at + 1) items in
+    let front = sym (behind_around stamp identifier (take at items) behind place.2) ∙ filter-append above (take at items) behind in
+    let skips : filter above (x ∷ behind) ≡ filter above behind = cond-false (above x) (x ∷ filter above behind) (filter above behind) (not_above-at stamp identifier x (place.1 d)) in
+    front ∙ ap (λ ys. filter above (take at items) ++ ys) (sym skips) ∙ sym (filter-append above (take at items) (x ∷ behind)) ∙ ap (items_after stamp identifier) (sym (cut items at d place.0))
+
+pub items_after-missing : (stamp : ℤ) (identifier : List ℕ) (items : List ItemState) (at : ℕ) → IsPlace items stamp identifier (Err at) → drop at items ≡ items_after stamp identifier items
+items_after-missing stamp identifier items at place =
+    sym (behind_around stamp identifier (take at items) (drop at items) place.1) ∙ ap (items_after stamp identifier) (take-append-drop at items)

@@ -71,6 +71,15 @@ gt_not_lt Less h = refl
 gt_not_lt Equal h = cc
 gt_not_lt Greater h = cc
 
+eq_not_gt : (o : Ordering) → o ≡ Equal → is_gt o ≡ false
+eq_not_gt o e = ap is_gt e
+
+pub not_above-below : (stamp : ℤ) (identifier : List ℕ) (item : ItemState) → is_lt (place_cmp item stamp identifier) ≡ true → is_gt (place_cmp item stamp identifier) ≡ false
+not_above-below stamp identifier item h = gt_not_lt (place_cmp item stamp identifier) h
+
+pub not_above-at : (stamp : ℤ) (identifier : List ℕ) (item : ItemState) → place_cmp item stamp identifier ≡ Equal → is_gt (place_cmp item stamp identifier) ≡ false
+not_above-at stamp identifier item e = eq_not_gt (place_cmp item stamp identifier) e
+
 pub not_at-below : (stamp : ℤ) (identifier : List ℕ) (item : ItemState) → is_lt (place_cmp item stamp identifier) ≡ true → is_at stamp identifier item ≡ false
 not_at-below stamp identifier item h = is_at-Equal stamp identifier item ∙ lt_not_eq (place_cmp item stamp identifier) h
 

@@ -1,10 +1,10 @@
 -- Lists of items: what is looked up in them, taken out and put in. This repository's own view of OAI-PMH 2.0, sections 2.3 to 2.5.
 use Rattle.std.specs.Prelude.{ℕ, ℤ, Bool, true, not, ◌&&◌, List, [], ◌∷◌, Option, filter, find}
 use Rattle.std.specs.List.{insert, list_all, position_or_len}
-use Rattle.std.specs.Ordering.{int_eq}
+use Rattle.std.specs.Ordering.{int_eq, is_gt}
 use Rattle.std.specs.Str.{bytes_eq}
 use Rattle.oai_item.specs.Item.{ItemState}
-use Rattle.oai_item.specs.Order.{precedes}
+use Rattle.oai_item.specs.Order.{place_cmp, precedes}
 
 -- ---- by identifier
 
@@ -42,6 +42,10 @@ item_at stamp identifier items = find (is_at stamp identifier) items
 -- the items but those of that datestamp and identifier
 unfoldable pub without_at : ℤ → List ℕ → List ItemState → List ItemState
 without_at stamp identifier items = filter (λ item. not (is_at stamp identifier item)) items
+
+-- the items that stand behind that datestamp and identifier, whether or not an item has them
+unfoldable pub items_after : ℤ → List ℕ → List ItemState → List ItemState
+items_after stamp identifier items = filter (λ item. is_gt (place_cmp item stamp identifier)) items
 
 -- the items with one more, before the first that it precedes
 unfoldable pub placed : ItemState → List ItemState → List ItemState

@@ -1,6 +1,7 @@
 ghost use Rattle.std.specs.Prelude.{◌≡◌, ◌≢◌, [], true, IfOk};
 ghost use Rattle.std.specs.List.{list_all};
-ghost use Rattle.oai_item.specs.Item.{IsStamp, live_item};
+ghost use Rattle.oai_names.specs.Names.{may_be_prefix};
+ghost use Rattle.oai_item.specs.Item.{IsStamp, are_prefixed, live_item};
 ghost use Rattle.oai_item.specs.Known.{has_format};
 ghost use Rattle.oai_item.specs.Membership.{reduced};
 
@@ -15,7 +16,7 @@ use std::alloc::{AllocError, Global};
 impl Item {
     /// The live item that is deposited with these parts, which are copied. The datestamp is in seconds
     /// from 1970 on, of years 0000 to 9999; there is a record, and each is in one of the formats. Of the
-    /// sets those stay that say where the item is, as in `live`. The error is want of memory.
+    /// sets those stay that say where the item is, as in `live`. The error is out of memory.
     pub fn deposited(
         alloc: Global,
         formats: &Formats,
@@ -30,7 +31,7 @@ impl Item {
         ensures { IfOk result
             (λ item. item ≡ live_item identifier.now stamp (reduced sets.now) records.now) }
     {
-        Item::live(
+        Item::with_prefixed(
             alloc,
             identifier.copy(alloc)?,
             stamp,
@@ -47,7 +48,8 @@ fn typed_records(
     records: &[(Text, Sequence<Field>)],
 ) -> Result<Sequence<(Prefix, Sequence<Field>)>, AllocError>
     requires { list_all (has_format formats.now) records.now ≡ true }
-    ensures { IfOk result (λ typed. typed ≡ records.now) }
+    ensures typed { IfOk result (λ typed. typed ≡ records.now) }
+    ensures prefixed { IfOk result (λ typed. are_prefixed typed ≡ true) }
 {
     let mut typed = Vec::with_capacity(alloc, records.len())?;
     for deposited in records {
@@ -63,7 +65,8 @@ fn typed_record(
     deposited: &(Text, Sequence<Field>),
 ) -> Result<(Prefix, Sequence<Field>), AllocError>
     requires { has_format formats.now deposited.now ≡ true }
-    ensures { IfOk result (λ typed. typed ≡ deposited.now) }
+    ensures typed { IfOk result (λ typed. typed ≡ deposited.now) }
+    ensures prefixed { IfOk result (λ typed. may_be_prefix typed.0 ≡ true) }
 {
     let Some(format) = formats.find_named(deposited.0.as_str()) else {
         unreachable!()

@@ -13,7 +13,7 @@ pub struct Field {
 }
 
 impl Field {
-    /// An equal field. The error is want of memory.
+    /// An equal field. The error is out of memory.
     pub fn copy(&self, alloc: Global) -> Result<Field, AllocError>
         ensures { IfOk result (λ copy. copy ≡ self.now) }
     {

@@ -56,7 +56,7 @@ pub struct Formats {
     formats: Vec<Format>,
 }
 
-/// Why a format was not declared, in the order in which the causes are looked for; want of memory
+/// Why a format was not declared, in the order in which the causes are looked for; out of memory
 /// apart, which may come in place of `FieldTwice` and of `TooMany`.
 #[derive(Clone, Copy, Debug, PartialEq, Eq, Error)]
 pub enum FormatFault {
@@ -96,7 +96,7 @@ impl Model for Formats {
 }
 
 impl Formats {
-    /// The formats of a repository that declares none: oai_dc alone. The error is want of memory.
+    /// The formats of a repository that declares none: oai_dc alone. The error is out of memory.
     pub fn dc(alloc: Global) -> Result<Formats, AllocError>
         ensures { IfOk result (λ formats. formats ≡ dublin_core ∷ []) }
     {
@@ -106,7 +106,7 @@ impl Formats {
     }
 
     /// Adds the format at the end. On an error the formats are as before; the errors are those of
-    /// `FormatFault`, the first that applies, but for want of memory, which may come in place of
+    /// `FormatFault`, the first that applies, out of memory apart, which may come in place of
     /// `FieldTwice`, of `TooMany` or of the format's place. The time is n log n for n fields.
     pub fn declare(&mut self, format: Format) -> Result<(), FormatFault>
         ensures { IsDeclaring self.old format result self.new }

@@ -48,7 +48,7 @@ impl Item {
     /// the records are in the order of their prefixes, one a prefix, and at least one. Of the sets
     /// those stay that say where the item is: no setSpec stands twice, the first place counts, and
     /// none stands that covers another, since the item is in it anyway (OAI-PMH 2.0, section 2.6).
-    /// The error is want of memory.
+    /// The error is out of memory.
     pub fn live(
         alloc: Global,
         identifier: Identifier,
@@ -62,6 +62,23 @@ impl Item {
         ensures { IfOk result (λ item. item ≡ live_item identifier stamp (reduced sets) formats) }
     {
         see_prefixes(formats.as_slice());
+        Item::with_prefixed(alloc, identifier, stamp, sets, formats)
+    }
+
+    /// The same, of records whose prefixes are known to be of their grammar and length.
+    pub(crate) fn with_prefixed(
+        alloc: Global,
+        identifier: Identifier,
+        stamp: i64,
+        sets: Sequence<SetSpec>,
+        formats: Sequence<(Prefix, Sequence<Field>)>,
+    ) -> Result<Item, AllocError>
+        requires stamped { IsStamp stamp }
+        requires prefixed { are_prefixed formats ≡ true }
+        requires rising { are_rising formats ≡ true }
+        requires carries { formats ≢ [] }
+        ensures { IfOk result (λ item. item ≡ live_item identifier stamp (reduced sets) formats) }
+    {
         Ok(Item {
             identifier,
             stamp,
@@ -71,7 +88,7 @@ impl Item {
         })
     }
 
-    /// An equal item. The error is want of memory.
+    /// An equal item. The error is out of memory.
     pub fn copy(&self, alloc: Global) -> Result<Item, AllocError>
         ensures { IfOk result (λ copy. copy ≡ self.now) }
     {
@@ -86,7 +103,7 @@ impl Item {
 
     /// The deleted item that is left of this one: of the same identifier, sets and prefixes, without
     /// fields, and of that datestamp, in seconds from 1970 on, of years 0000 to 9999. The error is
-    /// want of memory.
+    /// out of memory.
     pub fn tombstone(&self, alloc: Global, stamp: i64) -> Result<Item, AllocError>
         requires { IsStamp stamp }
         ensures { IfOk result (λ tombstone. tombstone ≡ tombstone_of stamp self.now) }

@@ -24,7 +24,7 @@ pub use faults::Fault;
 pub use fields::Field;
 pub use formats::{Format, FormatFault, Formats};
 pub use items::{Item, encoding_law, is_in, set_law};
-pub use order::{order_law, place_of};
+pub use order::{items_after, order_law, place_of};
 pub use records::Records;
 pub use refusals::{ChangeRefusal, LineRefusal};
 pub use selections::selection_law;

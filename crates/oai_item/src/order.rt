@@ -1,7 +1,7 @@
 ghost use Rattle.std.specs.Prelude.{◌≡◌, ◌↔◌, ◌⊎◌, ℕ, ℤ, List, None, false, true};
 ghost use Rattle.std.specs.List.{Contains};
 ghost use Rattle.oai_item.specs.Item.{ItemState};
-ghost use Rattle.oai_item.specs.Items.{is_at, item_at, placed, with_item, without_at};
+ghost use Rattle.oai_item.specs.Items.{is_at, item_at, items_after, placed, with_item, without_at};
 ghost use Rattle.oai_item.specs.Order.{IsPlace, are_in_order, item_cmp, place_cmp};
 
 use crate::items::Item;
@@ -35,6 +35,18 @@ pub fn place_of(items: &[Item], stamp: i64, identifier: &str) -> Result<usize, u
     ensures { IsPlace items.now stamp identifier.now result }
 {
     items.binary_search_by(|item| item.order_to(stamp, identifier))
+}
+
+/// Those of the items, which are in their order, that stand behind this datestamp, in seconds from 1970
+/// on, and identifier, whether or not one of them has these. Of n items it looks at about log n.
+pub fn items_after<'a>(items: &'a [Item], stamp: i64, identifier: &str) -> &'a [Item]
+    requires { are_in_order items.now ≡ true }
+    ensures { result.now ≡ items_after stamp identifier.now items.now }
+{
+    match place_of(items, stamp, identifier) {
+        Ok(at) => &items[at + 1..],
+        Err(at) => &items[at..],
+    }
 }
 
 /// What putting an item among others, and taking one out, keeps: with the new item, the members are it

@@ -26,10 +26,10 @@ use Rattle.oai_answers.specs.declared.identify.DeletedRecord.TheVariants.{No, Tr
 use Rattle.oai_settings.specs.Config.{Config}
 use Rattle.oai_repo.specs.Answers.{arguments_of_request}
 use Rattle.oai_repo.specs.Changes.{after_deletion, after_purge, changed, dead_refusal, is_transient, limit_in, limit_of, missing_refusal, purge_refusal, purged, refusal_of, stamp_at, with_new, with_tombstone}
-use Rattle.oai_repo.specs.Listing.{Said, answer_to, says, waits}
-use Rattle.oai_repo.specs.Machine.{Command, accepted, act, act_on_change, asking, changing, outcome_of, refused, refusing}
-use Rattle.oai_repo.specs.State.{Holdings, State}
-use Rattle.oai_laws.specs.Changing.{IsAccepted, IsDeleted, IsPurged, IsReplaced, Makes, left_over}
+use Rattle.oai_repo.specs.Listing.{Response, request_response, with_answer, retry_after}
+use Rattle.oai_repo.specs.Machine.{Command, accepted, act, act_on_change, requesting, changing, outcome_of, refused_with, rejecting}
+use Rattle.oai_repo.specs.State.{Holdings, RepoState}
+use Rattle.oai_laws.specs.Changing.{DoesChange, IsDeleted, IsPurged, IsReplaced, Makes, left_over}
 use Rattle.oai_repo.proofs.KeptLemmas.{no_cause}
 use Rattle.oai_laws.proofs.EffectLemmas.{not_not, of_transient, passed, was_live}
 
@@ -161,36 +161,36 @@ makes config stamp (change.Purge before) holdings none = purge_makes config befo
 makes config stamp (change.AddSet spec name) holdings none = (refl, refl)
 
 -- the state that is left, where the outcome is that it was accepted
-accepted_by : (config : Config) (state : State) (asked : Change) (refusal : Option ChangeRefusal) (told : ℤ) → refusal_of config (stamp_at config state.clock) state.holdings asked ≡ refusal
+accepted_by : (config : Config) (state : RepoState) (asked : Change) (refusal : Option ChangeRefusal) (told : ℤ) → refusal_of config (stamp_at config state.clock) state.holdings asked ≡ refusal
     → (act_on_change config state (stamp_at config state.clock) asked refusal).0 ≡ accepted told
-    → IsAccepted config asked state (act_on_change config state (stamp_at config state.clock) asked refusal).1 told
+    → DoesChange config asked state (act_on_change config state (stamp_at config state.clock) asked refusal).1 told
 accepted_by config state asked (Some cause) told is h = cc
 accepted_by config state asked None told is h =
     let stamp : ℤ = stamp_at config state.clock in
     let same : stamp ≡ told = cc in
-    subst (λ (t : ℤ). IsAccepted config asked state (record state { holdings = changed config stamp state.holdings asked }) t) same
+    subst (λ (t : ℤ). DoesChange config asked state (record state { holdings = changed config stamp state.holdings asked }) t) same
     (record { dated = refl; made = makes config stamp asked state.holdings is })
 
-pub accepted_is : (config : Config) (state : State) (asked : Change) (told : ℤ)
-    → (let done = act config state (changing asked) in done.0 ≡ accepted told → IsAccepted config asked state done.1 told)
+pub accepted_is : (config : Config) (state : RepoState) (asked : Change) (told : ℤ)
+    → (let done = act config state (changing asked) in done.0 ≡ accepted told → DoesChange config asked state done.1 told)
 unfolding act
 accepted_is config state asked told = accepted_by config state asked (refusal_of config (stamp_at config state.clock) state.holdings asked) told refl
 
 -- ---- a refusal
 
-refused_by : (config : Config) (state : State) (asked : Change) (refusal : Option ChangeRefusal) (cause : Cause)
-    → (act_on_change config state (stamp_at config state.clock) asked refusal).0 ≡ refused cause
+refused_by : (config : Config) (state : RepoState) (asked : Change) (refusal : Option ChangeRefusal) (cause : Cause)
+    → (act_on_change config state (stamp_at config state.clock) asked refusal).0 ≡ refused_with cause
     → (act_on_change config state (stamp_at config state.clock) asked refusal).1 ≡ state
 refused_by config state asked (Some other) cause h = refl
 refused_by config state asked None cause h = cc
 
-never_refused : (config : Config) (clock : ℤ) (asked : Attributes) (said : Said) (cause : Cause) → outcome_of config clock asked said ≡ refused cause → ⊥
-never_refused config clock asked (says answer) cause h = cc
-never_refused config clock asked (waits seconds) cause h = cc
+never_refused : (config : Config) (clock : ℤ) (asked : Attributes) (said : Response) (cause : Cause) → outcome_of config clock asked said ≡ refused_with cause → ⊥
+never_refused config clock asked (with_answer answer) cause h = cc
+never_refused config clock asked (retry_after seconds) cause h = cc
 
-pub refused_is : (config : Config) (state : State) (command : Command) (cause : Cause)
-    → (let done = act config state command in done.0 ≡ refused cause → done.1 ≡ state)
+pub refused_is : (config : Config) (state : RepoState) (command : Command) (cause : Cause)
+    → (let done = act config state command in done.0 ≡ refused_with cause → done.1 ≡ state)
 unfolding act
-refused_is config state (asking request) cause = λ told. absurd (never_refused config state.clock (arguments_of_request request) (answer_to config state request).0 cause told)
+refused_is config state (requesting request) cause = λ told. absurd (never_refused config state.clock (arguments_of_request request) (request_response config state request).0 cause told)
 refused_is config state (changing asked) cause = refused_by config state asked (refusal_of config (stamp_at config state.clock) state.holdings asked) cause
-refused_is config state (refusing line) cause = λ told. refl
+refused_is config state (rejecting line) cause = λ told. refl

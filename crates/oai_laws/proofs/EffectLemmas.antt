@@ -35,9 +35,9 @@ use Rattle.oai_repo.specs.Changes.{after_deletion, after_purge, changed, dead_re
 use Rattle.oai_settings.specs.Config.{Config}
 use Rattle.oai_laws.specs.Effects.{Effect, is_formed, is_of_format, has_known_records, is_live, IsEffected, IsLeftOver, IsPossible, IsPut, IsSound, effected, goes_below, holding, is_given, item_put, item_taken, items_purged, list_opened, list_renewed, set_added, unchanged}
 use Rattle.oai_repo.specs.Kept.{AreKept, is_too_large, is_well_kept}
-use Rattle.oai_repo.specs.Listing.{Said, answer_to, begins, continues, has_no_sets, list_answer, list_begun, list_continued, prolonged_at, told_in, told_items, token_answer, wait_at}
-use Rattle.oai_repo.specs.Machine.{Command, act, act_on_change, asking, changing, refusing}
-use Rattle.oai_repo.specs.State.{FrozenList, Holdings, NamedSet, OpenLists, State, empty_state, is_open_at, moved}
+use Rattle.oai_repo.specs.Listing.{Response, request_response, opens_list, continued_response, has_no_sets, list_response, new_list, list_continued, prolonged_at, format_response, selection_response, token_response, wait_at}
+use Rattle.oai_repo.specs.Machine.{Command, act, act_on_change, requesting, changing, rejecting}
+use Rattle.oai_repo.specs.State.{FrozenList, Holdings, NamedSet, OpenLists, RepoState, empty_state, is_open_at, moved}
 use Rattle.oai_repo.proofs.KeptLemmas.{emptied-record, few-new, fits, kept-none, no_cause, purged_kept, set_kept, stands, taken, well-deposited, well-tombstone, well-without}
 
 -- ---- a sound state stays sound
@@ -47,18 +47,18 @@ pub sound_empty : (config : Config) → IsSound config (empty_state config)
 sound_empty config = record { kept = kept-none config; live = λ _. refl; given = refl; formed = refl; known = refl; few = omega arith }
 
 -- at a later clock fewer lists are open
-pub sound_moved : (config : Config) (moment : ℤ) (state : State) → IsSound config state → IsSound config (moved moment state)
+pub sound_moved : (config : Config) (moment : ℤ) (state : RepoState) → IsSound config state → IsSound config (moved moment state)
 sound_moved config moment state sound = record {
   kept = sound.kept;
   live = sound.live;
-  given = all-filter (is_given state.begun.next) (is_open_at (moved moment state).clock) state.begun.lists sound.given;
-  formed = all-filter (is_formed config) (is_open_at (moved moment state).clock) state.begun.lists sound.formed;
-  known = all-filter (is_of_format config) (is_open_at (moved moment state).clock) state.begun.lists sound.known;
+  given = all-filter (is_given state.open_lists.next) (is_open_at (moved moment state).clock) state.open_lists.lists sound.given;
+  formed = all-filter (is_formed config) (is_open_at (moved moment state).clock) state.open_lists.lists sound.formed;
+  known = all-filter (is_of_format config) (is_open_at (moved moment state).clock) state.open_lists.lists sound.known;
   few = sound.few;
 }
 
 -- an item that is put
-put_kept : (config : Config) (state : State) (item : ItemState) → IsPut config state item → AreKept config state.holdings
+put_kept : (config : Config) (state : RepoState) (item : ItemState) → IsPut config state item → AreKept config state.holdings
     → AreKept config (record state.holdings { items = with_new item state.holdings.items })
 put_kept config state item put kept =
     let items : List ItemState = state.holdings.items in
@@ -71,7 +71,7 @@ put_kept config state item put kept =
     }
 
 -- which is live where no deleted one is kept
-put_live : (config : Config) (state : State) (item : ItemState) → IsPut config state item → config.deleted ≡ No → item.live ≡ true
+put_live : (config : Config) (state : RepoState) (item : ItemState) → IsPut config state item → config.deleted ≡ No → item.live ≡ true
 put_live config state item put none = by_test item.live put.dead
   where
     by_test : (live : Bool) → (live ≡ false → IsLeftOver config state item) → live ≡ true
@@ -145,12 +145,12 @@ pub passed : {A : Type 0} (test : Bool) (cause : A) (later : Option A) → cond 
 passed true cause later h = cc
 passed false cause later h = (refl, h)
 
-pub number_left : (config : Config) (clock : ℤ) (begun : OpenLists) → wait_at config clock begun ≡ None → begun.next ≤ LAST_NUMBER → begun.next < LAST_NUMBER
+pub number_left : (config : Config) (clock : ℤ) (open_lists : OpenLists) → wait_at config clock open_lists ≡ None → open_lists.next ≤ LAST_NUMBER → open_lists.next < LAST_NUMBER
 unfolding wait_at
-number_left config clock begun h few =
-    let room = passed (nat_le config.lists (length begun.lists)) _ _ h in
-    let number = passed (eqb begun.next LAST_NUMBER) _ _ room.1 in
-    below begun.next LAST_NUMBER number.0 few
+number_left config clock open_lists h few =
+    let room = passed (nat_le config.lists (length open_lists.lists)) _ _ h in
+    let number = passed (eqb open_lists.next LAST_NUMBER) _ _ room.1 in
+    below open_lists.next LAST_NUMBER number.0 few
   where
     below : (n last : ℕ) → eqb n last ≡ false → n ≤ last → n < last
     below n last apart few = grind (arith, nat_tests)
@@ -162,7 +162,7 @@ opened_given next list lists is h =
     list_all-append (is_given (next + 1)) lists (list ∷ []) ∙ and_from _ _ (given_more next lists h) (and_from (nat_lt list.number (next + 1)) true last refl)
 
 -- after each effect that is possible
-pub sound_effected : (config : Config) (state : State) (effect : Effect) → IsPossible config state effect → IsSound config state → IsSound config (effected config state effect)
+pub sound_effected : (config : Config) (state : RepoState) (effect : Effect) → IsPossible config state effect → IsSound config state → IsSound config (effected config state effect)
 unfolding purged
 sound_effected config state unchanged possible sound = sound
 sound_effected config state (item_put item) possible sound = record {
@@ -194,31 +194,31 @@ sound_effected config state (set_added set) possible sound = record { kept = set
 sound_effected config state (list_renewed number) possible sound = record {
   kept = sound.kept;
   live = sound.live;
-  given = renewed_given config state.clock number state.begun.next state.begun.lists sound.given;
-  formed = renewed_formed config state.clock number state.begun.lists sound.formed;
-  known = renewed_known config state.clock number state.begun.lists sound.known;
+  given = renewed_given config state.clock number state.open_lists.next state.open_lists.lists sound.given;
+  formed = renewed_formed config state.clock number state.open_lists.lists sound.formed;
+  known = renewed_known config state.clock number state.open_lists.lists sound.known;
   few = sound.few;
 }
 sound_effected config state (list_opened list) possible sound = record {
   kept = sound.kept;
   live = sound.live;
-  given = opened_given state.begun.next list state.begun.lists possible.number sound.given;
-  formed = list_all-append (is_formed config) state.begun.lists (list ∷ []) ∙ and_from (list_all (is_formed config) state.begun.lists) (is_formed config list && true) sound.formed (and_from (is_formed config list) true possible.formed refl);
-  known = list_all-append (is_of_format config) state.begun.lists (list ∷ []) ∙ and_from (list_all (is_of_format config) state.begun.lists) (is_of_format config list && true) sound.known (and_from (is_of_format config list) true possible.known refl);
-  few = let less = number_left config state.clock state.begun possible.admitted sound.few in omega (arith, less);
+  given = opened_given state.open_lists.next list state.open_lists.lists possible.number sound.given;
+  formed = list_all-append (is_formed config) state.open_lists.lists (list ∷ []) ∙ and_from (list_all (is_formed config) state.open_lists.lists) (is_formed config list && true) sound.formed (and_from (is_formed config list) true possible.formed refl);
+  known = list_all-append (is_of_format config) state.open_lists.lists (list ∷ []) ∙ and_from (list_all (is_of_format config) state.open_lists.lists) (is_of_format config list && true) sound.known (and_from (is_of_format config list) true possible.known refl);
+  few = let less = number_left config state.clock state.open_lists possible.admitted sound.few in omega (arith, less);
 }
 
 -- ---- what a command does
 
 -- the open lists are others after a request, and nothing else is
-abbrev pub asked_to : State → OpenLists → State
-asked_to state begun = record state { begun = begun }
+abbrev pub asked_to : RepoState → OpenLists → RepoState
+asked_to state open_lists = record state { open_lists = open_lists }
 
 -- what was said, with the lists that are open then, is an effect
-abbrev pub IsBegunBy : Config → State → Said × OpenLists → Type 0
+abbrev pub IsBegunBy : Config → RepoState → Response × OpenLists → Type 0
 IsBegunBy config state done = IsEffected config state (asked_to state done.1)
 
-nothing : (config : Config) (state : State) → IsEffected config state state
+nothing : (config : Config) (state : RepoState) → IsEffected config state state
 nothing config state = record { effect = unchanged; possible = tt; done = refl }
 
 -- what a repository keeps, it tells
@@ -251,46 +251,46 @@ named prefix (x ∷ formats) format h = by_test (bytes_eq x.prefix prefix) ((byt
 found_again : (prefix : List ℕ) (formats : List Format) (format : Format) → format_named prefix formats ≡ Some format → is_some (format_named format.prefix formats) ≡ true
 found_again prefix formats format is = ap (λ (p : List ℕ). is_some (format_named p formats)) (named prefix formats format is) ∙ ap is_some is
 
-begun_by : (config : Config) (state : State) (verb : ListVerb) (format : Format) (items : List ItemState) (wait : Option ℤ) → list_all (has_known_records config) items ≡ true
-    → is_some (format_named format.prefix config.formats) ≡ true → wait_at config state.clock state.begun ≡ wait
-    → IsBegunBy config state (begins config state.begun format (list_begun config state.clock state.begun verb format.prefix items) wait)
+begun_by : (config : Config) (state : RepoState) (verb : ListVerb) (format : Format) (items : List ItemState) (wait : Option ℤ) → list_all (has_known_records config) items ≡ true
+    → is_some (format_named format.prefix config.formats) ≡ true → wait_at config state.clock state.open_lists ≡ wait
+    → IsBegunBy config state (opens_list config state.open_lists format (new_list config state.clock state.open_lists verb format.prefix items) wait)
 begun_by config state verb format items (Some seconds) formed known is = nothing config state
 begun_by config state verb format items None formed known is = record {
-  effect = list_opened (list_begun config state.clock state.begun verb format.prefix items);
+  effect = list_opened (new_list config state.clock state.open_lists verb format.prefix items);
   possible = record { admitted = is; number = refl; lasting = refl; formed = formed; known = known };
   done = refl;
 }
 
-told_by_items : (config : Config) (state : State) (verb : ListVerb) (format : Format) (items : List ItemState) → list_all (has_known_records config) items ≡ true
-    → is_some (format_named format.prefix config.formats) ≡ true → IsBegunBy config state (told_items config state.clock state.begun verb format items)
-unfolding told_items
+told_by_items : (config : Config) (state : RepoState) (verb : ListVerb) (format : Format) (items : List ItemState) → list_all (has_known_records config) items ≡ true
+    → is_some (format_named format.prefix config.formats) ≡ true → IsBegunBy config state (selection_response config state.clock state.open_lists verb format items)
+unfolding selection_response
 told_by_items config state verb format items formed known =
-    cond_both (nat_le (length items) config.chunk) _ _ (λ (done : Said × OpenLists). IsBegunBy config state done)
+    cond_both (nat_le (length items) config.chunk) _ _ (λ (done : Response × OpenLists). IsBegunBy config state done)
     (λ _. nothing config state)
-    (λ _. begun_by config state verb format items (wait_at config state.clock state.begun) formed known refl)
+    (λ _. begun_by config state verb format items (wait_at config state.clock state.open_lists) formed known refl)
 
-told_by_format : (config : Config) (state : State) (verb : ListVerb) (prefix : List ℕ) (format : Option Format) (items : List ItemState) → format_named prefix config.formats ≡ format → list_all (has_known_records config) items ≡ true
-    → IsBegunBy config state (told_in config state.clock state.begun verb format items)
+told_by_format : (config : Config) (state : RepoState) (verb : ListVerb) (prefix : List ℕ) (format : Option Format) (items : List ItemState) → format_named prefix config.formats ≡ format → list_all (has_known_records config) items ≡ true
+    → IsBegunBy config state (format_response config state.clock state.open_lists verb format items)
 told_by_format config state verb prefix None items is formed = nothing config state
 told_by_format config state verb prefix (Some format) items is formed = told_by_items config state verb format items formed (found_again prefix config.formats format is)
 
-listed : (config : Config) (state : State) (verb : ListVerb) (prefix : List ℕ) (set : Option (List ℕ)) (items : List ItemState) → list_all (has_known_records config) items ≡ true
-    → IsBegunBy config state (list_answer config state.clock state.begun state.holdings.sets verb prefix set items)
+listed : (config : Config) (state : RepoState) (verb : ListVerb) (prefix : List ℕ) (set : Option (List ℕ)) (items : List ItemState) → list_all (has_known_records config) items ≡ true
+    → IsBegunBy config state (list_response config state.clock state.open_lists state.holdings.sets verb prefix set items)
 listed config state verb prefix set items formed =
-    cond_both (is_some set && has_no_sets state.holdings.sets) _ _ (λ (done : Said × OpenLists). IsBegunBy config state done)
+    cond_both (is_some set && has_no_sets state.holdings.sets) _ _ (λ (done : Response × OpenLists). IsBegunBy config state done)
     (λ _. nothing config state)
     (λ _. told_by_format config state verb prefix (format_named prefix config.formats) items refl formed)
 
-continued : (config : Config) (state : State) (verb : ListVerb) (cursor : ℕ) (found : Option FrozenList)
-    → IsBegunBy config state (continues config state.clock state.begun verb cursor found)
+continued : (config : Config) (state : RepoState) (verb : ListVerb) (cursor : ℕ) (found : Option FrozenList)
+    → IsBegunBy config state (continued_response config state.clock state.open_lists verb cursor found)
 continued config state verb cursor None = nothing config state
 continued config state verb cursor (Some list) = record { effect = list_renewed list.number; possible = tt; done = refl }
 
-resumed : (config : Config) (state : State) (verb : ListVerb) (token : Option Token) → IsBegunBy config state (token_answer config state.clock state.begun verb token)
+resumed : (config : Config) (state : RepoState) (verb : ListVerb) (token : Option Token) → IsBegunBy config state (token_response config state.clock state.open_lists verb token)
 resumed config state verb None = nothing config state
-resumed config state verb (Some token) = continued config state verb token.cursor (list_continued state.begun verb token)
+resumed config state verb (Some token) = continued config state verb token.cursor (list_continued state.open_lists verb token)
 
-answered : (config : Config) (state : State) (request : AskOrError) → IsSound config state → IsBegunBy config state (answer_to config state request)
+answered : (config : Config) (state : RepoState) (request : AskOrError) → IsSound config state → IsBegunBy config state (request_response config state request)
 answered config state bad_verb sound = nothing config state
 answered config state bad_argument sound = nothing config state
 answered config state (asks ask.Identify) sound = nothing config state
@@ -338,7 +338,7 @@ none_dropped records (x ∷ kept) h =
     and_from _ _ (emptied-record x.0 records ∙ parts.0) (none_dropped records kept parts.1)
 
 -- a deleted item takes the place of a live one that is there
-tombstone_put : (config : Config) (state : State) (identifier : List ℕ) (item : ItemState) → config.deleted ≢ No → item_named identifier state.holdings.items ≡ Some item → item.live ≡ true
+tombstone_put : (config : Config) (state : RepoState) (identifier : List ℕ) (item : ItemState) → config.deleted ≢ No → item_named identifier state.holdings.items ≡ Some item → item.live ≡ true
     → AreKept config state.holdings → IsPut config state (tombstone_of (stamp_at config state.clock) item)
 unfolding is_one_too_many
 tombstone_put config state identifier item policy is live kept =
@@ -352,14 +352,14 @@ tombstone_put config state identifier item policy is live kept =
     }
 
 -- the holdings are others after a change, and nothing else is
-abbrev pub IsChangedBy : Config → State → Holdings → Type 0
+abbrev pub IsChangedBy : Config → RepoState → Holdings → Type 0
 IsChangedBy config state holdings = IsEffected config state (record state { holdings = holdings })
 
 pub was_live : {A : Type 0} (cause : A) (live : Bool) → cond live None (Some cause) ≡ None → live ≡ true
 was_live cause true h = refl
 was_live cause false h = cc
 
-buried_by : (config : Config) (state : State) (identifier : List ℕ) (found : Option ItemState) → config.deleted ≢ No → item_named identifier state.holdings.items ≡ found → dead_refusal found ≡ None → AreKept config state.holdings
+buried_by : (config : Config) (state : RepoState) (identifier : List ℕ) (found : Option ItemState) → config.deleted ≢ No → item_named identifier state.holdings.items ≡ found → dead_refusal found ≡ None → AreKept config state.holdings
     → IsEffected config state (holding state (with_tombstone (stamp_at config state.clock) found state.holdings.items))
 buried_by config state identifier None policy is dead kept = nothing config state
 buried_by config state identifier (Some item) policy is dead kept = record {
@@ -374,13 +374,13 @@ keeps_transient same = cc
 keeps_persistent : Persistent ≡ No → ⊥
 keeps_persistent same = cc
 
-deleted_by : (config : Config) (state : State) (identifier : List ℕ) (policy : DeletedRecord) → config.deleted ≡ policy → dead_refusal (item_named identifier state.holdings.items) ≡ None → AreKept config state.holdings
+deleted_by : (config : Config) (state : RepoState) (identifier : List ℕ) (policy : DeletedRecord) → config.deleted ≡ policy → dead_refusal (item_named identifier state.holdings.items) ≡ None → AreKept config state.holdings
     → IsEffected config state (holding state (after_deletion policy (stamp_at config state.clock) identifier state.holdings.items))
 deleted_by config state identifier No is dead kept = record { effect = item_taken identifier; possible = is; done = refl }
 deleted_by config state identifier Transient is dead kept = buried_by config state identifier (item_named identifier state.holdings.items) (λ none. keeps_transient (sym is ∙ none)) refl dead kept
 deleted_by config state identifier Persistent is dead kept = buried_by config state identifier (item_named identifier state.holdings.items) (λ none. keeps_persistent (sym is ∙ none)) refl dead kept
 
-deposited_by : (config : Config) (state : State) (identifier : List ℕ) (sets : List (List ℕ)) (records : List Metadata)
+deposited_by : (config : Config) (state : RepoState) (identifier : List ℕ) (sets : List (List ℕ)) (records : List Metadata)
     → deposit_refusal config state.holdings.sets sets records ≡ None
     → item_refusal config (item_named identifier state.holdings.items) (length state.holdings.items) (live_item identifier (stamp_at config state.clock) (reduced sets) records) ≡ None
     → IsPut config state (live_item identifier (stamp_at config state.clock) (reduced sets) records)
@@ -404,13 +404,13 @@ pub not_not : (b : Bool) → not b ≡ false → b ≡ true
 not_not true h = refl
 not_not false h = cc
 
-purged_by : (config : Config) (state : State) (limit : Option ℤ) → config.deleted ≡ Transient → is_none limit ≡ false
+purged_by : (config : Config) (state : RepoState) (limit : Option ℤ) → config.deleted ≡ Transient → is_none limit ≡ false
     → IsEffected config state (holding state (after_purge limit state.holdings.items))
 unfolding purged
 purged_by config state None policy some = cc
 purged_by config state (Some limit) policy some = record { effect = items_purged limit; possible = policy; done = refl }
 
-purge_by : (config : Config) (state : State) (before : List ℕ) → purge_refusal config before ≡ None
+purge_by : (config : Config) (state : RepoState) (before : List ℕ) → purge_refusal config before ≡ None
     → IsEffected config state (holding state (after_purge (limit_of config.granularity before) state.holdings.items))
 unfolding purge_refusal
 purge_by config state before none =
@@ -418,7 +418,7 @@ purge_by config state before none =
     let later = passed (is_none (limit_of config.granularity before)) BadDate _ first.1 in
     purged_by config state (limit_of config.granularity before) (of_transient config.deleted (not_not (is_transient config.deleted) first.0)) later.0
 
-changed_by : (config : Config) (state : State) (asked : Change) → refusal_of config (stamp_at config state.clock) state.holdings asked ≡ None → AreKept config state.holdings
+changed_by : (config : Config) (state : RepoState) (asked : Change) → refusal_of config (stamp_at config state.clock) state.holdings asked ≡ None → AreKept config state.holdings
     → IsChangedBy config state (changed config (stamp_at config state.clock) state.holdings asked)
 unfolding refusal_of changed
 changed_by config state (change.Deposit identifier sets records) none kept =
@@ -431,20 +431,20 @@ changed_by config state (change.Delete identifier) none kept =
 changed_by config state (change.Purge before) none kept = purge_by config state before none
 changed_by config state (change.AddSet spec name) none kept = record { effect = set_added (spec, name); possible = none; done = refl }
 
-acted_by : (config : Config) (state : State) (asked : Change) (refusal : Option ChangeRefusal) → refusal_of config (stamp_at config state.clock) state.holdings asked ≡ refusal → AreKept config state.holdings
+acted_by : (config : Config) (state : RepoState) (asked : Change) (refusal : Option ChangeRefusal) → refusal_of config (stamp_at config state.clock) state.holdings asked ≡ refusal → AreKept config state.holdings
     → IsEffected config state (act_on_change config state (stamp_at config state.clock) asked refusal).1
 acted_by config state asked (Some cause) is kept = nothing config state
 acted_by config state asked None is kept = changed_by config state asked is kept
 
 -- each command does one of these to the state
-pub effect_of : (config : Config) (state : State) (command : Command) → IsSound config state → IsEffected config state (act config state command).1
+pub effect_of : (config : Config) (state : RepoState) (command : Command) → IsSound config state → IsEffected config state (act config state command).1
 unfolding act
-effect_of config state (asking request) sound = answered config state request sound
+effect_of config state (requesting request) sound = answered config state request sound
 effect_of config state (changing asked) sound = acted_by config state asked (refusal_of config (stamp_at config state.clock) state.holdings asked) refl sound.kept
-effect_of config state (refusing cause) sound = nothing config state
+effect_of config state (rejecting cause) sound = nothing config state
 
 -- so a command leaves a sound state
-pub sound_act : (config : Config) (state : State) (command : Command) → IsSound config state → IsSound config (act config state command).1
+pub sound_act : (config : Config) (state : RepoState) (command : Command) → IsSound config state → IsSound config (act config state command).1
 sound_act config state command sound =
     let done = effect_of config state command sound in
     subst (IsSound config) (sym done.done) (sound_effected config state done.effect done.possible sound)

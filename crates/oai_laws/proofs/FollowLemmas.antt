@@ -19,11 +19,11 @@ use Rattle.oai_answers.specs.Answers.{Answer, Attributes, Continuation, Page, co
 use Rattle.oai_repo.specs.Answers.{arguments_of_request}
 use Rattle.oai_settings.specs.Config.{Config}
 use Rattle.oai_laws.specs.Effects.{IsSound, is_given}
-use Rattle.oai_laws.specs.Following.{AreLasting, ArePlaced, AreNext, IsLasting, IsNext, IsPlaced, Offer, answer_told, are_complete, extent_in, is_later, is_of_records, joined, next_request, offer_in, page_in}
-use Rattle.oai_repo.specs.Listing.{Said, answer_to, continues, extent_at, has_number, is_continued, is_same_verb, items_from, part_from, part_told, prolonged, says, told_by, token_answer, waits, where_continued, with_prolonged}
-use Rattle.oai_repo.specs.Machine.{Command, act, asking, outcome_of}
+use Rattle.oai_laws.specs.Following.{AreLasting, ArePagesAt, AreNext, IsLasting, IsNextRequest, IsPageAt, TokenOffer, answer_in, are_complete, extent_in, is_later, is_of_records, joined, next_request, offer_in, page_in}
+use Rattle.oai_repo.specs.Listing.{Response, request_response, continued_response, extent_at, is_of_number, is_continued, is_same_verb, items_from, part_from, part_answer, prolonged, with_answer, answer_by_verb, token_response, retry_after, where_continued, with_prolonged}
+use Rattle.oai_repo.specs.Machine.{Command, act, requesting, outcome_of}
 use Rattle.oai_laws.specs.Runs.{Exchange, IsPart, Timed, performed, run}
-use Rattle.oai_repo.specs.State.{FrozenList, OpenLists, State, moved}
+use Rattle.oai_repo.specs.State.{FrozenList, OpenLists, RepoState, moved}
 use Rattle.oai_laws.proofs.EffectLemmas.{effect_of, sound_act, sound_moved}
 use Rattle.oai_laws.proofs.StandLemmas.{IsThere, Stands, of_found, stands_effected, stands_moved, stands_renewed}
 
@@ -62,7 +62,7 @@ abbrev by_rest : FrozenList → ℕ → ℕ → Bool → Continuation
 by_rest list cursor next test = cond test (remains list.end (extent_at list cursor) (token_text (record { list = list.number; cursor = next }))) (completes (extent_at list cursor))
 
 -- what a part offers: where records remain, a token that tells how many came before
-offered_where : (list : FrozenList) (cursor next : ℕ) (test : Bool) (offer : Offer) → offer_in (by_rest list cursor next test) ≡ Some offer
+offered_where : (list : FrozenList) (cursor next : ℕ) (test : Bool) (offer : TokenOffer) → offer_in (by_rest list cursor next test) ≡ Some offer
     → (test ≡ true) × (offer ≡ record { token = token_text (record { list = list.number; cursor = next }); expires = list.end })
 offered_where list cursor next true offer h = (refl, cc)
 offered_where list cursor next false offer h = cc
@@ -100,7 +100,7 @@ part_dated : (config : Config) (list : FrozenList) (cursor : ℕ) → (part_from
 unfolding part_from
 part_dated config list cursor = refl
 
-part_placed : (config : Config) (list : FrozenList) (cursor : ℕ) → 1 ≤ config.chunk → cursor < length list.items → IsPlaced config (length list.items) cursor (part_from config list cursor)
+part_placed : (config : Config) (list : FrozenList) (cursor : ℕ) → 1 ≤ config.chunk → cursor < length list.items → IsPageAt config (length list.items) cursor (part_from config list cursor)
 unfolding remain next_at
 part_placed config list cursor some within = record {
   extent = ap extent_in (part_ends config list cursor) ∙ extent_told list cursor (next_at config list cursor) (nat_lt (next_at config list cursor) (length list.items));
@@ -122,14 +122,14 @@ part_placed config list cursor some within = record {
 part_lasting : (config : Config) (list : FrozenList) (cursor : ℕ) (exchange : Exchange) → list.end ≡ exchange.found.clock +ℤ pos config.lifetime → IsLasting config exchange (part_from config list cursor)
 part_lasting config list cursor exchange lasting = λ offer offers.
     let is = offered_where list cursor (next_at config list cursor) (nat_lt (next_at config list cursor) (length list.items)) offer (ap offer_in (sym (part_ends config list cursor)) ∙ offers) in
-    ap (λ (o : Offer). o.expires) is.1 ∙ lasting
+    ap (λ (o : TokenOffer). o.expires) is.1 ∙ lasting
 
 -- ---- the pages so far
 
 -- what a front of a chain that begins behind so many records is answered
 pub record IsTold (config : Config) (verb : ListVerb) (format : Format) (items : List ItemState) (cursor : ℕ) (exchanges : List Exchange) (pages : List Page) : Type 0 where
-  pub told : map (λ (exchange : Exchange). answer_told exchange.outcome) exchanges ≡ map (λ (page : Page). Some (told_by verb format page)) pages
-  pub placed : ArePlaced config (length items) cursor pages
+  pub told : map (λ (exchange : Exchange). answer_in exchange.outcome) exchanges ≡ map (λ (page : Page). Some (answer_by_verb verb format page)) pages
+  pub placed : ArePagesAt config (length items) cursor pages
   pub lasting : AreLasting config exchanges pages
   pub others : List ItemState
   pub front : joined pages ++ others ≡ drop cursor items
@@ -139,7 +139,7 @@ nothing_left : (k n : ℕ) → (not (nat_lt k n) || false) ≡ true → n ≤ k
 nothing_left k n h = grind (arith, nat_tests)
 
 -- one page, and what is behind it
-one_page : (config : Config) (list : FrozenList) (format : Format) (cursor : ℕ) (exchange : Exchange) → answer_told exchange.outcome ≡ Some (told_by list.verb format (part_from config list cursor))
+one_page : (config : Config) (list : FrozenList) (format : Format) (cursor : ℕ) (exchange : Exchange) → answer_in exchange.outcome ≡ Some (answer_by_verb list.verb format (part_from config list cursor))
     → list.end ≡ exchange.found.clock +ℤ pos config.lifetime → 1 ≤ config.chunk → cursor < length list.items
     → IsTold config list.verb format list.items cursor (exchange ∷ []) (part_from config list cursor ∷ [])
 unfolding remain next_at
@@ -159,19 +159,19 @@ one_page config list format cursor exchange told lasting some within =
 
 -- one page more, before others
 more_pages : (config : Config) (list : FrozenList) (format : Format) (cursor : ℕ) (exchange : Exchange) (exchanges : List Exchange) (pages : List Page)
-    → answer_told exchange.outcome ≡ Some (told_by list.verb format (part_from config list cursor)) → list.end ≡ exchange.found.clock +ℤ pos config.lifetime → remain config list cursor ≡ true
+    → answer_in exchange.outcome ≡ Some (answer_by_verb list.verb format (part_from config list cursor)) → list.end ≡ exchange.found.clock +ℤ pos config.lifetime → remain config list cursor ≡ true
     → 1 ≤ config.chunk → cursor < length list.items → IsTold config list.verb format list.items (next_at config list cursor) exchanges pages
     → IsTold config list.verb format list.items cursor (exchange ∷ exchanges) (part_from config list cursor ∷ pages)
 unfolding next_at
 more_pages config list format cursor exchange exchanges pages told lasting more some within later =
     let items : List ItemState = items_from config list cursor in
-    let placed_later : ArePlaced config (length list.items) (cursor + length (part_from config list cursor).items) pages =
-    subst (λ (xs : List ItemState). ArePlaced config (length list.items) (cursor + length xs) pages) (sym (part_items config list cursor)) later.placed
+    let placed_later : ArePagesAt config (length list.items) (cursor + length (part_from config list cursor).items) pages =
+    subst (λ (xs : List ItemState). ArePagesAt config (length list.items) (cursor + length xs) pages) (sym (part_items config list cursor)) later.placed
     in
     record {
       told =
-          ap (λ (o : Option Answer). o ∷ map (λ (e : Exchange). answer_told e.outcome) exchanges) told
-          ∙ ap (λ ps. Some (told_by list.verb format (part_from config list cursor)) ∷ ps) later.told;
+          ap (λ (o : Option Answer). o ∷ map (λ (e : Exchange). answer_in e.outcome) exchanges) told
+          ∙ ap (λ ps. Some (answer_by_verb list.verb format (part_from config list cursor)) ∷ ps) later.told;
       placed = (part_placed config list cursor some within, placed_later);
       lasting = (part_lasting config list cursor exchange lasting, later.lasting);
       others = later.others;
@@ -191,7 +191,7 @@ same_verb list.Identifiers h = refl
 same_verb list.Records h = refl
 same_verb list.Sets h = cc
 
-pub told_page : (verb : ListVerb) (format : Format) (page : Page) → is_of_records verb ≡ true → page_in (told_by verb format page) ≡ Some page
+pub told_page : (verb : ListVerb) (format : Format) (page : Page) → is_of_records verb ≡ true → page_in (answer_by_verb verb format page) ≡ Some page
 told_page list.Identifiers format page h = refl
 told_page list.Records format page h = refl
 told_page list.Sets format page h = cc
@@ -208,10 +208,10 @@ pub record IsGood (config : Config) (list : FrozenList) : Type 0 where
 numbered : (number next last : ℕ) → nat_lt number next ≡ true → next ≤ last → number < last + 1
 numbered number next last below few = grind (arith, nat_tests)
 
-small_number : (config : Config) (state : State) (list : FrozenList) → IsSound config state → IsThere list state.begun → list.number < 2 ^ 64
+small_number : (config : Config) (state : RepoState) (list : FrozenList) → IsSound config state → IsThere list state.open_lists → list.number < 2 ^ 64
 small_number config state list sound there =
-    numbered list.number state.begun.next LAST_NUMBER
-    (of_found (has_number list.number) (is_given state.begun.next) state.begun.lists (record list { end = there.0 }) there.2 sound.given) sound.few
+    numbered list.number state.open_lists.next LAST_NUMBER
+    (of_found (is_of_number list.number) (is_given state.open_lists.next) state.open_lists.lists (record list { end = there.0 }) there.2 sound.given) sound.few
 
 abbrev pub asked_next : FrozenList → ℕ → List ℕ
 asked_next list cursor = token_text (record { list = list.number; cursor = cursor })
@@ -221,56 +221,56 @@ token_read list cursor small within =
     token_of-is (asked_next list cursor) (record { list = list.number; cursor = cursor }) (record { list = small; cursor = within; spelled = refl })
 
 -- the token of a list that is there, by its verb, and of a record that it has
-answered_next : (config : Config) (state : State) (list : FrozenList) (cursor : ℕ) (good : IsGood config list) → IsSound config state → IsThere list state.begun → cursor < length list.items
-    → answer_to config state (asks (ask.Resume list.verb (asked_next list cursor)))
-    ≡ (says (told_by list.verb good.format (part_from config (prolonged config state.clock list) cursor)), with_prolonged config state.clock list.number state.begun)
+answered_next : (config : Config) (state : RepoState) (list : FrozenList) (cursor : ℕ) (good : IsGood config list) → IsSound config state → IsThere list state.open_lists → cursor < length list.items
+    → request_response config state (asks (ask.Resume list.verb (asked_next list cursor)))
+    ≡ (with_answer (answer_by_verb list.verb good.format (part_from config (prolonged config state.clock list) cursor)), with_prolonged config state.clock list.number state.open_lists)
 answered_next config state list cursor good sound there within =
     let found : FrozenList = record list { end = there.0 } in
     let token : Token = record { list = list.number; cursor = cursor } in
-    let from : Option FrozenList → Said × OpenLists = λ o. continues config state.clock state.begun list.verb cursor (where_continued list.verb token o) in
-    let right : is_continued list.verb token found ≡ true = and_from (is_same_verb list.verb list.verb) (nat_lt cursor (length list.items)) (same_verb list.verb good.verb) (lt-ltb cursor (length list.items) within) in
-    ap (token_answer config state.clock state.begun list.verb) (token_read list cursor (small_number config state list sound there) (omega (arith, within, good.small)))
+    let from : Option FrozenList → Response × OpenLists = λ o. continued_response config state.clock state.open_lists list.verb cursor (where_continued list.verb token o) in
+    let right : is_continued list.verb token found.verb (length found.items) ≡ true = and_from (is_same_verb list.verb list.verb) (nat_lt cursor (length list.items)) (same_verb list.verb good.verb) (lt-ltb cursor (length list.items) within) in
+    ap (token_response config state.clock state.open_lists list.verb) (token_read list cursor (small_number config state list sound there) (omega (arith, within, good.small)))
     ∙ ap from there.2
-    ∙ ap (continues config state.clock state.begun list.verb cursor) (cond-true (is_continued list.verb token found) (Some found) None right)
-    ∙ ap (λ (f : Option Format). (says (part_told list.verb f (part_from config (prolonged config state.clock list) cursor)), with_prolonged config state.clock list.number state.begun)) good.known
+    ∙ ap (continued_response config state.clock state.open_lists list.verb cursor) (cond-true (is_continued list.verb token found.verb (length found.items)) (Some found) None right)
+    ∙ ap (λ (f : Option Format). (with_answer (part_answer list.verb f (part_from config (prolonged config state.clock list) cursor)), with_prolonged config state.clock list.number state.open_lists)) good.known
 
 -- ---- one request of a chain
 
 -- the answer of what is said, if it is one
-abbrev pub answer_said : Said → Option Answer
-answer_said (says answer) = Some answer
-answer_said (waits seconds) = None
+abbrev pub answer_said : Response → Option Answer
+answer_said (with_answer answer) = Some answer
+answer_said (retry_after seconds) = None
 
-said_answer : (config : Config) (clock : ℤ) (asked : Attributes) (said : Said) → answer_told (outcome_of config clock asked said) ≡ answer_said said
-said_answer config clock asked (says answer) = refl
-said_answer config clock asked (waits seconds) = refl
+said_answer : (config : Config) (clock : ℤ) (asked : Attributes) (said : Response) → answer_in (outcome_of config clock asked said) ≡ answer_said said
+said_answer config clock asked (with_answer answer) = refl
+said_answer config clock asked (retry_after seconds) = refl
 
-said_later : (config : Config) (clock : ℤ) (asked : Attributes) (seconds : ℤ) → is_later (outcome_of config clock asked (waits seconds)) ≡ true
+said_later : (config : Config) (clock : ℤ) (asked : Attributes) (seconds : ℤ) → is_later (outcome_of config clock asked (retry_after seconds)) ≡ true
 said_later config clock asked seconds = refl
 
 -- a request that is answered so, and with these lists open then
-pub asked_page : (config : Config) (state : State) (command : Command) (request : AskOrError) (said : Said) (begun : OpenLists) → command ≡ asking request → answer_to config state request ≡ (said, begun)
-    → (answer_told (act config state command).0 ≡ answer_said said) × ((act config state command).1 ≡ record state { begun = begun })
+pub asked_page : (config : Config) (state : RepoState) (command : Command) (request : AskOrError) (said : Response) (open_lists : OpenLists) → command ≡ requesting request → request_response config state request ≡ (said, open_lists)
+    → (answer_in (act config state command).0 ≡ answer_said said) × ((act config state command).1 ≡ record state { open_lists = open_lists })
 unfolding act
-asked_page config state command request said begun is answer =
-    let told : answer_told (act config state (asking request)).0 ≡ answer_said said =
-    said_answer config state.clock (arguments_of_request request) (answer_to config state request).0 ∙ ap (λ (done : Said × OpenLists). answer_said done.0) answer
+asked_page config state command request said open_lists is answer =
+    let told : answer_in (act config state (requesting request)).0 ≡ answer_said said =
+    said_answer config state.clock (arguments_of_request request) (request_response config state request).0 ∙ ap (λ (done : Response × OpenLists). answer_said done.0) answer
     in
-    let left : (act config state (asking request)).1 ≡ record state { begun = begun } = ap (λ (done : Said × OpenLists). record state { begun = done.1 }) answer in
-    (ap (λ (c : Command). answer_told (act config state c).0) is ∙ told, ap (λ (c : Command). (act config state c).1) is ∙ left)
+    let left : (act config state (requesting request)).1 ≡ record state { open_lists = open_lists } = ap (λ (done : Response × OpenLists). record state { open_lists = done.1 }) answer in
+    (ap (λ (c : Command). answer_in (act config state c).0) is ∙ told, ap (λ (c : Command). (act config state c).1) is ∙ left)
 
 -- one that is told to wait is
-pub asked_later : (config : Config) (state : State) (command : Command) (request : AskOrError) (seconds : ℤ) (begun : OpenLists) → command ≡ asking request
-    → answer_to config state request ≡ (waits seconds, begun) → is_later (act config state command).0 ≡ true
+pub asked_later : (config : Config) (state : RepoState) (command : Command) (request : AskOrError) (seconds : ℤ) (open_lists : OpenLists) → command ≡ requesting request
+    → request_response config state request ≡ (retry_after seconds, open_lists) → is_later (act config state command).0 ≡ true
 unfolding act
-asked_later config state command request seconds begun is answer =
+asked_later config state command request seconds open_lists is answer =
     ap (λ (c : Command). is_later (act config state c).0) is
-    ∙ ap (λ (done : Said × OpenLists). is_later (outcome_of config state.clock (arguments_of_request request) done.0)) answer
+    ∙ ap (λ (done : Response × OpenLists). is_later (outcome_of config state.clock (arguments_of_request request) done.0)) answer
 
 -- the next request of a chain, by the token of the page before it
-turned : (config : Config) (state : State) (command : Command) (list : FrozenList) (cursor : ℕ) (good : IsGood config list) → IsSound config state → Stands config list state
+turned : (config : Config) (state : RepoState) (command : Command) (list : FrozenList) (cursor : ℕ) (good : IsGood config list) → IsSound config state → Stands config list state
     → command ≡ next_request list.verb (asked_next list cursor) → cursor < length list.items → int_lt state.clock list.end ≡ true
-    → (answer_told (act config state command).0 ≡ Some (told_by list.verb good.format (part_from config (prolonged config state.clock list) cursor)))
+    → (answer_in (act config state command).0 ≡ Some (answer_by_verb list.verb good.format (part_from config (prolonged config state.clock list) cursor)))
     × Stands config (prolonged config state.clock list) (act config state command).1
 turned config state command list cursor good sound stands is within before =
     let there = stands.there before in
@@ -278,7 +278,7 @@ turned config state command list cursor good sound stands is within before =
     (done.0, subst (Stands config (prolonged config state.clock list)) (sym done.1) (stands_renewed config state list there))
 
 -- the list goes on standing where another command comes
-stands_on : (config : Config) (state : State) (command : Command) (list : FrozenList) → IsSound config state → Stands config list state → Stands config list (act config state command).1
+stands_on : (config : Config) (state : RepoState) (command : Command) (list : FrozenList) → IsSound config state → Stands config list state → Stands config list (act config state command).1
 stands_on config state command list sound stands =
     let done = effect_of config state command sound in
     subst (Stands config list) (sym done.done) (stands_effected config list state done.effect stands)
@@ -287,7 +287,7 @@ stands_on config state command list sound stands =
 
 -- what the exchange after a page asks for
 next_asked : (config : Config) (list : FrozenList) (good : IsGood config list) (cursor : ℕ) (before after : Exchange)
-    → answer_told before.outcome ≡ Some (told_by list.verb good.format (part_from config list cursor)) → IsNext list.verb before after
+    → answer_in before.outcome ≡ Some (answer_by_verb list.verb good.format (part_from config list cursor)) → IsNextRequest list.verb before after
     → (remain config list cursor ≡ true) × (after.command ≡ next_request list.verb (asked_next list (next_at config list cursor))) × (int_lt after.found.clock list.end ≡ true)
 unfolding remain
 next_asked config list good cursor before after told next =
@@ -300,8 +300,8 @@ next_asked config list good cursor before after told next =
     in
     let is = offered_where list cursor (next_at config list cursor) (nat_lt (next_at config list cursor) (length list.items)) next.offer offered in (
       is.0,
-      next.asked ∙ ap (λ (o : Offer). next_request list.verb o.token) is.1,
-      ap (λ (o : Offer). int_lt after.found.clock o.expires) (sym is.1) ∙ next.unexpired,
+      next.asked ∙ ap (λ (o : TokenOffer). next_request list.verb o.token) is.1,
+      ap (λ (o : TokenOffer). int_lt after.found.clock o.expires) (sym is.1) ∙ next.unexpired,
     )
 
 remains_within : (config : Config) (list : FrozenList) (cursor : ℕ) → remain config list cursor ≡ true → nat_lt (next_at config list cursor) (length list.items) ≡ true
@@ -312,19 +312,19 @@ remains_within config list cursor h = h
 abbrev pub Followed : Config → ListVerb → Format → List ItemState → ℕ → List Exchange → Type 0
 Followed config verb format items cursor exchanges = (pages : List Page) × IsTold config verb format items cursor exchanges pages
 
-pub follow : (config : Config) (commands : List Timed) (state : State) (list : FrozenList) (cursor : ℕ) (before : Exchange) (others : List Exchange)
+pub follow : (config : Config) (commands : List Timed) (state : RepoState) (list : FrozenList) (cursor : ℕ) (before : Exchange) (others : List Exchange)
     (good : IsGood config list) → IsSound config state → Stands config list state → cursor < length list.items
-    → answer_told before.outcome ≡ Some (told_by list.verb good.format (part_from config list cursor)) → list.end ≡ before.found.clock +ℤ pos config.lifetime → IsPart others (run config state commands) → AreNext list.verb before others → Followed config list.verb good.format list.items cursor (before ∷ others)
+    → answer_in before.outcome ≡ Some (answer_by_verb list.verb good.format (part_from config list cursor)) → list.end ≡ before.found.clock +ℤ pos config.lifetime → IsPart others (run config state commands) → AreNext list.verb before others → Followed config list.verb good.format list.items cursor (before ∷ others)
 follow config [] state list cursor before others good sound stands within told lasting none next =
     subst (λ (es : List Exchange). Followed config list.verb good.format list.items cursor (before ∷ es)) (sym none) (part_from config list cursor ∷ [], one_page config list good.format cursor before told lasting good.part within)
 follow config (timed ∷ commands) state list cursor before others good sound stands within told lasting (inl part) next =
-    let found : State = moved timed.moment state in
+    let found : RepoState = moved timed.moment state in
     let sound_found = sound_moved config timed.moment state sound in
     let stands_found = stands_moved config list timed.moment state stands in
     follow config commands (act config found timed.command).1 list cursor before others good (sound_act config found timed.command sound_found)
     (stands_on config found timed.command list sound_found stands_found) within told lasting part next
 follow config (timed ∷ commands) state list cursor before others good sound stands within told lasting (inr here) next =
-    let found : State = moved timed.moment state in
+    let found : RepoState = moved timed.moment state in
     let exchange : Exchange = performed config state timed in
     let sound_found = sound_moved config timed.moment state sound in
     let stands_found = stands_moved config list timed.moment state stands in

@@ -11,8 +11,8 @@ use Rattle.oai_lists.specs.declared.lists.TheConstants.{LAST_NUMBER}
 use Rattle.oai_settings.specs.Config.{Config}
 use Rattle.oai_laws.specs.Effects.{Effect, IsPossible, IsSound, effected, is_given, item_put, item_taken, items_purged, list_opened, list_renewed, set_added, unchanged}
 use Rattle.oai_repo.specs.Listing.{prolonged_at, with_prolonged}
-use Rattle.oai_laws.specs.Runs.{Exchange, Throughout, Timed, are_never_last, are_rising, given_in, numbers_given, numbers_open, performed, run}
-use Rattle.oai_repo.specs.State.{FrozenList, State, empty_state, moved}
+use Rattle.oai_laws.specs.Runs.{Exchange, Throughout, Timed, are_never_last, numbers_rise_strictly, given_in, numbers_given, numbers_open, performed, run}
+use Rattle.oai_repo.specs.State.{FrozenList, RepoState, empty_state, moved}
 use Rattle.oai_laws.proofs.EffectLemmas.{effect_of, number_left, same_number, sound_act, sound_empty, sound_moved}
 
 -- ---- every state of a run is sound
@@ -20,7 +20,7 @@ use Rattle.oai_laws.proofs.EffectLemmas.{effect_of, number_left, same_number, so
 abbrev pub IsSoundExchange : Config → Exchange → Type 0
 IsSoundExchange config exchange = IsSound config exchange.found × IsSound config exchange.left
 
-sound_from : (config : Config) (commands : List Timed) (state : State) → IsSound config state → Throughout (IsSoundExchange config) (run config state commands)
+sound_from : (config : Config) (commands : List Timed) (state : RepoState) → IsSound config state → Throughout (IsSoundExchange config) (run config state commands)
 sound_from config [] state sound = tt
 sound_from config (timed ∷ commands) state sound =
     let found = sound_moved config timed.moment state sound in
@@ -88,39 +88,39 @@ renewed_numbers config clock number (x ∷ lists) =
 abbrev IsGiving : ℕ → List ℕ → ℕ → Type 0
 IsGiving old given new = ((given ≡ []) × (new ≡ old)) ⊎ ((given ≡ old ∷ []) × (new ≡ old + 1) × (old < LAST_NUMBER))
 
-abbrev new_numbers : State → State → List ℕ
-new_numbers old new = filter (λ n. not (is_one_of (numbers_open old.begun) n)) (numbers_open new.begun)
+abbrev new_numbers : RepoState → RepoState → List ℕ
+new_numbers old new = filter (λ n. not (is_one_of (numbers_open old.open_lists) n)) (numbers_open new.open_lists)
 
-given_by : (config : Config) (state : State) (effect : Effect) → IsPossible config state effect → IsSound config state
-    → IsGiving state.begun.next (new_numbers state (effected config state effect)) (effected config state effect).begun.next
-given_by config state unchanged possible sound = inl (none_given (numbers_open state.begun) (numbers_open state.begun) refl, refl)
-given_by config state (item_put item) possible sound = inl (none_given (numbers_open state.begun) (numbers_open state.begun) refl, refl)
-given_by config state (item_taken identifier) possible sound = inl (none_given (numbers_open state.begun) (numbers_open state.begun) refl, refl)
-given_by config state (items_purged limit) possible sound = inl (none_given (numbers_open state.begun) (numbers_open state.begun) refl, refl)
-given_by config state (set_added set) possible sound = inl (none_given (numbers_open state.begun) (numbers_open state.begun) refl, refl)
+given_by : (config : Config) (state : RepoState) (effect : Effect) → IsPossible config state effect → IsSound config state
+    → IsGiving state.open_lists.next (new_numbers state (effected config state effect)) (effected config state effect).open_lists.next
+given_by config state unchanged possible sound = inl (none_given (numbers_open state.open_lists) (numbers_open state.open_lists) refl, refl)
+given_by config state (item_put item) possible sound = inl (none_given (numbers_open state.open_lists) (numbers_open state.open_lists) refl, refl)
+given_by config state (item_taken identifier) possible sound = inl (none_given (numbers_open state.open_lists) (numbers_open state.open_lists) refl, refl)
+given_by config state (items_purged limit) possible sound = inl (none_given (numbers_open state.open_lists) (numbers_open state.open_lists) refl, refl)
+given_by config state (set_added set) possible sound = inl (none_given (numbers_open state.open_lists) (numbers_open state.open_lists) refl, refl)
 given_by config state (list_renewed number) possible sound = inl (
-  none_given (numbers_open state.begun) (numbers_open (with_prolonged config state.clock number state.begun)) (renewed_numbers config state.clock number state.begun.lists),
+  none_given (numbers_open state.open_lists) (numbers_open (with_prolonged config state.clock number state.open_lists)) (renewed_numbers config state.clock number state.open_lists.lists),
   refl,
 )
 given_by config state (list_opened list) possible sound = inr (
-  one_given state.begun.next list state.begun.lists possible.number sound.given,
+  one_given state.open_lists.next list state.open_lists.lists possible.number sound.given,
   refl,
-  number_left config state.clock state.begun possible.admitted sound.few,
+  number_left config state.clock state.open_lists possible.admitted sound.few,
 )
 
-given_at : (config : Config) (state : State) (timed : Timed) → IsSound config state → IsGiving state.begun.next (given_in (performed config state timed)) (performed config state timed).left.begun.next
+given_at : (config : Config) (state : RepoState) (timed : Timed) → IsSound config state → IsGiving state.open_lists.next (given_in (performed config state timed)) (performed config state timed).left.open_lists.next
 given_at config state timed sound =
-    let found : State = moved timed.moment state in
+    let found : RepoState = moved timed.moment state in
     let sound_found = sound_moved config timed.moment state sound in
     let done = effect_of config found timed.command sound_found in
-    subst (λ (new : State). IsGiving found.begun.next (new_numbers found new) new.begun.next) (sym done.done) (given_by config found done.effect done.possible sound_found)
+    subst (λ (new : RepoState). IsGiving found.open_lists.next (new_numbers found new) new.open_lists.next) (sym done.done) (given_by config found done.effect done.possible sound_found)
 
 -- ---- the numbers that a run gives
 
 -- none is below the next, they rise, and the last one of all is not given
 record AreGiven (next : ℕ) (numbers : List ℕ) : Type 0 where
   pub above : list_all (nat_le next) numbers ≡ true
-  pub rising : are_rising numbers ≡ true
+  pub rising : numbers_rise_strictly numbers ≡ true
   pub never_last : are_never_last numbers ≡ true
 
 higher : (next : ℕ) (numbers : List ℕ) → list_all (nat_le (next + 1)) numbers ≡ true → (list_all (nat_lt next) numbers ≡ true) × (list_all (nat_le next) numbers ≡ true)
@@ -143,7 +143,7 @@ with_first next numbers left given =
     let rest = higher next numbers given.above in
     record {
       above = and_from (nat_le next next) (list_all (nat_le next) numbers) (own next) rest.1;
-      rising = and_from (list_all (nat_lt next) numbers) (are_rising numbers) rest.0 given.rising;
+      rising = and_from (list_all (nat_lt next) numbers) (numbers_rise_strictly numbers) rest.0 given.rising;
       never_last = and_from (nat_lt next LAST_NUMBER) (are_never_last numbers) (not_last next left) given.never_last;
     }
   where
@@ -159,14 +159,14 @@ joined_given old new given numbers (inl none) later =
 joined_given old new given numbers (inr one) later =
     subst (λ (ns : List ℕ). AreGiven old (ns ++ numbers)) (sym one.0) (with_first old numbers one.2 (subst (λ (n : ℕ). AreGiven n numbers) one.1 later))
 
-given_from : (config : Config) (commands : List Timed) (state : State) → IsSound config state → AreGiven state.begun.next (numbers_given (run config state commands))
+given_from : (config : Config) (commands : List Timed) (state : RepoState) → IsSound config state → AreGiven state.open_lists.next (numbers_given (run config state commands))
 given_from config [] state sound = record { above = refl; rising = refl; never_last = refl }
 given_from config (timed ∷ commands) state sound =
     let exchange : Exchange = performed config state timed in
     let left = sound_act config (moved timed.moment state) timed.command (sound_moved config timed.moment state sound) in
-    joined_given state.begun.next exchange.left.begun.next (given_in exchange) (numbers_given (run config exchange.left commands)) (given_at config state timed sound) (given_from config commands exchange.left left)
+    joined_given state.open_lists.next exchange.left.open_lists.next (given_in exchange) (numbers_given (run config exchange.left commands)) (given_at config state timed sound) (given_from config commands exchange.left left)
 
-pub numbers_rise : (config : Config) (commands : List Timed) → are_rising (numbers_given (run config (empty_state config) commands)) ≡ true
+pub numbers_rise : (config : Config) (commands : List Timed) → numbers_rise_strictly (numbers_given (run config (empty_state config) commands)) ≡ true
 numbers_rise config commands = (given_from config commands (empty_state config) (sound_empty config)).rising
 
 pub never_the_last : (config : Config) (commands : List Timed) → are_never_last (numbers_given (run config (empty_state config) commands)) ≡ true

@@ -15,12 +15,12 @@ use Rattle.oai_answers.specs.Seen.{IsRegular, SeenDocument, SeenHeader, SeenReco
 use Rattle.oai_answers.proofs.RegularLemmas.{same_seen}
 use Rattle.oai_settings.specs.Config.{Config}
 use Rattle.oai_laws.specs.Effects.{IsSound}
-use Rattle.oai_laws.specs.Following.{ArePlaced, Wish, answer_told, are_complete, is_of_records, joined, offer_in, page_in, selection_in}
-use Rattle.oai_repo.specs.Listing.{told_by}
-use Rattle.oai_repo.specs.Machine.{Outcome, accepted, documented, later, refused, written}
+use Rattle.oai_laws.specs.Following.{ArePagesAt, ListRequest, answer_in, are_complete, is_of_records, joined, offer_in, page_in, selection_in}
+use Rattle.oai_repo.specs.Listing.{answer_by_verb}
+use Rattle.oai_repo.specs.Machine.{Outcome, accepted, documented, later, refused_with, outcome_output}
 use Rattle.oai_laws.specs.Runs.{Exchange, IsPart, Throughout, Timed, performed, run}
-use Rattle.oai_laws.specs.Shown.{IsFollowedList, IsRegularOutcome, IsSomeAnswer, bytes_of, is_followed_to_its_end, is_last, seen_by, selection_seen}
-use Rattle.oai_repo.specs.State.{State, empty_state, moved}
+use Rattle.oai_laws.specs.Shown.{IsFollowedList, IsRegularOutcome, IsSomeAnswer, bytes_written, is_followed_to_its_end, is_last_page, seen_by, selection_seen}
+use Rattle.oai_repo.specs.State.{RepoState, empty_state, moved}
 use Rattle.oai_laws.proofs.ChainLemmas.{following}
 use Rattle.oai_laws.proofs.EffectLemmas.{sound_act, sound_empty, sound_moved}
 use Rattle.oai_laws.proofs.FollowLemmas.{told_page}
@@ -31,7 +31,7 @@ use Rattle.oai_laws.proofs.ShownLemmas.{regular_act}
 abbrev pub IsRegularExchange : Exchange → Type 0
 IsRegularExchange exchange = IsRegularOutcome exchange.outcome
 
-regular_part : (config : Config) (commands : List Timed) (state : State) (some : List Exchange) → AreRepositoryFormats config.formats → IsSound config state → IsPart some (run config state commands)
+regular_part : (config : Config) (commands : List Timed) (state : RepoState) (some : List Exchange) → AreRepositoryFormats config.formats → IsSound config state → IsPart some (run config state commands)
     → Throughout IsRegularExchange some
 regular_part config [] state some rules sound none = subst (Throughout IsRegularExchange) (sym none) tt
 regular_part config (timed ∷ commands) state some rules sound (inl part) =
@@ -58,14 +58,14 @@ record IsDocument (outcome : Outcome) (answer : Answer) : Type 0 where
   pub is : outcome ≡ documented document
   pub told : document.answer ≡ answer
 
-document_told : (outcome : Outcome) (answer : Answer) → answer_told outcome ≡ Some answer → IsDocument outcome answer
+document_told : (outcome : Outcome) (answer : Answer) → answer_in outcome ≡ Some answer → IsDocument outcome answer
 document_told (documented d) answer h = record { document = d; is = refl; told = let e : d.answer ≡ answer = cc in e }
 document_told (later seconds) answer h = cc
 document_told (accepted stamp) answer h = cc
-document_told (refused cause) answer h = cc
+document_told (refused_with cause) answer h = cc
 
-bytes_same : (g k : Granularity) (a b : Document) → written g (documented a) ≡ written k (documented b) → document a ≡ document b
-unfolding written
+bytes_same : (g k : Granularity) (a b : Document) → outcome_output g (documented a) ≡ outcome_output k (documented b) → document a ≡ document b
+unfolding outcome_output
 bytes_same g k a b same = cc
 
 -- what is seen of a page
@@ -77,7 +77,7 @@ abbrev header_alone : SeenHeader → SeenRecord
 header_alone header = record { header = header; metadata = None }
 
 alike : (verb its : ListVerb) (base its_base : List ℕ) (format other : Format) (page its_page : Page) → is_of_records verb ≡ true → is_of_records its ≡ true
-    → answer_seen base (told_by verb format page) ≡ answer_seen its_base (told_by its other its_page)
+    → answer_seen base (answer_by_verb verb format page) ≡ answer_seen its_base (answer_by_verb its other its_page)
     → IsSeenAlike verb page.granularity format page its its_page.granularity other its_page
 alike list.Identifiers list.Identifiers base its_base format other page its_page ok its_ok same =
     let headers : map (header_seen page.granularity) page.items ≡ map (header_seen its_page.granularity) its_page.items = cc in
@@ -96,14 +96,14 @@ alike list.Records list.Sets base its_base format other page its_page ok its_ok 
 alike list.Sets its base its_base format other page its_page ok its_ok same = cc
 
 one_page : (g k : Granularity) (verb its : ListVerb) (format other : Format) (page its_page : Page) (outcome its_outcome : Outcome) → is_of_records verb ≡ true → is_of_records its ≡ true
-    → page.granularity ≡ g → its_page.granularity ≡ k → answer_told outcome ≡ Some (told_by verb format page) → answer_told its_outcome ≡ Some (told_by its other its_page)
-    → IsRegularOutcome outcome → IsRegularOutcome its_outcome → written g outcome ≡ written k its_outcome → IsSeenAlike verb g format page its k other its_page
+    → page.granularity ≡ g → its_page.granularity ≡ k → answer_in outcome ≡ Some (answer_by_verb verb format page) → answer_in its_outcome ≡ Some (answer_by_verb its other its_page)
+    → IsRegularOutcome outcome → IsRegularOutcome its_outcome → outcome_output g outcome ≡ outcome_output k its_outcome → IsSeenAlike verb g format page its k other its_page
 one_page g k verb its format other page its_page outcome its_outcome ok its_ok dated its_dated told its_told regular its_regular same =
-    let a = document_told outcome (told_by verb format page) told in
-    let b = document_told its_outcome (told_by its other its_page) its_told in
-    let same_bytes : document a.document ≡ document b.document = bytes_same g k a.document b.document (ap (written g) (sym a.is) ∙ same ∙ ap (written k) b.is) in
+    let a = document_told outcome (answer_by_verb verb format page) told in
+    let b = document_told its_outcome (answer_by_verb its other its_page) its_told in
+    let same_bytes : document a.document ≡ document b.document = bytes_same g k a.document b.document (ap (outcome_output g) (sym a.is) ∙ same ∙ ap (outcome_output k) b.is) in
     let seen = same_seen a.document b.document (subst IsRegularOutcome a.is regular) (subst IsRegularOutcome b.is its_regular) same_bytes in
-    let answers : answer_seen a.document.base (told_by verb format page) ≡ answer_seen b.document.base (told_by its other its_page) =
+    let answers : answer_seen a.document.base (answer_by_verb verb format page) ≡ answer_seen b.document.base (answer_by_verb its other its_page) =
     ap (answer_seen a.document.base) (sym a.told) ∙ ap (λ (s : SeenDocument). s.answer) seen ∙ ap (answer_seen b.document.base) b.told
     in
     subst (λ (x : Granularity). IsSeenAlike verb x format page its k other its_page) dated
@@ -124,7 +124,7 @@ no_offer_is (remains expires extent token) = refl
 no_offer_is (completes extent) = refl
 
 abbrev AreTold : ListVerb → Format → List Exchange → List Page → Type 0
-AreTold verb format exchanges pages = map (λ (exchange : Exchange). answer_told exchange.outcome) exchanges ≡ map (λ (page : Page). Some (told_by verb format page)) pages
+AreTold verb format exchanges pages = map (λ (exchange : Exchange). answer_in exchange.outcome) exchanges ≡ map (λ (page : Page). Some (answer_by_verb verb format page)) pages
 
 abbrev AreSeenAlike : ListVerb → Granularity → Format → List Page → ListVerb → Granularity → Format → List Page → Type 0
 AreSeenAlike verb g format pages its k other its_pages =
@@ -132,8 +132,8 @@ AreSeenAlike verb g format pages its k other its_pages =
 
 all_pages : (config other : Config) (verb its : ListVerb) (format its_format : Format) (size before its_size its_before : ℕ) (exchanges its_exchanges : List Exchange) (pages its_pages : List Page)
     → is_of_records verb ≡ true → is_of_records its ≡ true → AreTold verb format exchanges pages → AreTold its its_format its_exchanges its_pages
-    → ArePlaced config size before pages → ArePlaced other its_size its_before its_pages → Throughout IsRegularExchange exchanges → Throughout IsRegularExchange its_exchanges
-    → bytes_of config exchanges ≡ bytes_of other its_exchanges → AreSeenAlike verb config.granularity format pages its other.granularity its_format its_pages
+    → ArePagesAt config size before pages → ArePagesAt other its_size its_before its_pages → Throughout IsRegularExchange exchanges → Throughout IsRegularExchange its_exchanges
+    → bytes_written config exchanges ≡ bytes_written other its_exchanges → AreSeenAlike verb config.granularity format pages its other.granularity its_format its_pages
 all_pages config other verb its format its_format size before its_size its_before [] [] [] [] ok its_ok told its_told placed its_placed regular its_regular same = (refl, refl)
 all_pages config other verb its format its_format size before its_size its_before [] [] [] (page ∷ pages) ok its_ok told its_told placed its_placed regular its_regular same = cc
 all_pages config other verb its format its_format size before its_size its_before [] [] (page ∷ pages) its_pages ok its_ok told its_told placed its_placed regular its_regular same = cc
@@ -142,12 +142,12 @@ all_pages config other verb its format its_format size before its_size its_befor
 all_pages config other verb its format its_format size before its_size its_before (e ∷ es) (x ∷ xs) [] its_pages ok its_ok told its_told placed its_placed regular its_regular same = cc
 all_pages config other verb its format its_format size before its_size its_before (e ∷ es) (x ∷ xs) (page ∷ pages) [] ok its_ok told its_told placed its_placed regular its_regular same = cc
 all_pages config other verb its format its_format size before its_size its_before (e ∷ es) (x ∷ xs) (page ∷ pages) (its_page ∷ its_pages) ok its_ok told its_told placed its_placed regular its_regular same =
-    let first_told : answer_told e.outcome ≡ Some (told_by verb format page) = cc in
+    let first_told : answer_in e.outcome ≡ Some (answer_by_verb verb format page) = cc in
     let later_told : AreTold verb format es pages = cc in
-    let its_first : answer_told x.outcome ≡ Some (told_by its its_format its_page) = cc in
+    let its_first : answer_in x.outcome ≡ Some (answer_by_verb its its_format its_page) = cc in
     let its_later : AreTold its its_format xs its_pages = cc in
-    let first_same : written config.granularity e.outcome ≡ written other.granularity x.outcome = cc in
-    let later_same : bytes_of config es ≡ bytes_of other xs = cc in
+    let first_same : outcome_output config.granularity e.outcome ≡ outcome_output other.granularity x.outcome = cc in
+    let later_same : bytes_written config es ≡ bytes_written other xs = cc in
     let first = one_page config.granularity other.granularity verb its format its_format page its_page e.outcome x.outcome ok its_ok placed.0.dated its_placed.0.dated first_told its_first regular.0 its_regular.0 first_same in
     let rest = all_pages config other verb its format its_format size (before + length page.items) its_size (its_before + length its_page.items) es xs pages its_pages ok its_ok later_told its_later placed.1 its_placed.1 regular.1 its_regular.1 later_same in
     let see : ItemState → SeenRecord = seen_by verb config.granularity (Some format) in
@@ -168,13 +168,13 @@ ended verb format [] [] ok told = refl
 ended verb format [] (page ∷ pages) ok told = cc
 ended verb format (e ∷ es) [] ok told = cc
 ended verb format (e ∷ es) (page ∷ pages) ok told =
-    let first : answer_told e.outcome ≡ Some (told_by verb format page) = cc in
+    let first : answer_in e.outcome ≡ Some (answer_by_verb verb format page) = cc in
     let later' : AreTold verb format es pages = cc in
-    ap (λ (p : Option Page). is_last p || is_followed_to_its_end es) (ap (option_and_then page_in) first ∙ told_page verb format page ok)
+    ap (λ (p : Option Page). is_last_page p || is_followed_to_its_end es) (ap (option_and_then page_in) first ∙ told_page verb format page ok)
     ∙ ap (λ b. is_none (offer_in page.continuation) || b) (ended verb format es pages ok later')
 
-pub lists_shown : (config other : Config) (wish its : Wish) (first its_first : Exchange) (others its_others : List Exchange) → IsFollowedList config wish first others → IsFollowedList other its its_first its_others
-    → is_followed_to_its_end (first ∷ others) ≡ true → bytes_of config (first ∷ others) ≡ bytes_of other (its_first ∷ its_others)
+pub lists_shown : (config other : Config) (wish its : ListRequest) (first its_first : Exchange) (others its_others : List Exchange) → IsFollowedList config wish first others → IsFollowedList other its its_first its_others
+    → is_followed_to_its_end (first ∷ others) ≡ true → bytes_written config (first ∷ others) ≡ bytes_written other (its_first ∷ its_others)
     → selection_seen config wish (selection_in first.found wish) ≡ selection_seen other its (selection_in its_first.found its)
 lists_shown config other wish its first its_first others its_others is their ends same =
     let a = following config is.commands wish first others is.rules is.chain in

@@ -32,11 +32,11 @@ use Rattle.oai_settings.specs.Config.{Config, IsConfig, is_date, is_in_years}
 use Rattle.oai_repo.specs.Answers.{filter_of, lower_given, upper_given}
 use Rattle.oai_repo.specs.Changes.{stamp_at}
 use Rattle.oai_repo.specs.Machine.{Command, act}
-use Rattle.oai_repo.specs.State.{State, empty_state, moved}
+use Rattle.oai_repo.specs.State.{RepoState, empty_state, moved}
 use Rattle.oai_laws.specs.Effects.{Effect, IsPossible, IsSound, effected, goes_below, item_put, item_taken, items_purged, list_opened, list_renewed, set_added, unchanged}
-use Rattle.oai_laws.specs.Following.{Wish, selection_in}
+use Rattle.oai_laws.specs.Following.{ListRequest, selection_in}
 use Rattle.oai_laws.specs.Runs.{Exchange, Throughout, Timed, performed, run}
-use Rattle.oai_laws.specs.Selecting.{IsAskedFor, IsFrom, IsInSet, IsSelection, IsUntil, is_dated}
+use Rattle.oai_laws.specs.Selecting.{IsAskedFor, IsFrom, IsInSet, IsSelection, IsUntil, has_granular_stamp}
 use Rattle.oai_repo.proofs.ClockLemmas.{in_years-config, in_years-tick, writable}
 use Rattle.oai_repo.proofs.KeptLemmas.{well-without}
 use Rattle.oai_laws.proofs.EffectLemmas.{effect_of, sound_act, sound_empty, sound_moved}
@@ -44,10 +44,10 @@ use Rattle.oai_laws.proofs.EffectLemmas.{effect_of, sound_act, sound_empty, soun
 -- ---- datestamps
 
 -- what is true of the times of a state
-record IsTimed (config : Config) (state : State) : Type 0 where
+record IsTimed (config : Config) (state : RepoState) : Type 0 where
   pub years : is_in_years state.clock ≡ true
-  pub begun : int_le config.earliest state.clock ≡ true
-  pub dated : list_all (is_dated config state.clock) state.holdings.items ≡ true
+  pub open_lists : int_le config.earliest state.clock ≡ true
+  pub dated : list_all (has_granular_stamp config state.clock) state.holdings.items ≡ true
 
 le_own : (z : ℤ) → int_le z z ≡ true
 le_own z = grind (arith, ints)
@@ -60,26 +60,26 @@ le_later a b c h g = grind (arith, ints)
 
 -- a repository begins at its earliestDatestamp
 timed_empty : (config : Config) → IsConfig config → IsTimed config (empty_state config)
-timed_empty config good = record { years = in_years-config config good; begun = le_own config.earliest; dated = refl }
+timed_empty config good = record { years = in_years-config config good; open_lists = le_own config.earliest; dated = refl }
 
 -- the clock never goes back
 tick_later : (clock moment : ℤ) → clock ≤ℤ tick clock moment
 tick_later clock moment = grind (arith, ints)
 
-dated_later : (config : Config) (clock later : ℤ) → clock ≤ℤ later → (item : ItemState) → is_dated config clock item ≡ true → is_dated config later item ≡ true
+dated_later : (config : Config) (clock later : ℤ) → clock ≤ℤ later → (item : ItemState) → has_granular_stamp config clock item ≡ true → has_granular_stamp config later item ≡ true
 dated_later config clock later after item h =
     let parts = and_parts (int_le config.earliest item.stamp && int_le item.stamp clock) (int_eq (stamp_of config.granularity item.stamp) item.stamp) h in
     let between = and_parts (int_le config.earliest item.stamp) (int_le item.stamp clock) parts.0 in
     and_from (int_le config.earliest item.stamp && int_le item.stamp later) (int_eq (stamp_of config.granularity item.stamp) item.stamp)
     (and_from (int_le config.earliest item.stamp) (int_le item.stamp later) between.0 (le_later item.stamp clock later between.1 after)) parts.1
 
-timed_moved : (config : Config) (moment : ℤ) (state : State) → IsTimed config state → IsTimed config (moved moment state)
+timed_moved : (config : Config) (moment : ℤ) (state : RepoState) → IsTimed config state → IsTimed config (moved moment state)
 timed_moved config moment state timed =
     let later : ℤ = tick state.clock moment in
     record {
       years = in_years-tick state.clock moment timed.years;
-      begun = le_later config.earliest state.clock later timed.begun (tick_later state.clock moment);
-      dated = all-weaker (is_dated config state.clock) (is_dated config later) (dated_later config state.clock later (tick_later state.clock moment)) state.holdings.items timed.dated;
+      open_lists = le_later config.earliest state.clock later timed.open_lists (tick_later state.clock moment);
+      dated = all-weaker (has_granular_stamp config state.clock) (has_granular_stamp config later) (dated_later config state.clock later (tick_later state.clock moment)) state.holdings.items timed.dated;
     }
 
 -- the datestamp of a datestamp is that datestamp
@@ -99,11 +99,11 @@ le_from a b h = grind (arith, ints)
 
 -- an item with the datestamp of the clock
 dated_now : (config : Config) (clock : ℤ) (item : ItemState) → IsConfig config → is_in_years clock ≡ true → int_le config.earliest clock ≡ true → item.stamp ≡ stamp_at config clock
-    → is_dated config clock item ≡ true
-dated_now config clock item good years begun is =
+    → has_granular_stamp config clock item ≡ true
+dated_now config clock item good years open_lists is =
     let stamp : ℤ = stamp_at config clock in
     let from : config.earliest ≤ℤ stamp =
-    subst (λ (z : ℤ). z ≤ℤ stamp) (earliest_stamp config good) (stamp_of-in_order config.granularity config.earliest clock (le_from config.earliest clock begun))
+    subst (λ (z : ℤ). z ≤ℤ stamp) (earliest_stamp config good) (stamp_of-in_order config.granularity config.earliest clock (le_from config.earliest clock open_lists))
     in
     let same : int_eq (stamp_of config.granularity stamp) stamp ≡ true =
     (Decides-int_eq (stamp_of config.granularity stamp) stamp).1 (stamp_again config.granularity clock (writable clock years))
@@ -113,24 +113,24 @@ dated_now config clock item good years begun is =
     (and_from (int_le config.earliest stamp) (int_le stamp clock) (le_test config.earliest stamp from) (le_test stamp clock (stamp_of-not_after config.granularity clock))) same)
 
 -- after each effect that is possible
-timed_effected : (config : Config) (state : State) (effect : Effect) → IsConfig config → IsPossible config state effect → IsTimed config state → IsTimed config (effected config state effect)
+timed_effected : (config : Config) (state : RepoState) (effect : Effect) → IsConfig config → IsPossible config state effect → IsTimed config state → IsTimed config (effected config state effect)
 timed_effected config state unchanged good possible timed = timed
 timed_effected config state (item_put item) good possible timed = record {
   years = timed.years;
-  begun = timed.begun;
-  dated = all-placed (is_dated config state.clock) item (without item.identifier state.holdings.items)
-      (dated_now config state.clock item good timed.years timed.begun possible.dated)
-      (well-without (is_dated config state.clock) item.identifier state.holdings.items timed.dated);
+  open_lists = timed.open_lists;
+  dated = all-placed (has_granular_stamp config state.clock) item (without item.identifier state.holdings.items)
+      (dated_now config state.clock item good timed.years timed.open_lists possible.dated)
+      (well-without (has_granular_stamp config state.clock) item.identifier state.holdings.items timed.dated);
 }
 timed_effected config state (item_taken identifier) good possible timed =
-    record { years = timed.years; begun = timed.begun; dated = well-without (is_dated config state.clock) identifier state.holdings.items timed.dated }
+    record { years = timed.years; open_lists = timed.open_lists; dated = well-without (has_granular_stamp config state.clock) identifier state.holdings.items timed.dated }
 timed_effected config state (items_purged limit) good possible timed =
-    record { years = timed.years; begun = timed.begun; dated = all-filter (is_dated config state.clock) (λ item. not (goes_below limit item)) state.holdings.items timed.dated }
-timed_effected config state (set_added set) good possible timed = record { years = timed.years; begun = timed.begun; dated = timed.dated }
-timed_effected config state (list_renewed number) good possible timed = record { years = timed.years; begun = timed.begun; dated = timed.dated }
-timed_effected config state (list_opened list) good possible timed = record { years = timed.years; begun = timed.begun; dated = timed.dated }
+    record { years = timed.years; open_lists = timed.open_lists; dated = all-filter (has_granular_stamp config state.clock) (λ item. not (goes_below limit item)) state.holdings.items timed.dated }
+timed_effected config state (set_added set) good possible timed = record { years = timed.years; open_lists = timed.open_lists; dated = timed.dated }
+timed_effected config state (list_renewed number) good possible timed = record { years = timed.years; open_lists = timed.open_lists; dated = timed.dated }
+timed_effected config state (list_opened list) good possible timed = record { years = timed.years; open_lists = timed.open_lists; dated = timed.dated }
 
-timed_act : (config : Config) (state : State) (command : Command) → IsConfig config → IsSound config state → IsTimed config state → IsTimed config (act config state command).1
+timed_act : (config : Config) (state : RepoState) (command : Command) → IsConfig config → IsSound config state → IsTimed config state → IsTimed config (act config state command).1
 timed_act config state command good sound timed =
     let done = effect_of config state command sound in
     subst (IsTimed config) (sym done.done) (timed_effected config state done.effect good done.possible timed)
@@ -190,7 +190,7 @@ given_set (Some set) specs h = from_in_set set specs h
 
 -- ---- the selection
 
-asked_for : (wish : Wish) (items : List ItemState) (item : ItemState) → IsSelected (filter_of wish.prefix wish.from wish.until wish.set) items item → IsAskedFor wish item
+asked_for : (wish : ListRequest) (items : List ItemState) (item : ItemState) → IsSelected (filter_of wish.prefix wish.from wish.until wish.set) items item → IsAskedFor wish item
 asked_for wish items item h = record {
   prefix = h.has_prefix;
   from = from_given wish.from item.stamp h.from;
@@ -199,8 +199,8 @@ asked_for wish items item h = record {
 }
 
 -- where each datestamp is one that the bounds can name
-selected_for : (config : Config) (clock : ℤ) (wish : Wish) (items : List ItemState) (item : ItemState) → is_in_years config.earliest ≡ true → is_in_years clock ≡ true
-    → is_dated config clock item ≡ true → Contains items item → IsAskedFor wish item → IsSelected (filter_of wish.prefix wish.from wish.until wish.set) items item
+selected_for : (config : Config) (clock : ℤ) (wish : ListRequest) (items : List ItemState) (item : ItemState) → is_in_years config.earliest ≡ true → is_in_years clock ≡ true
+    → has_granular_stamp config clock item ≡ true → Contains items item → IsAskedFor wish item → IsSelected (filter_of wish.prefix wish.from wish.until wish.set) items item
 selected_for config clock wish items item earliest years dated stands asked =
     let parts = and_parts (int_le config.earliest item.stamp && int_le item.stamp clock) (int_eq (stamp_of config.granularity item.stamp) item.stamp) dated in
     let between = and_parts (int_le config.earliest item.stamp) (int_le item.stamp clock) parts.0 in
@@ -212,7 +212,7 @@ selected_for config clock wish items item earliest years dated stands asked =
       in_set = given_set wish.set item.sets asked.set;
     }
 
-selection_is : (config : Config) (state : State) (wish : Wish) → IsConfig config → IsSound config state → IsTimed config state → IsSelection wish state.holdings.items (selection_in state wish)
+selection_is : (config : Config) (state : RepoState) (wish : ListRequest) → IsConfig config → IsSound config state → IsTimed config state → IsSelection wish state.holdings.items (selection_in state wish)
 selection_is config state wish good sound timed =
     let items : List ItemState = state.holdings.items in
     let asked : Filter = filter_of wish.prefix wish.from wish.until wish.set in
@@ -220,40 +220,40 @@ selection_is config state wish good sound timed =
       members = λ item. (
         (λ h. let found = (contains_selected asked items item).0 h in (found.stands, asked_for wish items item found)),
         (λ h. (contains_selected asked items item).1 (selected_for config state.clock wish items item (in_years-config config good) timed.years
-            (All-contains (λ (x : ItemState). is_dated config state.clock x ≡ true) items item (AllPass-from_list_all (is_dated config state.clock) items timed.dated) h.0) h.0 h.1)),
+            (All-contains (λ (x : ItemState). has_granular_stamp config state.clock x ≡ true) items item (AllPass-from_list_all (has_granular_stamp config state.clock) items timed.dated) h.0) h.0 h.1)),
       );
       ordered = in_order-selected asked items sound.kept.ordered;
     }
 
 -- ---- in the course of time
 
-abbrev IsSelectionAt : Wish → Exchange → Type 0
+abbrev IsSelectionAt : ListRequest → Exchange → Type 0
 IsSelectionAt wish exchange = IsSelection wish exchange.found.holdings.items (selection_in exchange.found wish)
 
 abbrev IsDatedAfter : Config → Exchange → Type 0
-IsDatedAfter config exchange = list_all (is_dated config exchange.left.clock) exchange.left.holdings.items ≡ true
+IsDatedAfter config exchange = list_all (has_granular_stamp config exchange.left.clock) exchange.left.holdings.items ≡ true
 
-selected_from : (config : Config) (commands : List Timed) (state : State) (wish : Wish) → IsConfig config → IsSound config state → IsTimed config state → Throughout (IsSelectionAt wish) (run config state commands)
+selected_from : (config : Config) (commands : List Timed) (state : RepoState) (wish : ListRequest) → IsConfig config → IsSound config state → IsTimed config state → Throughout (IsSelectionAt wish) (run config state commands)
 selected_from config [] state wish good sound times = tt
 selected_from config (timed ∷ commands) state wish good sound times =
-    let found : State = moved timed.moment state in
+    let found : RepoState = moved timed.moment state in
     let sound_found = sound_moved config timed.moment state sound in
     let timed_found = timed_moved config timed.moment state times in (
       selection_is config found wish good sound_found timed_found,
       selected_from config commands (performed config state timed).left wish good (sound_act config found timed.command sound_found) (timed_act config found timed.command good sound_found timed_found),
     )
 
-dated_from : (config : Config) (commands : List Timed) (state : State) → IsConfig config → IsSound config state → IsTimed config state → Throughout (IsDatedAfter config) (run config state commands)
+dated_from : (config : Config) (commands : List Timed) (state : RepoState) → IsConfig config → IsSound config state → IsTimed config state → Throughout (IsDatedAfter config) (run config state commands)
 dated_from config [] state good sound times = tt
 dated_from config (timed ∷ commands) state good sound times =
-    let found : State = moved timed.moment state in
+    let found : RepoState = moved timed.moment state in
     let sound_found = sound_moved config timed.moment state sound in
     let left = timed_act config found timed.command good sound_found (timed_moved config timed.moment state times) in (
       left.dated,
       dated_from config commands (performed config state timed).left good (sound_act config found timed.command sound_found) left,
     )
 
-pub selected_throughout : (config : Config) (commands : List Timed) (wish : Wish) → IsConfig config → Throughout (IsSelectionAt wish) (run config (empty_state config) commands)
+pub selected_throughout : (config : Config) (commands : List Timed) (wish : ListRequest) → IsConfig config → Throughout (IsSelectionAt wish) (run config (empty_state config) commands)
 selected_throughout config commands wish good = selected_from config commands (empty_state config) wish good (sound_empty config) (timed_empty config good)
 
 pub dated_throughout : (config : Config) (commands : List Timed) → IsConfig config → Throughout (IsDatedAfter config) (run config (empty_state config) commands)

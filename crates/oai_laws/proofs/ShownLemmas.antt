@@ -26,11 +26,11 @@ use Rattle.oai_answers.specs.Seen.{IsGoodFormat, IsRegular, has_own_fields}
 use Rattle.oai_repo.specs.Answers.{arguments_of_request, disseminated, filter_of, formats_answer, item_formats_answer, record_answer, sets_answer}
 use Rattle.oai_settings.specs.Config.{Config}
 use Rattle.oai_laws.specs.Effects.{IsSound, is_formed, has_known_records}
-use Rattle.oai_repo.specs.Listing.{Said, answer_to, begins, continues, has_no_sets, is_continued, list_answer, list_begun, part_from, part_told, prolonged, says, told_by, told_in, told_items, told_whole, token_answer, wait_at, waits, where_continued, whole_page, has_number}
-use Rattle.oai_repo.specs.Machine.{Command, act, act_on_change, asking, changing, outcome_of, refusing}
+use Rattle.oai_repo.specs.Listing.{Response, request_response, opens_list, continued_response, has_no_sets, is_continued, list_response, new_list, part_from, part_answer, prolonged, with_answer, answer_by_verb, format_response, selection_response, complete_answer, token_response, wait_at, retry_after, where_continued, complete_page, is_of_number}
+use Rattle.oai_repo.specs.Machine.{Command, act, act_on_change, requesting, changing, outcome_of, rejecting}
 use Rattle.oai_repo.specs.Changes.{refusal_of, stamp_at}
 use Rattle.oai_laws.specs.Shown.{IsRegularOutcome}
-use Rattle.oai_repo.specs.State.{FrozenList, NamedSet, OpenLists, State}
+use Rattle.oai_repo.specs.State.{FrozenList, NamedSet, OpenLists, RepoState}
 use Rattle.oai_item.specs.declared.changes.Change.{Change}
 use Rattle.oai_item.specs.declared.refusals.ChangeRefusal.{ChangeRefusal}
 use Rattle.oai_laws.proofs.EffectLemmas.{named, kept_formed, selected_formed}
@@ -80,22 +80,22 @@ all_own config prefix format items found formed = all-weaker (has_known_records 
 
 -- ---- what is said to a request
 
-abbrev IsRegularSaid : Said → Type 0
-IsRegularSaid (says answer) = IsRegular answer
-IsRegularSaid (waits seconds) = Unit {0}
+abbrev IsRegularSaid : Response → Type 0
+IsRegularSaid (with_answer answer) = IsRegular answer
+IsRegularSaid (retry_after seconds) = Unit {0}
 
-abbrev IsRegularDone : Said × OpenLists → Type 0
+abbrev IsRegularDone : Response × OpenLists → Type 0
 IsRegularDone done = IsRegularSaid done.0
 
-regular_told : (verb : ListVerb) (format : Format) (page : Page) → IsGoodFormat format → list_all (has_own_fields format) page.items ≡ true → IsRegular (told_by verb format page)
+regular_told : (verb : ListVerb) (format : Format) (page : Page) → IsGoodFormat format → list_all (has_own_fields format) page.items ≡ true → IsRegular (answer_by_verb verb format page)
 regular_told list.Identifiers format page good own = tt
 regular_told list.Records format page good own = (good, own)
 regular_told list.Sets format page good own = tt
 
 regular_whole : (config : Config) (verb : ListVerb) (format : Format) (items : List ItemState) → IsGoodFormat format → list_all (has_own_fields format) items ≡ true
-    → IsRegular (told_whole config verb format items)
+    → IsRegular (complete_answer config verb format items)
 regular_whole config verb format [] good own = tt
-regular_whole config verb format (item ∷ items) good own = regular_told verb format (whole_page config (item ∷ items)) good own
+regular_whole config verb format (item ∷ items) good own = regular_told verb format (complete_page config (item ∷ items)) good own
 
 -- a part of items of which something is true of all
 part_all : (p : ItemState → Bool) (n k : ℕ) (items : List ItemState) → list_all p items ≡ true → list_all p (take n (drop k items)) ≡ true
@@ -105,57 +105,57 @@ part_all p n k items all =
     (sym (list_all-append p (take n (drop k items)) (drop n (drop k items))) ∙ ap (list_all p) (take-append-drop n (drop k items)) ∙ behind)).0
 
 regular_part : (config : Config) (verb : ListVerb) (format : Format) (list : FrozenList) (cursor : ℕ) → IsGoodFormat format → list_all (has_own_fields format) list.items ≡ true
-    → IsRegular (told_by verb format (part_from config list cursor))
+    → IsRegular (answer_by_verb verb format (part_from config list cursor))
 regular_part config verb format list cursor good own =
     regular_told verb format (part_from config list cursor) good
     (ap (list_all (has_own_fields format)) (part_items config list cursor) ∙ part_all (has_own_fields format) config.chunk cursor list.items own)
 
-regular_begun : (config : Config) (begun : OpenLists) (format : Format) (list : FrozenList) (wait : Option ℤ) → IsGoodFormat format → list_all (has_own_fields format) list.items ≡ true
-    → IsRegularDone (begins config begun format list wait)
-regular_begun config begun format list (Some seconds) good own = tt
-regular_begun config begun format list None good own = regular_part config list.verb format list 0 good own
+regular_begun : (config : Config) (open_lists : OpenLists) (format : Format) (list : FrozenList) (wait : Option ℤ) → IsGoodFormat format → list_all (has_own_fields format) list.items ≡ true
+    → IsRegularDone (opens_list config open_lists format list wait)
+regular_begun config open_lists format list (Some seconds) good own = tt
+regular_begun config open_lists format list None good own = regular_part config list.verb format list 0 good own
 
-regular_items : (config : Config) (clock : ℤ) (begun : OpenLists) (verb : ListVerb) (format : Format) (items : List ItemState) → IsGoodFormat format → list_all (has_own_fields format) items ≡ true
-    → IsRegularDone (told_items config clock begun verb format items)
-unfolding told_items
-regular_items config clock begun verb format items good own =
+regular_items : (config : Config) (clock : ℤ) (open_lists : OpenLists) (verb : ListVerb) (format : Format) (items : List ItemState) → IsGoodFormat format → list_all (has_own_fields format) items ≡ true
+    → IsRegularDone (selection_response config clock open_lists verb format items)
+unfolding selection_response
+regular_items config clock open_lists verb format items good own =
     cond_both (nat_le (length items) config.chunk) _ _ IsRegularDone
     (λ _. regular_whole config verb format items good own)
-    (λ _. regular_begun config begun format (list_begun config clock begun verb format.prefix items) (wait_at config clock begun) good own)
+    (λ _. regular_begun config open_lists format (new_list config clock open_lists verb format.prefix items) (wait_at config clock open_lists) good own)
 
-regular_in : (config : Config) (clock : ℤ) (begun : OpenLists) (verb : ListVerb) (prefix : List ℕ) (format : Option Format) (items : List ItemState) → AreRepositoryFormats config.formats
-    → format_named prefix config.formats ≡ format → list_all (has_known_records config) items ≡ true → IsRegularDone (told_in config clock begun verb format items)
-regular_in config clock begun verb prefix None items rules found formed = tt
-regular_in config clock begun verb prefix (Some format) items rules found formed =
-    regular_items config clock begun verb format items (found_good prefix config.formats format rules found) (all_own config prefix format items found formed)
+regular_in : (config : Config) (clock : ℤ) (open_lists : OpenLists) (verb : ListVerb) (prefix : List ℕ) (format : Option Format) (items : List ItemState) → AreRepositoryFormats config.formats
+    → format_named prefix config.formats ≡ format → list_all (has_known_records config) items ≡ true → IsRegularDone (format_response config clock open_lists verb format items)
+regular_in config clock open_lists verb prefix None items rules found formed = tt
+regular_in config clock open_lists verb prefix (Some format) items rules found formed =
+    regular_items config clock open_lists verb format items (found_good prefix config.formats format rules found) (all_own config prefix format items found formed)
 
-regular_list : (config : Config) (clock : ℤ) (begun : OpenLists) (sets : List NamedSet) (verb : ListVerb) (prefix : List ℕ) (set : Option (List ℕ)) (items : List ItemState)
-    → AreRepositoryFormats config.formats → list_all (has_known_records config) items ≡ true → IsRegularDone (list_answer config clock begun sets verb prefix set items)
-regular_list config clock begun sets verb prefix set items rules formed =
-    cond_both (is_some set && has_no_sets sets) _ _ IsRegularDone (λ _. tt) (λ _. regular_in config clock begun verb prefix (format_named prefix config.formats) items rules refl formed)
+regular_list : (config : Config) (clock : ℤ) (open_lists : OpenLists) (sets : List NamedSet) (verb : ListVerb) (prefix : List ℕ) (set : Option (List ℕ)) (items : List ItemState)
+    → AreRepositoryFormats config.formats → list_all (has_known_records config) items ≡ true → IsRegularDone (list_response config clock open_lists sets verb prefix set items)
+regular_list config clock open_lists sets verb prefix set items rules formed =
+    cond_both (is_some set && has_no_sets sets) _ _ IsRegularDone (λ _. tt) (λ _. regular_in config clock open_lists verb prefix (format_named prefix config.formats) items rules refl formed)
 
 -- ---- tokens
 
 regular_part_told : (config : Config) (verb : ListVerb) (list : FrozenList) (format : Option Format) (cursor : ℕ) → AreRepositoryFormats config.formats
-    → format_named list.prefix config.formats ≡ format → is_formed config list ≡ true → IsRegular (part_told verb format (part_from config list cursor))
+    → format_named list.prefix config.formats ≡ format → is_formed config list ≡ true → IsRegular (part_answer verb format (part_from config list cursor))
 regular_part_told config verb list None cursor rules found formed = tt
 regular_part_told config verb list (Some format) cursor rules found formed =
     regular_part config verb format list cursor (found_good list.prefix config.formats format rules found) (all_own config list.prefix format list.items found formed)
 
-regular_continued : (config : Config) (clock : ℤ) (begun : OpenLists) (verb : ListVerb) (token : Token) (found : Option FrozenList) → AreRepositoryFormats config.formats
-    → ((list : FrozenList) → found ≡ Some list → is_formed config list ≡ true) → IsRegularDone (continues config clock begun verb token.cursor (where_continued verb token found))
-regular_continued config clock begun verb token None rules formed = tt
-regular_continued config clock begun verb token (Some list) rules formed =
-    cond_both (is_continued verb token list) (Some list) None (λ (o : Option FrozenList). IsRegularDone (continues config clock begun verb token.cursor o))
+regular_continued : (config : Config) (clock : ℤ) (open_lists : OpenLists) (verb : ListVerb) (token : Token) (found : Option FrozenList) → AreRepositoryFormats config.formats
+    → ((list : FrozenList) → found ≡ Some list → is_formed config list ≡ true) → IsRegularDone (continued_response config clock open_lists verb token.cursor (where_continued verb token found))
+regular_continued config clock open_lists verb token None rules formed = tt
+regular_continued config clock open_lists verb token (Some list) rules formed =
+    cond_both (is_continued verb token list.verb (length list.items)) (Some list) None (λ (o : Option FrozenList). IsRegularDone (continued_response config clock open_lists verb token.cursor o))
     (λ _. regular_part_told config verb (prolonged config clock list) (format_named list.prefix config.formats) token.cursor rules refl (formed list refl))
     (λ _. tt)
 
-regular_token : (config : Config) (state : State) (verb : ListVerb) (token : Option Token) → AreRepositoryFormats config.formats → IsSound config state
-    → IsRegularDone (token_answer config state.clock state.begun verb token)
+regular_token : (config : Config) (state : RepoState) (verb : ListVerb) (token : Option Token) → AreRepositoryFormats config.formats → IsSound config state
+    → IsRegularDone (token_response config state.clock state.open_lists verb token)
 regular_token config state verb None rules sound = tt
 regular_token config state verb (Some token) rules sound =
-    regular_continued config state.clock state.begun verb token (find (has_number token.list) state.begun.lists) rules
-    (λ list found. of_found (has_number token.list) (is_formed config) state.begun.lists list found sound.formed)
+    regular_continued config state.clock state.open_lists verb token (find (is_of_number token.list) state.open_lists.lists) rules
+    (λ list found. of_found (is_of_number token.list) (is_formed config) state.open_lists.lists list found sound.formed)
 
 -- ---- GetRecord
 
@@ -166,7 +166,7 @@ regular_disseminated config item prefix (Some format) rules found formed =
     cond_both (has_record format.prefix item.formats) _ _ IsRegular
     (λ _. (found_good prefix config.formats format rules found, own_fields config prefix format item found formed)) (λ _. tt)
 
-regular_record : (config : Config) (state : State) (identifier prefix : List ℕ) (found : Option ItemState) → item_named identifier state.holdings.items ≡ found → AreRepositoryFormats config.formats
+regular_record : (config : Config) (state : RepoState) (identifier prefix : List ℕ) (found : Option ItemState) → item_named identifier state.holdings.items ≡ found → AreRepositoryFormats config.formats
     → IsSound config state → IsRegular (record_answer config found prefix)
 regular_record config state identifier prefix None is rules sound = tt
 regular_record config state identifier prefix (Some item) is rules sound =
@@ -187,7 +187,7 @@ regular_sets : (sets : List NamedSet) → IsRegular (sets_answer sets)
 regular_sets [] = tt
 regular_sets (set ∷ sets) = tt
 
-regular_done : (config : Config) (state : State) (request : AskOrError) → AreRepositoryFormats config.formats → IsSound config state → IsRegularDone (answer_to config state request)
+regular_done : (config : Config) (state : RepoState) (request : AskOrError) → AreRepositoryFormats config.formats → IsSound config state → IsRegularDone (request_response config state request)
 regular_done config state bad_verb rules sound = tt
 regular_done config state bad_argument rules sound = tt
 regular_done config state (asks ask.Identify) rules sound = tt
@@ -195,23 +195,23 @@ regular_done config state (asks (ask.Formats identifier)) rules sound = regular_
 regular_done config state (asks ask.Sets) rules sound = regular_sets state.holdings.sets
 regular_done config state (asks (ask.Get identifier prefix)) rules sound = regular_record config state identifier prefix (item_named identifier state.holdings.items) refl rules sound
 regular_done config state (asks (ask.List verb prefix from until set)) rules sound =
-    regular_list config state.clock state.begun state.holdings.sets verb prefix set (selected (filter_of prefix from until set) state.holdings.items) rules
+    regular_list config state.clock state.open_lists state.holdings.sets verb prefix set (selected (filter_of prefix from until set) state.holdings.items) rules
     (selected_formed config state.holdings (filter_of prefix from until set) sound.kept)
 regular_done config state (asks (ask.Resume verb token)) rules sound = regular_token config state verb (token_of token) rules sound
 
 -- ---- a command
 
-regular_outcome : (config : Config) (clock : ℤ) (asked : Attributes) (said : Said) → IsRegularSaid said → IsRegularOutcome (outcome_of config clock asked said)
-regular_outcome config clock asked (says answer) h = h
-regular_outcome config clock asked (waits seconds) h = tt
+regular_outcome : (config : Config) (clock : ℤ) (asked : Attributes) (said : Response) → IsRegularSaid said → IsRegularOutcome (outcome_of config clock asked said)
+regular_outcome config clock asked (with_answer answer) h = h
+regular_outcome config clock asked (retry_after seconds) h = tt
 
-regular_change : (config : Config) (state : State) (stamp : ℤ) (change : Change) (refusal : Option ChangeRefusal) → IsRegularOutcome (act_on_change config state stamp change refusal).0
+regular_change : (config : Config) (state : RepoState) (stamp : ℤ) (change : Change) (refusal : Option ChangeRefusal) → IsRegularOutcome (act_on_change config state stamp change refusal).0
 regular_change config state stamp change (Some cause) = tt
 regular_change config state stamp change None = tt
 
-pub regular_act : (config : Config) (state : State) (command : Command) → AreRepositoryFormats config.formats → IsSound config state → IsRegularOutcome (act config state command).0
+pub regular_act : (config : Config) (state : RepoState) (command : Command) → AreRepositoryFormats config.formats → IsSound config state → IsRegularOutcome (act config state command).0
 unfolding act
-regular_act config state (asking request) rules sound = regular_outcome config state.clock (arguments_of_request request) (answer_to config state request).0 (regular_done config state request rules sound)
+regular_act config state (requesting request) rules sound = regular_outcome config state.clock (arguments_of_request request) (request_response config state request).0 (regular_done config state request rules sound)
 regular_act config state (changing change) rules sound =
     regular_change config state (stamp_at config state.clock) change (refusal_of config (stamp_at config state.clock) state.holdings change)
-regular_act config state (refusing cause) rules sound = tt
+regular_act config state (rejecting cause) rules sound = tt

@@ -10,8 +10,8 @@ use Rattle.std.proofs.lemmas.List.Folds.{find-append}
 use Rattle.oai_time.specs.Clock.{tick}
 use Rattle.oai_settings.specs.Config.{Config}
 use Rattle.oai_laws.specs.Effects.{Effect, IsSound, effected, is_given, item_put, item_taken, items_purged, list_opened, list_renewed, set_added, unchanged}
-use Rattle.oai_repo.specs.Listing.{has_number, prolonged, prolonged_at, with_begun, with_prolonged}
-use Rattle.oai_repo.specs.State.{FrozenList, OpenLists, State, is_open_at, moved}
+use Rattle.oai_repo.specs.Listing.{is_of_number, prolonged, prolonged_at, with_new_list, with_prolonged}
+use Rattle.oai_repo.specs.State.{FrozenList, OpenLists, RepoState, is_open_at, moved}
 use Rattle.oai_laws.proofs.EffectLemmas.{same_number}
 
 -- ---- what is found
@@ -40,11 +40,11 @@ find_mapped p f same (y ∷ xs) x h = elim (cases_Bool (p y)) [
 ]
 
 -- no list has a number that was not given
-pub find_ungiven : (next : ℕ) (lists : List FrozenList) → list_all (is_given next) lists ≡ true → find (has_number next) lists ≡ None
+pub find_ungiven : (next : ℕ) (lists : List FrozenList) → list_all (is_given next) lists ≡ true → find (is_of_number next) lists ≡ None
 find_ungiven next [] h = refl
 find_ungiven next (x ∷ lists) h =
     let parts = and_parts (is_given next x) (list_all (is_given next) lists) h in
-    cond-false (has_number next x) (Some x) (find (has_number next) lists) (apart x.number parts.0) ∙ find_ungiven next lists parts.1
+    cond-false (is_of_number next x) (Some x) (find (is_of_number next) lists) (apart x.number parts.0) ∙ find_ungiven next lists parts.1
   where
     apart : (n : ℕ) → nat_lt n next ≡ true → eqb n next ≡ false
     apart n below = grind (arith, nat_tests)
@@ -66,12 +66,12 @@ of_found p q (y ∷ xs) x h all =
 
 -- among the open lists is this one, with no earlier end
 abbrev pub IsThere : FrozenList → OpenLists → Type 0
-IsThere list begun = (end : ℤ) × (list.end ≤ℤ end) × (find (has_number list.number) begun.lists ≡ Some (record list { end = end }))
+IsThere list open_lists = (end : ℤ) × (list.end ≤ℤ end) × (find (is_of_number list.number) open_lists.lists ≡ Some (record list { end = end }))
 
 -- a list with the end that was told: this is not later than the clock and the lifetime, and until then the list is there
-pub record Stands (config : Config) (list : FrozenList) (state : State) : Type 0 where
+pub record Stands (config : Config) (list : FrozenList) (state : RepoState) : Type 0 where
   pub soon : list.end ≤ℤ (state.clock +ℤ pos config.lifetime)
-  pub there : int_lt state.clock list.end ≡ true → IsThere list state.begun
+  pub there : int_lt state.clock list.end ≡ true → IsThere list state.open_lists
 
 -- ---- the clock moves
 
@@ -87,7 +87,7 @@ was_before clock now end later h = grind (arith, ints)
 before_that : (now end last : ℤ) → int_lt now end ≡ true → end ≤ℤ last → int_lt now last ≡ true
 before_that now end last h later = grind (arith, ints)
 
-pub stands_moved : (config : Config) (list : FrozenList) (moment : ℤ) (state : State) → Stands config list state → Stands config list (moved moment state)
+pub stands_moved : (config : Config) (list : FrozenList) (moment : ℤ) (state : RepoState) → Stands config list state → Stands config list (moved moment state)
 stands_moved config list moment state stands =
     let now : ℤ = tick state.clock moment in
     let later : state.clock ≤ℤ now = not_back state.clock moment in
@@ -97,7 +97,7 @@ stands_moved config list moment state stands =
           let found = stands.there (was_before state.clock now list.end later before) in (
             found.0,
             found.1,
-            find_kept (has_number list.number) (is_open_at now) state.begun.lists (record list { end = found.0 }) found.2 (before_that now list.end found.0 before found.1),
+            find_kept (is_of_number list.number) (is_open_at now) state.open_lists.lists (record list { end = found.0 }) found.2 (before_that now list.end found.0 before found.1),
           );
     }
 
@@ -106,7 +106,7 @@ stands_moved config list moment state stands =
 itself : (a : ℤ) → a ≤ℤ a
 itself a = grind (arith, ints)
 
-pub same_test : (config : Config) (clock : ℤ) (number other : ℕ) (list : FrozenList) → has_number other (prolonged_at config clock number list) ≡ has_number other list
+pub same_test : (config : Config) (clock : ℤ) (number other : ℕ) (list : FrozenList) → is_of_number other (prolonged_at config clock number list) ≡ is_of_number other list
 same_test config clock number other list = ap (λ (n : ℕ). eqb n other) (same_number config clock number list)
 
 -- a list that stays open, or does not, ends no earlier
@@ -115,24 +115,24 @@ still_there : (config : Config) (clock : ℤ) (number : ℕ) (list : FrozenList)
 still_there config clock number list end true within soon = (clock +ℤ pos config.lifetime, soon, refl)
 still_there config clock number list end false within soon = (end, within, refl)
 
-renewed_there : (config : Config) (clock : ℤ) (number : ℕ) (list : FrozenList) (begun : OpenLists) → list.end ≤ℤ (clock +ℤ pos config.lifetime) → IsThere list begun
-    → IsThere list (with_prolonged config clock number begun)
-renewed_there config clock number list begun soon there =
+renewed_there : (config : Config) (clock : ℤ) (number : ℕ) (list : FrozenList) (open_lists : OpenLists) → list.end ≤ℤ (clock +ℤ pos config.lifetime) → IsThere list open_lists
+    → IsThere list (with_prolonged config clock number open_lists)
+renewed_there config clock number list open_lists soon there =
     let found : FrozenList = record list { end = there.0 } in
-    let after = still_there config clock number list there.0 (has_number number found) there.1 soon in (
+    let after = still_there config clock number list there.0 (is_of_number number found) there.1 soon in (
       after.0,
       after.1,
-      find_mapped (has_number list.number) (prolonged_at config clock number) (same_test config clock number list.number) begun.lists found there.2 ∙ ap (λ (l : FrozenList). Some l) after.2,
+      find_mapped (is_of_number list.number) (prolonged_at config clock number) (same_test config clock number list.number) open_lists.lists found there.2 ∙ ap (λ (l : FrozenList). Some l) after.2,
     )
 
-opened_there : (list other : FrozenList) (begun : OpenLists) → IsThere list begun → IsThere list (with_begun other begun)
-opened_there list other begun there = (
+opened_there : (list other : FrozenList) (open_lists : OpenLists) → IsThere list open_lists → IsThere list (with_new_list other open_lists)
+opened_there list other open_lists there = (
   there.0,
   there.1,
-  find-append (has_number list.number) begun.lists (other ∷ []) ∙ ap (λ (o : Option FrozenList). option_or o (find (has_number list.number) (other ∷ []))) there.2,
+  find-append (is_of_number list.number) open_lists.lists (other ∷ []) ∙ ap (λ (o : Option FrozenList). option_or o (find (is_of_number list.number) (other ∷ []))) there.2,
 )
 
-pub stands_effected : (config : Config) (list : FrozenList) (state : State) (effect : Effect) → Stands config list state → Stands config list (effected config state effect)
+pub stands_effected : (config : Config) (list : FrozenList) (state : RepoState) (effect : Effect) → Stands config list state → Stands config list (effected config state effect)
 stands_effected config list state unchanged stands = stands
 stands_effected config list state (item_put item) stands = record { soon = stands.soon; there = stands.there }
 stands_effected config list state (item_taken identifier) stands = record { soon = stands.soon; there = stands.there }
@@ -140,26 +140,26 @@ stands_effected config list state (items_purged limit) stands = record { soon = 
 stands_effected config list state (set_added set) stands = record { soon = stands.soon; there = stands.there }
 stands_effected config list state (list_renewed number) stands = record {
   soon = stands.soon;
-  there = λ before. renewed_there config state.clock number list state.begun stands.soon (stands.there before);
+  there = λ before. renewed_there config state.clock number list state.open_lists stands.soon (stands.there before);
 }
 stands_effected config list state (list_opened other) stands = record {
   soon = stands.soon;
-  there = λ before. opened_there list other state.begun (stands.there before);
+  there = λ before. opened_there list other state.open_lists (stands.there before);
 }
 
 -- ---- a list begins to stand
 
 -- one that is opened
-pub stands_opened : (config : Config) (state : State) (list : FrozenList) → IsSound config state → list.number ≡ state.begun.next → list.end ≡ state.clock +ℤ pos config.lifetime
+pub stands_opened : (config : Config) (state : RepoState) (list : FrozenList) → IsSound config state → list.number ≡ state.open_lists.next → list.end ≡ state.clock +ℤ pos config.lifetime
     → Stands config list (effected config state (list_opened list))
 stands_opened config state list sound number lasting = record {
   soon = subst (λ (e : ℤ). list.end ≤ℤ e) lasting (itself list.end);
   there = λ before. (
     list.end,
     itself list.end,
-    find-append (has_number list.number) state.begun.lists (list ∷ [])
-        ∙ ap (λ (o : Option FrozenList). option_or o (find (has_number list.number) (list ∷ []))) (ap (λ (n : ℕ). find (has_number n) state.begun.lists) number ∙ find_ungiven state.begun.next state.begun.lists sound.given)
-        ∙ cond-true (has_number list.number list) (Some list) None (own list.number),
+    find-append (is_of_number list.number) state.open_lists.lists (list ∷ [])
+        ∙ ap (λ (o : Option FrozenList). option_or o (find (is_of_number list.number) (list ∷ []))) (ap (λ (n : ℕ). find (is_of_number n) state.open_lists.lists) number ∙ find_ungiven state.open_lists.next state.open_lists.lists sound.given)
+        ∙ cond-true (is_of_number list.number list) (Some list) None (own list.number),
   );
 }
   where
@@ -167,7 +167,7 @@ stands_opened config state list sound number lasting = record {
     own n = grind (arith, nat_tests)
 
 -- one that is continued stands with its new end
-pub stands_renewed : (config : Config) (state : State) (list : FrozenList) → IsThere list state.begun
+pub stands_renewed : (config : Config) (state : RepoState) (list : FrozenList) → IsThere list state.open_lists
     → Stands config (prolonged config state.clock list) (effected config state (list_renewed list.number))
 stands_renewed config state list there = record {
   soon = itself (state.clock +ℤ pos config.lifetime);
@@ -175,8 +175,8 @@ stands_renewed config state list there = record {
       let found : FrozenList = record list { end = there.0 } in (
         state.clock +ℤ pos config.lifetime,
         itself (state.clock +ℤ pos config.lifetime),
-        find_mapped (has_number list.number) (prolonged_at config state.clock list.number) (same_test config state.clock list.number list.number) state.begun.lists found there.2
-            ∙ ap (λ (l : FrozenList). Some l) (cond-true (has_number list.number list) (record list { end = state.clock +ℤ pos config.lifetime }) found (own list.number)),
+        find_mapped (is_of_number list.number) (prolonged_at config state.clock list.number) (same_test config state.clock list.number list.number) state.open_lists.lists found there.2
+            ∙ ap (λ (l : FrozenList). Some l) (cond-true (is_of_number list.number list) (record list { end = state.clock +ℤ pos config.lifetime }) found (own list.number)),
       );
 }
   where

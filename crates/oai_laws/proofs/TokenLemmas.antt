@@ -13,15 +13,15 @@ use Rattle.oai_args.specs.declared.requests.Ask.TheVariants as ask
 use Rattle.oai_answers.specs.Answers.{Attributes, Page}
 use Rattle.oai_settings.specs.Config.{Config}
 use Rattle.oai_repo.specs.Answers.{arguments_of_request}
-use Rattle.oai_repo.specs.Listing.{Said, continues, has_number, is_continued, is_same_verb, part_from, part_told, prolonged, says, told_by, token_answer, where_continued}
-use Rattle.oai_repo.specs.Machine.{act, asking, outcome_of}
-use Rattle.oai_repo.specs.State.{FrozenList, OpenLists, State}
+use Rattle.oai_repo.specs.Listing.{Response, continued_response, is_of_number, is_continued, is_same_verb, part_from, part_answer, prolonged, with_answer, answer_by_verb, token_response, where_continued}
+use Rattle.oai_repo.specs.Machine.{act, requesting, outcome_of}
+use Rattle.oai_repo.specs.State.{FrozenList, OpenLists, RepoState}
 use Rattle.oai_laws.specs.Effects.{IsSound, is_of_format}
-use Rattle.oai_laws.specs.Following.{IsContinued, page_in, page_told}
+use Rattle.oai_laws.specs.Following.{IsContinued, page_in, page_shown}
 use Rattle.oai_laws.proofs.StandLemmas.{of_found}
 
 -- a page by the verb of an open list
-shown_by : (its verb : ListVerb) (format : Format) (page : Page) → is_same_verb its verb ≡ true → page_in (told_by verb format page) ≡ Some page
+shown_by : (its verb : ListVerb) (format : Format) (page : Page) → is_same_verb its verb ≡ true → page_in (answer_by_verb verb format page) ≡ Some page
 shown_by its list.Identifiers format page same = refl
 shown_by its list.Records format page same = refl
 shown_by list.Identifiers list.Sets format page same = cc
@@ -30,20 +30,20 @@ shown_by list.Sets list.Sets format page same = cc
 
 -- a part of it in its format, which the repository has
 part_shown : (config : Config) (clock : ℤ) (asked : Attributes) (its verb : ListVerb) (format : Option Format) (page : Page) → is_some format ≡ true → is_same_verb its verb ≡ true
-    → page_told (outcome_of config clock asked (says (part_told verb format page))) ≡ Some page
+    → page_shown (outcome_of config clock asked (with_answer (part_answer verb format page))) ≡ Some page
 part_shown config clock asked its verb None page known same = cc
 part_shown config clock asked its verb (Some format) page known same = shown_by its verb format page same
 
 -- what is answered after that was said
-abbrev IsContinuedBy : Config → ℤ → Attributes → Said × OpenLists → Type 0
+abbrev IsContinuedBy : Config → ℤ → Attributes → Response × OpenLists → Type 0
 IsContinuedBy config clock asked done = IsContinued (outcome_of config clock asked done.0)
 
-found_shown : (config : Config) (clock : ℤ) (begun : OpenLists) (asked : Attributes) (verb : ListVerb) (token : Token) (found : Option FrozenList)
+found_shown : (config : Config) (clock : ℤ) (open_lists : OpenLists) (asked : Attributes) (verb : ListVerb) (token : Token) (found : Option FrozenList)
     → ((list : FrozenList) → found ≡ Some list → is_of_format config list ≡ true)
-    → IsContinuedBy config clock asked (continues config clock begun verb token.cursor (where_continued verb token found))
-found_shown config clock begun asked verb token None known = inl refl
-found_shown config clock begun asked verb token (Some list) known =
-    cond_both (is_continued verb token list) (Some list) None (λ (o : Option FrozenList). IsContinuedBy config clock asked (continues config clock begun verb token.cursor o))
+    → IsContinuedBy config clock asked (continued_response config clock open_lists verb token.cursor (where_continued verb token found))
+found_shown config clock open_lists asked verb token None known = inl refl
+found_shown config clock open_lists asked verb token (Some list) known =
+    cond_both (is_continued verb token list.verb (length list.items)) (Some list) None (λ (o : Option FrozenList). IsContinuedBy config clock asked (continued_response config clock open_lists verb token.cursor o))
     (λ fits. inr (
       part_from config (prolonged config clock list) token.cursor,
       part_shown config clock asked list.verb verb (format_named list.prefix config.formats) (part_from config (prolonged config clock list) token.cursor) (known list refl)
@@ -51,13 +51,13 @@ found_shown config clock begun asked verb token (Some list) known =
     ))
     (λ _. inl refl)
 
-token_shown : (config : Config) (state : State) (asked : Attributes) (verb : ListVerb) (token : Option Token) → IsSound config state
-    → IsContinuedBy config state.clock asked (token_answer config state.clock state.begun verb token)
+token_shown : (config : Config) (state : RepoState) (asked : Attributes) (verb : ListVerb) (token : Option Token) → IsSound config state
+    → IsContinuedBy config state.clock asked (token_response config state.clock state.open_lists verb token)
 token_shown config state asked verb None sound = inl refl
 token_shown config state asked verb (Some token) sound =
-    found_shown config state.clock state.begun asked verb token (find (has_number token.list) state.begun.lists)
-    (λ list found. of_found (has_number token.list) (is_of_format config) state.begun.lists list found sound.known)
+    found_shown config state.clock state.open_lists asked verb token (find (is_of_number token.list) state.open_lists.lists)
+    (λ list found. of_found (is_of_number token.list) (is_of_format config) state.open_lists.lists list found sound.known)
 
-pub tokens_shown : (config : Config) (state : State) (verb : ListVerb) (token : List ℕ) → IsSound config state → IsContinued (act config state (asking (asks (ask.Resume verb token)))).0
+pub tokens_shown : (config : Config) (state : RepoState) (verb : ListVerb) (token : List ℕ) → IsSound config state → IsContinued (act config state (requesting (asks (ask.Resume verb token)))).0
 unfolding act
 tokens_shown config state verb token sound = token_shown config state (arguments_of_request (asks (ask.Resume verb token))) verb (token_of token) sound

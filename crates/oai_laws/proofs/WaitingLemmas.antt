@@ -125,29 +125,29 @@ is_above n most h k = grind (arith, nat_tests)
 is_same : (n m : ℕ) → eqb n m ≡ true → n ≡ m
 is_same n m h = grind (arith, nat_tests)
 
-pub wait_is : (config : Config) (clock seconds : ℤ) (begun : OpenLists) → IsConfig config → wait_at config clock (still_open clock begun) ≡ Some seconds
-    → IsWait config clock (still_open clock begun) seconds
+pub wait_is : (config : Config) (clock seconds : ℤ) (open_lists : OpenLists) → IsConfig config → wait_at config clock (still_open clock open_lists) ≡ Some seconds
+    → IsWait config clock (still_open clock open_lists) seconds
 unfolding wait_at are_limits
-wait_is config clock seconds begun good waits =
+wait_is config clock seconds open_lists good retry_after =
     let limits = and_parts (is_chunk config.chunk && is_lifetime config.lifetime && is_lists config.lists) (is_items config.items) good.limited in
     let fewer = and_parts (is_chunk config.chunk && is_lifetime config.lifetime) (is_lists config.lists) limits.0 in
     let fewest = and_parts (is_chunk config.chunk) (is_lifetime config.lifetime) fewer.0 in
-    by_tests (nat_le config.lists (length lists)) (eqb begun.next LAST_NUMBER) refl refl (at_least_one config.lists fewer.1) (lasts_some config.lifetime fewest.1) waits
+    by_tests (nat_le config.lists (length lists)) (eqb open_lists.next LAST_NUMBER) refl refl (at_least_one config.lists fewer.1) (lasts_some config.lifetime fewest.1) retry_after
   where
     lists : List FrozenList
-    lists = filter (is_open_at clock) begun.lists
+    lists = filter (is_open_at clock) open_lists.lists
 
-    by_tests : (full spent : Bool) → nat_le config.lists (length lists) ≡ full → eqb begun.next LAST_NUMBER ≡ spent → 1 ≤ config.lists → 1 ≤ config.lifetime
-        → cond full (Some (seconds_to_end clock lists)) (cond spent (Some (pos config.lifetime)) None) ≡ Some seconds → IsWait config clock (still_open clock begun) seconds
+    by_tests : (full spent : Bool) → nat_le config.lists (length lists) ≡ full → eqb open_lists.next LAST_NUMBER ≡ spent → 1 ≤ config.lists → 1 ≤ config.lifetime
+        → cond full (Some (seconds_to_end clock lists)) (cond spent (Some (pos config.lifetime)) None) ≡ Some seconds → IsWait config clock (still_open clock open_lists) seconds
     by_tests true spent many last some lasts is =
         let seconds_are : seconds ≡ seconds_to_end clock lists = cc in
         let any : 1 ≤ length lists = omega (arith, some, is_up_to config.lists (length lists) many) in
-        let wait = full_wait clock seconds lists (all-filter_same (is_open_at clock) begun.lists) any seconds_are in
+        let wait = full_wait clock seconds lists (all-filter_same (is_open_at clock) open_lists.lists) any seconds_are in
         record { reason = inl (is_up_to config.lists (length lists) many); some = wait.0; helps = λ _. wait.1; no_longer = λ fewer _ less. none_ended clock fewer seconds lists any seconds_are less }
     by_tests false true few last some lasts is =
         let seconds_are : seconds ≡ pos config.lifetime = cc in
         record {
-          reason = inr (is_same begun.next LAST_NUMBER last);
+          reason = inr (is_same open_lists.next LAST_NUMBER last);
           some = subst (λ (s : ℤ). pos 1 ≤ℤ s) (sym seconds_are) (some_seconds config.lifetime lasts);
           helps = λ many. absurd (is_above config.lists (length lists) few many);
           no_longer = λ fewer many less. absurd (is_above config.lists (length lists) few many);

@@ -13,10 +13,10 @@ use Rattle.oai_answers.specs.Answers.{fails}
 use Rattle.oai_answers.specs.declared.errors.ErrorCode.{ErrorCode}
 use Rattle.oai_answers.specs.declared.errors.ErrorCode.TheVariants.{CannotDisseminateFormat, NoRecordsMatch, NoSetHierarchy}
 use Rattle.oai_settings.specs.Config.{Config}
-use Rattle.oai_repo.specs.Listing.{Said, answer_to, begins, has_no_sets, list_answer, list_begun, says, told_by, told_in, told_items, told_whole, wait_at, whole_page}
-use Rattle.oai_repo.specs.State.{OpenLists, State}
+use Rattle.oai_repo.specs.Listing.{Response, request_response, opens_list, has_no_sets, list_response, new_list, with_answer, answer_by_verb, format_response, selection_response, complete_answer, wait_at, complete_page}
+use Rattle.oai_repo.specs.State.{OpenLists, RepoState}
 use Rattle.oai_laws.specs.Effects.{IsSound}
-use Rattle.oai_laws.specs.Following.{IsToldNone, IsToldWhole, Wish, first_request, is_of_records, selection_in}
+use Rattle.oai_laws.specs.Following.{IsAnsweredNone, IsAnsweredWhole, ListRequest, first_request, is_of_records, selection_in}
 use Rattle.oai_laws.proofs.ChainLemmas.{format_there, sets_there}
 use Rattle.oai_laws.proofs.FollowLemmas.{asked_page}
 
@@ -26,50 +26,50 @@ le_test a b h = grind (arith, nat_tests)
 -- ---- what is said
 
 -- items that are no more than a page has
-told_short : (config : Config) (clock : ℤ) (begun : OpenLists) (verb : ListVerb) (format : Format) (items : List ItemState) → length items ≤ config.chunk
-    → told_items config clock begun verb format items ≡ (says (told_whole config verb format items), begun)
-unfolding told_items
-told_short config clock begun verb format items few =
-    cond-true (nat_le (length items) config.chunk) (says (told_whole config verb format items), begun) (begins config begun format (list_begun config clock begun verb format.prefix items) (wait_at config clock begun))
+told_short : (config : Config) (clock : ℤ) (open_lists : OpenLists) (verb : ListVerb) (format : Format) (items : List ItemState) → length items ≤ config.chunk
+    → selection_response config clock open_lists verb format items ≡ (with_answer (complete_answer config verb format items), open_lists)
+unfolding selection_response
+told_short config clock open_lists verb format items few =
+    cond-true (nat_le (length items) config.chunk) (with_answer (complete_answer config verb format items), open_lists) (opens_list config open_lists format (new_list config clock open_lists verb format.prefix items) (wait_at config clock open_lists))
     (le_test (length items) config.chunk few)
 
-told_some : (config : Config) (verb : ListVerb) (format : Format) (items : List ItemState) → items ≢ [] → told_whole config verb format items ≡ told_by verb format (whole_page config items)
+told_some : (config : Config) (verb : ListVerb) (format : Format) (items : List ItemState) → items ≢ [] → complete_answer config verb format items ≡ answer_by_verb verb format (complete_page config items)
 told_some config verb format [] some = absurd (some refl)
 told_some config verb format (item ∷ items) some = refl
 
 -- an error was said, and the same lists are open
-abbrev IsError : OpenLists → Said × OpenLists → Type 0
-IsError begun done = (code : ErrorCode) × (done ≡ (says (fails code), begun))
+abbrev IsError : OpenLists → Response × OpenLists → Type 0
+IsError open_lists done = (code : ErrorCode) × (done ≡ (with_answer (fails code), open_lists))
 
-none_in : (config : Config) (clock : ℤ) (begun : OpenLists) (verb : ListVerb) (format : Option Format) → IsError begun (told_in config clock begun verb format [])
-none_in config clock begun verb None = (CannotDisseminateFormat, refl)
-none_in config clock begun verb (Some format) = (NoRecordsMatch, told_short config clock begun verb format [] (omega arith))
+none_in : (config : Config) (clock : ℤ) (open_lists : OpenLists) (verb : ListVerb) (format : Option Format) → IsError open_lists (format_response config clock open_lists verb format [])
+none_in config clock open_lists verb None = (CannotDisseminateFormat, refl)
+none_in config clock open_lists verb (Some format) = (NoRecordsMatch, told_short config clock open_lists verb format [] (omega arith))
 
-none_said : (config : Config) (state : State) (wish : Wish) → IsError state.begun (list_answer config state.clock state.begun state.holdings.sets wish.verb wish.prefix wish.set [])
+none_said : (config : Config) (state : RepoState) (wish : ListRequest) → IsError state.open_lists (list_response config state.clock state.open_lists state.holdings.sets wish.verb wish.prefix wish.set [])
 none_said config state wish =
-    cond_both (is_some wish.set && has_no_sets state.holdings.sets) _ _ (IsError state.begun)
+    cond_both (is_some wish.set && has_no_sets state.holdings.sets) _ _ (IsError state.open_lists)
     (λ _. (NoSetHierarchy, refl))
-    (λ _. none_in config state.clock state.begun wish.verb (format_named wish.prefix config.formats))
+    (λ _. none_in config state.clock state.open_lists wish.verb (format_named wish.prefix config.formats))
 
 -- ---- what is answered
 
-pub whole_told : (config : Config) (state : State) (wish : Wish) → IsSound config state → is_of_records wish.verb ≡ true → selection_in state wish ≢ [] → length (selection_in state wish) ≤ config.chunk → IsToldWhole config state wish
+pub whole_told : (config : Config) (state : RepoState) (wish : ListRequest) → IsSound config state → is_of_records wish.verb ≡ true → selection_in state wish ≢ [] → length (selection_in state wish) ≤ config.chunk → IsAnsweredWhole config state wish
 whole_told config state wish sound verb some few =
     let items : List ItemState = selection_in state wish in
     let format = format_there config state.holdings wish.prefix wish.from wish.until wish.set (format_named wish.prefix config.formats) refl sound.kept some in
-    let said : answer_to config state (asks (ask.List wish.verb wish.prefix wish.from wish.until wish.set)) ≡ (says (told_by wish.verb format.0 (whole_page config items)), state.begun) =
-    cond-false (is_some wish.set && has_no_sets state.holdings.sets) (says (fails NoSetHierarchy), state.begun)
-    (told_in config state.clock state.begun wish.verb (format_named wish.prefix config.formats) items)
+    let said : request_response config state (asks (ask.List wish.verb wish.prefix wish.from wish.until wish.set)) ≡ (with_answer (answer_by_verb wish.verb format.0 (complete_page config items)), state.open_lists) =
+    cond-false (is_some wish.set && has_no_sets state.holdings.sets) (with_answer (fails NoSetHierarchy), state.open_lists)
+    (format_response config state.clock state.open_lists wish.verb (format_named wish.prefix config.formats) items)
     (sets_there config state.holdings wish.prefix wish.from wish.until wish.set state.holdings.sets refl sound.kept some)
-    ∙ ap (λ (f : Option Format). told_in config state.clock state.begun wish.verb f items) format.1
-    ∙ told_short config state.clock state.begun wish.verb format.0 items few
-    ∙ ap (λ answer. (says answer, state.begun)) (told_some config wish.verb format.0 items some)
+    ∙ ap (λ (f : Option Format). format_response config state.clock state.open_lists wish.verb f items) format.1
+    ∙ told_short config state.clock state.open_lists wish.verb format.0 items few
+    ∙ ap (λ answer. (with_answer answer, state.open_lists)) (told_some config wish.verb format.0 items some)
     in
     let done = asked_page config state (first_request wish) _ _ _ refl said in
     record {
       format = format.0;
       known = format.1;
-      page = whole_page config items;
+      page = complete_page config items;
       items = refl;
       dated = refl;
       tokenless = refl;
@@ -77,10 +77,10 @@ whole_told config state wish sound verb some few =
       left = done.1;
     }
 
-pub none_told : (config : Config) (state : State) (wish : Wish) → selection_in state wish ≡ [] → IsToldNone config state wish
+pub none_told : (config : Config) (state : RepoState) (wish : ListRequest) → selection_in state wish ≡ [] → IsAnsweredNone config state wish
 none_told config state wish none =
     let said = none_said config state wish in
     let done = asked_page config state (first_request wish) _ _ _ refl
-    (ap (list_answer config state.clock state.begun state.holdings.sets wish.verb wish.prefix wish.set) none ∙ said.1)
+    (ap (list_response config state.clock state.open_lists state.holdings.sets wish.verb wish.prefix wish.set) none ∙ said.1)
     in
     record { code = said.0; told = done.0; left = done.1 }

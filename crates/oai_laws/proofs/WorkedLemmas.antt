@@ -17,11 +17,11 @@ use Rattle.oai_lists.specs.Tokens.{token_of, token_text}
 use Rattle.oai_answers.specs.Answers.{Page}
 use Rattle.oai_repo.specs.Changes.{changed, deposit_refusal, is_one_too_many, item_refusal, refusal_of}
 use Rattle.oai_settings.specs.Config.{IsConfig, are_limits, is_date, is_described}
-use Rattle.oai_laws.specs.Following.{IsChain, IsNext, Offer, first_request, is_later, joined, next_request, offer_in, page_told, selection_in}
-use Rattle.oai_repo.specs.Listing.{part_from, told_items, wait_at}
+use Rattle.oai_laws.specs.Following.{IsChain, IsNextRequest, TokenOffer, first_request, is_later, joined, next_request, offer_in, page_shown, selection_in}
+use Rattle.oai_repo.specs.Listing.{part_from, selection_response, wait_at}
 use Rattle.oai_repo.specs.Machine.{act}
 use Rattle.oai_laws.specs.Runs.{Exchange, IsPart, Timed, performed, run}
-use Rattle.oai_repo.specs.State.{FrozenList, State, empty_state}
+use Rattle.oai_repo.specs.State.{FrozenList, RepoState, empty_state}
 use Rattle.oai_laws.specs.Worked.{IsWorked, after, all_headers, all_records, delete, deposit, identifiers, worked_config, worked_run}
 
 -- ---- the states that the run goes through
@@ -49,53 +49,53 @@ five = first_items ++ fourth ∷ fifth ∷ []
 abbrev list_of : ℕ → ListVerb → ℕ → FrozenList
 list_of number verb end = record { number = number; verb = verb; prefix = codes "oai_dc"; items = five; end = second end }
 
-abbrev state_at : ℕ → List ItemState → List FrozenList → ℕ → State
-state_at n items lists next = record { clock = second n; holdings = record { items = items; sets = [] }; begun = record { lists = lists; next = next } }
+abbrev state_at : ℕ → List ItemState → List FrozenList → ℕ → RepoState
+state_at n items lists next = record { clock = second n; holdings = record { items = items; sets = [] }; open_lists = record { lists = lists; next = next } }
 
-abbrev s1 : State
+abbrev s1 : RepoState
 s1 = state_at 0 (item (codes "oai:a:1") 0 ∷ []) [] 1
 
-abbrev s2 : State
+abbrev s2 : RepoState
 s2 = state_at 0 (item (codes "oai:a:1") 0 ∷ item (codes "oai:a:2") 0 ∷ []) [] 1
 
-abbrev s3 : State
+abbrev s3 : RepoState
 s3 = state_at 0 first_items [] 1
 
-abbrev s4 : State
+abbrev s4 : RepoState
 s4 = state_at 0 (first_items ++ fourth ∷ []) [] 1
 
-abbrev s5 : State
+abbrev s5 : RepoState
 s5 = state_at 0 five [] 1
 
-abbrev s6 : State
+abbrev s6 : RepoState
 s6 = state_at 0 five (list_of 1 list.Identifiers 60 ∷ []) 2
 
-abbrev s7 : State
+abbrev s7 : RepoState
 s7 = state_at 60 five (list_of 2 list.Records 120 ∷ []) 3
 
 abbrev six : List ItemState
 six = five ++ item (codes "oai:a:6") 61 ∷ []
 
-abbrev s9 : State
+abbrev s9 : RepoState
 s9 = state_at 61 six (list_of 2 list.Records 120 ∷ []) 3
 
 abbrev without_fourth : List ItemState
 without_fourth = first_items ++ fifth ∷ item (codes "oai:a:6") 61 ∷ tombstone_of (second 62) fourth ∷ []
 
-abbrev s10 : State
+abbrev s10 : RepoState
 s10 = state_at 62 without_fourth (list_of 2 list.Records 120 ∷ []) 3
 
-abbrev s12 : State
+abbrev s12 : RepoState
 s12 = state_at 63 without_fourth (list_of 2 list.Records 120 ∷ []) 3
 
-abbrev s13 : State
+abbrev s13 : RepoState
 s13 = state_at 64 without_fourth (list_of 2 list.Records 124 ∷ []) 3
 
-abbrev s14 : State
+abbrev s14 : RepoState
 s14 = state_at 70 (first_items ++ item (codes "oai:a:6") 61 ∷ tombstone_of (second 62) fourth ∷ item (codes "oai:a:5") 70 ∷ []) (list_of 2 list.Records 124 ∷ []) 3
 
 -- a command leads from one of them to the next
-abbrev Leads : State → Timed → State → Type 0
+abbrev Leads : RepoState → Timed → RepoState → Type 0
 Leads old timed new = (performed worked_config old timed).left ≡ new
 
 pub led_1 : Leads (empty_state worked_config) (after 0 (deposit (codes "oai:a:1"))) s1
@@ -119,15 +119,15 @@ unfolding act refusal_of changed deposit_refusal item_refusal is_one_too_many it
 led_5 = refl
 
 pub led_6 : Leads s5 (after 0 (first_request all_headers)) s6
-unfolding act selected told_items part_from wait_at record_named format_named dublin_core token_text token_of fmt.digits
+unfolding act selected selection_response part_from wait_at record_named format_named dublin_core token_text token_of fmt.digits
 led_6 = refl
 
 pub led_7 : Leads s6 (after 60 (first_request all_records)) s7
-unfolding act selected told_items part_from wait_at record_named format_named dublin_core token_text token_of fmt.digits
+unfolding act selected selection_response part_from wait_at record_named format_named dublin_core token_text token_of fmt.digits
 led_7 = refl
 
 pub led_8 : Leads s7 (after 60 (next_request list.Identifiers (codes "1.2"))) s7
-unfolding act selected told_items part_from wait_at record_named format_named dublin_core token_text token_of fmt.digits
+unfolding act selected selection_response part_from wait_at record_named format_named dublin_core token_text token_of fmt.digits
 led_8 = refl
 
 pub led_9 : Leads s7 (after 61 (deposit (codes "oai:a:6"))) s9
@@ -139,15 +139,15 @@ unfolding act refusal_of changed deposit_refusal item_refusal is_one_too_many it
 led_10 = refl
 
 pub led_11 : Leads s10 (after 30 (first_request all_headers)) s10
-unfolding act selected told_items part_from wait_at record_named format_named dublin_core token_text token_of fmt.digits
+unfolding act selected selection_response part_from wait_at record_named format_named dublin_core token_text token_of fmt.digits
 led_11 = refl
 
 pub led_12 : Leads s10 (after 63 (next_request list.Identifiers (codes "2.2"))) s12
-unfolding act selected told_items part_from wait_at record_named format_named dublin_core token_text token_of fmt.digits
+unfolding act selected selection_response part_from wait_at record_named format_named dublin_core token_text token_of fmt.digits
 led_12 = refl
 
 pub led_13 : Leads s12 (after 64 (next_request list.Records (codes "2.2"))) s13
-unfolding act selected told_items part_from wait_at record_named format_named dublin_core token_text token_of fmt.digits
+unfolding act selected selection_response part_from wait_at record_named format_named dublin_core token_text token_of fmt.digits
 led_13 = refl
 
 pub led_14 : Leads s13 (after 70 (deposit (codes "oai:a:5"))) s14
@@ -167,13 +167,13 @@ abbrev last_page : Exchange
 last_page = performed worked_config s14 (after 123 (next_request list.Records (codes "2.4")))
 
 -- a run passes over a command, or takes it up
-passes_over : (old new : State) (timed : Timed) (commands : List Timed) (some : List Exchange) → Leads old timed new → IsPart some (run worked_config new commands)
+passes_over : (old new : RepoState) (timed : Timed) (commands : List Timed) (some : List Exchange) → Leads old timed new → IsPart some (run worked_config new commands)
     → IsPart some (run worked_config old (timed ∷ commands))
-passes_over old new timed commands some leads part = inl (subst (λ (state : State). IsPart some (run worked_config state commands)) (sym leads) part)
+passes_over old new timed commands some leads part = inl (subst (λ (state : RepoState). IsPart some (run worked_config state commands)) (sym leads) part)
 
-takes_up : (old new : State) (timed : Timed) (commands : List Timed) (some : List Exchange) → Leads old timed new → IsPart some (run worked_config new commands)
+takes_up : (old new : RepoState) (timed : Timed) (commands : List Timed) (some : List Exchange) → Leads old timed new → IsPart some (run worked_config new commands)
     → IsPart (performed worked_config old timed ∷ some) (run worked_config old (timed ∷ commands))
-takes_up old new timed commands some leads part = inr (some, refl, subst (λ (state : State). IsPart some (run worked_config state commands)) (sym leads) part)
+takes_up old new timed commands some leads part = inr (some, refl, subst (λ (state : RepoState). IsPart some (run worked_config state commands)) (sym leads) part)
 
 -- what is left of the commands behind each
 abbrev from_15 : List Timed
@@ -249,22 +249,22 @@ page_2 = part_from worked_config (list_of 2 list.Records 124) 2
 abbrev page_3 : Page
 page_3 = part_from worked_config (list_of 2 list.Records 183) 4
 
-pub told_1 : page_told opens.outcome ≡ Some page_1
-unfolding act selected told_items part_from wait_at record_named format_named dublin_core token_text token_of fmt.digits
+pub told_1 : page_shown opens.outcome ≡ Some page_1
+unfolding act selected selection_response part_from wait_at record_named format_named dublin_core token_text token_of fmt.digits
 told_1 = refl
 
-pub told_2 : page_told second_page.outcome ≡ Some page_2
-unfolding act selected told_items part_from wait_at record_named format_named dublin_core token_text token_of fmt.digits
+pub told_2 : page_shown second_page.outcome ≡ Some page_2
+unfolding act selected selection_response part_from wait_at record_named format_named dublin_core token_text token_of fmt.digits
 told_2 = refl
 
-pub told_3 : page_told last_page.outcome ≡ Some page_3
-unfolding act selected told_items part_from wait_at record_named format_named dublin_core token_text token_of fmt.digits
+pub told_3 : page_shown last_page.outcome ≡ Some page_3
+unfolding act selected selection_response part_from wait_at record_named format_named dublin_core token_text token_of fmt.digits
 told_3 = refl
 
-abbrev offer_1 : Offer
+abbrev offer_1 : TokenOffer
 offer_1 = record { token = codes "2.2"; expires = second 120 }
 
-abbrev offer_2 : Offer
+abbrev offer_2 : TokenOffer
 offer_2 = record { token = codes "2.4"; expires = second 124 }
 
 pub offered_1 : offer_in page_1.continuation ≡ Some offer_1
@@ -275,10 +275,10 @@ pub offered_2 : offer_in page_2.continuation ≡ Some offer_2
 unfolding part_from token_text fmt.digits
 offered_2 = refl
 
-next_1 : IsNext list.Records opens second_page
+next_1 : IsNextRequest list.Records opens second_page
 next_1 = record { page = page_1; offer = offer_1; told = told_1; offered = offered_1; asked = refl; unexpired = refl }
 
-next_2 : IsNext list.Records second_page last_page
+next_2 : IsNextRequest list.Records second_page last_page
 next_2 = record { page = page_2; offer = offer_2; told = told_2; offered = offered_2; asked = refl; unexpired = refl }
 
 long : worked_config.chunk < length (selection_in opens.found all_records)
@@ -286,7 +286,7 @@ unfolding selected record_named
 long = omega arith
 
 not_later : is_later opens.outcome ≡ false
-unfolding act selected told_items part_from wait_at record_named format_named dublin_core token_text token_of fmt.digits
+unfolding act selected selection_response part_from wait_at record_named format_named dublin_core token_text token_of fmt.digits
 not_later = refl
 
 chain : IsChain worked_config worked_run all_records opens (second_page ∷ last_page ∷ [])
@@ -304,8 +304,8 @@ worked = (
     chain = chain;
     pages = page_1 ∷ page_2 ∷ page_3 ∷ [];
     told =
-        ap (λ (p : Option Page). p ∷ page_told second_page.outcome ∷ page_told last_page.outcome ∷ []) told_1
-        ∙ ap (λ (p : Option Page). Some page_1 ∷ p ∷ page_told last_page.outcome ∷ []) told_2
+        ap (λ (p : Option Page). p ∷ page_shown second_page.outcome ∷ page_shown last_page.outcome ∷ []) told_1
+        ∙ ap (λ (p : Option Page). Some page_1 ∷ p ∷ page_shown last_page.outcome ∷ []) told_2
         ∙ ap (λ (p : Option Page). Some page_1 ∷ Some page_2 ∷ p ∷ []) told_3;
     three = refl;
     records = records_told;

@@ -13,7 +13,7 @@ use Rattle.oai_answers.specs.declared.identify.DeletedRecord.{DeletedRecord}
 use Rattle.oai_answers.specs.declared.identify.DeletedRecord.TheVariants.{No, Transient, Persistent}
 use Rattle.oai_settings.specs.Config.{Config}
 use Rattle.oai_repo.specs.Changes.{stamp_at}
-use Rattle.oai_repo.specs.State.{Holdings, State}
+use Rattle.oai_repo.specs.State.{Holdings, RepoState}
 
 -- under the identifier stands that item, or none; under each other identifier stands what stood there; and the sets are as they were
 pub record IsReplaced (identifier : List ℕ) (item : Option ItemState) (old new : Holdings) : Type 0 where
@@ -52,6 +52,6 @@ Makes config stamp (change.Purge before) old new = IsPurged config.deleted befor
 Makes config stamp (change.AddSet spec name) old new = (new.items ≡ old.items) × (new.sets ≡ old.sets ++ (spec, name) ∷ [])
 
 -- the change was accepted with a datestamp: it is that of the clock (section 2.7.1), and what is held is what the change makes with it
-pub record IsAccepted (config : Config) (change : Change) (old new : State) (stamp : ℤ) : Type 0 where
+pub record DoesChange (config : Config) (change : Change) (old new : RepoState) (stamp : ℤ) : Type 0 where
   pub dated : stamp ≡ stamp_at config old.clock
   pub made : Makes config stamp change old.holdings new.holdings

@@ -12,8 +12,8 @@ use Rattle.oai_args.specs.declared.requests.Ask.TheVariants as ask
 use Rattle.oai_repo.specs.Changes.{drops_format, is_one_too_many, set_refusal, stamp_at, with_new}
 use Rattle.oai_settings.specs.Config.{Config}
 use Rattle.oai_repo.specs.Kept.{AreKept, is_well_kept}
-use Rattle.oai_repo.specs.Listing.{wait_at, with_begun, with_prolonged}
-use Rattle.oai_repo.specs.State.{FrozenList, NamedSet, State}
+use Rattle.oai_repo.specs.Listing.{wait_at, with_new_list, with_prolonged}
+use Rattle.oai_repo.specs.State.{FrozenList, NamedSet, RepoState}
 
 -- ---- what is done to a state
 
@@ -29,7 +29,7 @@ pub data Effect : Type 0 where
   list_opened : FrozenList → Effect
 
 -- the state with other items
-abbrev pub holding : State → List ItemState → State
+abbrev pub holding : RepoState → List ItemState → RepoState
 holding state items = record state { holdings = record state.holdings { items = items } }
 
 -- the item goes where deleted ones of datestamps below the limit go
@@ -37,20 +37,20 @@ abbrev pub goes_below : ℤ → ItemState → Bool
 goes_below limit item = not item.live && int_lt item.stamp limit
 
 -- the state then
-abbrev pub effected : Config → State → Effect → State
+abbrev pub effected : Config → RepoState → Effect → RepoState
 effected config state unchanged = state
 effected config state (item_put item) = holding state (with_new item state.holdings.items)
 effected config state (item_taken identifier) = holding state (without identifier state.holdings.items)
 effected config state (items_purged limit) = holding state (filter (λ item. not (goes_below limit item)) state.holdings.items)
 effected config state (set_added set) = record state { holdings = record state.holdings { sets = state.holdings.sets ++ set ∷ [] } }
-effected config state (list_renewed number) = record state { begun = with_prolonged config state.clock number state.begun }
-effected config state (list_opened list) = record state { begun = with_begun list state.begun }
+effected config state (list_renewed number) = record state { open_lists = with_prolonged config state.clock number state.open_lists }
+effected config state (list_opened list) = record state { open_lists = with_new_list list state.open_lists }
 
 -- ---- when it can be done
 
 -- the item is what is left of a live one of its identifier that is there: the same sets and prefixes, no fields, and its own datestamp. No
 -- such item comes where nothing is kept of deleted records (section 2.5.1)
-pub record IsLeftOver (config : Config) (state : State) (item : ItemState) : Type 0 where
+pub record IsLeftOver (config : Config) (state : RepoState) (item : ItemState) : Type 0 where
   pub policy : config.deleted ≢ No
   pub before : ItemState
   pub there : item_named item.identifier state.holdings.items ≡ Some before
@@ -59,7 +59,7 @@ pub record IsLeftOver (config : Config) (state : State) (item : ItemState) : Typ
 
 -- an item is put: it has the datestamp of the clock and is as the repository keeps its items; it has a record in each format in which
 -- the one that it replaces has one; where it replaces none there is room for it; and a deleted one is what is left of a live one
-pub record IsPut (config : Config) (state : State) (item : ItemState) : Type 0 where
+pub record IsPut (config : Config) (state : RepoState) (item : ItemState) : Type 0 where
   pub dated : item.stamp ≡ stamp_at config state.clock
   pub well : is_well_kept config state.holdings.sets item ≡ true
   pub formats : drops_format (item_named item.identifier state.holdings.items) item.formats ≡ false
@@ -79,15 +79,15 @@ abbrev pub is_of_format : Config → FrozenList → Bool
 is_of_format config list = is_some (format_named list.prefix config.formats)
 
 -- a list is opened: nothing keeps it waiting, it gets the next number, it is open for its lifetime, and it is such a list
-pub record IsOpened (config : Config) (state : State) (list : FrozenList) : Type 0 where
-  pub admitted : wait_at config state.clock state.begun ≡ None
-  pub number : list.number ≡ state.begun.next
+pub record IsOpened (config : Config) (state : RepoState) (list : FrozenList) : Type 0 where
+  pub admitted : wait_at config state.clock state.open_lists ≡ None
+  pub number : list.number ≡ state.open_lists.next
   pub lasting : list.end ≡ state.clock +ℤ pos config.lifetime
   pub formed : is_formed config list ≡ true
   pub known : is_of_format config list ≡ true
 
 -- it can be done. Nothing of an item is forgotten but where the repository keeps nothing of deleted records (section 2.5.1)
-abbrev pub IsPossible : Config → State → Effect → Type 0
+abbrev pub IsPossible : Config → RepoState → Effect → Type 0
 IsPossible config state unchanged = Unit {0}
 IsPossible config state (item_put item) = IsPut config state item
 IsPossible config state (item_taken identifier) = config.deleted ≡ No
@@ -97,7 +97,7 @@ IsPossible config state (list_renewed number) = Unit {0}
 IsPossible config state (list_opened list) = IsOpened config state list
 
 -- the second state is the first after something that can be done to it
-pub record IsEffected (config : Config) (old new : State) : Type 0 where
+pub record IsEffected (config : Config) (old new : RepoState) : Type 0 where
   pub effect : Effect
   pub possible : IsPossible config old effect
   pub done : new ≡ effected config old effect
@@ -123,10 +123,10 @@ is_live item = item.live
 -- what is held is as a repository keeps it, and where nothing is kept of deleted records no item is a deleted one (section 2.5.1); each open
 -- list has a number that was given, items that the repository tells, and a format of the repository; and the last number of 64 bits was not
 -- given
-pub record IsSound (config : Config) (state : State) : Type 0 where
+pub record IsSound (config : Config) (state : RepoState) : Type 0 where
   pub kept : AreKept config state.holdings
   pub live : config.deleted ≡ No → list_all is_live state.holdings.items ≡ true
-  pub given : list_all (is_given state.begun.next) state.begun.lists ≡ true
-  pub formed : list_all (is_formed config) state.begun.lists ≡ true
-  pub known : list_all (is_of_format config) state.begun.lists ≡ true
-  pub few : state.begun.next ≤ LAST_NUMBER
+  pub given : list_all (is_given state.open_lists.next) state.open_lists.lists ≡ true
+  pub formed : list_all (is_formed config) state.open_lists.lists ≡ true
+  pub known : list_all (is_of_format config) state.open_lists.lists ≡ true
+  pub few : state.open_lists.next ≤ LAST_NUMBER

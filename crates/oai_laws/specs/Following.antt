@@ -17,19 +17,19 @@ use Rattle.oai_answers.specs.declared.errors.ErrorCode.TheVariants.{BadResumptio
 use Rattle.oai_answers.specs.declared.tokens.Extent.{Extent}
 use Rattle.oai_repo.specs.Answers.{filter_of}
 use Rattle.oai_settings.specs.Config.{Config}
-use Rattle.oai_repo.specs.Listing.{told_by}
-use Rattle.oai_repo.specs.Machine.{Command, Outcome, accepted, act, asking, documented, later, refused}
+use Rattle.oai_repo.specs.Listing.{answer_by_verb}
+use Rattle.oai_repo.specs.Machine.{Command, Outcome, accepted, act, requesting, documented, later, refused_with}
 use Rattle.oai_laws.specs.Runs.{Exchange, IsPart}
-use Rattle.oai_repo.specs.State.{State}
+use Rattle.oai_repo.specs.State.{RepoState}
 
 -- ---- what is read off an answer
 
 -- the answer, if the outcome is one
-abbrev pub answer_told : Outcome → Option Answer
-answer_told (documented document) = Some document.answer
-answer_told (later seconds) = None
-answer_told (accepted stamp) = None
-answer_told (refused cause) = None
+abbrev pub answer_in : Outcome → Option Answer
+answer_in (documented document) = Some document.answer
+answer_in (later seconds) = None
+answer_in (accepted stamp) = None
+answer_in (refused_with cause) = None
 
 -- the part of a list that an answer tells, or the whole, if it tells one
 abbrev pub page_in : Answer → Option Page
@@ -41,23 +41,23 @@ page_in (lists_formats formats) = None
 page_in (lists_sets sets) = None
 page_in (gives_record dissemination) = None
 
-abbrev pub page_told : Outcome → Option Page
-page_told outcome = option_and_then page_in (answer_told outcome)
+abbrev pub page_shown : Outcome → Option Page
+page_shown outcome = option_and_then page_in (answer_in outcome)
 
 -- the request is to wait
 abbrev pub is_later : Outcome → Bool
 is_later (later seconds) = true
 is_later (documented document) = false
 is_later (accepted stamp) = false
-is_later (refused cause) = false
+is_later (refused_with cause) = false
 
 -- a token that asks for what remains, and when it expires, in seconds from 1970 on
-pub record Offer : Type 0 where
+pub record TokenOffer : Type 0 where
   pub token : List ℕ
   pub expires : ℤ
 
 -- what the part offers: nothing where nothing remains, and its token is empty
-abbrev pub offer_in : Continuation → Option Offer
+abbrev pub offer_in : Continuation → Option TokenOffer
 offer_in (remains expires extent token) = Some (record { token = token; expires = expires })
 offer_in (completes extent) = None
 offer_in whole = None
@@ -77,7 +77,7 @@ is_of_records list.Records = true
 is_of_records list.Sets = false
 
 -- what a list request asks for: the verb and its arguments
-pub record Wish : Type 0 where
+pub record ListRequest : Type 0 where
   pub verb : ListVerb
   pub prefix : List ℕ
   pub from : Option (List ℕ)
@@ -85,22 +85,22 @@ pub record Wish : Type 0 where
   pub set : Option (List ℕ)
 
 -- the list request
-abbrev pub first_request : Wish → Command
-first_request wish = asking (asks (ask.List wish.verb wish.prefix wish.from wish.until wish.set))
+abbrev pub first_request : ListRequest → Command
+first_request wish = requesting (asks (ask.List wish.verb wish.prefix wish.from wish.until wish.set))
 
 -- the request of that verb with a token
 abbrev pub next_request : ListVerb → List ℕ → Command
-next_request verb token = asking (asks (ask.Resume verb token))
+next_request verb token = requesting (asks (ask.Resume verb token))
 
 -- the records that the list request selects in a state (section 2.7)
-abbrev pub selection_in : State → Wish → List ItemState
+abbrev pub selection_in : RepoState → ListRequest → List ItemState
 selection_in state wish = selected (filter_of wish.prefix wish.from wish.until wish.set) state.holdings.items
 
 -- the second exchange asks, by that verb, with the token that the page of the first offers, and before this expires
-pub record IsNext (verb : ListVerb) (before after : Exchange) : Type 0 where
+pub record IsNextRequest (verb : ListVerb) (before after : Exchange) : Type 0 where
   pub page : Page
-  pub offer : Offer
-  pub told : page_told before.outcome ≡ Some page
+  pub offer : TokenOffer
+  pub told : page_shown before.outcome ≡ Some page
   pub offered : offer_in page.continuation ≡ Some offer
   pub asked : after.command ≡ next_request verb offer.token
   pub unexpired : int_lt after.found.clock offer.expires ≡ true
@@ -108,11 +108,11 @@ pub record IsNext (verb : ListVerb) (before after : Exchange) : Type 0 where
 -- each exchange asks with the token of the one before it
 abbrev pub AreNext : ListVerb → Exchange → List Exchange → Type 0
 AreNext verb before [] = Unit {0}
-AreNext verb before (next ∷ exchanges) = IsNext verb before next × AreNext verb next exchanges
+AreNext verb before (next ∷ exchanges) = IsNextRequest verb before next × AreNext verb next exchanges
 
 -- a chain among the exchanges of a repository: one that asks for a list which is too long for one page, and which is not told to wait;
 -- and then, whatever else is asked and deposited between, those that follow it by its tokens
-pub record IsChain (config : Config) (exchanges : List Exchange) (wish : Wish) (first : Exchange) (others : List Exchange) : Type 0 where
+pub record IsChain (config : Config) (exchanges : List Exchange) (wish : ListRequest) (first : Exchange) (others : List Exchange) : Type 0 where
   pub among : IsPart (first ∷ others) exchanges
   pub verb : is_of_records wish.verb ≡ true
   pub asked : first.command ≡ first_request wish
@@ -128,21 +128,21 @@ joined pages = flat_map (λ (page : Page). page.items) pages
 
 -- a page of a list with so many records, and so many before it: it says so; it has some records, and `chunk` of them where it offers a token;
 -- and its datestamps are of the repository's granularity
-pub record IsPlaced (config : Config) (size before : ℕ) (page : Page) : Type 0 where
+pub record IsPageAt (config : Config) (size before : ℕ) (page : Page) : Type 0 where
   pub extent : extent_in page.continuation ≡ Some (record { size = size; cursor = before })
   pub some : page.items ≢ []
   pub full : is_none (offer_in page.continuation) ≡ false → length page.items ≡ config.chunk
   pub dated : page.granularity ≡ config.granularity
 
 -- each page stands behind those before it
-abbrev pub ArePlaced : Config → ℕ → ℕ → List Page → Type 0
-ArePlaced config size before [] = Unit {0}
-ArePlaced config size before (page ∷ pages) = IsPlaced config size before page × ArePlaced config size (before + length page.items) pages
+abbrev pub ArePagesAt : Config → ℕ → ℕ → List Page → Type 0
+ArePagesAt config size before [] = Unit {0}
+ArePagesAt config size before (page ∷ pages) = IsPageAt config size before page × ArePagesAt config size (before + length page.items) pages
 
 -- a token expires when the list that it continues ends: its lifetime after the clock at which the page was asked for
 abbrev pub IsLasting : Config → Exchange → Page → Type 0
 IsLasting config exchange page =
-    (offer : Offer) → offer_in page.continuation ≡ Some offer → offer.expires ≡ exchange.found.clock +ℤ pos config.lifetime
+    (offer : TokenOffer) → offer_in page.continuation ≡ Some offer → offer.expires ≡ exchange.found.clock +ℤ pos config.lifetime
 
 -- so it is of each page, which answers the exchange at its place
 abbrev pub AreLasting : Config → List Exchange → List Page → Type 0
@@ -155,43 +155,43 @@ abbrev pub are_complete : List Page → Bool
 are_complete pages = list_any (λ (page : Page). is_none (offer_in page.continuation)) pages
 
 -- the first list begins the second
-abbrev pub Begins : List ItemState → List ItemState → Type 0
-Begins front all = (others : List ItemState) × (front ++ others ≡ all)
+abbrev pub BeginsList : List ItemState → List ItemState → Type 0
+BeginsList front all = (others : List ItemState) × (front ++ others ≡ all)
 
 -- the exchanges are answered with these pages of the selection: each by the verb, and in the format, that was asked for; each page says
 -- where it stands, and its token lasts for the lifetime of a list; their records, joined, begin the selection, and are all of it once a
 -- page has the empty token; each record once, in order
-pub record IsFollowed (config : Config) (wish : Wish) (selection : List ItemState) (exchanges : List Exchange) (pages : List Page) : Type 0 where
+pub record IsFollowedThrough (config : Config) (wish : ListRequest) (selection : List ItemState) (exchanges : List Exchange) (pages : List Page) : Type 0 where
   pub format : Format
   pub known : format_named wish.prefix config.formats ≡ Some format
-  pub told : map (λ (exchange : Exchange). answer_told exchange.outcome) exchanges ≡ map (λ (page : Page). Some (told_by wish.verb format page)) pages
-  pub placed : ArePlaced config (length selection) 0 pages
+  pub told : map (λ (exchange : Exchange). answer_in exchange.outcome) exchanges ≡ map (λ (page : Page). Some (answer_by_verb wish.verb format page)) pages
+  pub placed : ArePagesAt config (length selection) 0 pages
   pub lasting : AreLasting config exchanges pages
-  pub begun : Begins (joined pages) selection
+  pub open_lists : BeginsList (joined pages) selection
   pub complete : are_complete pages ≡ true → joined pages ≡ selection
   pub ordered : are_in_order (joined pages) ≡ true
   pub apart : are_apart (joined pages) ≡ true
 
 -- what a request with a token is answered: a page; or that no list is open which the token continues by the verb
 abbrev pub IsContinued : Outcome → Type 0
-IsContinued outcome = (answer_told outcome ≡ Some (fails BadResumptionToken)) ⊎ ((page : Page) × (page_told outcome ≡ Some page))
+IsContinued outcome = (answer_in outcome ≡ Some (fails BadResumptionToken)) ⊎ ((page : Page) × (page_shown outcome ≡ Some page))
 
 -- ---- a list that is no longer than a page
 
 -- a list request is answered with its whole selection: by the verb and in the format that was asked for, in one page without a token, and the
 -- state is left as it was
-pub record IsToldWhole (config : Config) (state : State) (wish : Wish) : Type 0 where
+pub record IsAnsweredWhole (config : Config) (state : RepoState) (wish : ListRequest) : Type 0 where
   pub format : Format
   pub known : format_named wish.prefix config.formats ≡ Some format
   pub page : Page
   pub items : page.items ≡ selection_in state wish
   pub dated : page.granularity ≡ config.granularity
   pub tokenless : page.continuation ≡ whole
-  pub told : answer_told (act config state (first_request wish)).0 ≡ Some (told_by wish.verb format page)
+  pub told : answer_in (act config state (first_request wish)).0 ≡ Some (answer_by_verb wish.verb format page)
   pub left : (act config state (first_request wish)).1 ≡ state
 
 -- it is answered with an error, and the state is left as it was
-pub record IsToldNone (config : Config) (state : State) (wish : Wish) : Type 0 where
+pub record IsAnsweredNone (config : Config) (state : RepoState) (wish : ListRequest) : Type 0 where
   pub code : ErrorCode
-  pub told : answer_told (act config state (first_request wish)).0 ≡ Some (fails code)
+  pub told : answer_in (act config state (first_request wish)).0 ≡ Some (fails code)
   pub left : (act config state (first_request wish)).1 ≡ state

@@ -4,7 +4,7 @@ use Rattle.std.specs.List.{flat_map, list_all}
 use Rattle.oai_names.specs.Names.{is_one_of}
 use Rattle.oai_settings.specs.Config.{Config}
 use Rattle.oai_repo.specs.Machine.{Command, Outcome, act_at}
-use Rattle.oai_repo.specs.State.{FrozenList, OpenLists, State, moved}
+use Rattle.oai_repo.specs.State.{FrozenList, OpenLists, RepoState, moved}
 
 -- a command and the moment at which it comes, in seconds from 1970 on: any moment, also one before those of earlier commands
 pub record Timed : Type 0 where
@@ -13,19 +13,19 @@ pub record Timed : Type 0 where
 
 -- a command that was performed: the state that it found, the clock moved; what it was answered; and the state that it left
 pub record Exchange : Type 0 where
-  pub found : State
+  pub found : RepoState
   pub command : Command
   pub outcome : Outcome
-  pub left : State
+  pub left : RepoState
 
 -- a command that is performed in that state
-abbrev pub performed : Config → State → Timed → Exchange
+abbrev pub performed : Config → RepoState → Timed → Exchange
 performed config state timed =
     let done = act_at config state timed.moment timed.command in
     record { found = moved timed.moment state; command = timed.command; outcome = done.0; left = done.1 }
 
 -- commands that are performed one after the other, the first in that state
-abbrev pub run : Config → State → List Timed → List Exchange
+abbrev pub run : Config → RepoState → List Timed → List Exchange
 run config state [] = []
 run config state (timed ∷ commands) =
     let exchange = performed config state timed in exchange ∷ run config exchange.left commands
@@ -44,20 +44,20 @@ Throughout P (exchange ∷ exchanges) = P exchange × Throughout P exchanges
 
 -- the numbers of the open lists
 abbrev pub numbers_open : OpenLists → List ℕ
-numbers_open begun = map (λ (list : FrozenList). list.number) begun.lists
+numbers_open open_lists = map (λ (list : FrozenList). list.number) open_lists.lists
 
 -- the numbers that an exchange gave: of the lists that are open after it, and were not before
 abbrev pub given_in : Exchange → List ℕ
-given_in exchange = filter (λ n. not (is_one_of (numbers_open exchange.found.begun) n)) (numbers_open exchange.left.begun)
+given_in exchange = filter (λ n. not (is_one_of (numbers_open exchange.found.open_lists) n)) (numbers_open exchange.left.open_lists)
 
 -- the numbers that were given, one after the other
 abbrev pub numbers_given : List Exchange → List ℕ
 numbers_given exchanges = flat_map given_in exchanges
 
 -- each number is below every later one
-abbrev pub are_rising : List ℕ → Bool
-are_rising [] = true
-are_rising (n ∷ numbers) = list_all (nat_lt n) numbers && are_rising numbers
+abbrev pub numbers_rise_strictly : List ℕ → Bool
+numbers_rise_strictly [] = true
+numbers_rise_strictly (n ∷ numbers) = list_all (nat_lt n) numbers && numbers_rise_strictly numbers
 
 -- each number is below 18446744073709551615
 abbrev pub are_never_last : List ℕ → Bool

@@ -9,7 +9,7 @@ use Rattle.oai_time.specs.declared.bound.Bound.{Bound}
 use Rattle.oai_item.specs.Item.{ItemState, has_record}
 use Rattle.oai_item.specs.Order.{are_in_order}
 use Rattle.oai_settings.specs.Config.{Config}
-use Rattle.oai_laws.specs.Following.{Wish}
+use Rattle.oai_laws.specs.Following.{ListRequest}
 
 -- ---- what is asked for
 
@@ -27,20 +27,20 @@ IsInSet set specs = (spec : List ℕ) × Contains specs spec × Covers set spec
 
 -- the item, live or deleted, is asked for: it has a record in the metadataPrefix; and where `from`, `until` or `set` is given, its
 -- datestamp is not before the one, not after the other, and it is in the set
-pub record IsAskedFor (wish : Wish) (item : ItemState) : Type 0 where
+pub record IsAskedFor (wish : ListRequest) (item : ItemState) : Type 0 where
   pub prefix : has_record wish.prefix item.formats ≡ true
   pub from : IfSome wish.from (λ text. IsFrom text item.stamp)
   pub until : IfSome wish.until (λ text. IsUntil text item.stamp)
   pub set : IfSome wish.set (λ spec. IsInSet spec item.sets)
 
 -- the selection has of the items just those that are asked for, each once, in the order of their datestamps and identifiers
-pub record IsSelection (wish : Wish) (items selection : List ItemState) : Type 0 where
+pub record IsSelection (wish : ListRequest) (items selection : List ItemState) : Type 0 where
   pub members : (item : ItemState) → Contains selection item ↔ (Contains items item × IsAskedFor wish item)
   pub ordered : are_in_order selection ≡ true
 
 -- ---- datestamps
 
 -- the item's datestamp is not before earliestDatestamp (section 4.2), not after the clock, and one of the repository's granularity
-abbrev pub is_dated : Config → ℤ → ItemState → Bool
-is_dated config clock item =
+abbrev pub has_granular_stamp : Config → ℤ → ItemState → Bool
+has_granular_stamp config clock item =
     int_le config.earliest item.stamp && int_le item.stamp clock && int_eq (stamp_of config.granularity item.stamp) item.stamp

@@ -10,8 +10,8 @@ use Rattle.oai_item.specs.declared.formats.Format.{Format}
 use Rattle.oai_answers.specs.Answers.{Document, Page}
 use Rattle.oai_answers.specs.Seen.{IsRegular, SeenRecord, header_seen, record_seen}
 use Rattle.oai_settings.specs.Config.{Config, IsConfig}
-use Rattle.oai_laws.specs.Following.{IsChain, Wish, offer_in, page_told}
-use Rattle.oai_repo.specs.Machine.{Outcome, Told, accepted, documented, later, refused, written}
+use Rattle.oai_laws.specs.Following.{IsChain, ListRequest, offer_in, page_shown}
+use Rattle.oai_repo.specs.Machine.{Outcome, Output, accepted, documented, later, refused_with, outcome_output}
 use Rattle.oai_laws.specs.Runs.{Exchange, IsPart, Timed, run}
 use Rattle.oai_repo.specs.State.{empty_state}
 
@@ -20,7 +20,7 @@ abbrev pub IsRegularOutcome : Outcome → Type 0
 IsRegularOutcome (documented document) = IsRegular document.answer
 IsRegularOutcome (later seconds) = Unit {0}
 IsRegularOutcome (accepted stamp) = Unit {0}
-IsRegularOutcome (refused cause) = Unit {0}
+IsRegularOutcome (refused_with cause) = Unit {0}
 
 -- a repository of that configuration answers the document, some time after it began
 pub record IsSomeAnswer (config : Config) (document : Document) : Type 0 where
@@ -31,23 +31,23 @@ pub record IsSomeAnswer (config : Config) (document : Document) : Type 0 where
   pub told : exchange.outcome ≡ documented document
 
 -- a list of a repository of that configuration that is followed, some time after it began
-pub record IsFollowedList (config : Config) (wish : Wish) (first : Exchange) (others : List Exchange) : Type 0 where
+pub record IsFollowedList (config : Config) (wish : ListRequest) (first : Exchange) (others : List Exchange) : Type 0 where
   pub rules : IsConfig config
   pub formats : AreRepositoryFormats config.formats
   pub commands : List Timed
   pub chain : IsChain config (run config (empty_state config) commands) wish first others
 
 -- one of the exchanges is answered with a page that has the empty token
-abbrev pub is_last : Option Page → Bool
-is_last None = false
-is_last (Some page) = is_none (offer_in page.continuation)
+abbrev pub is_last_page : Option Page → Bool
+is_last_page None = false
+is_last_page (Some page) = is_none (offer_in page.continuation)
 
 abbrev pub is_followed_to_its_end : List Exchange → Bool
-is_followed_to_its_end exchanges = list_any (λ (exchange : Exchange). is_last (page_told exchange.outcome)) exchanges
+is_followed_to_its_end exchanges = list_any (λ (exchange : Exchange). is_last_page (page_shown exchange.outcome)) exchanges
 
 -- what was written to each of the exchanges
-abbrev pub bytes_of : Config → List Exchange → List Told
-bytes_of config exchanges = map (λ (exchange : Exchange). written config.granularity exchange.outcome) exchanges
+abbrev pub bytes_written : Config → List Exchange → List Output
+bytes_written config exchanges = map (λ (exchange : Exchange). outcome_output config.granularity exchange.outcome) exchanges
 
 -- what is seen of an item where the verb tells it: its header, and by ListRecords its record in the format
 abbrev pub seen_by : ListVerb → Granularity → Option Format → ItemState → SeenRecord
@@ -57,5 +57,5 @@ seen_by list.Identifiers granularity format item = record { header = header_seen
 seen_by list.Sets granularity format item = record { header = header_seen granularity item; metadata = None }
 
 -- and of the items that a list request selects
-abbrev pub selection_seen : Config → Wish → List ItemState → List SeenRecord
+abbrev pub selection_seen : Config → ListRequest → List ItemState → List SeenRecord
 selection_seen config wish items = map (seen_by wish.verb config.granularity (format_named wish.prefix config.formats)) items

@@ -8,7 +8,7 @@ use Rattle.oai_item.specs.declared.changes.Change.TheVariants as change
 use Rattle.oai_answers.specs.Answers.{Page}
 use Rattle.oai_answers.specs.declared.identify.DeletedRecord.TheVariants.{Persistent}
 use Rattle.oai_settings.specs.Config.{Config}
-use Rattle.oai_laws.specs.Following.{IsChain, Wish, first_request, joined, next_request, page_told}
+use Rattle.oai_laws.specs.Following.{IsChain, ListRequest, first_request, joined, next_request, page_shown}
 use Rattle.oai_repo.specs.Machine.{Command, changing}
 use Rattle.oai_laws.specs.Runs.{Exchange, Timed, run}
 use Rattle.oai_repo.specs.State.{empty_state}
@@ -41,11 +41,11 @@ abbrev pub delete : List ℕ → Command
 delete identifier = changing (change.Delete identifier)
 
 -- all records in Dublin Core
-abbrev pub all_records : Wish
+abbrev pub all_records : ListRequest
 all_records = record { verb = list.Records; prefix = codes "oai_dc"; from = None; until = None; set = None }
 
 -- all headers
-abbrev pub all_headers : Wish
+abbrev pub all_headers : ListRequest
 all_headers = record all_records { verb = list.Identifiers }
 
 -- Five items are deposited. A list of headers is opened at the first second and never followed; it ends a minute later. At that
@@ -83,6 +83,6 @@ identifiers items = map (λ (item : ItemState). item.identifier) items
 pub record IsWorked (first : Exchange) (others : List Exchange) : Type 0 where
   pub chain : IsChain worked_config worked_run all_records first others
   pub pages : List Page
-  pub told : map (λ (exchange : Exchange). page_told exchange.outcome) (first ∷ others) ≡ map (λ (page : Page). Some page) pages
+  pub told : map (λ (exchange : Exchange). page_shown exchange.outcome) (first ∷ others) ≡ map (λ (page : Page). Some page) pages
   pub three : length pages ≡ 3
   pub records : identifiers (joined pages) ≡ codes "oai:a:1" ∷ codes "oai:a:2" ∷ codes "oai:a:3" ∷ codes "oai:a:4" ∷ codes "oai:a:5" ∷ []

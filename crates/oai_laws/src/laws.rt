@@ -13,40 +13,16 @@ ghost use Rattle.oai_answers.specs.declared.errors.ErrorCode.TheVariants.{BadRes
 ghost use Rattle.oai_answers.specs.Documents.{document};
 ghost use Rattle.oai_answers.specs.Seen.{document_seen};
 ghost use Rattle.oai_settings.specs.Config.{Config, IsConfig};
-ghost use Rattle.oai_laws.specs.Changing.{IsAccepted};
+ghost use Rattle.oai_laws.specs.Changing.{DoesChange};
 ghost use Rattle.oai_laws.specs.Effects.{Effect, IsEffected, IsPossible, IsSound, effected, is_of_no_list};
-ghost use Rattle.oai_laws.specs.Following.{
-  IsChain,
-  IsContinued,
-  IsFollowed,
-  IsToldNone,
-  IsToldWhole,
-  Wish,
-  answer_told,
-  is_of_records,
-  selection_in,
-};
-ghost use Rattle.oai_repo.specs.Machine.{Command, accepted, act, asking, changing, later, refused};
-ghost use Rattle.oai_laws.specs.Runs.{
-  Exchange,
-  Throughout,
-  Timed,
-  are_never_last,
-  are_rising,
-  numbers_given,
-  run,
-};
-ghost use Rattle.oai_laws.specs.Selecting.{IsSelection, is_dated};
-ghost use Rattle.oai_laws.specs.Shown.{
-  IsFollowedList,
-  IsSomeAnswer,
-  bytes_of,
-  is_followed_to_its_end,
-  selection_seen,
-};
+ghost use Rattle.oai_laws.specs.Following.{IsChain, IsContinued, IsFollowedThrough, IsAnsweredNone, IsAnsweredWhole, ListRequest, answer_in, is_of_records, selection_in};
+ghost use Rattle.oai_repo.specs.Machine.{Command, accepted, act, requesting, changing, later, refused_with};
+ghost use Rattle.oai_laws.specs.Runs.{Exchange, Throughout, Timed, are_never_last, numbers_rise_strictly, numbers_given, run};
+ghost use Rattle.oai_laws.specs.Selecting.{IsSelection, has_granular_stamp};
+ghost use Rattle.oai_laws.specs.Shown.{IsFollowedList, IsSomeAnswer, bytes_written, is_followed_to_its_end, selection_seen};
 ghost use Rattle.oai_repo.specs.Listing.{wait_at};
-ghost use Rattle.oai_repo.specs.State.{OpenLists, State, empty_state, moved, still_open};
-ghost use Rattle.oai_laws.specs.Waiting.{IsToldToWait, IsWait};
+ghost use Rattle.oai_repo.specs.State.{OpenLists, RepoState, empty_state, moved, still_open};
+ghost use Rattle.oai_laws.specs.Waiting.{IsRetriedLater, IsWait};
 ghost use Rattle.oai_laws.specs.Worked.{IsWorked, worked_config};
 
 /// What a command can do: in a sound state it leaves the state, puts an item, takes one out, lets the
@@ -60,32 +36,32 @@ ghost use Rattle.oai_laws.specs.Worked.{IsWorked, worked_config};
 /// may begin, since as many are open as may be or no number is left. It leaves the state, and is told to wait
 /// for a second or more; where the table was full, a list has ended by then, and none before.
 pub fn effect_law()
-    ensures does { (config : Config) (state : State) (command : Command) → IsSound config state
+    ensures does { (config : Config) (state : RepoState) (command : Command) → IsSound config state
         → IsEffected config state (act config state command).1 }
     ensures empty { (config : Config) → IsSound config (empty_state config) }
-    ensures later { (config : Config) (moment : ℤ) (state : State) → IsSound config state
+    ensures later { (config : Config) (moment : ℤ) (state : RepoState) → IsSound config state
         → IsSound config (moved moment state) }
-    ensures keeps { (config : Config) (state : State) (effect : Effect)
+    ensures keeps { (config : Config) (state : RepoState) (effect : Effect)
         → IsPossible config state effect → IsSound config state
         → IsSound config (effected config state effect) }
-    ensures requests { (config : Config) (state : State) (request : AskOrError)
-        → (act config state (asking request)).1.holdings ≡ state.holdings }
-    ensures lines { (config : Config) (state : State) (change : Change)
-        → (act config state (changing change)).1.begun ≡ state.begun }
-    ensures others { (config : Config) (state : State) (request : AskOrError)
-        → is_of_no_list request ≡ true → (act config state (asking request)).1 ≡ state }
-    ensures tokens { (config : Config) (state : State) (verb : ListVerb) (token : List ℕ)
-        → (let done = act config state (asking (asks (ask.Resume verb token))) in
-        answer_told done.0 ≡ Some (fails BadResumptionToken) → done.1 ≡ state) }
-    ensures continued { (config : Config) (state : State) (verb : ListVerb) (token : List ℕ)
+    ensures requests { (config : Config) (state : RepoState) (request : AskOrError)
+        → (act config state (requesting request)).1.holdings ≡ state.holdings }
+    ensures lines { (config : Config) (state : RepoState) (change : Change)
+        → (act config state (changing change)).1.open_lists ≡ state.open_lists }
+    ensures others { (config : Config) (state : RepoState) (request : AskOrError)
+        → is_of_no_list request ≡ true → (act config state (requesting request)).1 ≡ state }
+    ensures tokens { (config : Config) (state : RepoState) (verb : ListVerb) (token : List ℕ)
+        → (let done = act config state (requesting (asks (ask.Resume verb token))) in
+        answer_in done.0 ≡ Some (fails BadResumptionToken) → done.1 ≡ state) }
+    ensures continued { (config : Config) (state : RepoState) (verb : ListVerb) (token : List ℕ)
         → IsSound config state
-        → IsContinued (act config state (asking (asks (ask.Resume verb token)))).0 }
-    ensures waits { (config : Config) (clock seconds : ℤ) (begun : OpenLists) → IsConfig config
-        → wait_at config clock (still_open clock begun) ≡ Some seconds
-        → IsWait config clock (still_open clock begun) seconds }
-    ensures told { (config : Config) (state : State) (command : Command) (seconds : ℤ)
+        → IsContinued (act config state (requesting (asks (ask.Resume verb token)))).0 }
+    ensures retry_after { (config : Config) (clock seconds : ℤ) (open_lists : OpenLists) → IsConfig config
+        → wait_at config clock (still_open clock open_lists) ≡ Some seconds
+        → IsWait config clock (still_open clock open_lists) seconds }
+    ensures told { (config : Config) (state : RepoState) (command : Command) (seconds : ℤ)
         → (let done = act config state command in
-        done.0 ≡ later seconds → IsToldToWait config state seconds done.1) }
+        done.0 ≡ later seconds → IsRetriedLater config state seconds done.1) }
 {}
 
 /// What a change does (OAI-PMH 2.0, sections 2.3 to 2.6). One that is accepted is answered with the
@@ -95,11 +71,11 @@ pub fn effect_law()
 /// datestamps than its bound, all of them and no others; and a set is added. Nothing else is changed, and
 /// nothing at all where the line is refused.
 pub fn change_law()
-    ensures accepted { (config : Config) (state : State) (change : Change) (stamp : ℤ)
+    ensures accepted { (config : Config) (state : RepoState) (change : Change) (stamp : ℤ)
         → (let done = act config state (changing change) in
-        done.0 ≡ accepted stamp → IsAccepted config change state done.1 stamp) }
-    ensures refused { (config : Config) (state : State) (command : Command) (cause : Cause)
-        → (let done = act config state command in done.0 ≡ refused cause → done.1 ≡ state) }
+        done.0 ≡ accepted stamp → DoesChange config change state done.1 stamp) }
+    ensures refused { (config : Config) (state : RepoState) (command : Command) (cause : Cause)
+        → (let done = act config state command in done.0 ≡ refused_with cause → done.1 ≡ state) }
 {}
 
 /// The numbers of lists. Whatever a repository is asked from its beginning on, and whenever: each
@@ -110,7 +86,7 @@ pub fn number_law()
         → Throughout (λ (exchange : Exchange). IsSound config exchange.found
         × IsSound config exchange.left) (run config (empty_state config) commands) }
     ensures rising { (config : Config) (commands : List Timed)
-        → are_rising (numbers_given (run config (empty_state config) commands)) ≡ true }
+        → numbers_rise_strictly (numbers_given (run config (empty_state config) commands)) ≡ true }
     ensures never_last { (config : Config) (commands : List Timed)
         → are_never_last (numbers_given (run config (empty_state config) commands)) ≡ true }
 {}
@@ -123,11 +99,11 @@ pub fn number_law()
 /// once, in the order of datestamps and identifiers. And every datestamp is one of the repository's
 /// granularity, not before earliestDatestamp and not after the clock.
 pub fn selected_law()
-    ensures selected { (config : Config) (commands : List Timed) (wish : Wish) → IsConfig config
+    ensures selected { (config : Config) (commands : List Timed) (wish : ListRequest) → IsConfig config
         → Throughout (λ (exchange : Exchange). IsSelection wish exchange.found.holdings.items
         (selection_in exchange.found wish)) (run config (empty_state config) commands) }
     ensures dated { (config : Config) (commands : List Timed) → IsConfig config
-        → Throughout (λ (exchange : Exchange). list_all (is_dated config exchange.left.clock)
+        → Throughout (λ (exchange : Exchange). list_all (has_granular_stamp config exchange.left.clock)
         exchange.left.holdings.items ≡ true) (run config (empty_state config) commands) }
 {}
 
@@ -141,17 +117,17 @@ pub fn selected_law()
 /// selects some records, and no more than a page has, is answered with all of them, and opens no list; one
 /// that selects none, with an error.
 pub fn following_law()
-    ensures followed { (config : Config) (commands : List Timed) (wish : Wish)
+    ensures followed { (config : Config) (commands : List Timed) (wish : ListRequest)
         (first : Exchange) (others : List Exchange) → IsConfig config
         → IsChain config (run config (empty_state config) commands) wish first others
         → (pages : List Page)
-        × IsFollowed config wish (selection_in first.found wish) (first ∷ others) pages }
-    ensures short { (config : Config) (state : State) (wish : Wish) → IsSound config state
+        × IsFollowedThrough config wish (selection_in first.found wish) (first ∷ others) pages }
+    ensures short { (config : Config) (state : RepoState) (wish : ListRequest) → IsSound config state
         → is_of_records wish.verb ≡ true → selection_in state wish ≢ []
         → length (selection_in state wish) ≤ config.chunk
-        → IsToldWhole config state wish }
-    ensures none { (config : Config) (state : State) (wish : Wish)
-        → selection_in state wish ≡ [] → IsToldNone config state wish }
+        → IsAnsweredWhole config state wish }
+    ensures none { (config : Config) (state : RepoState) (wish : ListRequest)
+        → selection_in state wish ≡ [] → IsAnsweredNone config state wish }
 {}
 
 /// What the law of following asks for can be met: a run of fifteen commands, computed, in which a list
@@ -170,11 +146,11 @@ pub fn worked_law()
 pub fn shown_law()
     ensures documents { (config other : Config) (a b : Document) → IsSomeAnswer config a
         → IsSomeAnswer other b → document a ≡ document b → document_seen a ≡ document_seen b }
-    ensures lists { (config other : Config) (wish its : Wish) (first its_first : Exchange)
+    ensures lists { (config other : Config) (wish its : ListRequest) (first its_first : Exchange)
         (others its_others : List Exchange) → IsFollowedList config wish first others
         → IsFollowedList other its its_first its_others
         → is_followed_to_its_end (first ∷ others) ≡ true
-        → bytes_of config (first ∷ others) ≡ bytes_of other (its_first ∷ its_others)
+        → bytes_written config (first ∷ others) ≡ bytes_written other (its_first ∷ its_others)
         → selection_seen config wish (selection_in first.found wish)
         ≡ selection_seen other its (selection_in its_first.found its) }
 {}

@@ -9,8 +9,8 @@ use Rattle.std.proofs.lemmas.List.{drop_all, get_or-take, get_or_default, length
 use Rattle.std.proofs.lemmas.List.Folds.{list_all-append}
 use Rattle.std.proofs.lemmas.List.Quantifiers.{position-Some}
 use Rattle.std.proofs.lemmas.List.Sums.{AllPass-from_list_all, list_all-from_AllPass, position_or_len_is}
-use Rattle.oai_lists.specs.Workings.{IsHeld, IsPlaced, none_numbered}
-use Rattle.oai_lists.specs.OpenLists.{IsEarliest, IsOpening, Table, answered, are_numbered, has_ended, is_numbered, is_open, list_numbered, number_of, open_fault, open_ones, renewed, renewed_one, with_opened}
+use Rattle.oai_lists.specs.Workings.{IsHeldTable, IsListPlace, no_list_numbered}
+use Rattle.oai_lists.specs.OpenLists.{IsEarliest, IsListOpening, Table, number_or_fault, are_numbered_lists, has_ended, has_list_number, is_open, list_numbered, list_number, open_fault, open_ones, renewed, renewed_one, with_opened}
 use Rattle.oai_lists.specs.declared.lists.OpenFault.{OpenFault}
 use Rattle.oai_lists.specs.declared.lists.OpenFault.TheVariants.{Full, NumbersSpent}
 use Rattle.oai_lists.specs.declared.open_lists.OpenList.{OpenList}
@@ -150,12 +150,12 @@ earliest_bounds lists (Some end) d h = list_all-from_AllPass (λ list. int_le en
 -- ---- what a table keeps
 
 -- one more list, of the next number
-pub held_push : (table : Table) (earliest : ℤ) (list : OpenList) → IsHeld table earliest → list.number ≡ table.next → IsHeld (with_opened table list) (int_min earliest list.end)
+pub held_push : (table : Table) (earliest : ℤ) (list : OpenList) → IsHeldTable table earliest → list.number ≡ table.next → IsHeldTable (with_opened table list) (int_min earliest list.end)
 held_push table earliest list held same = record {
   numbers = record {
-    numbered = rise-join number_of table.lists (list ∷ []) held.numbers.numbered refl
-        (all-weaker (λ (other : OpenList). nat_lt other.number table.next) (λ other. list_all (is_lower number_of other) (list ∷ []))
-        (λ other low. and_from (is_lower number_of other list) true (lt-ltb other.number list.number (omega (arith, same, ltb-true other.number table.next low))) refl)
+    numbered = rise-join list_number table.lists (list ∷ []) held.numbers.numbered refl
+        (all-weaker (λ (other : OpenList). nat_lt other.number table.next) (λ other. list_all (is_lower list_number other) (list ∷ []))
+        (λ other low. and_from (is_lower list_number other list) true (lt-ltb other.number list.number (omega (arith, same, ltb-true other.number table.next low))) refl)
         table.lists held.numbers.given);
     given = list_all-append (λ other. nat_lt other.number (table.next + 1)) table.lists (list ∷ [])
         ∙ and_from _ _
@@ -178,43 +178,43 @@ all-removed p lists at d within h =
     ∙ list_all-append p (take at lists) (drop (at + 1) lists)
     ∙ and_from _ _ parts.0 (and_parts (p x) (list_all p (drop (at + 1) lists)) parts.1).1
 
-numbered-removed : (lists : List OpenList) (at : ℕ) (d : OpenList) → at < length lists → are_numbered lists ≡ true → are_numbered (remove lists at) ≡ true
+numbered-removed : (lists : List OpenList) (at : ℕ) (d : OpenList) → at < length lists → are_numbered_lists lists ≡ true → are_numbered_lists (remove lists at) ≡ true
 numbered-removed lists at d within h =
     let x : OpenList = get_or lists at d in
     let rest : List OpenList = drop (at + 1) lists in
-    let parts = rise-append number_of (take at lists) (x ∷ rest) (ap are_numbered (sym (cut lists at d within)) ∙ h) in
-    ap (λ n. are_numbered (take at lists ++ drop n lists)) (sym (add-one at))
-    ∙ rise-join number_of (take at lists) rest parts.0 (and_parts (list_all (is_lower number_of x) rest) (are_numbered rest) parts.1).1
-    (all-weaker (λ (y : OpenList). list_all (is_lower number_of y) (x ∷ rest)) (λ y. list_all (is_lower number_of y) rest) (λ y ahead. (and_parts (is_lower number_of y x) (list_all (is_lower number_of y) rest) ahead).1) (take at lists) parts.2)
+    let parts = rise-append list_number (take at lists) (x ∷ rest) (ap are_numbered_lists (sym (cut lists at d within)) ∙ h) in
+    ap (λ n. are_numbered_lists (take at lists ++ drop n lists)) (sym (add-one at))
+    ∙ rise-join list_number (take at lists) rest parts.0 (and_parts (list_all (is_lower list_number x) rest) (are_numbered_lists rest) parts.1).1
+    (all-weaker (λ (y : OpenList). list_all (is_lower list_number y) (x ∷ rest)) (λ y. list_all (is_lower list_number y) rest) (λ y ahead. (and_parts (is_lower list_number y x) (list_all (is_lower list_number y) rest) ahead).1) (take at lists) parts.2)
 
-held_at : (table : Table) (earliest : ℤ) (at : ℕ) (d : OpenList) → at < length table.lists → IsHeld table earliest → IsHeld (record table { lists = remove table.lists at }) earliest
+held_at : (table : Table) (earliest : ℤ) (at : ℕ) (d : OpenList) → at < length table.lists → IsHeldTable table earliest → IsHeldTable (record table { lists = remove table.lists at }) earliest
 held_at table earliest at d within held = record {
   numbers = record { numbered = numbered-removed table.lists at d within held.numbers.numbered; given = all-removed (λ list. nat_lt list.number table.next) table.lists at d within held.numbers.given };
   bound = all-removed (λ list. int_le earliest list.end) table.lists at d within held.bound;
 }
 
-pub held_removed : (limit next : ℕ) (lists : List OpenList) (earliest : ℤ) (at : ℕ) → at < length lists → IsHeld (record { limit = limit; next = next; lists = lists }) earliest → IsHeld (record { limit = limit; next = next; lists = remove lists at }) earliest
+pub held_removed : (limit next : ℕ) (lists : List OpenList) (earliest : ℤ) (at : ℕ) → at < length lists → IsHeldTable (record { limit = limit; next = next; lists = lists }) earliest → IsHeldTable (record { limit = limit; next = next; lists = remove lists at }) earliest
 held_removed limit next [] earliest at within held = absurd (omega arith)
 held_removed limit next (x ∷ lists) earliest at within held = held_at (record { limit = limit; next = next; lists = x ∷ lists }) earliest at x within held
 
 -- the same lists, one with another end
 renewed_number : (number : ℕ) (end : ℤ) (list : OpenList) → (renewed_one number end list).number ≡ list.number
-renewed_number number end list = cond_both (is_numbered number list) (record list { end = end }) list (λ x. x.number ≡ list.number) (λ _. refl) (λ _. refl)
+renewed_number number end list = cond_both (has_list_number number list) (record list { end = end }) list (λ x. x.number ≡ list.number) (λ _. refl) (λ _. refl)
 
 renewed_end : (number : ℕ) (end earliest : ℤ) (list : OpenList) → int_le earliest list.end ≡ true → int_le (int_min earliest end) (renewed_one number end list).end ≡ true
 renewed_end number end earliest list h =
-    cond_both (is_numbered number list) (record list { end = end }) list (λ x. int_le (int_min earliest end) x.end ≡ true) (λ _. min_right earliest end) (λ _. min_left earliest end list.end h)
+    cond_both (has_list_number number list) (record list { end = end }) list (λ x. int_le (int_min earliest end) x.end ≡ true) (λ _. min_right earliest end) (λ _. min_left earliest end list.end h)
 
-before_renewed : (number : ℕ) (end : ℤ) (x : OpenList) (lists : List OpenList) → list_all (is_lower number_of (renewed_one number end x)) (renewed number end lists) ≡ list_all (is_lower number_of x) lists
+before_renewed : (number : ℕ) (end : ℤ) (x : OpenList) (lists : List OpenList) → list_all (is_lower list_number (renewed_one number end x)) (renewed number end lists) ≡ list_all (is_lower list_number x) lists
 before_renewed number end x [] = refl
 before_renewed number end x (y ∷ lists) =
-    let here : is_lower number_of (renewed_one number end x) (renewed_one number end y) ≡ is_lower number_of x y = ap (λ n. nat_lt n (renewed_one number end y).number) (renewed_number number end x) ∙ ap (nat_lt x.number) (renewed_number number end y) in
-    ap (λ b. b && list_all (is_lower number_of (renewed_one number end x)) (renewed number end lists)) here ∙ ap (λ b. is_lower number_of x y && b) (before_renewed number end x lists)
+    let here : is_lower list_number (renewed_one number end x) (renewed_one number end y) ≡ is_lower list_number x y = ap (λ n. nat_lt n (renewed_one number end y).number) (renewed_number number end x) ∙ ap (nat_lt x.number) (renewed_number number end y) in
+    ap (λ b. b && list_all (is_lower list_number (renewed_one number end x)) (renewed number end lists)) here ∙ ap (λ b. is_lower list_number x y && b) (before_renewed number end x lists)
 
-numbered_renewed : (number : ℕ) (end : ℤ) (lists : List OpenList) → are_numbered (renewed number end lists) ≡ are_numbered lists
+numbered_renewed : (number : ℕ) (end : ℤ) (lists : List OpenList) → are_numbered_lists (renewed number end lists) ≡ are_numbered_lists lists
 numbered_renewed number end [] = refl
 numbered_renewed number end (x ∷ lists) =
-    ap (λ b. b && are_numbered (renewed number end lists)) (before_renewed number end x lists) ∙ ap (λ b. list_all (is_lower number_of x) lists && b) (numbered_renewed number end lists)
+    ap (λ b. b && are_numbered_lists (renewed number end lists)) (before_renewed number end x lists) ∙ ap (λ b. list_all (is_lower list_number x) lists && b) (numbered_renewed number end lists)
 
 given_renewed : (number next : ℕ) (end : ℤ) (lists : List OpenList) → list_all (λ list. nat_lt list.number next) (renewed number end lists) ≡ list_all (λ list. nat_lt list.number next) lists
 given_renewed number next end [] = refl
@@ -227,52 +227,52 @@ bound_renewed number end earliest (x ∷ lists) h =
     let parts = and_parts (int_le earliest x.end) (list_all (λ list. int_le earliest list.end) lists) h in
     and_from _ _ (renewed_end number end earliest x parts.0) (bound_renewed number end earliest lists parts.1)
 
-pub held_renewed : (limit next number : ℕ) (lists : List OpenList) (earliest end : ℤ) → IsHeld (record { limit = limit; next = next; lists = lists }) earliest → IsHeld (record { limit = limit; next = next; lists = renewed number end lists }) (int_min earliest end)
+pub held_renewed : (limit next number : ℕ) (lists : List OpenList) (earliest end : ℤ) → IsHeldTable (record { limit = limit; next = next; lists = lists }) earliest → IsHeldTable (record { limit = limit; next = next; lists = renewed number end lists }) (int_min earliest end)
 held_renewed limit next number lists earliest end held = record {
   numbers = record { numbered = numbered_renewed number end lists ∙ held.numbers.numbered; given = given_renewed number next end lists ∙ held.numbers.given };
   bound = bound_renewed number end earliest lists held.bound;
 }
 
-unrenewed : (number : ℕ) (end : ℤ) (lists : List OpenList) → none_numbered number lists → renewed number end lists ≡ lists
+unrenewed : (number : ℕ) (end : ℤ) (lists : List OpenList) → no_list_numbered number lists → renewed number end lists ≡ lists
 unrenewed number end [] h = refl
 unrenewed number end (x ∷ lists) h =
-    let parts = and_parts (not (is_numbered number x)) (list_all (λ list. not (is_numbered number list)) lists) h in
-    ap (λ y. y ∷ renewed number end lists) (cond-false (is_numbered number x) (record x { end = end }) x (not-true _ parts.0)) ∙ ap (λ ys. x ∷ ys) (unrenewed number end lists parts.1)
+    let parts = and_parts (not (has_list_number number x)) (list_all (λ list. not (has_list_number number list)) lists) h in
+    ap (λ y. y ∷ renewed number end lists) (cond-false (has_list_number number x) (record x { end = end }) x (not-true _ parts.0)) ∙ ap (λ ys. x ∷ ys) (unrenewed number end lists parts.1)
 
 -- the one list that is renewed
-pub renewed-placed : (number : ℕ) (end : ℤ) (lists : List OpenList) (at : ℕ) (d : OpenList) → IsPlaced number lists (Some at) → renewed number end lists ≡ set lists at (record (get_or lists at d) { end = end })
+pub renewed-placed : (number : ℕ) (end : ℤ) (lists : List OpenList) (at : ℕ) (d : OpenList) → IsListPlace number lists (Some at) → renewed number end lists ≡ set lists at (record (get_or lists at d) { end = end })
 renewed-placed number end lists at d placed =
     let x : OpenList = get_or lists at d in
     let rest : List OpenList = drop (at + 1) lists in
     ap (renewed number end) (cut lists at d placed.0)
     ∙ map-append (renewed_one number end) (take at lists) (x ∷ rest)
     ∙ ap (λ ys. ys ++ renewed number end (x ∷ rest)) (unrenewed number end (take at lists) placed.2)
-    ∙ ap (λ y. take at lists ++ (y ∷ renewed number end rest)) (cond-true (is_numbered number x) (record x { end = end }) x (placed.1 d))
+    ∙ ap (λ y. take at lists ++ (y ∷ renewed number end rest)) (cond-true (has_list_number number x) (record x { end = end }) x (placed.1 d))
     ∙ ap (λ ys. take at lists ++ (record x { end = end } ∷ ys)) (unrenewed number end rest placed.3)
     ∙ sym (set_cut lists at (record x { end = end }) placed.0)
 
 -- ---- opening that is refused
 
-faults_of : (full spent : Bool) (fault : OpenFault) (next : ℕ) → Err fault ≡ answered (cond full (Some Full) (cond spent (Some NumbersSpent) None)) next → (fault ≡ Full) × (cond full (Some Full) (cond spent (Some NumbersSpent) None) ≡ Some Full) ⊎ (fault ≡ NumbersSpent) × (cond full (Some Full) (cond spent (Some NumbersSpent) None) ≡ Some NumbersSpent)
+faults_of : (full spent : Bool) (fault : OpenFault) (next : ℕ) → Err fault ≡ number_or_fault (cond full (Some Full) (cond spent (Some NumbersSpent) None)) next → (fault ≡ Full) × (cond full (Some Full) (cond spent (Some NumbersSpent) None) ≡ Some Full) ⊎ (fault ≡ NumbersSpent) × (cond full (Some Full) (cond spent (Some NumbersSpent) None) ≡ Some NumbersSpent)
 faults_of true spent fault next h = inl (cc, refl)
 faults_of false true fault next h = inr (cc, refl)
 faults_of false false fault next h = cc
 
-pub opening_refused : (old : Table) (now : ℤ) (list : OpenList) (fault : OpenFault) → Err fault ≡ answered (open_fault old now) old.next → IsOpening old now list (Err fault) old
+pub opening_refused : (old : Table) (now : ℤ) (list : OpenList) (fault : OpenFault) → Err fault ≡ number_or_fault (open_fault old now) old.next → IsListOpening old now list (Err fault) old
 unfolding open_fault
 opening_refused old now list fault h =
     elim (faults_of (nat_le old.limit (length (open_ones now old.lists))) (eqb old.next LAST_NUMBER) fault old.next h) [
-      | inl full ↦ subst (λ (f : OpenFault). IsOpening old now list (Err f) old) (sym full.0) (full.1, refl)
-      | inr spent ↦ subst (λ (f : OpenFault). IsOpening old now list (Err f) old) (sym spent.0) (spent.1, refl)
+      | inl full ↦ subst (λ (f : OpenFault). IsListOpening old now list (Err f) old) (sym full.0) (full.1, refl)
+      | inr spent ↦ subst (λ (f : OpenFault). IsListOpening old now list (Err f) old) (sym spent.0) (spent.1, refl)
     ]
 
 -- opening that is not refused
-no_fault : (full spent : Bool) (number next : ℕ) → Ok number ≡ answered (cond full (Some Full) (cond spent (Some NumbersSpent) None)) next → (full ≡ false) × (spent ≡ false) × (number ≡ next)
+no_fault : (full spent : Bool) (number next : ℕ) → Ok number ≡ number_or_fault (cond full (Some Full) (cond spent (Some NumbersSpent) None)) next → (full ≡ false) × (spent ≡ false) × (number ≡ next)
 no_fault true spent number next h = cc
 no_fault false true number next h = cc
 no_fault false false number next h = (refl, refl, cc)
 
-pub opening_free : (old : Table) (now : ℤ) (number : ℕ) → Ok number ≡ answered (open_fault old now) old.next → (open_fault old now ≡ None) × (number ≡ old.next) × (old.next ≢ LAST_NUMBER)
+pub opening_free : (old : Table) (now : ℤ) (number : ℕ) → Ok number ≡ number_or_fault (open_fault old now) old.next → (open_fault old now ≡ None) × (number ≡ old.next) × (old.next ≢ LAST_NUMBER)
 unfolding open_fault
 opening_free old now number h =
     let free = no_fault (nat_le old.limit (length (open_ones now old.lists))) (eqb old.next LAST_NUMBER) number old.next h in

@@ -7,7 +7,7 @@ use Rattle.std.specs.Str.Parse.{digits_value}
 use Rattle.std.proofs.lemmas.Bool.{and_from, and_parts, cases_Bool, cond-true, cond-false, lt-ltb, ltb-true}
 use Rattle.std.proofs.lemmas.Fmt.{decimal_is_IsNumeral}
 use Rattle.std.proofs.lemmas.Slice.Eq.{bytes_eq-Decides}
-use Rattle.oai_lists.specs.Tokens.{IsToken, is_full_stop, numbers_in, token_of, token_text}
+use Rattle.oai_lists.specs.Tokens.{IsToken, is_full_stop, token_numbers, token_of, token_text}
 use Rattle.oai_lists.specs.declared.tokens.Token.{Token}
 use Rattle.oai_lists.proofs.Stops.{is_other, no_stop}
 
@@ -41,7 +41,7 @@ back_of n m small =
 value_of : (n : ℕ) → n < 2 ^ 64 → digits_value 10 (decimal n) ≡ n
 value_of n small = (decimal_is_IsNumeral n small).1
 
-numbers_of : (token : Token) → token.list < 2 ^ 64 → token.cursor < 2 ^ 64 → numbers_in (token_text token) ≡ token
+numbers_of : (token : Token) → token.list < 2 ^ 64 → token.cursor < 2 ^ 64 → token_numbers (token_text token) ≡ token
 unfolding token_text
 numbers_of token list cursor =
     let front = ap (digits_value 10) (front_of token.list token.cursor list) ∙ value_of token.list list in
@@ -63,7 +63,7 @@ passes text token is =
 pub token_of-is : (text : List ℕ) (token : Token) → IsToken text token → token_of text ≡ Some token
 unfolding token_of
 token_of-is text token is =
-    let same : numbers_in text ≡ token = ap numbers_in is.spelled ∙ numbers_of token is.list is.cursor in
+    let same : token_numbers text ≡ token = ap token_numbers is.spelled ∙ numbers_of token is.list is.cursor in
     ap (λ (t : Token). cond (is_read text t) (Some t) None) same ∙ cond-true (is_read text token) (Some token) None (passes text token is)
 
 from_read : (text : List ℕ) (token : Token) → is_read text token ≡ true → IsToken text token
@@ -79,7 +79,7 @@ from_read text token h =
 none_is : (text : List ℕ) (nothing : Option Token) → nothing ≡ None → ((token : Token) → IsToken text token → nothing ≡ Some token) → token_of text ≡ None
 unfolding token_of
 none_is text nothing e only =
-    let token : Token = numbers_in text in
+    let token : Token = token_numbers text in
     elim (cases_Bool (is_read text token)) [
       | inl reads ↦ let clash : None ≡ Some token = sym e ∙ only token (from_read text token reads) in cc
       | inr fails ↦ cond-false (is_read text token) (Some token) None fails

@@ -31,16 +31,16 @@ abbrev pub without_ended : ℤ → List OpenList → List OpenList
 without_ended now lists = before_first (has_ended now) lists ++ after_first (has_ended now) lists
 
 -- the list has that number
-abbrev pub is_numbered : ℕ → OpenList → Bool
-is_numbered number list = list.number == number
+abbrev pub has_list_number : ℕ → OpenList → Bool
+has_list_number number list = list.number == number
 
 -- the list of that number
 unfoldable pub list_numbered : ℕ → List OpenList → Option OpenList
-list_numbered number lists = find (is_numbered number) lists
+list_numbered number lists = find (has_list_number number) lists
 
 -- the list of that number, where it is open
 unfoldable pub open_numbered : ℕ → ℤ → List OpenList → Option OpenList
-open_numbered number now lists = find (λ list. is_numbered number list && is_open now list) lists
+open_numbered number now lists = find (λ list. has_list_number number list && is_open now list) lists
 
 -- ---- opening
 
@@ -52,9 +52,9 @@ open_fault table now =
     else None)
 
 -- the number that the next list gets, or why none may be opened
-abbrev pub answered : Option OpenFault → ℕ → Result ℕ OpenFault
-answered None next = Ok next
-answered (Some fault) next = Err fault
+abbrev pub number_or_fault : Option OpenFault → ℕ → Result ℕ OpenFault
+number_or_fault None next = Ok next
+number_or_fault (Some fault) next = Err fault
 
 -- the table with one more list, which has the next number
 abbrev pub with_opened : Table → OpenList → Table
@@ -73,17 +73,17 @@ next_list table verb filter version size end = record {
 
 -- what opening the list at that moment answers, and the table then: it is the last one, or the first cause that applies is told and the table
 -- is as it was. Memory may be refused where no cause applies
-abbrev pub IsOpening : Table → ℤ → OpenList → Result ℕ OpenFault → Table → Type 0
-IsOpening old now list (Ok number) new =
+abbrev pub IsListOpening : Table → ℤ → OpenList → Result ℕ OpenFault → Table → Type 0
+IsListOpening old now list (Ok number) new =
     (open_fault old now ≡ None) × (number ≡ old.next) × (new ≡ with_opened old list)
-IsOpening old now list (Err NoMemory) new = (open_fault old now ≡ None) × (new ≡ old)
-IsOpening old now list (Err fault) new = (open_fault old now ≡ Some fault) × (new ≡ old)
+IsListOpening old now list (Err NoMemory) new = (open_fault old now ≡ None) × (new ≡ old)
+IsListOpening old now list (Err fault) new = (open_fault old now ≡ Some fault) × (new ≡ old)
 
 -- ---- renewing
 
 -- the list with that end, where it has that number
 abbrev pub renewed_one : ℕ → ℤ → OpenList → OpenList
-renewed_one number end list = if is_numbered number list then record list { end = end } else list
+renewed_one number end list = if has_list_number number list then record list { end = end } else list
 
 -- the lists, the one of that number with that end
 abbrev pub renewed : ℕ → ℤ → List OpenList → List OpenList
@@ -100,14 +100,14 @@ IsEarliest lists end = MatchOption end (lists ≡ [])
 -- ---- what is true of each table
 
 -- the number of a list
-abbrev pub number_of : OpenList → ℕ
-number_of list = list.number
+abbrev pub list_number : OpenList → ℕ
+list_number list = list.number
 
 -- the numbers rise strictly along the lists
-abbrev pub are_numbered : List OpenList → Bool
-are_numbered lists = numbers_rise number_of lists
+abbrev pub are_numbered_lists : List OpenList → Bool
+are_numbered_lists lists = numbers_rise list_number lists
 
 -- no number stands twice, and none is given again: they rise strictly, and the next is above them
-pub record IsTable (table : Table) : Type 0 where
-  pub numbered : are_numbered table.lists ≡ true
+pub record IsListTable (table : Table) : Type 0 where
+  pub numbered : are_numbered_lists table.lists ≡ true
   pub given : list_all (λ list. nat_lt list.number table.next) table.lists ≡ true

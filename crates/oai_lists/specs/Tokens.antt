@@ -20,8 +20,8 @@ abbrev pub is_full_stop : ℕ → Bool
 is_full_stop b = b == 46
 
 -- the numbers that the digits before the first full stop and behind it write
-abbrev pub numbers_in : List ℕ → Token
-numbers_in text = record {
+abbrev pub token_numbers : List ℕ → Token
+token_numbers text = record {
   list = digits_value 10 (before_first is_full_stop text);
   cursor = digits_value 10 (after_first is_full_stop text);
 }
@@ -29,5 +29,5 @@ numbers_in text = record {
 -- the token of a text, where the text is that of its numbers, and these have 64 bits
 unfoldable pub token_of : List ℕ → Option Token
 token_of text =
-    let token = numbers_in text in
+    let token = token_numbers text in
     if bytes_eq (token_text token) text && nat_lt token.list (2 ^ 64) && nat_lt token.cursor (2 ^ 64) then Some token else None

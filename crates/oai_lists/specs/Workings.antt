@@ -2,22 +2,22 @@
 use Rattle.std.specs.Prelude.{◌≡◌, ◌<◌, ◌^◌, ℕ, ℤ, int_le, true, List, decimal, Option}
 use Rattle.std.specs.List.{list_all}
 use Rattle.oai_names.specs.Numbered.{IsPlaceOf, none_has}
-use Rattle.oai_lists.specs.OpenLists.{Table, IsTable, number_of}
+use Rattle.oai_lists.specs.OpenLists.{Table, IsListTable, list_number}
 use Rattle.oai_lists.specs.declared.open_lists.OpenList.{OpenList}
 use Rattle.oai_lists.specs.declared.tokens.Token.{Token}
 
 -- the lists are numbered, and none ends before that moment
-pub record IsHeld (table : Table) (earliest : ℤ) : Type 0 where
-  pub numbers : IsTable table
+pub record IsHeldTable (table : Table) (earliest : ℤ) : Type 0 where
+  pub numbers : IsListTable table
   pub bound : list_all (λ list. int_le earliest list.end) table.lists ≡ true
 
 -- none of the lists has that number
-abbrev pub none_numbered : ℕ → List OpenList → Type 0
-none_numbered number lists = none_has number_of number lists
+abbrev pub no_list_numbered : ℕ → List OpenList → Type 0
+no_list_numbered number lists = none_has list_number number lists
 
 -- where the list of that number is: there, and nowhere else
-abbrev pub IsPlaced : ℕ → List OpenList → Option ℕ → Type 0
-IsPlaced number lists place = IsPlaceOf number_of number lists place
+abbrev pub IsListPlace : ℕ → List OpenList → Option ℕ → Type 0
+IsListPlace number lists place = IsPlaceOf list_number number lists place
 
 -- the two texts are the numbers of the token, of 64 bits, both decimal without leading zeros
 abbrev pub AreNumbers : List ℕ → List ℕ → Token → Type 0

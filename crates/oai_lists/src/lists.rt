@@ -2,8 +2,8 @@ ghost use Rattle.std.specs.Prelude.{◌≡◌, ◌<◌, [], get_or, vec_len, tru
 ghost use Rattle.std.specs.List.{find, remove};
 ghost use Rattle.oai_lists.specs.declared.open_lists.OpenList.{OpenList as Opened};
 ghost use Rattle.std.specs.Option.{option_copied, option_map};
-ghost use Rattle.oai_lists.specs.Workings.{IsPlaced};
-ghost use Rattle.oai_lists.specs.OpenLists.{IsEarliest, IsOpening, IsTable, answered, are_numbered, has_ended, list_numbered, next_list, open_fault, open_numbered, open_ones, renewed, without_ended};
+ghost use Rattle.oai_lists.specs.Workings.{IsListPlace};
+ghost use Rattle.oai_lists.specs.OpenLists.{IsEarliest, IsListOpening, IsListTable, number_or_fault, are_numbered_lists, has_ended, list_numbered, next_list, open_fault, open_numbered, open_ones, renewed, without_ended};
 
 use crate::open_lists::OpenList;
 use oai_catalogue::Filter;
@@ -44,12 +44,12 @@ impl Model for Lists {
 
     ghost Value = { Table };
 
-    ghost use Rattle.oai_lists.specs.Workings.{IsHeld};
+    ghost use Rattle.oai_lists.specs.Workings.{IsHeldTable};
     ghost use Rattle.oai_lists.specs.Inside.{table_in};
 
     ghost view = { table_in };
 
-    ghost invariant = { λ lists. IsHeld (table_in lists) lists.earliest };
+    ghost invariant = { λ lists. IsHeldTable (table_in lists) lists.earliest };
 }
 
 impl Lists {
@@ -66,12 +66,12 @@ impl Lists {
         }
     }
 
-    /// The number that `open` would give at `now`, in seconds from 1970 on, or its refusal, want of
+    /// The number that `open` would give at `now`, in seconds from 1970 on, or its refusal, out of
     /// memory apart. It takes no memory. It looks at the lists only where as many are held as may be
     /// open, and one of them may have ended.
     #[tactic(auto, unfolding(crate::specs::OpenLists::open_fault))]
     pub fn next(&self, now: i64) -> Result<u64, OpenFault>
-        ensures { result ≡ answered (open_fault self.now now) self.now.next }
+        ensures { result ≡ number_or_fault (open_fault self.now now) self.now.next }
     {
         if self.is_full(now) {
             return Err(OpenFault::Full);
@@ -95,7 +95,7 @@ impl Lists {
         end: i64,
     ) -> Result<u64, OpenFault>
         ensures { let list = next_list self.old verb filter version size end in
-            IsOpening self.old now list result self.new }
+            IsListOpening self.old now list result self.new }
     {
         let number = match self.next(now) {
             Ok(number) => number,
@@ -123,7 +123,7 @@ impl Lists {
     pub fn find(&self, number: u64, now: i64) -> Option<&OpenList>
         ensures found { option_copied result ≡ open_numbered number now self.now.lists }
         ensures held { OnSome result (IsSome (list_numbered number self.now.lists)) }
-        ensures valid { IsTable self.now }
+        ensures valid { IsListTable self.now }
     {
         match place_of(self.lists.as_slice(), number) {
             Some(at) => {
@@ -179,7 +179,7 @@ impl Lists {
     /// How many lists are held, those counted that have ended and were not dropped.
     pub fn len(&self) -> usize
         ensures count { result ≡ length self.now.lists }
-        ensures valid { IsTable self.now }
+        ensures valid { IsListTable self.now }
     {
         self.lists.len()
     }
@@ -201,8 +201,8 @@ impl Lists {
 
 /// The place of the list of that number, among lists whose numbers rise.
 fn place_of(lists: &[OpenList], number: u64) -> Option<usize>
-    requires { are_numbered lists.now ≡ true }
-    ensures { IsPlaced number lists.now result }
+    requires { are_numbered_lists lists.now ≡ true }
+    ensures { IsListPlace number lists.now result }
 {
     match lists.binary_search_by_key(&number, |list| list.number) {
         Ok(at) => Some(at),

@@ -32,7 +32,7 @@ impl Token {
         }
     }
 
-    /// The text of the token, the one that is read as it. The error is want of memory.
+    /// The text of the token, the one that is read as it. The error is out of memory.
     #[tactic(auto, unfolding(crate::specs::Tokens::token_text))]
     pub fn write(&self, alloc: Global) -> Result<Sequence<u8>, AllocError>
         ensures { IfOk result (λ text. IsToken text self.now) }

@@ -34,6 +34,13 @@ filter_all p (x ∷ xs) h =
     let parts = and_parts (p x) (list_all p xs) h in
     cond-true (p x) (x ∷ filter p xs) (filter p xs) parts.0 ∙ ap (λ ys. x ∷ ys) (filter_all p xs parts.1)
 
+-- a filter that none passes keeps none
+pub filter_none : {A : Type 0} (p : A → Bool) (xs : List A) → list_all (λ x. not (p x)) xs ≡ true → filter p xs ≡ []
+filter_none p [] h = refl
+filter_none p (x ∷ xs) h =
+    let parts = and_parts (not (p x)) (list_all (λ y. not (p y)) xs) h in
+    cond-false (p x) (x ∷ filter p xs) (filter p xs) (not-true (p x) parts.0) ∙ filter_none p xs parts.1
+
 -- ---- the first that passes
 
 pub find_none : {A : Type 0} (p : A → Bool) (xs : List A) → list_all (λ x. not (p x)) xs ≡ true → find p xs ≡ None

@@ -54,7 +54,7 @@ impl Identifier {
         self.text.as_str()
     }
 
-    /// An equal identifier. The error is want of memory.
+    /// An equal identifier. The error is out of memory.
     pub fn copy(&self, alloc: Global) -> Result<Identifier, AllocError>
         ensures { IfOk result (λ copy. copy ≡ self.now) }
     {

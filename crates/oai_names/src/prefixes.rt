@@ -52,7 +52,7 @@ impl Prefix {
         self.text.as_str()
     }
 
-    /// An equal prefix. The error is want of memory.
+    /// An equal prefix. The error is out of memory.
     pub fn copy(&self, alloc: Global) -> Result<Prefix, AllocError>
         ensures { IfOk result (λ copy. copy ≡ self.now) }
     {

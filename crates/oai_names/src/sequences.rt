@@ -1,6 +1,9 @@
-ghost use Rattle.std.specs.Prelude.{◌≡◌};
+ghost use Rattle.std.specs.Prelude.{◌≡◌, ◌==◌, ◌<◌, ◌^◌, length};
+ghost use Rattle.std.specs.Slice.Iter.{iter_rest, iter_steps};
+ghost use Rattle.std.specs.Iterator.Runs.{EveryRun, ItemsMapTo};
 
 use std::marker::Model;
+use std::slice::Iter;
 
 /// A list that contracts see as the list of its values.
 #[derive(Debug, Drop)]
@@ -29,6 +32,30 @@ impl<T> Sequence<T> {
         ensures { result.now ≡ self.now }
     {
         self.items.as_slice()
+    }
+
+    /// How many values there are.
+    pub fn len(&self) -> usize
+        ensures { result ≡ length self.now }
+    {
+        self.items.len()
+    }
+
+    /// Whether there are none.
+    pub fn is_empty(&self) -> bool
+        ensures { result ≡ (length self.now == 0) }
+    {
+        self.items.is_empty()
+    }
+
+    /// Goes over the values, in order.
+    pub fn iter(&self) -> Iter<'_, T>
+        ensures values { iter_rest result ≡ self.now }
+        ensures bound { length (iter_rest result) < 2 ^ 64 }
+        ensures in_order { EveryRun (iter_steps {A = T})
+            (λ p. ItemsMapTo p (λ value. value.now) (iter_rest p.from)) }
+    {
+        self.items.iter()
     }
 
     /// The values as a vector. It takes no memory.

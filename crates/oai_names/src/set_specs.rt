@@ -55,7 +55,7 @@ impl SetSpec {
         self.text.as_str()
     }
 
-    /// An equal setSpec. The error is want of memory.
+    /// An equal setSpec. The error is out of memory.
     pub fn copy(&self, alloc: Global) -> Result<SetSpec, AllocError>
         ensures { IfOk result (λ copy. copy ≡ self.now) }
     {

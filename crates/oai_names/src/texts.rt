@@ -59,7 +59,7 @@ impl Model for Text {
 }
 
 impl Text {
-    /// A copy of the text. The error is want of memory.
+    /// A copy of the text. The error is out of memory.
     pub fn new(alloc: Global, text: &str) -> Result<Text, AllocError>
         ensures { IfOk result (λ copy. copy ≡ text.now) }
     {
@@ -82,7 +82,7 @@ impl Text {
         self.text.as_str()
     }
 
-    /// Another text of the same bytes. The error is want of memory.
+    /// Another text of the same bytes. The error is out of memory.
     pub fn copy(&self, alloc: Global) -> Result<Text, AllocError>
         ensures { IfOk result (λ copy. copy ≡ self.now) }
     {

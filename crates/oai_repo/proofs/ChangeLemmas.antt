@@ -10,7 +10,7 @@ use Rattle.oai_item.specs.Item.{IsStamp, ItemState, Metadata, has_record, record
 use Rattle.oai_item.specs.Items.{item_named, without}
 use Rattle.oai_names.proofs.Lists.{all-filter}
 use Rattle.oai_item.proofs.OrderLemmas.{all-placed}
-use Rattle.oai_repo.specs.Held.{is_dated}
+use Rattle.oai_repo.specs.Fields.{has_writable_stamp}
 use Rattle.oai_item.specs.Membership.{reduced}
 use Rattle.oai_item.specs.Refusals.{in_repository}
 use Rattle.oai_item.specs.declared.changes.Change.{Change}
@@ -19,11 +19,11 @@ use Rattle.oai_item.specs.declared.refusals.ChangeRefusal.{ChangeRefusal}
 use Rattle.oai_repo.specs.Changes.{refusal_of, after_deletion, after_purge, limit_of, purge_refusal, dead_refusal, missing_refusal, deposit_refusal, item_refusal, set_refusal, changed, is_past, purged, stamp_at, with_new, with_tombstone}
 use Rattle.oai_settings.specs.Config.{Config}
 use Rattle.oai_repo.specs.Kept.{AreKept}
-use Rattle.oai_repo.specs.Machine.{act, act_on_change, accepted, changing, refused}
+use Rattle.oai_repo.specs.Machine.{act, act_on_change, accepted, changing, refused_with}
 use Rattle.oai_repo.specs.State.{Holdings, NamedSet, OpenLists}
-use Rattle.oai_repo.specs.Workings.{IsDone, IsMade}
-use Rattle.oai_repo.specs.declared.refusals.Refusal.{Refusal}
-use Rattle.oai_repo.specs.declared.refusals.Refusal.TheVariants as refusal
+use Rattle.oai_repo.specs.Indexing.{IsDone, MakesChange}
+use Rattle.oai_repo.specs.declared.changes.Refusal.{Refusal}
+use Rattle.oai_repo.specs.declared.changes.Refusal.TheVariants as refusal
 use Rattle.oai_repo.proofs.KeptLemmas.{kept-changed, well-without}
 
 -- where there is a record of some prefix, there is a record
@@ -47,7 +47,7 @@ pub deposit_done : (config : Config) (stamp : ℤ) (items new : List ItemState) 
     (identifier : List ℕ) (specs : List (List ℕ)) (records : List Metadata) (r : Result (Unit {0}) Refusal)
     → IsDone (deposit_refusal config sets specs records) (item_refusal config (item_named identifier items) (length items) (live_item identifier stamp (reduced specs) records))
     items (with_new (live_item identifier stamp (reduced specs) records) items) r new
-    → IsMade config stamp (held items sets) (change.Deposit identifier specs records) r (held new sets)
+    → MakesChange config stamp (held items sets) (change.Deposit identifier specs records) r (held new sets)
 unfolding refusal_of changed
 deposit_done config stamp items new sets identifier specs records (Ok _) done =
     (done.0, ap (λ (xs : List ItemState). held xs sets) done.1)
@@ -59,7 +59,7 @@ deposit_done config stamp items new sets identifier specs records (Err (refusal.
 -- a deletion, made or not
 pub deletion_done : (config : Config) (stamp : ℤ) (items new : List ItemState) (sets : List NamedSet) (identifier : List ℕ) (r : Result (Unit {0}) Refusal)
     → IsDone (missing_refusal (item_named identifier items)) (dead_refusal (item_named identifier items)) items (after_deletion config.deleted stamp identifier items) r new
-    → IsMade config stamp (held items sets) (change.Delete identifier) r (held new sets)
+    → MakesChange config stamp (held items sets) (change.Delete identifier) r (held new sets)
 unfolding refusal_of changed
 deletion_done config stamp items new sets identifier (Ok _) done = (done.0, ap (λ (xs : List ItemState). held xs sets) done.1)
 deletion_done config stamp items new sets identifier (Err (refusal.Refused cause)) done = (done.0, ap (λ (xs : List ItemState). held xs sets) done.1)
@@ -69,7 +69,7 @@ deletion_done config stamp items new sets identifier (Err (refusal.Fault fault))
 -- a purge, made or not
 pub purge_done : (config : Config) (stamp : ℤ) (items new : List ItemState) (sets : List NamedSet) (before : List ℕ) (r : Result (Unit {0}) Refusal)
     → IsDone (purge_refusal config before) None items (after_purge (limit_of config.granularity before) items) r new
-    → IsMade config stamp (held items sets) (change.Purge before) r (held new sets)
+    → MakesChange config stamp (held items sets) (change.Purge before) r (held new sets)
 unfolding refusal_of changed
 purge_done config stamp items new sets before (Ok _) done = (no_later (purge_refusal config before) ∙ done.0, ap (λ (xs : List ItemState). held xs sets) done.1)
 purge_done config stamp items new sets before (Err (refusal.Refused cause)) done =
@@ -80,7 +80,7 @@ purge_done config stamp items new sets before (Err (refusal.Fault fault)) done =
 -- a new set, added or not
 pub set_done : (config : Config) (stamp : ℤ) (items : List ItemState) (sets new : List NamedSet) (set name : List ℕ) (r : Result (Unit {0}) Refusal)
     → IsDone (set_refusal sets set) None sets (sets ++ (set, name) ∷ []) r new
-    → IsMade config stamp (held items sets) (change.AddSet set name) r (held items new)
+    → MakesChange config stamp (held items sets) (change.AddSet set name) r (held items new)
 unfolding refusal_of changed
 set_done config stamp items sets new set name (Ok _) done =
     (no_later (set_refusal sets set) ∙ done.0, ap (λ (xs : List NamedSet). held items xs) done.1)
@@ -93,7 +93,7 @@ set_done config stamp items sets new set name (Err (refusal.Fault fault)) done =
 
 -- what is held is as it should be after a change, made or not
 pub kept-made : (config : Config) (stamp : ℤ) (old : Holdings) (asked : Change) (result : Result (Unit {0}) Refusal) (new : Holdings)
-    → IsMade config stamp old asked result new → AreKept config old → AreKept config new
+    → MakesChange config stamp old asked result new → AreKept config old → AreKept config new
 kept-made config stamp old asked (Ok _) new made kept = rw made.1 (kept-changed config stamp old asked made.0 kept)
 kept-made config stamp old asked (Err (refusal.Refused cause)) new made kept = rw made.1 kept
 kept-made config stamp old asked (Err (refusal.Fault fault)) new made kept = rw made.1 kept
@@ -103,26 +103,26 @@ kept-made config stamp old asked (Err (refusal.Fault fault)) new made kept = rw 
 dated_at : (stamp : ℤ) → IsStamp stamp → (int_le (neg_ℤ (pos 62_167_219_200)) stamp && int_le stamp (pos 253_402_300_799)) ≡ true
 dated_at stamp is = grind (arith, ints, is.0, is.1)
 
-dated_new : (item : ItemState) (items : List ItemState) → is_dated item ≡ true → list_all is_dated items ≡ true → list_all is_dated (with_new item items) ≡ true
-dated_new item items one all = all-placed is_dated item (without item.identifier items) one (well-without is_dated item.identifier items all)
+dated_new : (item : ItemState) (items : List ItemState) → has_writable_stamp item ≡ true → list_all has_writable_stamp items ≡ true → list_all has_writable_stamp (with_new item items) ≡ true
+dated_new item items one all = all-placed has_writable_stamp item (without item.identifier items) one (well-without has_writable_stamp item.identifier items all)
 
-dated_buried : (stamp : ℤ) (found : Option ItemState) (items : List ItemState) → IsStamp stamp → list_all is_dated items ≡ true → list_all is_dated (with_tombstone stamp found items) ≡ true
+dated_buried : (stamp : ℤ) (found : Option ItemState) (items : List ItemState) → IsStamp stamp → list_all has_writable_stamp items ≡ true → list_all has_writable_stamp (with_tombstone stamp found items) ≡ true
 dated_buried stamp None items is all = all
 dated_buried stamp (Some item) items is all = dated_new (tombstone_of stamp item) items (dated_at stamp is) all
 
-dated_deleted : (policy : DeletedRecord) (stamp : ℤ) (identifier : List ℕ) (items : List ItemState) → IsStamp stamp → list_all is_dated items ≡ true
-    → list_all is_dated (after_deletion policy stamp identifier items) ≡ true
-dated_deleted No stamp identifier items is all = well-without is_dated identifier items all
+dated_deleted : (policy : DeletedRecord) (stamp : ℤ) (identifier : List ℕ) (items : List ItemState) → IsStamp stamp → list_all has_writable_stamp items ≡ true
+    → list_all has_writable_stamp (after_deletion policy stamp identifier items) ≡ true
+dated_deleted No stamp identifier items is all = well-without has_writable_stamp identifier items all
 dated_deleted Transient stamp identifier items is all = dated_buried stamp (item_named identifier items) items is all
 dated_deleted Persistent stamp identifier items is all = dated_buried stamp (item_named identifier items) items is all
 
-dated_purged : (limit : Option ℤ) (items : List ItemState) → list_all is_dated items ≡ true → list_all is_dated (after_purge limit items) ≡ true
+dated_purged : (limit : Option ℤ) (items : List ItemState) → list_all has_writable_stamp items ≡ true → list_all has_writable_stamp (after_purge limit items) ≡ true
 unfolding purged
 dated_purged None items all = all
-dated_purged (Some limit) items all = all-filter is_dated (λ item. not (is_past limit item)) items all
+dated_purged (Some limit) items all = all-filter has_writable_stamp (λ item. not (is_past limit item)) items all
 
-dated_changed : (config : Config) (stamp : ℤ) (holdings : Holdings) (asked : Change) → IsStamp stamp → list_all is_dated holdings.items ≡ true
-    → list_all is_dated (changed config stamp holdings asked).items ≡ true
+dated_changed : (config : Config) (stamp : ℤ) (holdings : Holdings) (asked : Change) → IsStamp stamp → list_all has_writable_stamp holdings.items ≡ true
+    → list_all has_writable_stamp (changed config stamp holdings asked).items ≡ true
 unfolding changed
 dated_changed config stamp holdings (change.Deposit identifier sets records) is all = dated_new (live_item identifier stamp (reduced sets) records) holdings.items (dated_at stamp is) all
 dated_changed config stamp holdings (change.Delete identifier) is all = dated_deleted config.deleted stamp identifier holdings.items is all
@@ -131,24 +131,24 @@ dated_changed config stamp holdings (change.AddSet spec name) is all = all
 
 -- each item has a datestamp that can be written after a change, made or not
 pub dated-made : (config : Config) (stamp : ℤ) (old : Holdings) (asked : Change) (result : Result (Unit {0}) Refusal) (new : Holdings)
-    → IsMade config stamp old asked result new → IsStamp stamp → list_all is_dated old.items ≡ true → list_all is_dated new.items ≡ true
-dated-made config stamp old asked (Ok _) new made is all = subst (λ (h : Holdings). list_all is_dated h.items ≡ true) (sym made.1) (dated_changed config stamp old asked is all)
-dated-made config stamp old asked (Err (refusal.Refused cause)) new made is all = subst (λ (h : Holdings). list_all is_dated h.items ≡ true) (sym made.1) all
-dated-made config stamp old asked (Err (refusal.Fault fault)) new made is all = subst (λ (h : Holdings). list_all is_dated h.items ≡ true) (sym made.1) all
+    → MakesChange config stamp old asked result new → IsStamp stamp → list_all has_writable_stamp old.items ≡ true → list_all has_writable_stamp new.items ≡ true
+dated-made config stamp old asked (Ok _) new made is all = subst (λ (h : Holdings). list_all has_writable_stamp h.items ≡ true) (sym made.1) (dated_changed config stamp old asked is all)
+dated-made config stamp old asked (Err (refusal.Refused cause)) new made is all = subst (λ (h : Holdings). list_all has_writable_stamp h.items ≡ true) (sym made.1) all
+dated-made config stamp old asked (Err (refusal.Fault fault)) new made is all = subst (λ (h : Holdings). list_all has_writable_stamp h.items ≡ true) (sym made.1) all
 
 -- ---- the machine
 
 -- a change that is made at the clock
-pub act-made : (config : Config) (clock : ℤ) (old new : Holdings) (begun : OpenLists) (asked : Change) → IsMade config (stamp_at config clock) old asked (Ok tt) new
-    → act config (record { clock = clock; holdings = old; begun = begun }) (changing asked) ≡ (accepted (stamp_at config clock), record { clock = clock; holdings = new; begun = begun })
+pub act-made : (config : Config) (clock : ℤ) (old new : Holdings) (open_lists : OpenLists) (asked : Change) → MakesChange config (stamp_at config clock) old asked (Ok tt) new
+    → act config (record { clock = clock; holdings = old; open_lists = open_lists }) (changing asked) ≡ (accepted (stamp_at config clock), record { clock = clock; holdings = new; open_lists = open_lists })
 unfolding act
-act-made config clock old new begun asked made =
-    ap (act_on_change config (record { clock = clock; holdings = old; begun = begun }) (stamp_at config clock) asked) made.0 ∙ rw made.1 refl
+act-made config clock old new open_lists asked made =
+    ap (act_on_change config (record { clock = clock; holdings = old; open_lists = open_lists }) (stamp_at config clock) asked) made.0 ∙ rw made.1 refl
 
 -- one that is refused
-pub act-refused : (config : Config) (clock : ℤ) (old new : Holdings) (begun : OpenLists) (asked : Change) (cause : ChangeRefusal)
-    → IsMade config (stamp_at config clock) old asked (Err (refusal.Refused cause)) new
-    → act config (record { clock = clock; holdings = old; begun = begun }) (changing asked) ≡ (refused (in_repository cause), record { clock = clock; holdings = new; begun = begun })
+pub act-refused : (config : Config) (clock : ℤ) (old new : Holdings) (open_lists : OpenLists) (asked : Change) (cause : ChangeRefusal)
+    → MakesChange config (stamp_at config clock) old asked (Err (refusal.Refused cause)) new
+    → act config (record { clock = clock; holdings = old; open_lists = open_lists }) (changing asked) ≡ (refused_with (in_repository cause), record { clock = clock; holdings = new; open_lists = open_lists })
 unfolding act
-act-refused config clock old new begun asked cause made =
-    ap (act_on_change config (record { clock = clock; holdings = old; begun = begun }) (stamp_at config clock) asked) made.0 ∙ rw made.1 refl
+act-refused config clock old new open_lists asked cause made =
+    ap (act_on_change config (record { clock = clock; holdings = old; open_lists = open_lists }) (stamp_at config clock) asked) made.0 ∙ rw made.1 refl

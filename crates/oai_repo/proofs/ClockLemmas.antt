@@ -5,6 +5,7 @@ use Rattle.std.proofs.lemmas.Int.{ints}
 use Rattle.oai_time.specs.Clock.{tick}
 use Rattle.oai_time.specs.Stamp.{IsWritable, stamp_of}
 use Rattle.std.specs.Ordering.{int_eq}
+use Rattle.oai_item.specs.Item.{IsStamp}
 use Rattle.oai_settings.specs.Config.{Config, IsConfig, is_date, is_in_years}
 
 pub in_years-config : (config : Config) → IsConfig config → is_in_years config.earliest ≡ true
@@ -23,4 +24,11 @@ pub years_fit : (clock : ℤ) → is_in_years clock ≡ true → FitsSigned w64 
 years_fit clock h =
     let below : clock <ℤ pos 9_223_372_036_854_775_808 = grind (arith, ints) in
     let above : neg_ℤ (pos 9_223_372_036_854_775_808) ≤ℤ clock = grind (arith, ints) in
+    search (rules, below, above)
+
+-- and so is a datestamp
+pub stamp_fits : (stamp : ℤ) → IsStamp stamp → FitsSigned w64 stamp
+stamp_fits stamp h =
+    let below : stamp <ℤ pos 9_223_372_036_854_775_808 = grind (arith, ints) in
+    let above : neg_ℤ (pos 9_223_372_036_854_775_808) ≤ℤ stamp = grind (arith, ints) in
     search (rules, below, above)

@@ -7,7 +7,7 @@ use Rattle.std.proofs.lemmas.Int.{ints}
 use Rattle.oai_catalogue.specs.Store.{Lists}
 use Rattle.oai_lists.specs.OpenLists.{IsEarliest}
 use Rattle.oai_lists.specs.declared.open_lists.OpenList.{OpenList}
-use Rattle.oai_repo.specs.Held.{frozen_in}
+use Rattle.oai_repo.specs.Fields.{frozen_in}
 use Rattle.oai_repo.specs.Listing.{earliest_end, seconds_to_end}
 
 -- ---- numbers of moments

@@ -8,7 +8,7 @@ use Rattle.std.proofs.lemmas.Int.{ints}
 use Rattle.oai_catalogue.specs.Store.{Lists, without_list}
 use Rattle.oai_lists.specs.OpenLists.{Table, has_ended, is_open, open_ones, without_ended}
 use Rattle.oai_lists.specs.declared.open_lists.OpenList.{OpenList}
-use Rattle.oai_repo.specs.Held.{AreInUse, KeepsOthers, are_different, has, versions_in}
+use Rattle.oai_repo.specs.Fields.{AreInUse, KeepsOthers, are_different, has, versions_in}
 use Rattle.oai_repo.specs.Tables.{versions_ended, without_lists}
 use Rattle.oai_repo.proofs.NumberLemmas.{clash, some_true, turned, used_at, used_each}
 

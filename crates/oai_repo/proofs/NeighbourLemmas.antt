@@ -2,22 +2,22 @@
 use Rattle.std.proofs.Common.{◌≡◌, inl, inr, ℕ, true, false, eqb, is_some}
 use Rattle.std.proofs.lemmas.Bool.{cases_Bool, or_left, or_right}
 use Rattle.oai_catalogue.specs.Store.{Lists}
-use Rattle.oai_repo.specs.Held.{Held, IsHeld, KeepsOthers, StandsIn, has, numbers_of, versions_in}
-use Rattle.oai_repo.proofs.BegunLemmas.{all_counted, shelved_same}
+use Rattle.oai_repo.specs.Fields.{RepoFields, IsStored, KeepsOthers, StandsIn, has, numbers_of, versions_in}
+use Rattle.oai_repo.proofs.OpenListLemmas.{all_counted, indexed_same}
 use Rattle.oai_repo.proofs.NumberLemmas.{clash, none_false, same_number, used_at, used_by}
 
 -- no number is one of both
-abbrev pub AreApart : Held → Held → Type 0
+abbrev pub AreApart : RepoFields → RepoFields → Type 0
 AreApart one other = (n : ℕ) → has (numbers_of one) n ≡ true → has (numbers_of other) n ≡ false
 
-pub apart_turned : (one other : Held) → AreApart one other → AreApart other one
+pub apart_turned : (one other : RepoFields) → AreApart one other → AreApart other one
 apart_turned one other apart n there = elim (cases_Bool (has (numbers_of one) n)) [
   | inl both ↦ clash (has (numbers_of other) n) there (apart n both)
   | inr lacks ↦ lacks
 ]
 
 -- a number of the other one is not taken
-not_taken : (old new other : Held) (before after : Lists) → KeepsOthers (numbers_of old) before (numbers_of new) after → StandsIn other before → AreApart other old
+not_taken : (old new other : RepoFields) (before after : Lists) → KeepsOthers (numbers_of old) before (numbers_of new) after → StandsIn other before → AreApart other old
     → (n : ℕ) → has (numbers_of other) n ≡ true → has (numbers_of new) n ≡ false
 not_taken old new other before after kept stands apart n there = elim (cases_Bool (has (numbers_of new) n)) [
   | inl taken ↦ clash (is_some (before n)) (used_at (numbers_of other) before n stands.used there) (none_false (before n) (kept.taken n (apart n there) taken))
@@ -25,26 +25,26 @@ not_taken old new other before after kept stands apart n there = elim (cases_Boo
 ]
 
 -- its lists are as they were
-same_lists : (old new other : Held) (before after : Lists) → KeepsOthers (numbers_of old) before (numbers_of new) after → StandsIn other before → AreApart other old
+same_lists : (old new other : RepoFields) (before after : Lists) → KeepsOthers (numbers_of old) before (numbers_of new) after → StandsIn other before → AreApart other old
     → (n : ℕ) → has (numbers_of other) n ≡ true → after n ≡ before n
 same_lists old new other before after kept stands apart n there = kept.others n (apart n there) (not_taken old new other before after kept stands apart n there)
 
-pub still_apart : (old new other : Held) (before after : Lists) → KeepsOthers (numbers_of old) before (numbers_of new) after → StandsIn other before → AreApart other old → AreApart other new
+pub still_apart : (old new other : RepoFields) (before after : Lists) → KeepsOthers (numbers_of old) before (numbers_of new) after → StandsIn other before → AreApart other old → AreApart other new
 still_apart old new other before after kept stands apart = not_taken old new other before after kept stands apart
 
-pub stands_where : (other : Held) (before after : Lists) → ((n : ℕ) → has (numbers_of other) n ≡ true → after n ≡ before n) → StandsIn other before → StandsIn other after
+pub stands_where : (other : RepoFields) (before after : Lists) → ((n : ℕ) → has (numbers_of other) n ≡ true → after n ≡ before n) → StandsIn other before → StandsIn other after
 stands_where other before after same stands = record { used = used_by (numbers_of other) before after same stands.used; apart = stands.apart }
 
-pub held_where : (other : Held) (before after : Lists) → ((n : ℕ) → has (numbers_of other) n ≡ true → after n ≡ before n) → IsHeld other before → IsHeld other after
+pub held_where : (other : RepoFields) (before after : Lists) → ((n : ℕ) → has (numbers_of other) n ≡ true → after n ≡ before n) → IsStored other before → IsStored other after
 held_where other before after same held =
-    let v : ℕ = other.shelf.version in
+    let v : ℕ = other.index.version in
     record {
-      shelved = shelved_same other.config other.shelf other.sets before after (same v (or_left (eqb v v) (has (versions_in other.table) v) (same_number v))) held.shelved;
-      counted = all_counted before after other.table.lists (λ n there. same n (or_right (eqb v n) (has (versions_in other.table) n) there)) held.counted;
+      indexed = indexed_same other.config other.index other.sets before after (same v (or_left (eqb v v) (has (versions_in other.table) v) (same_number v))) held.indexed;
+      agrees = record { counted = all_counted before after other.table.lists (λ n there. same n (or_right (eqb v n) (has (versions_in other.table) n) there)) held.agrees.counted };
     }
 
-pub still_stands : (old new other : Held) (before after : Lists) → KeepsOthers (numbers_of old) before (numbers_of new) after → StandsIn other before → AreApart other old → StandsIn other after
+pub still_stands : (old new other : RepoFields) (before after : Lists) → KeepsOthers (numbers_of old) before (numbers_of new) after → StandsIn other before → AreApart other old → StandsIn other after
 still_stands old new other before after kept stands apart = stands_where other before after (same_lists old new other before after kept stands apart) stands
 
-pub still_held : (old new other : Held) (before after : Lists) → KeepsOthers (numbers_of old) before (numbers_of new) after → StandsIn other before → AreApart other old → IsHeld other before → IsHeld other after
+pub still_held : (old new other : RepoFields) (before after : Lists) → KeepsOthers (numbers_of old) before (numbers_of new) after → StandsIn other before → AreApart other old → IsStored other before → IsStored other after
 still_held old new other before after kept stands apart held = held_where other before after (same_lists old new other before after kept stands apart) held

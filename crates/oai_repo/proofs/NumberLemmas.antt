@@ -4,8 +4,8 @@ use Rattle.std.specs.List.{list_all}
 use Rattle.std.proofs.lemmas.Bool.{and_from, and_parts, cases_Bool, cond-true, cond-false, eq-eqb, eqb-true, false≢true, false_from_ne_true, not-true, not_from_false, or_from, or_left, or_parts, or_right}
 use Rattle.oai_item.specs.Item.{ItemState}
 use Rattle.oai_catalogue.specs.Store.{Lists, list_at, with_list, without_list}
-use Rattle.oai_repo.specs.Held.{AreInUse, KeepsOthers, are_different, has}
-use Rattle.oai_repo.specs.Workings.{IsMoved}
+use Rattle.oai_repo.specs.Fields.{AreInUse, KeepsOthers, are_different, has}
+use Rattle.oai_repo.specs.Indexing.{IsMoved}
 
 -- ---- tests of numbers
 

@@ -1,4 +1,4 @@
--- What a purge reads of the items, what it takes out, and what is left and noted then.
+-- What a purge reads of the items, what it takes out, and what is left and indexed then.
 use Rattle.std.proofs.Common.{◌≡◌, ◌∙◌, ◌+◌, ◌<◌, ◌≤◌, ◌-ℤ◌, inl, inr, ℕ, ℤ, pos, Bool, true, false, not, ◌&&◌, cond, List, [], ◌∷◌, ◌++◌, length, take, drop, get_or, None, Some, IsSome, refl, sym, ap, subst, arith}
 use Rattle.std.specs.Prelude.{filter, int_le, int_lt, nat_lt, if◌then◌else◌}
 use Rattle.std.specs.List.{list_all}
@@ -18,12 +18,12 @@ use Rattle.oai_names.proofs.Lists.{all-filter}
 use Rattle.oai_catalogue.specs.Store.{is_at_one_of, without_each}
 use Rattle.oai_catalogue.proofs.Gone.{without_each-at, without_each-first, without_each-none}
 use Rattle.oai_repo.specs.Changes.{is_past, purged}
-use Rattle.oai_repo.specs.Held.{AreNoted, is_dated}
-use Rattle.oai_repo.specs.Notes.{Notes, noted}
+use Rattle.oai_repo.specs.Fields.{IndexAgrees, has_writable_stamp}
+use Rattle.oai_repo.specs.Entries.{Entries, stamp_in}
 use Rattle.oai_repo.specs.Purges.{AreTaken, below, is_deleted, is_in_core}
-use Rattle.oai_repo.specs.Notes.{IsNoting}
+use Rattle.oai_repo.specs.Entries.{SetsStamp}
 use Rattle.oai_repo.proofs.KeptLemmas.{at_most}
-use Rattle.oai_repo.proofs.ShelfLemmas.{taken_out}
+use Rattle.oai_repo.proofs.IndexLemmas.{taken_out}
 
 -- ---- what is read
 
@@ -42,18 +42,18 @@ all_four a b c d one two = rw (one, two) (by_test c)
     by_test false = refl
 
 -- of the deleted items those are asked for that are past
-passes_below : (limit : ℤ) (x : ItemState) → is_in_core x ≡ true → is_dated x ≡ true → passes (below limit) x ≡ int_lt x.stamp limit
+passes_below : (limit : ℤ) (x : ItemState) → is_in_core x ≡ true → has_writable_stamp x ≡ true → passes (below limit) x ≡ int_lt x.stamp limit
 passes_below limit x core dated =
     let parts = and_parts (int_le (below limit).lower x.stamp) (int_le x.stamp (pos 253_402_300_799)) dated in
     all_four (is_in_core x) (int_le (below limit).lower x.stamp) (int_le x.stamp (limit -ℤ pos 1)) true core parts.0 ∙ below_is x.stamp limit
 
-pub deleted_selected : (limit : ℤ) (items : List ItemState) → list_all is_in_core items ≡ true → list_all is_dated items ≡ true
+pub deleted_selected : (limit : ℤ) (items : List ItemState) → list_all is_in_core items ≡ true → list_all has_writable_stamp items ≡ true
     → filter is_deleted (selected (below limit) items) ≡ filter (is_past limit) items
 unfolding selected
 deleted_selected limit [] core dated = refl
 deleted_selected limit (x ∷ items) core dated =
     let in_core = and_parts (is_in_core x) (list_all is_in_core items) core in
-    let has_date = and_parts (is_dated x) (list_all is_dated items) dated in
+    let has_date = and_parts (has_writable_stamp x) (list_all has_writable_stamp items) dated in
     by_tests (passes (below limit) x) (int_lt x.stamp limit) x.live (passes_below limit x in_core.0 has_date.0) refl refl (deleted_selected limit items in_core.1 has_date.1)
   where
     some : List ItemState
@@ -189,19 +189,19 @@ picked p (x ∷ items) apart =
           stays_first x gone items apart_from ∙ ap (λ (xs : List ItemState). x ∷ xs) h.1,
         )
 
--- ---- what is noted then
+-- ---- what is indexed then
 
--- the notes without those of the first so many of the items that go
-abbrev pub AreForgotten : Notes → Notes → List ItemState → ℕ → Type 0
+-- the entries without those of the first so many of the items that go
+abbrev pub AreForgotten : Entries → Entries → List ItemState → ℕ → Type 0
 AreForgotten old now gone i =
-    (items : List ItemState) → AreNoted old items → AreTaken gone items → AreNoted now (without_each (take i gone) items) × AreTaken (drop i gone) (without_each (take i gone) items)
+    (items : List ItemState) → IndexAgrees old items → AreTaken gone items → IndexAgrees now (without_each (take i gone) items) × AreTaken (drop i gone) (without_each (take i gone) items)
 
-pub forgotten_none : (old : Notes) (gone : List ItemState) → AreForgotten old old gone 0
+pub forgotten_none : (old : Entries) (gone : List ItemState) → AreForgotten old old gone 0
 forgotten_none old gone items agrees taken =
-    subst (λ (xs : List ItemState). AreNoted old xs × AreTaken gone xs) (sym (without_each-none items)) (agrees, taken)
+    subst (λ (xs : List ItemState). IndexAgrees old xs × AreTaken gone xs) (sym (without_each-none items)) (agrees, taken)
 
-pub forgotten_next : (old now next : Notes) (gone : List ItemState) (i : ℕ) (d : ItemState) → i < length gone → AreForgotten old now gone i
-    → IsNoting (get_or gone i d).identifier None now next → (IsSome (noted (get_or gone i d).identifier now) → length next + 1 ≡ length now)
+pub forgotten_next : (old now next : Entries) (gone : List ItemState) (i : ℕ) (d : ItemState) → i < length gone → AreForgotten old now gone i
+    → SetsStamp (get_or gone i d).identifier None now next → (IsSome (stamp_in (get_or gone i d).identifier now) → length next + 1 ≡ length now)
     → AreForgotten old next gone (i + 1)
 forgotten_next old now next gone i d within so_far noting many items agrees taken =
     let x : ItemState = get_or gone i d in
@@ -209,7 +209,7 @@ forgotten_next old now next gone i d within so_far noting many items agrees take
     let found = so_far items agrees taken in
     let rest : AreTaken (x ∷ drop (i + 1) gone) mid = subst (λ (xs : List ItemState). AreTaken xs mid) (drop_more gone i d within) found.1 in
     let out : without_each (take (i + 1) gone) items ≡ without_at x.stamp x.identifier mid = without_each-at gone i d items within in
-    subst (λ (xs : List ItemState). AreNoted next xs × AreTaken (drop (i + 1) gone) xs) (sym out)
+    subst (λ (xs : List ItemState). IndexAgrees next xs × AreTaken (drop (i + 1) gone) xs) (sym out)
     ((taken_out x now next mid (without_at x.stamp x.identifier mid) found.0 rest.0 noting many refl).1, rest.1)
 
 -- ---- a purge
@@ -219,17 +219,17 @@ empty [] h = refl
 empty (x ∷ items) h = absurd (omega (arith, h))
 
 -- what is left where those that were read, up to all, are taken out
-abbrev pub IsPurge : ℤ → Notes → List ItemState → List ItemState → Type 0
+abbrev pub IsPurge : ℤ → Entries → List ItemState → List ItemState → Type 0
 IsPurge limit old items gone = gone ≡ filter is_deleted (take (length old) (selected (below limit) items))
 
-gone_are : (limit : ℤ) (old : Notes) (items gone : List ItemState) → AreNoted old items → list_all is_in_core items ≡ true → list_all is_dated items ≡ true
+gone_are : (limit : ℤ) (old : Entries) (items gone : List ItemState) → IndexAgrees old items → list_all is_in_core items ≡ true → list_all has_writable_stamp items ≡ true
     → IsPurge limit old items gone → gone ≡ filter (is_past limit) items
 unfolding selected
 gone_are limit old items gone agrees core dated is =
     is ∙ ap (filter is_deleted) (take_all (length old) (selected (below limit) items) (let few = at_most (passes (below limit)) items in omega (arith, few, agrees.many)))
     ∙ deleted_selected limit items core dated
 
-pub purge_left : (limit : ℤ) (old : Notes) (items gone : List ItemState) → AreNoted old items → list_all is_in_core items ≡ true → list_all is_dated items ≡ true
+pub purge_left : (limit : ℤ) (old : Entries) (items gone : List ItemState) → IndexAgrees old items → list_all is_in_core items ≡ true → list_all has_writable_stamp items ≡ true
     → IsPurge limit old items gone → AreTaken gone items × (without_each gone items ≡ purged limit items)
 unfolding purged
 purge_left limit old items gone agrees core dated is =
@@ -237,15 +237,15 @@ purge_left limit old items gone agrees core dated is =
     subst (λ (xs : List ItemState). AreTaken xs items × (without_each xs items ≡ filter (λ item. not (is_past limit item)) items)) (sym are) (picked (is_past limit) items agrees.apart)
 
 -- none goes
-pub purge_none : (limit : ℤ) (old : Notes) (items gone : List ItemState) → AreNoted old items → list_all is_in_core items ≡ true → list_all is_dated items ≡ true
+pub purge_none : (limit : ℤ) (old : Entries) (items gone : List ItemState) → IndexAgrees old items → list_all is_in_core items ≡ true → list_all has_writable_stamp items ≡ true
     → IsPurge limit old items gone → gone ≡ [] → items ≡ purged limit items
 purge_none limit old items gone agrees core dated is none =
     sym (without_each-none items) ∙ ap (λ (xs : List ItemState). without_each xs items) (sym none) ∙ (purge_left limit old items gone agrees core dated is).1
 
--- some go, and are noted no more
-pub purge_some : (limit : ℤ) (old notes : Notes) (items new gone : List ItemState) → AreNoted old items → list_all is_in_core items ≡ true → list_all is_dated items ≡ true
+-- some go, and are indexed no more
+pub purge_some : (limit : ℤ) (old entries : Entries) (items new gone : List ItemState) → IndexAgrees old items → list_all is_in_core items ≡ true → list_all has_writable_stamp items ≡ true
     → IsPurge limit old items gone → new ≡ without_each gone items
-    → ((xs : List ItemState) → AreNoted old xs → AreTaken gone xs → AreNoted notes (without_each gone xs)) → (new ≡ purged limit items) × AreNoted notes new
-purge_some limit old notes items new gone agrees core dated is out forgotten =
+    → ((xs : List ItemState) → IndexAgrees old xs → AreTaken gone xs → IndexAgrees entries (without_each gone xs)) → (new ≡ purged limit items) × IndexAgrees entries new
+purge_some limit old entries items new gone agrees core dated is out forgotten =
     let left = purge_left limit old items gone agrees core dated is in
-    (out ∙ left.1, subst (λ (xs : List ItemState). AreNoted notes xs) (sym out) (forgotten items agrees left.0))
+    (out ∙ left.1, subst (λ (xs : List ItemState). IndexAgrees entries xs) (sym out) (forgotten items agrees left.0))

@@ -7,70 +7,70 @@ use Rattle.oai_time.specs.declared.granularity.Granularity.{Granularity}
 use Rattle.oai_args.specs.Asks.{AskOrError}
 use Rattle.oai_answers.specs.Answers.{Attributes}
 use Rattle.oai_repo.specs.Answers.{arguments_of_request}
-use Rattle.oai_repo.specs.Calls.{told_in}
+use Rattle.oai_repo.specs.Calls.{output_of_reply}
 use Rattle.oai_repo.specs.Changes.{stamp_at}
 use Rattle.oai_settings.specs.Config.{Config}
-use Rattle.oai_repo.specs.Found.{reply_said}
-use Rattle.oai_repo.specs.Listing.{Said, answer_to, says, waits}
-use Rattle.oai_repo.specs.Machine.{Told, act, written, accepted, asking, changing, outcome_of, refused}
-use Rattle.oai_repo.specs.State.{Holdings, OpenLists, State, still_open}
-use Rattle.oai_repo.specs.Workings.{IsMade}
-use Rattle.oai_repo.specs.declared.refusals.Refusal.TheVariants as refusal
-use Rattle.oai_repo.specs.declared.replies.Reply.{Reply}
+use Rattle.oai_repo.specs.Views.{reply_of}
+use Rattle.oai_repo.specs.Listing.{Response, request_response, with_answer, retry_after}
+use Rattle.oai_repo.specs.Machine.{Output, act, outcome_output, accepted, requesting, changing, outcome_of, refused_with}
+use Rattle.oai_repo.specs.State.{Holdings, OpenLists, RepoState, still_open}
+use Rattle.oai_repo.specs.Indexing.{MakesChange}
+use Rattle.oai_repo.specs.declared.changes.Refusal.TheVariants as refusal
+use Rattle.oai_repo.specs.declared.responses.Reply.{Reply}
 use Rattle.oai_repo.proofs.ChangeLemmas.{act-made, act-refused}
 
-abbrev pub at : ℤ → Holdings → OpenLists → State
-at clock holdings begun = record { clock = clock; holdings = holdings; begun = begun }
+abbrev pub at : ℤ → Holdings → OpenLists → RepoState
+at clock holdings open_lists = record { clock = clock; holdings = holdings; open_lists = open_lists }
 
 -- the same, where lists may have ended at the clock
-abbrev pub at_later : ℤ → Holdings → OpenLists → State
-at_later clock holdings begun = at clock holdings (still_open clock begun)
+abbrev pub at_later : ℤ → Holdings → OpenLists → RepoState
+at_later clock holdings open_lists = at clock holdings (still_open clock open_lists)
 
 -- a change that is made, where the clock was moved from `t` to `now`
-pub step-made : (config : Config) (now t stamp : ℤ) (old new : Holdings) (begun : OpenLists) (asked : Change)
-    → now ≡ t → stamp ≡ stamp_at config now → IsMade config stamp old asked (Ok tt) new
-    → act config (at_later t old begun) (changing asked) ≡ (accepted stamp, at_later now new begun)
-step-made config now t stamp old new begun asked is dated made =
-    let here : IsMade config (stamp_at config now) old asked (Ok tt) new = subst (λ (s : ℤ). IsMade config s old asked (Ok tt) new) dated made in
-    let done : act config (at_later now old begun) (changing asked) ≡ (accepted stamp, at_later now new begun) =
-    subst (λ (s : ℤ). act config (at_later now old begun) (changing asked) ≡ (accepted s, at_later now new begun)) (sym dated) (act-made config now old new (still_open now begun) asked here)
+pub step-made : (config : Config) (now t stamp : ℤ) (old new : Holdings) (open_lists : OpenLists) (asked : Change)
+    → now ≡ t → stamp ≡ stamp_at config now → MakesChange config stamp old asked (Ok tt) new
+    → act config (at_later t old open_lists) (changing asked) ≡ (accepted stamp, at_later now new open_lists)
+step-made config now t stamp old new open_lists asked is dated made =
+    let here : MakesChange config (stamp_at config now) old asked (Ok tt) new = subst (λ (s : ℤ). MakesChange config s old asked (Ok tt) new) dated made in
+    let done : act config (at_later now old open_lists) (changing asked) ≡ (accepted stamp, at_later now new open_lists) =
+    subst (λ (s : ℤ). act config (at_later now old open_lists) (changing asked) ≡ (accepted s, at_later now new open_lists)) (sym dated) (act-made config now old new (still_open now open_lists) asked here)
     in
-    subst (λ (x : ℤ). act config (at_later x old begun) (changing asked) ≡ (accepted stamp, at_later now new begun)) is done
+    subst (λ (x : ℤ). act config (at_later x old open_lists) (changing asked) ≡ (accepted stamp, at_later now new open_lists)) is done
 
 -- one that is refused
-pub step-refused : (config : Config) (now t stamp : ℤ) (old new : Holdings) (begun : OpenLists) (asked : Change) (cause : ChangeRefusal)
-    → now ≡ t → stamp ≡ stamp_at config now → IsMade config stamp old asked (Err (refusal.Refused cause)) new
-    → act config (at_later t old begun) (changing asked) ≡ (refused (in_repository cause), at_later now new begun)
-step-refused config now t stamp old new begun asked cause is dated made =
-    let here : IsMade config (stamp_at config now) old asked (Err (refusal.Refused cause)) new =
-    subst (λ (s : ℤ). IsMade config s old asked (Err (refusal.Refused cause)) new) dated made
+pub step-refused : (config : Config) (now t stamp : ℤ) (old new : Holdings) (open_lists : OpenLists) (asked : Change) (cause : ChangeRefusal)
+    → now ≡ t → stamp ≡ stamp_at config now → MakesChange config stamp old asked (Err (refusal.Refused cause)) new
+    → act config (at_later t old open_lists) (changing asked) ≡ (refused_with (in_repository cause), at_later now new open_lists)
+step-refused config now t stamp old new open_lists asked cause is dated made =
+    let here : MakesChange config (stamp_at config now) old asked (Err (refusal.Refused cause)) new =
+    subst (λ (s : ℤ). MakesChange config s old asked (Err (refusal.Refused cause)) new) dated made
     in
-    subst (λ (x : ℤ). act config (at_later x old begun) (changing asked) ≡ (refused (in_repository cause), at_later now new begun)) is
-    (act-refused config now old new (still_open now begun) asked cause here)
+    subst (λ (x : ℤ). act config (at_later x old open_lists) (changing asked) ≡ (refused_with (in_repository cause), at_later now new open_lists)) is
+    (act-refused config now old new (still_open now open_lists) asked cause here)
 
--- what a reply tells is what is written of the outcome
-pub told-written : (granularity : Granularity) (config : Config) (clock : ℤ) (asked : Attributes) (said : Said) (reply : Reply)
-    → reply ≡ reply_said config clock asked said → told_in reply ≡ written granularity (outcome_of config clock asked said)
-unfolding written
-told-written granularity config clock asked (says answer) reply is = ap told_in is
-told-written granularity config clock asked (waits seconds) reply is = ap told_in is
+-- what a reply has is what is written of the outcome
+pub reply_output : (granularity : Granularity) (config : Config) (clock : ℤ) (asked : Attributes) (response : Response) (reply : Reply)
+    → reply ≡ reply_of config clock asked response → output_of_reply reply ≡ outcome_output granularity (outcome_of config clock asked response)
+unfolding outcome_output
+reply_output granularity config clock asked (with_answer answer) reply is = ap output_of_reply is
+reply_output granularity config clock asked (retry_after seconds) reply is = ap output_of_reply is
 
-abbrev telling : Told → State → Told × State
+abbrev telling : Output → RepoState → Output × RepoState
 telling told state = (told, state)
 
 -- a request that is answered, where the clock was moved from `t` to `now`; the lists that are open before it, and after it
-pub step-asked : (config : Config) (now t : ℤ) (holdings : Holdings) (begun before after : OpenLists) (request : AskOrError) (told : Told)
-    → now ≡ t → before ≡ still_open now begun
-    → told ≡ written config.granularity (outcome_of config now (arguments_of_request request) (answer_to config (at now holdings before) request).0)
-    → after ≡ (answer_to config (at now holdings before) request).1
-    → (let done = act config (at_later t holdings begun) (asking request) in telling (written config.granularity done.0) done.1) ≡ telling told (at now holdings after)
+pub step-asked : (config : Config) (now t : ℤ) (holdings : Holdings) (open_lists before after : OpenLists) (request : AskOrError) (told : Output)
+    → now ≡ t → before ≡ still_open now open_lists
+    → told ≡ outcome_output config.granularity (outcome_of config now (arguments_of_request request) (request_response config (at now holdings before) request).0)
+    → after ≡ (request_response config (at now holdings before) request).1
+    → (let done = act config (at_later t holdings open_lists) (requesting request) in telling (outcome_output config.granularity done.0) done.1) ≡ telling told (at now holdings after)
 unfolding act
-step-asked config now t holdings begun before after request told is open_before said left =
-    let from : State → Told × State = λ state.
-    let done = answer_to config state request in
-    telling (written config.granularity (outcome_of config state.clock (arguments_of_request request) done.0)) (record state { begun = done.1 })
+step-asked config now t holdings open_lists before after request told is open_before said left =
+    let from : RepoState → Output × RepoState = λ state.
+    let done = request_response config state request in
+    telling (outcome_output config.granularity (outcome_of config state.clock (arguments_of_request request) done.0)) (record state { open_lists = done.1 })
     in
-    let here : from (at_later t holdings begun) ≡ from (at now holdings before) =
-    ap from (ap (λ (x : ℤ). at_later x holdings begun) (sym is) ∙ ap (at now holdings) (sym open_before))
+    let here : from (at_later t holdings open_lists) ≡ from (at now holdings before) =
+    ap from (ap (λ (x : ℤ). at_later x holdings open_lists) (sym is) ∙ ap (at now holdings) (sym open_before))
     in
-    here ∙ ap (λ (x : Told). telling x (at now holdings (answer_to config (at now holdings before) request).1)) (sym said) ∙ ap (λ (x : OpenLists). telling told (at now holdings x)) (sym left)
+    here ∙ ap (λ (x : Output). telling x (at now holdings (request_response config (at now holdings before) request).1)) (sym said) ∙ ap (λ (x : OpenLists). telling told (at now holdings x)) (sym left)

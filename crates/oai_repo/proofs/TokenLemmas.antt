@@ -12,14 +12,14 @@ use Rattle.oai_lists.specs.OpenLists.{Table, open_numbered}
 use Rattle.oai_lists.specs.declared.open_lists.OpenList.{OpenList}
 use Rattle.oai_lists.specs.declared.tokens.Token.{Token}
 use Rattle.oai_settings.specs.Config.{Config}
-use Rattle.oai_repo.specs.Found.{IsTold}
-use Rattle.oai_repo.specs.Held.{are_counted, begun_of, frozen_in, is_counted}
-use Rattle.oai_repo.specs.Listing.{Said, continues, is_continued, is_same_verb, list_continued, part_from, part_told, prolonged, says, token_answer, where_continued, with_prolonged}
+use Rattle.oai_repo.specs.Views.{IsViewReply}
+use Rattle.oai_repo.specs.Fields.{are_counted, open_lists_of, frozen_in, is_counted}
+use Rattle.oai_repo.specs.Listing.{Response, continued_response, is_continued, is_same_verb, list_continued, part_from, part_answer, prolonged, with_answer, token_response, where_continued, with_prolonged}
 use Rattle.oai_repo.specs.State.{FrozenList, OpenLists}
 use Rattle.oai_repo.specs.Tables.{table_continued, table_where}
-use Rattle.oai_repo.specs.declared.replies.Reply.{Reply}
-use Rattle.oai_repo.specs.declared.snapshots.Snapshot.{Snapshot}
-use Rattle.oai_repo.proofs.BegunLemmas.{found_frozen, open_parts}
+use Rattle.oai_repo.specs.declared.responses.Reply.{Reply}
+use Rattle.oai_repo.specs.declared.view.RepoView.{RepoView}
+use Rattle.oai_repo.proofs.OpenListLemmas.{found_frozen, open_parts}
 
 -- ---- what was found in the table
 
@@ -65,34 +65,34 @@ counted_size all list h = eqb-true list.size (length (frozen_in all list).items)
 
 -- the test of the state is that of the table
 same_test : (verb : ListVerb) (token : Token) (all : Lists) (list : OpenList) → is_counted all list ≡ true
-    → is_continued verb token (frozen_in all list) ≡ (is_same_verb list.verb verb && nat_lt token.cursor list.size)
+    → is_continued verb token list.verb (length (frozen_in all list).items) ≡ (is_same_verb list.verb verb && nat_lt token.cursor list.size)
 same_test verb token all list h = ap (λ (n : ℕ). is_same_verb list.verb verb && nat_lt token.cursor n) (sym (counted_size all list h))
 
 continued_as : (now : ℤ) (verb : ListVerb) (token : Token) (table : Table) (all : Lists)
-    → list_continued (begun_of now table all) verb token ≡ where_continued verb token (option_map (frozen_in all) (open_numbered token.list now table.lists))
+    → list_continued (open_lists_of now table all) verb token ≡ where_continued verb token (option_map (frozen_in all) (open_numbered token.list now table.lists))
 continued_as now verb token table all = ap (where_continued verb token) (found_frozen token.list now all table.lists)
 
 pub goes_on : (config : Config) (now : ℤ) (verb : ListVerb) (table : Table) (all : Lists) (list : OpenList) (cursor : ℕ) (asked : Option Token) (token : Token) → asked ≡ Some token
     → IsContinued now verb table.lists list cursor token → are_counted table all ≡ true
-    → token_answer config now (begun_of now table all) verb asked
-    ≡ (says (part_told verb (format_named list.filter.prefix config.formats) (part_from config (prolonged config now (frozen_in all list)) cursor)), with_prolonged config now list.number (begun_of now table all))
+    → token_response config now (open_lists_of now table all) verb asked
+    ≡ (with_answer (part_answer verb (format_named list.filter.prefix config.formats) (part_from config (prolonged config now (frozen_in all list)) cursor)), with_prolonged config now list.number (open_lists_of now table all))
 goes_on config now verb table all list cursor asked token is h counted =
-    let begun : OpenLists = begun_of now table all in
+    let open_lists : OpenLists = open_lists_of now table all in
     let frozen : FrozenList = frozen_in all list in
     let parts = open_parts token.list now (is_counted all) table.lists list h.there counted in
-    let test : is_continued verb token frozen ≡ true =
+    let test : is_continued verb token frozen.verb (length frozen.items) ≡ true =
     same_test verb token all list parts.2
     ∙ ap (λ (b : Bool). b && nat_lt token.cursor list.size) h.right
     ∙ ap (λ (k : ℕ). nat_lt k list.size) (sym h.at) ∙ h.within
     in
-    let found : list_continued begun verb token ≡ Some frozen =
+    let found : list_continued open_lists verb token ≡ Some frozen =
     continued_as now verb token table all
     ∙ ap (λ (o : Option OpenList). where_continued verb token (option_map (frozen_in all) o)) h.there
-    ∙ cond-true (is_continued verb token frozen) (Some frozen) None test
+    ∙ cond-true (is_continued verb token frozen.verb (length frozen.items)) (Some frozen) None test
     in
-    ap (token_answer config now begun verb) is
-    ∙ ap (continues config now begun verb token.cursor) found
-    ∙ ap (λ (k : ℕ). continues config now begun verb k (Some frozen)) (sym h.at)
+    ap (token_response config now open_lists verb) is
+    ∙ ap (continued_response config now open_lists verb token.cursor) found
+    ∙ ap (λ (k : ℕ). continued_response config now open_lists verb k (Some frozen)) (sym h.at)
 
 stops_where : (verb : ListVerb) (token : Token) (all : Lists) (found : Option OpenList) → ((list : OpenList) → found ≡ Some list → is_counted all list ≡ true) → None ≡ table_where verb token found
     → where_continued verb token (option_map (frozen_in all) found) ≡ None
@@ -102,19 +102,14 @@ stops_where verb token all (Some x) counted h =
       | inl right ↦
           let e : None ≡ Some (x, token.cursor) = h ∙ cond-true (is_same_verb x.verb verb && nat_lt token.cursor x.size) (Some (x, token.cursor)) None right in
           cc
-      | inr wrong ↦ cond-false (is_continued verb token (frozen_in all x)) (Some (frozen_in all x)) None (same_test verb token all x (counted x refl) ∙ wrong)
+      | inr wrong ↦ cond-false (is_continued verb token x.verb (length (frozen_in all x).items)) (Some (frozen_in all x)) None (same_test verb token all x (counted x refl) ∙ wrong)
     ]
 
 pub stops : (config : Config) (now : ℤ) (verb : ListVerb) (table : Table) (all : Lists) (asked : Option Token) → None ≡ table_continued now verb table.lists asked → are_counted table all ≡ true
-    → token_answer config now (begun_of now table all) verb asked ≡ (says (fails BadResumptionToken), begun_of now table all)
+    → token_response config now (open_lists_of now table all) verb asked ≡ (with_answer (fails BadResumptionToken), open_lists_of now table all)
 stops config now verb table all None h counted = refl
 stops config now verb table all (Some token) h counted =
-    let begun : OpenLists = begun_of now table all in
-    ap (continues config now begun verb token.cursor)
+    let open_lists : OpenLists = open_lists_of now table all in
+    ap (continued_response config now open_lists verb token.cursor)
     (continued_as now verb token table all
     ∙ stops_where verb token all (open_numbered token.list now table.lists) (λ list there. (open_parts token.list now (is_counted all) table.lists list there counted).2) h)
-
--- ---- what is told of it
-
-pub told_as : (found : Snapshot) (asked : Attributes) (done other : Said × OpenLists) (reply : Reply) (table : Table) (all : Lists) → done ≡ other → IsTold found asked other reply table all → IsTold found asked done reply table all
-told_as found asked done other reply table all is told = subst (λ (d : Said × OpenLists). IsTold found asked d reply table all) (sym is) told

@@ -3,13 +3,13 @@ use Rattle.std.proofs.Common.{◌≡◌, ◌∙◌, ℕ, ℤ, pos, Bool, true, f
 use Rattle.std.specs.Prelude.{nat_le}
 use Rattle.std.proofs.lemmas.List.{length-map}
 use Rattle.oai_catalogue.specs.Store.{Lists}
-use Rattle.oai_lists.specs.OpenLists.{IsOpening, Table, answered, open_fault, open_ones}
+use Rattle.oai_lists.specs.OpenLists.{IsListOpening, Table, number_or_fault, open_fault, open_ones}
 use Rattle.oai_lists.specs.declared.lists.OpenFault.{OpenFault}
 use Rattle.oai_lists.specs.declared.lists.OpenFault.TheVariants.{Full, NumbersSpent, NoMemory}
 use Rattle.oai_lists.specs.declared.open_lists.OpenList.{OpenList}
 use Rattle.oai_lists.specs.declared.lists.TheConstants.{LAST_NUMBER}
 use Rattle.oai_settings.specs.Config.{Config}
-use Rattle.oai_repo.specs.Held.{begun_of, frozen_in}
+use Rattle.oai_repo.specs.Fields.{open_lists_of, frozen_in}
 use Rattle.oai_repo.specs.Listing.{seconds_to_end, wait_at}
 
 -- the cause, by the two tests
@@ -20,19 +20,19 @@ waits_of : Bool → Bool → ℤ → ℤ → Option ℤ
 waits_of full spent end life = cond full (Some end) (cond spent (Some life) None)
 
 -- may it begin, it has the next number
-begins_if : (full spent : Bool) (next number : ℕ) (end life : ℤ) → answered (fault_of full spent) next ≡ Ok number → (waits_of full spent end life ≡ None) × (number ≡ next)
+begins_if : (full spent : Bool) (next number : ℕ) (end life : ℤ) → number_or_fault (fault_of full spent) next ≡ Ok number → (waits_of full spent end life ≡ None) × (number ≡ next)
 unfolding fault_of waits_of
 begins_if true spent next number end life h = cc
 begins_if false true next number end life h = cc
 begins_if false false next number end life h = (refl, cc)
 
-waits_if_full : (full spent : Bool) (next : ℕ) (end life : ℤ) → answered (fault_of full spent) next ≡ Err Full → waits_of full spent end life ≡ Some end
+waits_if_full : (full spent : Bool) (next : ℕ) (end life : ℤ) → number_or_fault (fault_of full spent) next ≡ Err Full → waits_of full spent end life ≡ Some end
 unfolding fault_of waits_of
 waits_if_full true spent next end life h = refl
 waits_if_full false true next end life h = cc
 waits_if_full false false next end life h = cc
 
-waits_if_spent : (full spent : Bool) (next : ℕ) (end life : ℤ) → answered (fault_of full spent) next ≡ Err NumbersSpent → waits_of full spent end life ≡ Some life
+waits_if_spent : (full spent : Bool) (next : ℕ) (end life : ℤ) → number_or_fault (fault_of full spent) next ≡ Err NumbersSpent → waits_of full spent end life ≡ Some life
 unfolding fault_of waits_of
 waits_if_spent true spent next end life h = cc
 waits_if_spent false true next end life h = refl
@@ -46,32 +46,32 @@ unfolding open_fault fault_of full_in
 fault_is table now = refl
 
 waits_is : (config : Config) (now : ℤ) (table : Table) (all : Lists) → table.limit ≡ config.lists
-    → wait_at config now (begun_of now table all) ≡ waits_of (full_in table now) (eqb table.next LAST_NUMBER) (seconds_to_end now (begun_of now table all).lists) (pos config.lifetime)
+    → wait_at config now (open_lists_of now table all) ≡ waits_of (full_in table now) (eqb table.next LAST_NUMBER) (seconds_to_end now (open_lists_of now table all).lists) (pos config.lifetime)
 unfolding wait_at waits_of full_in
 waits_is config now table all limit =
-    ap (λ n. cond (nat_le config.lists n) (Some (seconds_to_end now (begun_of now table all).lists)) (cond (eqb table.next LAST_NUMBER) (Some (pos config.lifetime)) None)) (length-map (open_ones now table.lists) (frozen_in all))
-    ∙ ap (λ n. cond (nat_le n (length (open_ones now table.lists))) (Some (seconds_to_end now (begun_of now table all).lists)) (cond (eqb table.next LAST_NUMBER) (Some (pos config.lifetime)) None)) (sym limit)
+    ap (λ n. cond (nat_le config.lists n) (Some (seconds_to_end now (open_lists_of now table all).lists)) (cond (eqb table.next LAST_NUMBER) (Some (pos config.lifetime)) None)) (length-map (open_ones now table.lists) (frozen_in all))
+    ∙ ap (λ n. cond (nat_le n (length (open_ones now table.lists))) (Some (seconds_to_end now (open_lists_of now table all).lists)) (cond (eqb table.next LAST_NUMBER) (Some (pos config.lifetime)) None)) (sym limit)
 
-pub may_begin : (config : Config) (now : ℤ) (table : Table) (all : Lists) (number : ℕ) → table.limit ≡ config.lists → answered (open_fault table now) table.next ≡ Ok number
-    → (wait_at config now (begun_of now table all) ≡ None) × (number ≡ table.next)
+pub may_begin : (config : Config) (now : ℤ) (table : Table) (all : Lists) (number : ℕ) → table.limit ≡ config.lists → number_or_fault (open_fault table now) table.next ≡ Ok number
+    → (wait_at config now (open_lists_of now table all) ≡ None) × (number ≡ table.next)
 may_begin config now table all number limit h =
-    let parts = begins_if (full_in table now) (eqb table.next LAST_NUMBER) table.next number (seconds_to_end now (begun_of now table all).lists) (pos config.lifetime) (sym (ap (λ f. answered f table.next) (fault_is table now)) ∙ h) in
+    let parts = begins_if (full_in table now) (eqb table.next LAST_NUMBER) table.next number (seconds_to_end now (open_lists_of now table all).lists) (pos config.lifetime) (sym (ap (λ f. number_or_fault f table.next) (fault_is table now)) ∙ h) in
     (waits_is config now table all limit ∙ parts.0, parts.1)
 
-pub waits_full : (config : Config) (now : ℤ) (table : Table) (all : Lists) → table.limit ≡ config.lists → answered (open_fault table now) table.next ≡ Err Full
-    → wait_at config now (begun_of now table all) ≡ Some (seconds_to_end now (begun_of now table all).lists)
+pub waits_full : (config : Config) (now : ℤ) (table : Table) (all : Lists) → table.limit ≡ config.lists → number_or_fault (open_fault table now) table.next ≡ Err Full
+    → wait_at config now (open_lists_of now table all) ≡ Some (seconds_to_end now (open_lists_of now table all).lists)
 waits_full config now table all limit h =
     waits_is config now table all limit
-    ∙ waits_if_full (full_in table now) (eqb table.next LAST_NUMBER) table.next (seconds_to_end now (begun_of now table all).lists) (pos config.lifetime) (sym (ap (λ f. answered f table.next) (fault_is table now)) ∙ h)
+    ∙ waits_if_full (full_in table now) (eqb table.next LAST_NUMBER) table.next (seconds_to_end now (open_lists_of now table all).lists) (pos config.lifetime) (sym (ap (λ f. number_or_fault f table.next) (fault_is table now)) ∙ h)
 
-pub waits_spent : (config : Config) (now : ℤ) (table : Table) (all : Lists) → table.limit ≡ config.lists → answered (open_fault table now) table.next ≡ Err NumbersSpent
-    → wait_at config now (begun_of now table all) ≡ Some (pos config.lifetime)
+pub waits_spent : (config : Config) (now : ℤ) (table : Table) (all : Lists) → table.limit ≡ config.lists → number_or_fault (open_fault table now) table.next ≡ Err NumbersSpent
+    → wait_at config now (open_lists_of now table all) ≡ Some (pos config.lifetime)
 waits_spent config now table all limit h =
     waits_is config now table all limit
-    ∙ waits_if_spent (full_in table now) (eqb table.next LAST_NUMBER) table.next (seconds_to_end now (begun_of now table all).lists) (pos config.lifetime) (sym (ap (λ f. answered f table.next) (fault_is table now)) ∙ h)
+    ∙ waits_if_spent (full_in table now) (eqb table.next LAST_NUMBER) table.next (seconds_to_end now (open_lists_of now table all).lists) (pos config.lifetime) (sym (ap (λ f. number_or_fault f table.next) (fault_is table now)) ∙ h)
 
 -- a list that was not opened has left the table as it was
-pub opening_failed : (old : Table) (now : ℤ) (list : OpenList) (fault : OpenFault) (new : Table) → IsOpening old now list (Err fault) new → new ≡ old
+pub opening_failed : (old : Table) (now : ℤ) (list : OpenList) (fault : OpenFault) (new : Table) → IsListOpening old now list (Err fault) new → new ≡ old
 opening_failed old now list Full new h = h.1
 opening_failed old now list NumbersSpent new h = h.1
 opening_failed old now list NoMemory new h = h.1

@@ -17,7 +17,7 @@ use Rattle.oai_answers.specs.declared.errors.ErrorCode.TheVariants.{CannotDissem
 use Rattle.oai_settings.specs.Config.{Config}
 use Rattle.oai_repo.specs.State.{NamedSet}
 
--- what Identify tells (section 4.2)
+-- what Identify returns (section 4.2)
 abbrev pub description : Config → Description
 description config = record {
   name = config.repository_name;
@@ -86,12 +86,12 @@ arguments_of_ask (ask.Get identifier prefix) = record (asked_for (codes "GetReco
 arguments_of_ask (ask.List verb prefix from until set) = record (asked_for (name_of (verb_of_list verb))) { prefix = Some prefix; from = from; until = until; set = set }
 arguments_of_ask (ask.Resume verb token) = record (asked_for (name_of (verb_of_list verb))) { token = Some token }
 
--- the arguments of a request, as far as the document tells them (section 3.2)
+-- the arguments of a request, as far as the document repeats them (section 3.2)
 abbrev pub arguments_of_request : AskOrError → Attributes
 arguments_of_request (asks ask) = arguments_of_ask ask
 arguments_of_request bad_verb = no_arguments
 arguments_of_request bad_argument = no_arguments
 
--- the document that tells an answer at that clock
-abbrev pub document_of : Config → ℤ → Attributes → Answer → Document
-document_of config clock asked answer = record { date = clock; base = config.base; asked = asked; answer = answer }
+-- the document of an answer at that clock
+abbrev pub document_at : Config → ℤ → Attributes → Answer → Document
+document_at config clock asked answer = record { date = clock; base = config.base; asked = asked; answer = answer }

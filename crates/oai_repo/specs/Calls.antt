@@ -10,27 +10,30 @@ use Rattle.oai_args.specs.Asks.{AskOrError, asks}
 use Rattle.oai_args.specs.declared.requests.Ask.TheVariants as ask
 use Rattle.oai_catalogue.specs.Store.{Lists}
 use Rattle.oai_time.specs.Clock.{tick}
-use Rattle.oai_repo.specs.Changes.{deposit_refusal, missing_refusal, purge_refusal, set_refusal}
+use Rattle.oai_time.specs.Stamp.{IsWritable}
+use Rattle.oai_repo.specs.Accepted.{KeepsChange}
+use Rattle.oai_repo.specs.Changes.{deposit_refusal, missing_refusal, purge_refusal, set_refusal, stamp_at}
 use Rattle.oai_settings.specs.Config.{Config}
-use Rattle.oai_repo.specs.Held.{Held, holdings_of, state_of}
-use Rattle.oai_repo.specs.Machine.{Told, act_at, accepted, bytes, changing, query, refused, step, wait}
-use Rattle.oai_repo.specs.State.{Holdings}
-use Rattle.oai_repo.specs.declared.refusals.Refusal.{Refusal}
-use Rattle.oai_repo.specs.declared.refusals.Refusal.TheVariants as refusal
-use Rattle.oai_repo.specs.declared.replies.Reply.{Reply}
-use Rattle.oai_repo.specs.declared.replies.Reply.TheVariants.{Later, Page}
+use Rattle.oai_repo.specs.Fields.{HoldsOpenLists, RepoFields, holdings_of, state_of}
+use Rattle.oai_repo.specs.Machine.{Output, act_at, accepted, bytes, changing, query, refused_with, step, wait}
+use Rattle.oai_repo.specs.State.{Holdings, moved}
+use Rattle.oai_repo.specs.Tables.{dropped_at}
+use Rattle.oai_repo.specs.declared.changes.Refusal.{Refusal}
+use Rattle.oai_repo.specs.declared.changes.Refusal.TheVariants as refusal
+use Rattle.oai_repo.specs.declared.responses.Reply.{Reply}
+use Rattle.oai_repo.specs.declared.responses.Reply.TheVariants.{Later, Page}
 
 -- ---- what is answered, over an honest store
 
--- what a reply tells
-abbrev pub told_in : Reply → Told
-told_in (Page page) = bytes page
-told_in (Later seconds) = wait seconds
+-- the output that a reply is
+abbrev pub output_of_reply : Reply → Output
+output_of_reply (Page page) = bytes page
+output_of_reply (Later seconds) = wait seconds
 
 -- a request was performed: it is a step
-abbrev pub IsAsked : Held → Lists → ℤ → List ℕ → Reply → Held → Lists → Type 0
+abbrev pub IsAsked : RepoFields → Lists → ℤ → List ℕ → Reply → RepoFields → Lists → Type 0
 IsAsked old before moment arguments reply new after =
-    step old.config (state_of old before) moment (query arguments) ≡ (told_in reply, state_of new after)
+    step old.config (state_of old before) moment (query arguments) ≡ (output_of_reply reply, state_of new after)
 
 -- the causes among these that are looked for before any memory is taken and anything is read
 abbrev pub early_refusal : Config → Holdings → Change → Option ChangeRefusal
@@ -40,11 +43,11 @@ early_refusal config holdings (change.Purge before) = purge_refusal config befor
 early_refusal config holdings (change.AddSet spec name) = set_refusal holdings.sets spec
 
 -- a change was made or refused: it is what the machine does; or it is a fault, where no early cause refuses the change
-abbrev pub IsChanged : Held → Lists → ℤ → Change → Result ℤ Refusal → Held → Lists → Type 0
+abbrev pub IsChanged : RepoFields → Lists → ℤ → Change → Result ℤ Refusal → RepoFields → Lists → Type 0
 IsChanged old before moment change (Ok stamp) new after = act_at old.config (state_of old before) moment (changing change) ≡ (accepted stamp, state_of new after)
 IsChanged old before moment change (Err (refusal.Refused cause)) new after =
-    act_at old.config (state_of old before) moment (changing change) ≡ (refused (in_repository cause), state_of new after)
-IsChanged old before moment change (Err (refusal.Fault fault)) new after = early_refusal old.config (holdings_of old.shelf old.sets before) change ≡ None
+    act_at old.config (state_of old before) moment (changing change) ≡ (refused_with (in_repository cause), state_of new after)
+IsChanged old before moment change (Err (refusal.Fault fault)) new after = early_refusal old.config (holdings_of old.index old.sets before) change ≡ None
 
 -- ---- how much room a call wants, over any store
 
@@ -53,11 +56,11 @@ abbrev pub room_to_ask : AskOrError → ℕ
 room_to_ask (asks (ask.List verb prefix from until set)) = 1
 room_to_ask request = 0
 
--- a change, where there are so many items: a state that takes the place of another wants a version frozen, an item taken out and one put
--- in; a purge wants a version frozen, and each item taken out at most
+-- a change, where there are so many items: a deposit and a deletion want one call of the store, and a purge wants a version frozen and each
+-- item taken out at most
 abbrev pub room_to_change : ℕ → Change → ℕ
-room_to_change items (change.Deposit identifier sets records) = 3
-room_to_change items (change.Delete identifier) = 3
+room_to_change items (change.Deposit identifier sets records) = 1
+room_to_change items (change.Delete identifier) = 1
 room_to_change items (change.Purge before) = items + 1
 room_to_change items (change.AddSet spec name) = 0
 
@@ -75,7 +78,24 @@ OnRefused (Ok _) P = Unit {0}
 OnRefused (Err (refusal.Refused cause)) P = P
 OnRefused (Err (refusal.Fault fault)) P = Unit {0}
 
--- a call that failed has left the repository and all lists as they were; any other has moved the clock, and kept the configuration
-abbrev pub IsLeft : {A : Type 0} → Result A Fault → ℤ → Held → Lists → Held → Lists → Type 0
-IsLeft (Ok _) moment old before new after = (new.clock ≡ tick old.clock moment) × (new.config ≡ old.config)
-IsLeft (Err fault) moment old before new after = (new ≡ old) × (after ≡ before)
+-- a call that failed has left the repository and all lists as they were; any other has moved the clock to the moment
+abbrev pub IsClockAt : {A : Type 0} → Result A Fault → ℤ → RepoFields → Lists → RepoFields → Lists → Type 0
+IsClockAt (Ok _) moment old before new after = new.clock ≡ tick old.clock moment
+IsClockAt (Err fault) moment old before new after = (new ≡ old) × (after ≡ before)
+
+-- the lists that have ended are gone from the table, and nothing else is changed in it
+pub record DropsEnded (old new : RepoFields) : Type 0 where
+  pub table : new.table ≡ dropped_at new.clock old.table
+  pub open_ones : HoldsOpenLists new
+
+-- a change was refused: the state is the one at the moment, and the index is as it was
+pub record IsRefusedAt (moment : ℤ) (old : RepoFields) (before : Lists) (new : RepoFields) (after : Lists) : Type 0 where
+  pub state : state_of new after ≡ moved moment (state_of old before)
+  pub index : new.index ≡ old.index
+
+-- a change was accepted with that datestamp: it is that of the clock, of the years 0000 to 9999, the index has the entries of the change, and
+-- a new set stands behind the others
+pub record IsAccepted (stamp : ℤ) (change : Change) (old new : RepoFields) : Type 0 where
+  pub writable : IsWritable stamp
+  pub stamped : stamp ≡ stamp_at new.config new.clock
+  pub kept : KeepsChange old.config.deleted stamp change old.index.entries new.index.entries old.sets new.sets

@@ -19,12 +19,12 @@ use Rattle.oai_answers.specs.declared.tokens.Extent.{Extent}
 use Rattle.oai_answers.specs.declared.errors.ErrorCode.TheVariants.{BadVerb, BadArgument, BadResumptionToken, CannotDisseminateFormat, NoRecordsMatch, NoSetHierarchy}
 use Rattle.oai_repo.specs.Answers.{description, filter_of, formats_answer, record_answer, sets_answer}
 use Rattle.oai_settings.specs.Config.{Config}
-use Rattle.oai_repo.specs.State.{FrozenList, Holdings, NamedSet, OpenLists, State}
+use Rattle.oai_repo.specs.State.{FrozenList, Holdings, NamedSet, OpenLists, RepoState}
 
--- what is said to a request: an answer, for a document; or how many seconds it is to wait
-pub data Said : Type 0 where
-  says : Answer → Said
-  waits : ℤ → Said
+-- the response to a request: an answer, for a document; or how many seconds the client is to wait
+pub data Response : Type 0 where
+  with_answer : Answer → Response
+  retry_after : ℤ → Response
 
 -- ---- a part of a list
 
@@ -36,25 +36,26 @@ extent_at list cursor = record { size = length list.items; cursor = cursor }
 abbrev pub items_from : Config → FrozenList → ℕ → List ItemState
 items_from config list cursor = take config.chunk (drop cursor list.items)
 
--- behind it records remain, and the token asks for the part that begins with them; or it completes the list
-abbrev pub continued_at : FrozenList → ℕ → ℕ → Continuation
-continued_at list cursor next =
-    if nat_lt next (length list.items) then remains list.end (extent_at list cursor) (token_text (record { list = list.number; cursor = next }))
-    else completes (extent_at list cursor)
+-- behind a part of the list of that number and end, before the record `next`, records remain, and the token asks for the part that begins with
+-- them; or it completes the list
+abbrev pub continued_at : ℕ → ℤ → Extent → ℕ → Continuation
+continued_at number end extent next =
+    if nat_lt next extent.size then remains end extent (token_text (record { list = number; cursor = next }))
+    else completes extent
 
 -- the part of a list that begins behind so many of its records
 unfoldable pub part_from : Config → FrozenList → ℕ → Page
 part_from config list cursor = record {
   items = items_from config list cursor;
   granularity = config.granularity;
-  continuation = continued_at list cursor (cursor + length (items_from config list cursor));
+  continuation = continued_at list.number list.end (extent_at list cursor) (cursor + length (items_from config list cursor));
 }
 
--- items as the verb tells them (sections 4.3 and 4.5). Lists of sets have a verb of their own
-abbrev pub told_by : ListVerb → Format → Page → Answer
-told_by list.Identifiers format page = lists_headers page
-told_by list.Records format page = lists_records format page
-told_by list.Sets format page = fails BadVerb
+-- items as the verb returns them (sections 4.3 and 4.5). Lists of sets have a verb of their own
+abbrev pub answer_by_verb : ListVerb → Format → Page → Answer
+answer_by_verb list.Identifiers format page = lists_headers page
+answer_by_verb list.Records format page = lists_records format page
+answer_by_verb list.Sets format page = fails BadVerb
 
 -- ---- a list that begins
 
@@ -70,15 +71,15 @@ seconds_to_end clock (list ∷ lists) = earliest_end list lists -ℤ clock
 
 -- why no further list begins, as the seconds to wait: as many are open as may be; or no number is left
 unfoldable pub wait_at : Config → ℤ → OpenLists → Option ℤ
-wait_at config clock begun =
-    if nat_le config.lists (length begun.lists) then Some (seconds_to_end clock begun.lists)
-    else (if begun.next == LAST_NUMBER then Some (pos config.lifetime)
+wait_at config clock open_lists =
+    if nat_le config.lists (length open_lists.lists) then Some (seconds_to_end clock open_lists.lists)
+    else (if open_lists.next == LAST_NUMBER then Some (pos config.lifetime)
     else None)
 
 -- a list of these items that begins now: it is open for its lifetime
-abbrev pub list_begun : Config → ℤ → OpenLists → ListVerb → List ℕ → List ItemState → FrozenList
-list_begun config clock begun verb prefix items = record {
-  number = begun.next;
+abbrev pub new_list : Config → ℤ → OpenLists → ListVerb → List ℕ → List ItemState → FrozenList
+new_list config clock open_lists verb prefix items = record {
+  number = open_lists.next;
   verb = verb;
   prefix = prefix;
   items = items;
@@ -86,28 +87,28 @@ list_begun config clock begun verb prefix items = record {
 }
 
 -- the open lists, and that one
-abbrev pub with_begun : FrozenList → OpenLists → OpenLists
-with_begun list begun = record { lists = begun.lists ++ list ∷ []; next = begun.next + 1 }
+abbrev pub with_new_list : FrozenList → OpenLists → OpenLists
+with_new_list list open_lists = record { lists = open_lists.lists ++ list ∷ []; next = open_lists.next + 1 }
 
--- a list that is too long for one answer: it begins, and its first part is told; or the request is to wait
-abbrev pub begins : Config → OpenLists → Format → FrozenList → Option ℤ → Said × OpenLists
-begins config begun format list (Some seconds) = (waits seconds, begun)
-begins config begun format list None = (says (told_by list.verb format (part_from config list 0)), with_begun list begun)
+-- a list that is too long for one answer: it is opened, and its first part returned; or the client is to wait
+abbrev pub opens_list : Config → OpenLists → Format → FrozenList → Option ℤ → Response × OpenLists
+opens_list config open_lists format list (Some seconds) = (retry_after seconds, open_lists)
+opens_list config open_lists format list None = (with_answer (answer_by_verb list.verb format (part_from config list 0)), with_new_list list open_lists)
 
--- items that are told whole, with nothing behind them
-abbrev pub whole_page : Config → List ItemState → Page
-whole_page config items = record { items = items; granularity = config.granularity; continuation = whole }
+-- items that are returned in one answer, with nothing behind them
+abbrev pub complete_page : Config → List ItemState → Page
+complete_page config items = record { items = items; granularity = config.granularity; continuation = whole }
 
 -- the same, where there are any
-abbrev pub told_whole : Config → ListVerb → Format → List ItemState → Answer
-told_whole config verb format [] = fails NoRecordsMatch
-told_whole config verb format (item ∷ items) = told_by verb format (whole_page config (item ∷ items))
+abbrev pub complete_answer : Config → ListVerb → Format → List ItemState → Answer
+complete_answer config verb format [] = fails NoRecordsMatch
+complete_answer config verb format (item ∷ items) = answer_by_verb verb format (complete_page config (item ∷ items))
 
--- items that were selected: they are told whole where they are not more than `chunk`, and else begin a list
-unfoldable pub told_items : Config → ℤ → OpenLists → ListVerb → Format → List ItemState → Said × OpenLists
-told_items config clock begun verb format items =
-    if nat_le (length items) config.chunk then (says (told_whole config verb format items), begun)
-    else begins config begun format (list_begun config clock begun verb format.prefix items) (wait_at config clock begun)
+-- items that were selected: they are returned in one answer where they are not more than `chunk`, and else a list is opened
+unfoldable pub selection_response : Config → ℤ → OpenLists → ListVerb → Format → List ItemState → Response × OpenLists
+selection_response config clock open_lists verb format items =
+    if nat_le (length items) config.chunk then (with_answer (complete_answer config verb format items), open_lists)
+    else opens_list config open_lists format (new_list config clock open_lists verb format.prefix items) (wait_at config clock open_lists)
 
 -- ---- a list that is continued
 
@@ -117,22 +118,22 @@ is_same_verb list.Identifiers list.Identifiers = true
 is_same_verb list.Records list.Records = true
 is_same_verb _ _ = false
 
--- the token continues the list by the verb: the list is of that verb, and more records than the cursor says
-abbrev pub is_continued : ListVerb → Token → FrozenList → Bool
-is_continued verb token list = is_same_verb list.verb verb && nat_lt token.cursor (length list.items)
+-- the token continues a list of that verb and of so many records by the verb `verb`: it is the same one, and the cursor is below the size
+abbrev pub is_continued : ListVerb → Token → ListVerb → ℕ → Bool
+is_continued verb token list_verb size = is_same_verb list_verb verb && nat_lt token.cursor size
 
 -- the list, where the token continues it by the verb
 abbrev pub where_continued : ListVerb → Token → Option FrozenList → Option FrozenList
 where_continued verb token None = None
-where_continued verb token (Some list) = if is_continued verb token list then Some list else None
+where_continued verb token (Some list) = if is_continued verb token list.verb (length list.items) then Some list else None
 
 -- the list has that number
-abbrev pub has_number : ℕ → FrozenList → Bool
-has_number number list = list.number == number
+abbrev pub is_of_number : ℕ → FrozenList → Bool
+is_of_number number list = list.number == number
 
 -- the list that a token continues: of the open lists the one of its number, where the verb and the cursor are right
 abbrev pub list_continued : OpenLists → ListVerb → Token → Option FrozenList
-list_continued begun verb token = where_continued verb token (find (has_number token.list) begun.lists)
+list_continued open_lists verb token = where_continued verb token (find (is_of_number token.list) open_lists.lists)
 
 -- the list is open for its lifetime from now on
 abbrev pub prolonged : Config → ℤ → FrozenList → FrozenList
@@ -140,27 +141,27 @@ prolonged config clock list = record list { end = clock +ℤ pos config.lifetime
 
 -- the same, where it has the number
 abbrev pub prolonged_at : Config → ℤ → ℕ → FrozenList → FrozenList
-prolonged_at config clock number list = if has_number number list then prolonged config clock list else list
+prolonged_at config clock number list = if is_of_number number list then prolonged config clock list else list
 
 -- of the open lists that of the number
 abbrev pub with_prolonged : Config → ℤ → ℕ → OpenLists → OpenLists
-with_prolonged config clock number begun = record begun { lists = map (prolonged_at config clock number) begun.lists }
+with_prolonged config clock number open_lists = record open_lists { lists = map (prolonged_at config clock number) open_lists.lists }
 
 -- a part of a list in the format of its prefix, which the repository has
-abbrev pub part_told : ListVerb → Option Format → Page → Answer
-part_told verb None page = fails CannotDisseminateFormat
-part_told verb (Some format) page = told_by verb format page
+abbrev pub part_answer : ListVerb → Option Format → Page → Answer
+part_answer verb None page = fails CannotDisseminateFormat
+part_answer verb (Some format) page = answer_by_verb verb format page
 
--- a list that is continued at that cursor: the part is told, and the list stays open from now on
-abbrev pub continues : Config → ℤ → OpenLists → ListVerb → ℕ → Option FrozenList → Said × OpenLists
-continues config clock begun verb cursor None = (says (fails BadResumptionToken), begun)
-continues config clock begun verb cursor (Some list) =
-    (says (part_told verb (format_named list.prefix config.formats) (part_from config (prolonged config clock list) cursor)), with_prolonged config clock list.number begun)
+-- a list that is continued at that cursor: the part is returned, and the list stays open from now on
+abbrev pub continued_response : Config → ℤ → OpenLists → ListVerb → ℕ → Option FrozenList → Response × OpenLists
+continued_response config clock open_lists verb cursor None = (with_answer (fails BadResumptionToken), open_lists)
+continued_response config clock open_lists verb cursor (Some list) =
+    (with_answer (part_answer verb (format_named list.prefix config.formats) (part_from config (prolonged config clock list) cursor)), with_prolonged config clock list.number open_lists)
 
 -- what a token is answered, where the text is one
-abbrev pub token_answer : Config → ℤ → OpenLists → ListVerb → Option Token → Said × OpenLists
-token_answer config clock begun verb None = (says (fails BadResumptionToken), begun)
-token_answer config clock begun verb (Some token) = continues config clock begun verb token.cursor (list_continued begun verb token)
+abbrev pub token_response : Config → ℤ → OpenLists → ListVerb → Option Token → Response × OpenLists
+token_response config clock open_lists verb None = (with_answer (fails BadResumptionToken), open_lists)
+token_response config clock open_lists verb (Some token) = continued_response config clock open_lists verb token.cursor (list_continued open_lists verb token)
 
 -- ---- a request
 
@@ -170,28 +171,28 @@ has_no_sets [] = true
 has_no_sets (set ∷ sets) = false
 
 -- items that were selected, in the format, where the repository has it
-abbrev pub told_in : Config → ℤ → OpenLists → ListVerb → Option Format → List ItemState → Said × OpenLists
-told_in config clock begun verb None items = (says (fails CannotDisseminateFormat), begun)
-told_in config clock begun verb (Some format) items = told_items config clock begun verb format items
+abbrev pub format_response : Config → ℤ → OpenLists → ListVerb → Option Format → List ItemState → Response × OpenLists
+format_response config clock open_lists verb None items = (with_answer (fails CannotDisseminateFormat), open_lists)
+format_response config clock open_lists verb (Some format) items = selection_response config clock open_lists verb format items
 
 -- ListIdentifiers and ListRecords of these items, which were selected: a set is asked for only where there are sets
-abbrev pub list_answer : Config → ℤ → OpenLists → List NamedSet → ListVerb → List ℕ → Option (List ℕ) → List ItemState → Said × OpenLists
-list_answer config clock begun sets verb prefix set items =
-    if is_some set && has_no_sets sets then (says (fails NoSetHierarchy), begun)
-    else told_in config clock begun verb (format_named prefix config.formats) items
+abbrev pub list_response : Config → ℤ → OpenLists → List NamedSet → ListVerb → List ℕ → Option (List ℕ) → List ItemState → Response × OpenLists
+list_response config clock open_lists sets verb prefix set items =
+    if is_some set && has_no_sets sets then (with_answer (fails NoSetHierarchy), open_lists)
+    else format_response config clock open_lists verb (format_named prefix config.formats) items
 
--- what is said to a well-formed request at the clock, and the lists that are open then
-abbrev pub said_to : Config → ℤ → Holdings → OpenLists → Ask → Said × OpenLists
-said_to config clock holdings begun ask.Identify = (says (identifies (description config)), begun)
-said_to config clock holdings begun (ask.Formats identifier) = (says (formats_answer config holdings.items identifier), begun)
-said_to config clock holdings begun ask.Sets = (says (sets_answer holdings.sets), begun)
-said_to config clock holdings begun (ask.Get identifier prefix) = (says (record_answer config (item_named identifier holdings.items) prefix), begun)
-said_to config clock holdings begun (ask.List verb prefix from until set) =
-    list_answer config clock begun holdings.sets verb prefix set (selected (filter_of prefix from until set) holdings.items)
-said_to config clock holdings begun (ask.Resume verb token) = token_answer config clock begun verb (token_of token)
+-- the response to a well-formed request at the clock, and the lists that are open then
+abbrev pub ask_response : Config → ℤ → Holdings → OpenLists → Ask → Response × OpenLists
+ask_response config clock holdings open_lists ask.Identify = (with_answer (identifies (description config)), open_lists)
+ask_response config clock holdings open_lists (ask.Formats identifier) = (with_answer (formats_answer config holdings.items identifier), open_lists)
+ask_response config clock holdings open_lists ask.Sets = (with_answer (sets_answer holdings.sets), open_lists)
+ask_response config clock holdings open_lists (ask.Get identifier prefix) = (with_answer (record_answer config (item_named identifier holdings.items) prefix), open_lists)
+ask_response config clock holdings open_lists (ask.List verb prefix from until set) =
+    list_response config clock open_lists holdings.sets verb prefix set (selected (filter_of prefix from until set) holdings.items)
+ask_response config clock holdings open_lists (ask.Resume verb token) = token_response config clock open_lists verb (token_of token)
 
--- what is said to a request
-abbrev pub answer_to : Config → State → AskOrError → Said × OpenLists
-answer_to config state bad_verb = (says (fails BadVerb), state.begun)
-answer_to config state bad_argument = (says (fails BadArgument), state.begun)
-answer_to config state (asks ask) = said_to config state.clock state.holdings state.begun ask
+-- the response to a request
+abbrev pub request_response : Config → RepoState → AskOrError → Response × OpenLists
+request_response config state bad_verb = (with_answer (fails BadVerb), state.open_lists)
+request_response config state bad_argument = (with_answer (fails BadArgument), state.open_lists)
+request_response config state (asks ask) = ask_response config state.clock state.holdings state.open_lists ask

@@ -11,19 +11,19 @@ use Rattle.oai_args.specs.Pairs.{decoded_pairs}
 use Rattle.oai_args.specs.Requests.{request_of}
 use Rattle.oai_answers.specs.Answers.{Attributes, Document}
 use Rattle.oai_answers.specs.Documents.{document}
-use Rattle.oai_repo.specs.Answers.{arguments_of_request, document_of}
+use Rattle.oai_repo.specs.Answers.{arguments_of_request, document_at}
 use Rattle.oai_repo.specs.Changes.{changed, refusal_of, stamp_at}
 use Rattle.oai_settings.specs.Config.{Config}
-use Rattle.oai_repo.specs.Listing.{Said, answer_to, says, waits}
-use Rattle.oai_repo.specs.State.{State, moved}
+use Rattle.oai_repo.specs.Listing.{Response, request_response, with_answer, retry_after}
+use Rattle.oai_repo.specs.State.{RepoState, moved}
 
 -- ---- what is done
 
 -- a command: a request as it was read; or a deposit line as it was read, a change, or why the line was refused
 pub data Command : Type 0 where
-  asking : AskOrError → Command
+  requesting : AskOrError → Command
   changing : Change → Command
-  refusing : LineRefusal → Command
+  rejecting : LineRefusal → Command
 
 -- what a command is answered: a document, or how many seconds to wait; or of a line that it was accepted, with a datestamp in seconds
 -- from 1970 on, or why not
@@ -31,60 +31,60 @@ pub data Outcome : Type 0 where
   documented : Document → Outcome
   later : ℤ → Outcome
   accepted : ℤ → Outcome
-  refused : Cause → Outcome
+  refused_with : Cause → Outcome
 
 -- a change with that datestamp that this cause refuses, or that none does
-abbrev pub act_on_change : Config → State → ℤ → Change → Option ChangeRefusal → Outcome × State
-act_on_change config state stamp change (Some cause) = (refused (in_repository cause), state)
+abbrev pub act_on_change : Config → RepoState → ℤ → Change → Option ChangeRefusal → Outcome × RepoState
+act_on_change config state stamp change (Some cause) = (refused_with (in_repository cause), state)
 act_on_change config state stamp change None = (accepted stamp, record state { holdings = changed config stamp state.holdings change })
 
--- what was said to a request, with its arguments, at that clock
-abbrev pub outcome_of : Config → ℤ → Attributes → Said → Outcome
-outcome_of config clock asked (says answer) = documented (document_of config clock asked answer)
-outcome_of config clock asked (waits seconds) = later seconds
+-- the outcome of a request with those arguments, by its response, at that clock
+abbrev pub outcome_of : Config → ℤ → Attributes → Response → Outcome
+outcome_of config clock asked (with_answer answer) = documented (document_at config clock asked answer)
+outcome_of config clock asked (retry_after seconds) = later seconds
 
 -- what a command is answered at the state's clock, and the state that it leaves. A request leaves other lists open where it begins
 -- one or continues one; of changes only one that is not refused leaves another state
-unfoldable pub act : Config → State → Command → Outcome × State
-act config state (asking request) =
-    let done = answer_to config state request in
-    (outcome_of config state.clock (arguments_of_request request) done.0, record state { begun = done.1 })
+unfoldable pub act : Config → RepoState → Command → Outcome × RepoState
+act config state (requesting request) =
+    let done = request_response config state request in
+    (outcome_of config state.clock (arguments_of_request request) done.0, record state { open_lists = done.1 })
 act config state (changing change) =
     let stamp = stamp_at config state.clock in act_on_change config state stamp change (refusal_of config stamp state.holdings change)
-act config state (refusing cause) = (refused (in_line cause), state)
+act config state (rejecting cause) = (refused_with (in_line cause), state)
 
 -- ---- from bytes and to bytes
 
 -- what is handed in: a request of OAI-PMH by the bytes of its query, or a line as it was read
-pub data Input : Type 0 where
-  query : List ℕ → Input
-  line : Result Change LineRefusal → Input
+pub data RepoInput : Type 0 where
+  query : List ℕ → RepoInput
+  line : Result Change LineRefusal → RepoInput
 
 -- the command that it is, in a repository of the granularity
-abbrev pub command_of : Granularity → Input → Command
-command_of granularity (query arguments) = asking (request_of granularity (decoded_pairs arguments))
+abbrev pub command_of : Granularity → RepoInput → Command
+command_of granularity (query arguments) = requesting (request_of granularity (decoded_pairs arguments))
 command_of granularity (line (Ok change)) = changing change
-command_of granularity (line (Err cause)) = refusing cause
+command_of granularity (line (Err cause)) = rejecting cause
 
--- what is told: bytes, or how many seconds to wait
-pub data Told : Type 0 where
-  bytes : List ℕ → Told
-  wait : ℤ → Told
+-- what is returned: bytes, or how many seconds the client is to wait
+pub data Output : Type 0 where
+  bytes : List ℕ → Output
+  wait : ℤ → Output
 
--- what is told of an outcome: the bytes of a document, or of a line without its end
-unfoldable pub written : Granularity → Outcome → Told
-written granularity (documented answer) = bytes (document answer)
-written granularity (later seconds) = wait seconds
-written granularity (accepted stamp) = bytes (codes "ok " ++ datestamp_text granularity stamp)
-written granularity (refused cause) = bytes (refusal_line cause)
+-- the output of an outcome: the bytes of a document, or of a line without its end
+unfoldable pub outcome_output : Granularity → Outcome → Output
+outcome_output granularity (documented answer) = bytes (document answer)
+outcome_output granularity (later seconds) = wait seconds
+outcome_output granularity (accepted stamp) = bytes (codes "ok " ++ datestamp_text granularity stamp)
+outcome_output granularity (refused_with cause) = bytes (refusal_line cause)
 
 -- ---- a step
 
 -- what a command at a moment is answered, and the state that it leaves: it has moved the clock, whatever becomes of it
-abbrev pub act_at : Config → State → ℤ → Command → Outcome × State
+abbrev pub act_at : Config → RepoState → ℤ → Command → Outcome × RepoState
 act_at config state moment command = act config (moved moment state) command
 
--- the same with what is told of the outcome
-abbrev pub step : Config → State → ℤ → Input → Told × State
+-- the output for an input at a moment, and the state that it leaves
+abbrev pub step : Config → RepoState → ℤ → RepoInput → Output × RepoState
 step config state moment input =
-    let done = act_at config state moment (command_of config.granularity input) in (written config.granularity done.0, done.1)
+    let done = act_at config state moment (command_of config.granularity input) in (outcome_output config.granularity done.0, done.1)

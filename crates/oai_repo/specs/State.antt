@@ -31,22 +31,22 @@ pub record OpenLists : Type 0 where
   pub next : ℕ
 
 -- the clock, in seconds from 1970 on, what the repository holds, and its open lists
-pub record State : Type 0 where
+pub record RepoState : Type 0 where
   pub clock : ℤ
   pub holdings : Holdings
-  pub begun : OpenLists
+  pub open_lists : OpenLists
 
 -- no item and no set
 abbrev pub no_holdings : Holdings
 no_holdings = record { items = []; sets = [] }
 
 -- no list is open, and the first gets the number 1
-abbrev pub none_begun : OpenLists
-none_begun = record { lists = []; next = 1 }
+abbrev pub no_open_lists : OpenLists
+no_open_lists = record { lists = []; next = 1 }
 
 -- a repository as it begins: the clock at the lower limit of its datestamps
-abbrev pub empty_state : Config → State
-empty_state config = record { clock = config.earliest; holdings = no_holdings; begun = none_begun }
+abbrev pub empty_state : Config → RepoState
+empty_state config = record { clock = config.earliest; holdings = no_holdings; open_lists = no_open_lists }
 
 -- a list is open exactly while its end is above the clock
 abbrev pub is_open_at : ℤ → FrozenList → Bool
@@ -54,12 +54,12 @@ is_open_at clock list = int_lt clock list.end
 
 -- those of the lists that are open at that clock
 abbrev pub still_open : ℤ → OpenLists → OpenLists
-still_open clock begun = record begun { lists = filter (is_open_at clock) begun.lists }
+still_open clock open_lists = record open_lists { lists = filter (is_open_at clock) open_lists.lists }
 
 -- the state at that clock, at which lists may have ended
-abbrev pub at_clock : ℤ → State → State
-at_clock clock state = record state { clock = clock; begun = still_open clock state.begun }
+abbrev pub at_clock : ℤ → RepoState → RepoState
+at_clock clock state = record state { clock = clock; open_lists = still_open clock state.open_lists }
 
 -- the state as a command at that moment finds it
-abbrev pub moved : ℤ → State → State
+abbrev pub moved : ℤ → RepoState → RepoState
 moved moment state = at_clock (tick state.clock moment) state

@@ -3,17 +3,12 @@ use Rattle.std.specs.Prelude.{◌≡◌, ◌⊎◌, ◌+◌, ℕ, ℤ, pos, int_
 use Rattle.std.specs.List.{list_all}
 use Rattle.oai_catalogue.specs.Store.{Lists, list_at}
 use Rattle.oai_names.specs.declared.list_verbs.ListVerb.{ListVerb}
-use Rattle.oai_item.specs.Item.{ItemState}
-use Rattle.oai_answers.specs.Answers.{Continuation, Page, completes, remains}
-use Rattle.oai_answers.specs.declared.tokens.Extent.{Extent}
 use Rattle.oai_lists.specs.OpenLists.{Table, has_ended, open_numbered, open_ones, renewed, with_opened}
-use Rattle.oai_lists.specs.Tokens.{token_text}
 use Rattle.oai_lists.specs.declared.tokens.Token.{Token}
 use Rattle.oai_lists.specs.declared.open_lists.OpenList.{OpenList}
 use Rattle.oai_settings.specs.Config.{Config, is_in_years}
-use Rattle.oai_repo.specs.Held.{AreInUse, KeepsOthers, has, versions_in}
-use Rattle.oai_repo.specs.Listing.{is_same_verb}
-use Rattle.oai_repo.specs.declared.parts.Part.{Part}
+use Rattle.oai_repo.specs.Fields.{AreInUse, KeepsOthers, has, versions_in}
+use Rattle.oai_repo.specs.Listing.{is_continued}
 
 -- ---- what has ended
 
@@ -31,15 +26,15 @@ without_lists numbers lists n = if has numbers n then None else lists n
 abbrev pub has_end : OpenList → Bool
 has_end list = int_le list.end (pos 253_402_300_799)
 
--- as many lists may be open as the configuration says, and each end can be told
+-- as many lists may be open as the configuration says, and each end can be written
 pub record IsKeptTable (config : Config) (table : Table) : Type 0 where
   pub limit : table.limit ≡ config.lists
   pub ends : list_all has_end table.lists ≡ true
 
 -- the clock is in its years, and the table is kept
-pub record IsKept (config : Config) (clock : ℤ) (table : Table) : Type 0 where
+pub record IsRepo (config : Config) (clock : ℤ) (table : Table) : Type 0 where
   pub dated : is_in_years clock ≡ true
-  pub begun : IsKeptTable config table
+  pub open_lists : IsKeptTable config table
 
 -- ---- what a request leaves
 
@@ -55,7 +50,7 @@ IsAskedTable now old new =
     ⊎ ((number : ℕ) × (end : ℤ) × (new ≡ record old { lists = renewed number end (open_ones now old.lists) }))
     ⊎ ((list : OpenList) × (list.number ≡ old.next) × (new ≡ with_opened old list))
 
--- so it is, and then the lists that have ended are gone
+-- what a request makes of the table, without the lists that have ended by then
 pub record IsAskedOf (now : ℤ) (old new : Table) : Type 0 where
   pub made : Table
   pub asked : IsAskedTable now old made
@@ -69,29 +64,12 @@ pub record IsLeftOpen (config : Config) (now : ℤ) (v : ℕ) (old : Table) (bef
   pub others : KeepsOthers (v ∷ versions_in old) before (v ∷ versions_in new) after
   pub items : list_at after v ≡ list_at before v
 
--- ---- a part of a list, by the numbers that the table keeps of the list
-
--- where the part stands in its list
-abbrev pub extent_of : Part → Extent
-extent_of part = record { size = part.size; cursor = part.cursor }
-
--- records remain behind the part, or it completes the list
-abbrev pub followed_by : Config → Part → Continuation
-followed_by config part =
-    if nat_lt (part.cursor + config.chunk) part.size
-    then remains part.end (extent_of part) (token_text (record { list = part.number; cursor = part.cursor + config.chunk }))
-    else completes (extent_of part)
-
--- the part with these items
-abbrev pub page_at : Config → List ItemState → Part → Page
-page_at config items part = record { items = items; granularity = config.granularity; continuation = followed_by config part }
-
 -- ---- the list that a token continues
 
 -- the list, where the token continues it by the verb
 abbrev pub table_where : ListVerb → Token → Option OpenList → Option (OpenList × ℕ)
 table_where verb token None = None
-table_where verb token (Some list) = if is_same_verb list.verb verb && nat_lt token.cursor list.size then Some (list, token.cursor) else None
+table_where verb token (Some list) = if is_continued verb token list.verb list.size then Some (list, token.cursor) else None
 
 -- the list of the table, and the cursor
 abbrev pub table_continued : ℤ → ListVerb → List OpenList → Option Token → Option (OpenList × ℕ)

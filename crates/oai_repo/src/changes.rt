@@ -1,57 +1,90 @@
 //! Changes of a repository: deposits, deletions, purges and new sets.
-ghost use Rattle.std.specs.Prelude.{◌≡◌, ◌≤◌, ◌++◌, [], ◌∷◌, None, length, IfErr, IsSome, IsTrue, OnErr, OnOk};
+ghost use Rattle.std.specs.Prelude.{◌≡◌, ◌++◌, [], ◌∷◌, None, length, IfErr, IsSome, IsTrue, OnErr, OnOk};
 ghost use Rattle.oai_item.specs.Item.{IsStamp};
 ghost use Rattle.oai_item.specs.declared.faults.Fault.TheVariants as fault;
-ghost use Rattle.oai_catalogue.specs.Store.{IsCounted, IsHonest, NeedsRoom};
+ghost use Rattle.oai_catalogue.specs.Calls.{Uses};
+ghost use Rattle.oai_repo.specs.Accepted.{KeepsChange};
 ghost use Rattle.oai_repo.specs.Calls.{fault_in, room_to_change};
 ghost use Rattle.oai_repo.specs.Changes.{set_refusal};
-ghost use Rattle.oai_repo.specs.Noting.{IsNotedBy, sets_with};
-ghost use Rattle.oai_repo.specs.Held.{IsShelved, holdings_of};
-ghost use Rattle.oai_repo.specs.Workings.{IsDone, IsMade, IsMoved};
+ghost use Rattle.oai_repo.specs.Fields.{IsIndexed};
+ghost use Rattle.oai_repo.specs.Indexing.{IsDone, IsMadeIn, Moves};
+ghost use Rattle.oai_repo.specs.declared.changes.Refusal.TheVariants as refusal;
 
-use crate::deletions::delete;
-use crate::deposits::{Deposit, put_deposit};
-use crate::purges::purge;
-use crate::refusals::Refusal;
-use crate::shelves::Shelf;
+mod deletions;
+mod deposits;
+mod purges;
+
+use crate::item_index::ItemIndex;
+use deletions::delete;
+use deposits::{Deposit, put_deposit};
 use oai_catalogue::Versions;
 use oai_item::{Change, ChangeRefusal, Fault};
 use oai_names::{SetFault, SetSpec, SetTree};
 use oai_settings::RepoConfig;
-use std::alloc::Global;
+pub(crate) use purges::deleted_below;
+use purges::purge;
+use std::alloc::{AllocError, Global};
+use thiserror::Error;
 
-/// Makes the change with that datestamp, in seconds from 1970 on, or refuses it by the first cause. A
-/// change that is not made leaves everything as it was.
-pub(crate) fn make<V: Versions>(
-    alloc: Global,
-    config: &RepoConfig,
-    stamp: i64,
+/// Why a change was not made.
+#[derive(Clone, Copy, Debug, PartialEq, Eq, Error)]
+pub enum Refusal {
+    /// The change is refused. The clock is moved, and nothing else is changed.
+    #[error("the change is refused: {0}")]
+    Refused(ChangeRefusal),
+    /// The change could not be performed. Everything is as it was, the clock included.
+    #[error("{0}")]
+    Fault(Fault),
+}
+
+impl From<Fault> for Refusal {
+    ghost from_gives = { λ f e. e ≡ refusal.Fault f };
+
+    fn from(fault: Fault) -> Refusal {
+        Refusal::Fault(fault)
+    }
+}
+
+impl From<AllocError> for Refusal {
+    ghost from_gives = { λ _ e. e ≡ refusal.Fault fault.NoMemory };
+
+    fn from(_refused: AllocError) -> Refusal {
+        Refusal::Fault(Fault::NoMemory)
+    }
+}
+
+/// With what a change is made.
+#[derive(Clone, Copy)]
+pub(crate) struct ChangeContext<'a> {
+    /// What grows takes its memory from it.
+    pub(crate) alloc: Global,
+    /// The configuration.
+    pub(crate) config: &'a RepoConfig,
+    /// The datestamp of the change, in seconds from 1970 on.
+    pub(crate) stamp: i64,
+}
+
+/// Makes the change, or refuses it by the first cause. A change that is not made leaves everything as it
+/// was.
+pub(crate) fn make_change<V: Versions>(
+    context: &ChangeContext<'_>,
     store: &mut V,
-    shelf: &mut Shelf,
+    index: &mut ItemIndex,
     sets: &mut SetTree,
     change: &Change,
 ) -> Result<(), Refusal>
-    requires stamped { IsStamp stamp }
-    requires stands { IsSome (V.lists store.old shelf.old.version) }
-    requires held { IsTrue (V.honest store.old) → IsShelved config.now shelf.old sets.old
-        (V.lists store.old) }
-    ensures made { IsTrue (V.honest store.old)
-        → IsMade config.now stamp (holdings_of shelf.old sets.old (V.lists store.old)) change.now
-        result (holdings_of shelf.new sets.new (V.lists store.new)) }
-    ensures held { IsTrue (V.honest store.old) → IsShelved config.now shelf.new sets.new
-        (V.lists store.new) }
-    ensures noted { OnOk result (IsNotedBy config.now.deleted stamp change.now shelf.old.notes
-        shelf.new.notes) }
-    ensures sets { OnOk result (sets.new ≡ sets_with change.now sets.old) }
-    ensures moved { IsMoved shelf.old.version (V.lists store.old) shelf.new.version
-        (V.lists store.new) }
-    ensures err { OnErr result (shelf.new ≡ shelf.old) }
+    requires stamped { IsStamp context.now.stamp }
+    requires stands { IsSome (V.lists store.old index.old.version) }
+    requires indexed { IsTrue (V.honest store.old) → IsIndexed context.now.config.now index.old
+        sets.old (V.lists store.old) }
+    ensures made { IsMadeIn (V.honest store.old) context.now.config.now context.now.stamp change.now
+        result index.old sets.old (V.lists store.old) index.new sets.new (V.lists store.new) }
+    ensures kept { OnOk result (KeepsChange context.now.config.now.deleted context.now.stamp
+        change.now index.old.entries index.new.entries sets.old sets.new) }
     ensures err_sets { OnErr result (sets.new ≡ sets.old) }
-    ensures err_lists { OnErr result (V.lists store.new ≡ V.lists store.old) }
-    ensures room { NeedsRoom (room_to_change (length shelf.old.notes) change.now) (fault_in result)
-        (V.room store.old) (V.room store.new) }
-    ensures device { IsCounted (fault_in result) (V.failures store.old) (V.failures store.new) }
-    ensures honesty { IsHonest (fault_in result) (V.honest store.old) (V.honest store.new) }
+    ensures moves { Moves V.Versions result index.old store.old index.new store.new }
+    ensures store { Uses V.Versions (room_to_change (length index.old.entries) change.now)
+        (fault_in result) store.old store.new }
 {
     match change {
         Change::Deposit {
@@ -64,12 +97,10 @@ pub(crate) fn make<V: Versions>(
                 sets: specs.as_slice(),
                 records,
             };
-            put_deposit(alloc, config, sets, stamp, store, shelf, &deposit)
+            put_deposit(context, sets, store, index, &deposit)
         }
-        Change::Delete { identifier } => {
-            delete(alloc, config.deleted(), stamp, store, shelf, identifier)
-        }
-        Change::Purge { before } => purge(alloc, config, store, shelf, before.as_str()),
+        Change::Delete { identifier } => delete(context, store, index, identifier),
+        Change::Purge { before } => purge(context, store, index, before.as_str()),
         Change::AddSet { spec, name } => add_set(sets, spec, name.as_str()),
     }
 }

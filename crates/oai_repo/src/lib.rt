@@ -1,25 +1,16 @@
 //! One repository: what it answers to the requests of OAI-PMH, and what deposits change in it.
 #![tactic(auto)]
 
-mod answers;
-mod arguments;
 mod changes;
-mod cuts;
-mod deletions;
-mod deposits;
-mod listings;
-mod parts;
-mod purges;
-mod refusals;
-mod replies;
+mod item_index;
+mod lists;
+mod records;
 mod repo;
 mod requests;
-mod resumptions;
-mod selections;
-mod shelves;
-mod snapshots;
-mod tables;
+mod responses;
+mod tokens;
+mod view;
 
-pub use refusals::Refusal;
-pub use replies::Reply;
+pub use changes::Refusal;
 pub use repo::Repo;
+pub use responses::Reply;

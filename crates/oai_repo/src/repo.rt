@@ -1,23 +1,20 @@
-ghost use Rattle.std.specs.Prelude.{◌≡◌, ◌≤◌, ◌≤ℤ◌, true, length, IfOk, IsTrue, OnErr, OnOk};
-ghost use Rattle.oai_time.specs.Stamp.{IsWritable};
+ghost use Rattle.std.specs.Prelude.{◌≡◌, ◌≤ℤ◌, true, length, IfOk, IsTrue, OnErr, OnOk};
 ghost use Rattle.oai_args.specs.Pairs.{decoded_pairs};
 ghost use Rattle.oai_args.specs.Requests.{request_of};
-ghost use Rattle.oai_catalogue.specs.Store.{IsCounted, IsHonest, NeedsRoom};
-ghost use Rattle.oai_repo.specs.Changes.{stamp_at};
-ghost use Rattle.oai_repo.specs.Tables.{IsAskedOf, dropped_at};
-ghost use Rattle.oai_repo.specs.Calls.{IsAsked, IsChanged, IsLeft, OnRefused, fault_in, room_to_ask, room_to_change};
+ghost use Rattle.oai_catalogue.specs.Calls.{Frees, Uses};
 ghost use Rattle.oai_settings.specs.Config.{is_in_years};
-ghost use Rattle.oai_repo.specs.Noting.{IsNotedBy, sets_with};
-ghost use Rattle.oai_repo.specs.Held.{HoldsOpenLists, IsHeld, IsNew, KeepsOthers, StandsIn, holdings_of, numbers_of, state_of};
+ghost use Rattle.oai_repo.specs.Calls.{DropsEnded, IsAccepted, IsAsked, IsChanged, IsClockAt, IsRefusedAt, OnRefused, fault_in, room_to_ask, room_to_change};
+ghost use Rattle.oai_repo.specs.Fields.{HoldsOpenLists, IsNew, Keeps, Owns, holdings_of, state_of};
 ghost use Rattle.oai_repo.specs.State.{at_clock, moved};
+ghost use Rattle.oai_repo.specs.Tables.{IsAskedOf};
 
-use crate::changes::make;
-use crate::refusals::Refusal;
-use crate::replies::Reply;
-use crate::requests::reply_at;
-use crate::shelves::Shelf;
-use crate::snapshots::Snapshot;
-use crate::tables::drop_ended;
+use crate::changes::{ChangeContext, Refusal, make_change};
+use crate::item_index::ItemIndex;
+use crate::lists::drop_ended;
+use crate::requests::reply_to_query;
+use crate::responses::Reply;
+use crate::view::RepoView;
+use oai_answers::Asked;
 use oai_catalogue::Versions;
 use oai_item::{Change, Fault};
 use oai_lists::Lists;
@@ -43,22 +40,22 @@ pub struct Repo {
     alloc: Global,
     config: RepoConfig,
     clock: Clock,
-    shelf: Shelf,
+    index: ItemIndex,
     sets: SetTree,
     lists: Lists,
 }
 
 impl Model for Repo {
-    ghost use Rattle.oai_repo.specs.Held.{Held};
-    ghost use Rattle.oai_repo.specs.Inside.{held_in};
+    ghost use Rattle.oai_repo.specs.Fields.{RepoFields};
+    ghost use Rattle.oai_repo.specs.Inside.{fields_of_repo};
 
-    ghost Value = { Held };
+    ghost Value = { RepoFields };
 
-    ghost view = { held_in };
+    ghost view = { fields_of_repo };
 
-    ghost use Rattle.oai_repo.specs.Tables.{IsKept};
+    ghost use Rattle.oai_repo.specs.Tables.{IsRepo};
 
-    ghost invariant = { λ repo. IsKept repo.config repo.clock repo.lists };
+    ghost invariant = { λ repo. IsRepo repo.config repo.clock repo.lists };
 }
 
 impl Repo {
@@ -69,9 +66,7 @@ impl Repo {
         ensures new { IfOk result (λ repo. IsNew config (V.lists store.old) repo
             (V.lists store.new)) }
         ensures err { OnErr result (V.lists store.new ≡ V.lists store.old) }
-        ensures room { NeedsRoom 1 result (V.room store.old) (V.room store.new) }
-        ensures device { IsCounted result (V.failures store.old) (V.failures store.new) }
-        ensures honesty { IsHonest result (V.honest store.old) (V.honest store.new) }
+        ensures store { Uses V.Versions 1 result store.old store.new }
     {
         let clock = Clock::start(config.earliest());
         let lists = Lists::new(alloc, config.lists(), FIRST_NUMBER);
@@ -80,57 +75,54 @@ impl Repo {
             alloc,
             config,
             clock,
-            shelf: Shelf::new(alloc, version),
+            index: ItemIndex::new(alloc, version),
             sets: SetTree::new(alloc),
             lists,
         })
     }
 
     /// Performs a request of OAI-PMH, by the bytes of its query, at the moment, in seconds from 1970
-    /// on: it moves the clock and answers a document, or says how long to wait. After a fault everything
+    /// on: it moves the clock and replies with a document, or with how long to wait. After a fault everything
     /// is as it was, the clock and the store's lists included. Any fault may come, and `TooManyPages`
     /// only where the request may begin a list and the store may lack room for one call.
     ///
-    /// A request for one item costs one search of the store. The first part of a list costs what the
-    /// store needs to count what is selected, to read the part and to freeze a version; each further part
-    /// what the store needs to read it.
+    /// A request for one item costs one search of the store. A list that one answer holds costs what the
+    /// store needs to read it; the first part of a longer one besides what it needs to count what is
+    /// selected and to freeze a version; each further part what it needs to read the part.
     pub fn ask<V: Versions>(
         &mut self,
         store: &mut V,
         moment: i64,
         query: &[u8],
     ) -> Result<Reply, Fault>
-        requires stands { StandsIn self.old (V.lists store.old) }
-        requires held { IsTrue (V.honest store.old) → IsHeld self.old (V.lists store.old) }
+        requires { Owns (V.honest store.old) self.old (V.lists store.old) }
         ensures step { IfOk result (λ reply. IsTrue (V.honest store.old)
             → IsAsked self.old (V.lists store.old) moment query.now reply self.new
             (V.lists store.new)) }
-        ensures left { IsLeft result moment self.old (V.lists store.old) self.new
+        ensures clock { IsClockAt result moment self.old (V.lists store.old) self.new
             (V.lists store.new) }
-        ensures kept { holdings_of self.new.shelf self.new.sets (V.lists store.new)
-            ≡ holdings_of self.old.shelf self.old.sets (V.lists store.old) }
-        ensures shelf { self.new.shelf ≡ self.old.shelf }
+        ensures kept { holdings_of self.new.index self.new.sets (V.lists store.new)
+            ≡ holdings_of self.old.index self.old.sets (V.lists store.old) }
+        ensures index { self.new.index ≡ self.old.index }
         ensures table { OnOk result (IsAskedOf self.new.clock self.old.table self.new.table) }
         ensures dropped { OnOk result (HoldsOpenLists self.new) }
-        ensures stands { StandsIn self.new (V.lists store.new) }
-        ensures held { IsTrue (V.honest store.old) → IsHeld self.new (V.lists store.new) }
-        ensures others { KeepsOthers (numbers_of self.old) (V.lists store.old) (numbers_of self.new)
+        ensures keeps { Keeps (V.honest store.old) self.old (V.lists store.old) self.new
             (V.lists store.new) }
-        ensures room { NeedsRoom (room_to_ask
+        ensures store { Uses V.Versions (room_to_ask
             (request_of self.old.config.granularity (decoded_pairs query.now))) result
-            (V.room store.old) (V.room store.new) }
-        ensures device { IsCounted result (V.failures store.old) (V.failures store.new) }
-        ensures honesty { IsHonest result (V.honest store.old) (V.honest store.new) }
+            store.old store.new }
     {
         let mut clock = self.clock;
         clock.tick(moment);
-        let found = Snapshot {
+        let view = RepoView {
+            alloc: self.alloc,
             config: &self.config,
             clock: clock.now(),
-            shelf: &self.shelf,
+            index: &self.index,
             sets: &self.sets,
+            asked: Asked::nothing(),
         };
-        let reply = reply_at(self.alloc, &found, &mut self.lists, store, query)?;
+        let reply = reply_to_query(&view, &mut self.lists, store, query)?;
         self.move_to(store, clock);
         Ok(reply)
     }
@@ -138,58 +130,44 @@ impl Repo {
     /// Makes a change at the moment, and answers its datestamp, both in seconds from 1970 on; the
     /// datestamp is of the years 0000 to 9999. A change that is refused has moved the clock and nothing
     /// else. After a fault everything is as it was, the clock and the store's lists included. Any fault
-    /// may come; `TooManyPages` of a deposit or a deletion only where the store may lack room for three
-    /// calls, of a purge only where it may for one call more than there are items, and of a new set never.
+    /// may come; `TooManyPages` of a deposit or a deletion only where the store may lack room for one
+    /// call, of a purge only where it may for one call more than there are items, and of a new set never.
     ///
     /// A deposit and a deletion look at no item but the one that they are about; a purge reads each item
     /// of a datestamp below its bound. A new item, or a new state at the same datestamp, is put into the
-    /// version that stands, and an item that leaves no trace is taken out of it; any other new state, and
-    /// a purge that finds something, is made in a frozen version, which then takes the old one's place.
+    /// version that stands, a state at another datestamp takes the place of the old one there, and an item
+    /// that leaves no trace is taken out of it. A purge that finds something is made in a frozen version,
+    /// which then takes the place of the old one.
     pub fn change<V: Versions>(
         &mut self,
         store: &mut V,
         moment: i64,
         change: &Change,
     ) -> Result<i64, Refusal>
-        requires stands { StandsIn self.old (V.lists store.old) }
-        requires held { IsTrue (V.honest store.old) → IsHeld self.old (V.lists store.old) }
+        requires { Owns (V.honest store.old) self.old (V.lists store.old) }
         ensures changed { IsTrue (V.honest store.old)
             → IsChanged self.old (V.lists store.old) moment change.now result self.new
             (V.lists store.new) }
-        ensures dated { IfOk result IsWritable }
-        ensures stamp { IfOk result (λ stamp. stamp ≡ stamp_at self.new.config self.new.clock) }
-        ensures noted { IfOk result (λ stamp. IsNotedBy self.old.config.deleted stamp change.now
-            self.old.shelf.notes self.new.shelf.notes) }
-        ensures sets { OnOk result (self.new.sets ≡ sets_with change.now self.old.sets) }
-        ensures left { IsLeft (fault_in result) moment self.old (V.lists store.old) self.new
+        ensures accepted { IfOk result (λ stamp. IsAccepted stamp change.now self.old self.new) }
+        ensures refused { OnRefused result (IsRefusedAt moment self.old (V.lists store.old) self.new
+            (V.lists store.new)) }
+        ensures clock { IsClockAt (fault_in result) moment self.old (V.lists store.old) self.new
             (V.lists store.new) }
-        ensures refused { OnRefused result (state_of self.new (V.lists store.new)
-            ≡ moved moment (state_of self.old (V.lists store.old))) }
-        ensures shelf { OnRefused result (self.new.shelf ≡ self.old.shelf) }
-        ensures table { OnOk (fault_in result) (self.new.table
-            ≡ dropped_at self.new.clock self.old.table) }
-        ensures dropped { OnOk (fault_in result) (HoldsOpenLists self.new) }
-        ensures stands { StandsIn self.new (V.lists store.new) }
-        ensures held { IsTrue (V.honest store.old) → IsHeld self.new (V.lists store.new) }
-        ensures others { KeepsOthers (numbers_of self.old) (V.lists store.old) (numbers_of self.new)
+        ensures dropped { OnOk (fault_in result) (DropsEnded self.old self.new) }
+        ensures keeps { Keeps (V.honest store.old) self.old (V.lists store.old) self.new
             (V.lists store.new) }
-        ensures room { NeedsRoom (room_to_change (length self.old.shelf.notes) change.now)
-            (fault_in result) (V.room store.old) (V.room store.new) }
-        ensures device { IsCounted (fault_in result) (V.failures store.old) (V.failures store.new) }
-        ensures honesty { IsHonest (fault_in result) (V.honest store.old) (V.honest store.new) }
+        ensures store { Uses V.Versions (room_to_change (length self.old.index.entries) change.now)
+            (fault_in result) store.old store.new }
     {
         let mut clock = self.clock;
         clock.tick(moment);
         let stamp = stamp(self.config.granularity(), clock.now());
-        let made = make(
-            self.alloc,
-            &self.config,
+        let context = ChangeContext {
+            alloc: self.alloc,
+            config: &self.config,
             stamp,
-            store,
-            &mut self.shelf,
-            &mut self.sets,
-            change,
-        );
+        };
+        let made = make_change(&context, store, &mut self.index, &mut self.sets, change);
         match made {
             Ok(()) => {
                 self.move_to(store, clock);
@@ -206,21 +184,14 @@ impl Repo {
     /// Moves the clock to the moment, in seconds from 1970 on, and changes nothing else but that lists
     /// end. It takes no memory and cannot fail.
     pub fn advance<V: Versions>(&mut self, store: &mut V, moment: i64)
-        requires stands { StandsIn self.old (V.lists store.old) }
-        requires held { IsTrue (V.honest store.old) → IsHeld self.old (V.lists store.old) }
+        requires { Owns (V.honest store.old) self.old (V.lists store.old) }
         ensures moved { state_of self.new (V.lists store.new)
             ≡ moved moment (state_of self.old (V.lists store.old)) }
-        ensures config { self.new.config ≡ self.old.config }
-        ensures shelf { self.new.shelf ≡ self.old.shelf }
-        ensures table { self.new.table ≡ dropped_at self.new.clock self.old.table }
-        ensures dropped { HoldsOpenLists self.new }
-        ensures stands { StandsIn self.new (V.lists store.new) }
-        ensures held { IsTrue (V.honest store.old) → IsHeld self.new (V.lists store.new) }
-        ensures others { KeepsOthers (numbers_of self.old) (V.lists store.old) (numbers_of self.new)
+        ensures index { self.new.index ≡ self.old.index }
+        ensures dropped { DropsEnded self.old self.new }
+        ensures keeps { Keeps (V.honest store.old) self.old (V.lists store.old) self.new
             (V.lists store.new) }
-        ensures room { V.room store.old ≤ V.room store.new }
-        ensures count { V.failures store.old ≤ V.failures store.new }
-        ensures honesty { V.honest store.new ≡ V.honest store.old }
+        ensures store { Frees V.Versions store.old store.new }
     {
         let mut clock = self.clock;
         clock.tick(moment);
@@ -231,22 +202,14 @@ impl Repo {
     fn move_to<V: Versions>(&mut self, store: &mut V, clock: Clock)
         requires later { self.old.clock ≤ℤ clock }
         requires dated { is_in_years clock ≡ true }
-        requires stands { StandsIn self.old (V.lists store.old) }
-        requires held { IsTrue (V.honest store.old) → IsHeld self.old (V.lists store.old) }
+        requires owns { Owns (V.honest store.old) self.old (V.lists store.old) }
         ensures moved { state_of self.new (V.lists store.new)
             ≡ at_clock clock (state_of self.old (V.lists store.old)) }
-        ensures clock { self.new.clock ≡ clock }
-        ensures config { self.new.config ≡ self.old.config }
-        ensures shelf { self.new.shelf ≡ self.old.shelf }
-        ensures table { self.new.table ≡ dropped_at clock self.old.table }
-        ensures dropped { HoldsOpenLists self.new }
-        ensures stands { StandsIn self.new (V.lists store.new) }
-        ensures held { IsTrue (V.honest store.old) → IsHeld self.new (V.lists store.new) }
-        ensures others { KeepsOthers (numbers_of self.old) (V.lists store.old) (numbers_of self.new)
+        ensures index { self.new.index ≡ self.old.index }
+        ensures dropped { DropsEnded self.old self.new }
+        ensures keeps { Keeps (V.honest store.old) self.old (V.lists store.old) self.new
             (V.lists store.new) }
-        ensures room { V.room store.old ≤ V.room store.new }
-        ensures count { V.failures store.old ≤ V.failures store.new }
-        ensures honesty { V.honest store.new ≡ V.honest store.old }
+        ensures store { Frees V.Versions store.old store.new }
     {
         drop_ended(&mut self.lists, store, clock.now());
         self.clock = clock;

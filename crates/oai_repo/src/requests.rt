@@ -1,124 +1,77 @@
-//! Requests of OAI-PMH: what each is replied, and the lists that it leaves open.
-ghost use Rattle.std.specs.Prelude.{◌≡◌, ◌≤◌, true, IfOk, IsSome, IsTrue, OnErr};
-ghost use Rattle.oai_time.specs.Stamp.{IsWritable};
+//! The requests of OAI-PMH: each is read, and replied to by its verb.
+ghost use Rattle.std.specs.Prelude.{◌≡◌, IfOk, IsTrue};
 ghost use Rattle.oai_args.specs.Asks.{asks};
 ghost use Rattle.oai_args.specs.Pairs.{decoded_pairs};
 ghost use Rattle.oai_args.specs.Requests.{request_of};
-ghost use Rattle.oai_catalogue.specs.Store.{IsCounted, IsHonest, NeedsRoom};
+ghost use Rattle.oai_answers.specs.Answers.{no_arguments};
 ghost use Rattle.oai_answers.specs.Borrowed.{attributes_of};
-ghost use Rattle.oai_repo.specs.Answers.{arguments_of_ask, arguments_of_request, item_formats_answer, record_answer};
+ghost use Rattle.oai_catalogue.specs.Calls.{Uses};
+ghost use Rattle.oai_repo.specs.Answers.{arguments_of_request};
 ghost use Rattle.oai_repo.specs.Calls.{room_to_ask};
-ghost use Rattle.oai_settings.specs.Config.{is_in_years};
-ghost use Rattle.oai_repo.specs.Found.{IsFound, IsLeftFound, IsTold, item_in, numbers_in, page_said, said_to_ask, said_to_request};
-ghost use Rattle.oai_repo.specs.Held.{AreInUse, are_counted};
-ghost use Rattle.oai_repo.specs.Tables.{IsKeptTable};
+ghost use Rattle.oai_repo.specs.Views.{IsReady, IsViewReply, IsViewReplyTo, Leaves, view_ask_response, view_response};
 
-use crate::answers::{formats_of, identity, item_formats_answer, record_answer, sets_answer};
-use crate::arguments::arguments_of;
-use crate::cuts::ListRequest;
-use crate::listings::list_reply;
-use crate::replies::{Reply, tell, tell_error};
-use crate::resumptions::resume_reply;
-use crate::snapshots::Snapshot;
-use oai_answers::{Asked, Body, ErrorCode};
+use crate::lists::{ListRequest, reply_with_list};
+use crate::records::{formats_of, identity, reply_with_formats, reply_with_record, sets_answer};
+use crate::responses::{Reply, make_reply, reply_with_error};
+use crate::tokens::reply_with_next_part;
+use crate::view::{RepoView, with_arguments};
+use oai_answers::{Body, ErrorCode};
 use oai_args::{ArgFault, Ask, read_request};
 use oai_catalogue::Versions;
 use oai_item::Fault;
 use oai_lists::Lists;
-use std::alloc::Global;
 
 /// Replies to a request, by the bytes of its query. A fault leaves everything as it was; any may come.
-pub(crate) fn reply_at<V: Versions>(
-    alloc: Global,
-    found: &Snapshot<'_>,
+pub(crate) fn reply_to_query<V: Versions>(
+    repo: &RepoView<'_>,
     lists: &mut Lists,
     store: &mut V,
     query: &[u8],
 ) -> Result<Reply, Fault>
-    requires writable { IsWritable found.now.clock }
-    requires dated { is_in_years found.now.clock ≡ true }
-    requires table { IsKeptTable found.now.config.now lists.old }
-    requires stands { AreInUse (numbers_in found.now lists.old) (V.lists store.old) }
-    requires held { IsTrue (V.honest store.old) → IsFound found.now (V.lists store.old) }
-    requires counted { IsTrue (V.honest store.old) → are_counted lists.old (V.lists store.old)
-        ≡ true }
-    ensures told { IfOk result (λ reply. IsTrue (V.honest store.old)
-        → (let request = request_of found.now.config.now.granularity (decoded_pairs query.now) in
-        IsTold found.now (arguments_of_request request)
-        (said_to_request found.now lists.old (V.lists store.old) request)
+    requires ready { IsReady V.Versions repo.now lists.old store.old }
+    requires bare { attributes_of repo.now.asked ≡ no_arguments }
+    ensures reply { IfOk result (λ reply. IsTrue (V.honest store.old)
+        → (let request = request_of repo.now.config.now.granularity (decoded_pairs query.now) in
+        IsViewReplyTo repo.now (arguments_of_request request)
+        (view_response repo.now lists.old (V.lists store.old) request)
         reply lists.new (V.lists store.new))) }
-    ensures left { IsLeftFound found.now lists.old (V.lists store.old) lists.new
-        (V.lists store.new) }
-    ensures counted { IsTrue (V.honest store.old) → are_counted lists.new (V.lists store.new)
-        ≡ true }
-    ensures err { OnErr result (lists.new ≡ lists.old) }
-    ensures err_lists { OnErr result (V.lists store.new ≡ V.lists store.old) }
-    ensures room { NeedsRoom (room_to_ask
-        (request_of found.now.config.now.granularity (decoded_pairs query.now))) result
-        (V.room store.old) (V.room store.new) }
-    ensures device { IsCounted result (V.failures store.old) (V.failures store.new) }
-    ensures honesty { IsHonest result (V.honest store.old) (V.honest store.new) }
+    ensures left { Leaves V.Versions result repo.now lists.old store.old lists.new store.new }
+    ensures store { Uses V.Versions (room_to_ask
+        (request_of repo.now.config.now.granularity (decoded_pairs query.now))) result
+        store.old store.new }
 {
-    match read_request(alloc, query, found.config.granularity()) {
-        Ok(ask) => reply_to(alloc, found, lists, store, &ask),
-        Err(ArgFault::BadVerb) => {
-            Ok(tell_error(alloc, found, Asked::nothing(), ErrorCode::BadVerb)?)
-        }
-        Err(ArgFault::BadArgument) => {
-            Ok(tell_error(alloc, found, Asked::nothing(), ErrorCode::BadArgument)?)
-        }
+    match read_request(repo.alloc, query, repo.config.granularity()) {
+        Ok(ask) => reply_to(&with_arguments(*repo, &ask), lists, store, &ask),
+        Err(ArgFault::BadVerb) => Ok(reply_with_error(repo, ErrorCode::BadVerb)?),
+        Err(ArgFault::BadArgument) => Ok(reply_with_error(repo, ErrorCode::BadArgument)?),
         Err(ArgFault::NoMemory) => Err(Fault::NoMemory),
     }
 }
 
 /// Replies to a well-formed request.
 fn reply_to<V: Versions>(
-    alloc: Global,
-    found: &Snapshot<'_>,
+    repo: &RepoView<'_>,
     lists: &mut Lists,
     store: &mut V,
     ask: &Ask,
 ) -> Result<Reply, Fault>
-    requires writable { IsWritable found.now.clock }
-    requires dated { is_in_years found.now.clock ≡ true }
-    requires table { IsKeptTable found.now.config.now lists.old }
-    requires stands { AreInUse (numbers_in found.now lists.old) (V.lists store.old) }
-    requires held { IsTrue (V.honest store.old) → IsFound found.now (V.lists store.old) }
-    requires counted { IsTrue (V.honest store.old) → are_counted lists.old (V.lists store.old)
-        ≡ true }
-    ensures told { IfOk result (λ reply. IsTrue (V.honest store.old)
-        → IsTold found.now (arguments_of_ask ask.now)
-        (said_to_ask found.now lists.old (V.lists store.old) ask.now)
+    requires ready { IsReady V.Versions repo.now lists.old store.old }
+    ensures reply { IfOk result (λ reply. IsTrue (V.honest store.old)
+        → IsViewReply repo.now (view_ask_response repo.now lists.old (V.lists store.old) ask.now)
         reply lists.new (V.lists store.new)) }
-    ensures left { IsLeftFound found.now lists.old (V.lists store.old) lists.new
-        (V.lists store.new) }
-    ensures counted { IsTrue (V.honest store.old) → are_counted lists.new (V.lists store.new)
-        ≡ true }
-    ensures err { OnErr result (lists.new ≡ lists.old) }
-    ensures err_lists { OnErr result (V.lists store.new ≡ V.lists store.old) }
-    ensures room { NeedsRoom (room_to_ask (asks ask.now)) result (V.room store.old)
-        (V.room store.new) }
-    ensures device { IsCounted result (V.failures store.old) (V.failures store.new) }
-    ensures honesty { IsHonest result (V.honest store.old) (V.honest store.new) }
+    ensures left { Leaves V.Versions result repo.now lists.old store.old lists.new store.new }
+    ensures store { Uses V.Versions (room_to_ask (asks ask.now)) result store.old store.new }
 {
-    let asked = arguments_of(ask);
     match ask {
-        Ask::Identify => Ok(tell(alloc, found, asked, Body::Identify(identity(found.config)))?),
-        Ask::Formats { identifier: None } => {
-            Ok(tell(alloc, found, asked, formats_of(found.config, None))?)
-        }
+        Ask::Identify => Ok(make_reply(repo, Body::Identify(identity(repo.config)))?),
+        Ask::Formats { identifier: None } => Ok(make_reply(repo, formats_of(repo.config, None))?),
         Ask::Formats {
             identifier: Some(identifier),
-        } => formats_reply(alloc, found, store, asked, identifier.as_str()),
-        Ask::Sets => Ok(tell(alloc, found, asked, sets_answer(found.sets.as_slice()))?),
-        Ask::Get { identifier, prefix } => record_reply(
-            alloc,
-            found,
-            store,
-            asked,
-            identifier.as_str(),
-            prefix.as_str(),
-        ),
+        } => reply_with_formats(repo, store, identifier.as_str()),
+        Ask::Sets => Ok(make_reply(repo, sets_answer(repo.sets.as_slice()))?),
+        Ask::Get { identifier, prefix } => {
+            reply_with_record(repo, store, identifier.as_str(), prefix.as_str())
+        }
         Ask::List {
             verb,
             prefix,
@@ -133,69 +86,10 @@ fn reply_to<V: Versions>(
                 until,
                 set,
             };
-            list_reply(alloc, found, lists, store, asked, &request)
+            reply_with_list(repo, lists, store, &request)
         }
         Ask::Resume { verb, token } => {
-            resume_reply(alloc, found, lists, store, asked, *verb, token.as_str())
+            reply_with_next_part(repo, lists, store, *verb, token.as_str())
         }
     }
-}
-
-/// Replies to ListMetadataFormats of an item (OAI-PMH 2.0, section 4.4).
-fn formats_reply<V: Versions>(
-    alloc: Global,
-    found: &Snapshot<'_>,
-    store: &mut V,
-    asked: Asked<'_>,
-    identifier: &str,
-) -> Result<Reply, Fault>
-    requires writable { IsWritable found.now.clock }
-    requires stands { IsSome (V.lists store.old found.now.shelf.now.version) }
-    requires held { IsTrue (V.honest store.old) → IsFound found.now (V.lists store.old) }
-    ensures told { IfOk result (λ reply. IsTrue (V.honest store.old) → reply
-        ≡ page_said found.now (attributes_of asked.entry)
-        (item_formats_answer found.now.config.now
-        (item_in found.now (V.lists store.old) identifier.now))) }
-    ensures same { V.lists store.new ≡ V.lists store.old }
-    ensures room { NeedsRoom 0 result (V.room store.old) (V.room store.new) }
-    ensures device { IsCounted result (V.failures store.old) (V.failures store.new) }
-    ensures honesty { IsHonest result (V.honest store.old) (V.honest store.new) }
-{
-    let item = found.shelf.find(alloc, store, identifier)?;
-    Ok(tell(
-        alloc,
-        found,
-        asked,
-        item_formats_answer(found.config, item.as_ref()),
-    )?)
-}
-
-/// Replies to GetRecord (OAI-PMH 2.0, section 4.1).
-fn record_reply<V: Versions>(
-    alloc: Global,
-    found: &Snapshot<'_>,
-    store: &mut V,
-    asked: Asked<'_>,
-    identifier: &str,
-    prefix: &str,
-) -> Result<Reply, Fault>
-    requires writable { IsWritable found.now.clock }
-    requires stands { IsSome (V.lists store.old found.now.shelf.now.version) }
-    requires held { IsTrue (V.honest store.old) → IsFound found.now (V.lists store.old) }
-    ensures told { IfOk result (λ reply. IsTrue (V.honest store.old) → reply
-        ≡ page_said found.now (attributes_of asked.entry)
-        (record_answer found.now.config.now (item_in found.now (V.lists store.old)
-        identifier.now) prefix.now)) }
-    ensures same { V.lists store.new ≡ V.lists store.old }
-    ensures room { NeedsRoom 0 result (V.room store.old) (V.room store.new) }
-    ensures device { IsCounted result (V.failures store.old) (V.failures store.new) }
-    ensures honesty { IsHonest result (V.honest store.old) (V.honest store.new) }
-{
-    let item = found.shelf.find(alloc, store, identifier)?;
-    Ok(tell(
-        alloc,
-        found,
-        asked,
-        record_answer(found.config, item.as_ref(), prefix),
-    )?)
 }

@@ -65,7 +65,7 @@ pub struct Settings {
     pub formats: Sequence<FormatSettings>,
 }
 
-/// Why settings make no configuration, in the order in which the causes are looked for; want of memory
+/// Why settings make no configuration, in the order in which the causes are looked for; out of memory
 /// apart, which may come once the name is tested.
 #[derive(Clone, Copy, Debug, PartialEq, Eq)]
 pub enum ConfigFault {

@@ -1,6 +1,5 @@
 //! A repository with a store of its own.
-ghost use Rattle.std.specs.Prelude.{◌≡◌, IsTrue};
-ghost use Rattle.oai_repo.specs.Held.{IsHeld, StandsIn};
+ghost use Rattle.oai_repo.specs.Fields.{Owns};
 
 use oai_catalogue::Versions;
 use oai_item::{Change, Fault};
@@ -13,8 +12,7 @@ use std::alloc::Global;
 pub struct Stocked<V: Versions + Drop> {
     store: V,
     repo: Repo,
-    ghost stands: { StandsIn repo (V.lists store) },
-    ghost held: { IsTrue (V.honest store) → IsHeld repo (V.lists store) },
+    ghost owned: { Owns (V.honest store) repo (V.lists store) },
 }
 
 impl<V: Versions + Drop> Stocked<V> {

@@ -7,7 +7,7 @@ ghost use Rattle.oai_host.specs.declared.faults.ReadFault.{ReadFault};
 use oai_host::{Config, ReadFault};
 use std::alloc::{AllocError, Global};
 
-/// `ok`, or the number and the name of the lowest fault of the text. The error is want of memory.
+/// `ok`, or the number and the name of the lowest fault of the text. The error is out of memory.
 pub fn answer_to(alloc: Global, text: &[u8]) -> Result<&'static str, AllocError>
     ensures { IfOk result (λ answer. (answer.now ≡ codes "ok") ⊎ ((fault : ReadFault)
         × IsLowest (λ cause. applies cause text.now) fault × (answer.now ≡ fault_text fault))) }

@@ -272,7 +272,7 @@ fn most_fields(rt: HostRuntime) {
     }
 }
 
-/// 64 with oai_dc counted, and one more; many more are no want of memory.
+/// 64 with oai_dc counted, and one more; many more are not out of memory.
 #[test]
 fn most_formats(rt: HostRuntime) {
     let alloc = rt.alloc();

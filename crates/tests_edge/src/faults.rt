@@ -1,22 +1,23 @@
 //! A store that fails: the exchange that meets the failure is answered 500 and changes nothing, and the
 //! same exchange again is answered as if nothing had happened.
 use crate::assertions::{assert_same, assert_same_at};
-use oai_catalogue::{FaultyVersions, PlainVersions, Versions};
+use oai_catalogue::{PlainVersions, Versions};
 use oai_edge::{config_in, write_answer};
 use oai_host::{Answer, Exchange, Host};
 use oai_item::Fault;
 use std::alloc::Global;
 use std::panic::Expect;
 use std::process::Abort;
+use tests_stores::failing;
 use tests_worked::{wanted_in, worked_configuration};
 
 /// A second, a target, and of a deposit its line.
 type Asked = (i64, &'static str, &'static str);
 
 /// How many calls of the store that can fail a new host and these exchanges make: one for the version
-/// of each of its three repositories; of a new item one, of a state at another datestamp four, of one at the same two; of a list
-/// two, of a deletion four, and of a record one.
-const CALLS: u64 = 17;
+/// of each of its three repositories; of a new item one, of a new state of it two, at another datestamp and at the same; of a list of
+/// one record one, of a deletion two, and of a record one.
+const CALLS: u64 = 12;
 
 /// An item that is deposited, at another datestamp and at the same again, listed, deleted and asked for.
 fn exchanges() -> [Asked; 6] {
@@ -118,7 +119,7 @@ fn assert_answered<V: Versions + Drop>(
 
 /// Performs the exchanges over a store whose k-th call fails, and says whether one did: no more may.
 fn assert_answers(rt: &impl Abort, alloc: Global, k: u64) -> bool {
-    let store = FaultyVersions::new(PlainVersions::new(alloc), k);
+    let store = failing(PlainVersions::new(alloc), k);
     let config = config_in(alloc, worked_configuration().as_bytes()).expect(rt, "config_in");
     match Host::new(alloc, config, store) {
         Ok(mut host) => assert_answered(rt, alloc, &mut host, k),

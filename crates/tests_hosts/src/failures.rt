@@ -3,12 +3,12 @@
 use crate::assertions::assert_same;
 use crate::transcripts::assert_transcript_over;
 use crate::worked::config;
-use oai_catalogue::{FaultyVersions, PlainVersions};
+use oai_catalogue::PlainVersions;
 use oai_host::Host;
 use oai_item::Fault;
 use std::alloc::Global;
 use std::process::Abort;
-use tests_archives::{CrampedVersions, LyingVersions, Want};
+use tests_stores::{Want, cramped, failing, lying};
 
 // ---- deposits
 
@@ -32,11 +32,11 @@ refused 13 no-such-item"#
 
 #[test]
 fn third_line(rt: HostRuntime) {
-    let store = FaultyVersions::new(PlainVersions::new(rt.alloc()), 6);
+    let store = failing(PlainVersions::new(rt.alloc()), 6);
     assert_transcript_over(&rt, rt.alloc(), store, third_line_fails());
 }
 
-/// The same for want of memory, after which it may be tried again.
+/// The same where memory runs out, after which it may be tried again.
 fn third_line_without_memory() -> &'static str {
     r#"> 1704067207 POST /deposit/a | - | {"deposit":"oai:a:1","sets":[],"records":{"oai_dc":[]}}¶{"deposit":"oai:a:2","sets":[],"records":{"oai_dc":[]}}¶{"deposit":"oai:a:3","sets":[],"records":{"oai_dc":[]}}
 503 after 60 done 2 for NoMemory
@@ -57,9 +57,9 @@ DOC <responseDate>2024-01-01T00:00:07Z</responseDate><request verb="ListIdentifi
 #[test]
 fn third_line_without_room(rt: HostRuntime) {
     let alloc = rt.alloc();
-    let store = CrampedVersions::new(PlainVersions::new(alloc), 6, Want::Memory);
+    let store = cramped(PlainVersions::new(alloc), 6, Want::Memory);
     assert_transcript_over(&rt, alloc, store, third_line_without_memory());
-    let store = CrampedVersions::new(PlainVersions::new(alloc), 6, Want::Pages);
+    let store = cramped(PlainVersions::new(alloc), 6, Want::Pages);
     assert_transcript_over(&rt, alloc, store, third_line_without_pages());
 }
 
@@ -90,9 +90,9 @@ ok 2024-01-01T00:00:00Z"#
 #[test]
 fn fourth_call(rt: HostRuntime) {
     let alloc = rt.alloc();
-    let store = FaultyVersions::new(PlainVersions::new(alloc), 4);
+    let store = failing(PlainVersions::new(alloc), 4);
     assert_transcript_over(&rt, alloc, store, refused_lines_are_done());
-    let store = FaultyVersions::new(PlainVersions::new(alloc), 4);
+    let store = failing(PlainVersions::new(alloc), 4);
     assert_transcript_over(&rt, alloc, store, first_line_fails());
 }
 
@@ -111,7 +111,7 @@ DOC <responseDate>2024-01-01T00:00:06Z</responseDate><request verb="ListIdentifi
 #[test]
 fn damage(rt: HostRuntime) {
     let alloc = rt.alloc();
-    let store = LyingVersions::new(alloc, PlainVersions::new(alloc), 0, 1);
+    let store = lying(PlainVersions::new(alloc), 0, 1);
     assert_transcript_over(&rt, alloc, store, damaged_line());
 }
 
@@ -130,7 +130,7 @@ DOC <responseDate>2024-01-01T00:00:00Z</responseDate><request verb="ListIdentifi
 #[test]
 fn damage_at_once(rt: HostRuntime) {
     let alloc = rt.alloc();
-    let store = LyingVersions::new(alloc, PlainVersions::new(alloc), 0, 1);
+    let store = lying(PlainVersions::new(alloc), 0, 1);
     assert_transcript_over(&rt, alloc, store, damaged_first_line());
 }
 
@@ -150,7 +150,7 @@ DOC <responseDate>2024-01-01T00:00:00Z</responseDate><request verb="ListIdentifi
 
 #[test]
 fn request(rt: HostRuntime) {
-    let store = FaultyVersions::new(PlainVersions::new(rt.alloc()), 5);
+    let store = failing(PlainVersions::new(rt.alloc()), 5);
     assert_transcript_over(&rt, rt.alloc(), store, failing_request());
 }
 
@@ -170,7 +170,7 @@ DOC <responseDate>2024-01-01T00:00:00Z</responseDate><request verb="ListIdentifi
 #[test]
 fn damage_of_a_request(rt: HostRuntime) {
     let alloc = rt.alloc();
-    let store = LyingVersions::new(alloc, PlainVersions::new(alloc), 0, 1);
+    let store = lying(PlainVersions::new(alloc), 0, 1);
     assert_transcript_over(&rt, alloc, store, damaged_request());
 }
 
@@ -204,9 +204,9 @@ DOC <responseDate>2024-01-01T00:00:09Z</responseDate><request verb="ListIdentifi
 #[test]
 fn list_without_room(rt: HostRuntime) {
     let alloc = rt.alloc();
-    let store = CrampedVersions::new(PlainVersions::new(alloc), 7, Want::Pages);
+    let store = cramped(PlainVersions::new(alloc), 7, Want::Pages);
     assert_transcript_over(&rt, alloc, store, list_without_pages());
-    let store = CrampedVersions::new(PlainVersions::new(alloc), 7, Want::Memory);
+    let store = cramped(PlainVersions::new(alloc), 7, Want::Memory);
     assert_transcript_over(&rt, alloc, store, list_without_memory());
 }
 
@@ -214,7 +214,7 @@ fn list_without_room(rt: HostRuntime) {
 
 /// Why there is no host over a store of which the k-th call finds no room; None where there is one.
 fn fault_at(rt: &impl Abort, alloc: Global, k: u64, want: Want) -> Option<Fault> {
-    let store = CrampedVersions::new(PlainVersions::new(alloc), k, want);
+    let store = cramped(PlainVersions::new(alloc), k, want);
     match Host::new(alloc, config(rt, alloc), store) {
         Ok(_) => None,
         Err(fault) => Some(fault),

@@ -2,12 +2,13 @@
 use crate::assertions::{assert_same, assert_same_at};
 use crate::transcripts::{Told, body_of, told_in, write_answer};
 use crate::worked::host;
-use oai_catalogue::{FaultyVersions, PlainVersions, Versions};
+use oai_catalogue::{PlainVersions, Versions};
 use oai_host::{Answer, Call, Host};
 use oai_names::Sequence;
 use std::alloc::Global;
 use std::panic::Expect;
 use std::process::Abort;
+use tests_stores::failing;
 use tests_worked::wanted_in;
 
 // ---- calls
@@ -175,7 +176,7 @@ fn runs(rt: HostRuntime) {
 }
 
 /// A run goes on after an exchange that failed, of which nothing is seen.
-fn failing() -> &'static str {
+fn failing_run() -> &'static str {
     r#"> 1704067200 POST /deposit/a | - | {"deposit":"oai:a:1","sets":[],"records":{"oai_dc":[]}}
 200
 ok 2024-01-01T00:00:00Z
@@ -194,8 +195,8 @@ DOC <responseDate>2024-01-01T00:00:01Z</responseDate><request verb="ListIdentifi
 #[test]
 fn run_with_a_failure(rt: HostRuntime) {
     let alloc = rt.alloc();
-    let store = FaultyVersions::new(PlainVersions::new(alloc), 5);
-    assert_run(&rt, alloc, store, failing());
+    let store = failing(PlainVersions::new(alloc), 5);
+    assert_run(&rt, alloc, store, failing_run());
 }
 
 /// A run of no exchanges is answered by none, and a run after another begins where that ended.

@@ -5,6 +5,8 @@
 #[cfg(test)]
 mod assertions;
 #[cfg(test)]
+mod behind;
+#[cfg(test)]
 mod encodings;
 #[cfg(test)]
 mod formats;
@@ -13,7 +15,11 @@ mod items;
 #[cfg(test)]
 mod open_lists;
 #[cfg(test)]
+mod replaced;
+#[cfg(test)]
 mod samples;
+#[cfg(test)]
+mod stored;
 #[cfg(test)]
 mod stores;
 #[cfg(test)]

@@ -1,16 +1,18 @@
-//! Stores of versions: what they find and cut, what a filter asks for, a call that fails, a change as a
-//! whole, and a version that was frozen. The helpers speak of any store: a test that names its type
+//! Stores of versions: what they find and cut, what a filter asks for, a call that fails, items that go
+//! as a whole, and a version that was frozen. The helpers speak of any store: a test that names its type
 //! loses what the next call requires.
 ghost use Rattle.std.specs.Prelude.{◌≡◌, IsSome, IfOk, OnErr};
 
 use crate::assertions::assert_same;
 use crate::samples::{STAMP, item};
-use oai_catalogue::{FaultyVersions, Filter, PlainVersions, Versions, change_item};
+use crate::stored::{assert_list, filter, frozen, put_item};
+use oai_catalogue::{Filter, PlainVersions, Versions, remove_items};
 use oai_item::{Fault, Item};
 use oai_names::{Identifier, Prefix, SetSpec};
 use std::alloc::Global;
 use std::panic::Expect;
 use std::process::Abort;
+use tests_stores::failing;
 
 /// `oai:a:1` of the first datestamp, `oai:a:2` of a second later, and so on, in the set `x:y`.
 fn numbered(rt: &impl Abort, alloc: Global, number: u8) -> Item {
@@ -29,16 +31,6 @@ fn numbered(rt: &impl Abort, alloc: Global, number: u8) -> Item {
     )
 }
 
-/// What asks for the datestamps from so many to so many seconds later, in oai_dc.
-fn filter(rt: &impl Abort, alloc: Global, from: u8, until: u8) -> Filter {
-    Filter::new(
-        Prefix::read(alloc, "oai_dc").expect(rt, "Prefix::read"),
-        STAMP + i64::from(from),
-        STAMP + i64::from(until),
-        None,
-    )
-}
-
 /// What asks for a set and a prefix.
 fn asked(rt: &impl Abort, alloc: Global, prefix: &str, set: &str) -> Filter {
     let set = SetSpec::read(alloc, set).expect(rt, "SetSpec::read");
@@ -48,59 +40,6 @@ fn asked(rt: &impl Abort, alloc: Global, prefix: &str, set: &str) -> Filter {
         STAMP,
         Some(set),
     )
-}
-
-/// The items have these identifiers.
-fn assert_identifiers(rt: &impl Abort, items: &[Item], identifiers: &[&str]) {
-    assert_same(rt, items.len(), identifiers.len());
-    for (item, identifier) in items.iter().zip(identifiers) {
-        assert_same(rt, item.identifier().as_str(), *identifier);
-    }
-}
-
-/// The filter selects items of these identifiers.
-fn assert_selected<V: Versions>(
-    rt: &impl Abort,
-    store: &mut V,
-    v: u64,
-    filter: &Filter,
-    identifiers: &[&str],
-)
-    requires { IsSome (V.lists store.old v) }
-    ensures { V.lists store.new ≡ V.lists store.old }
-{
-    assert_identifiers(
-        rt,
-        store.part(v, filter, 0, 9).expect(rt, "part").as_slice(),
-        identifiers,
-    );
-    assert_same(rt, store.count(v, filter), Ok(identifiers.len()));
-}
-
-/// The list is of items of these identifiers.
-fn assert_list<V: Versions>(
-    rt: &impl Abort,
-    alloc: Global,
-    store: &mut V,
-    v: u64,
-    identifiers: &[&str],
-)
-    requires { IsSome (V.lists store.old v) }
-    ensures { V.lists store.new ≡ V.lists store.old }
-{
-    let all = filter(rt, alloc, 0, 9);
-    assert_selected(rt, store, v, &all, identifiers);
-}
-
-/// Puts the item into the list of `v`; that of `w` stands.
-fn put_item<V: Versions>(rt: &impl Abort, store: &mut V, v: u64, w: u64, item: &Item)
-    requires own { IsSome (V.lists store.old v) }
-    requires other { IsSome (V.lists store.old w) }
-    ensures own { IsSome (V.lists store.new v) }
-    ensures other { IsSome (V.lists store.new w) }
-{
-    item.encoded_len().expect(rt, "encoded_len");
-    store.put(v, item).expect(rt, "put");
 }
 
 /// Puts the item of that number into the list of `v`; that of `w` stands.
@@ -249,13 +188,13 @@ fn assert_fails<V: Versions>(rt: &impl Abort, alloc: Global, store: &mut V, v: u
 #[test]
 fn one_call_fails(rt: HostRuntime) {
     let alloc = rt.alloc();
-    let mut store = FaultyVersions::new(PlainVersions::new(alloc), 4);
+    let mut store = failing(PlainVersions::new(alloc), 4);
     let v = stored(&rt, alloc, &mut store);
     assert_fails(&rt, alloc, &mut store, v);
     assert_list(&rt, alloc, &mut store, v, &["oai:a:1", "oai:a:2"]);
 }
 
-/// The version of a change that takes the first item out.
+/// The version in which the first item is taken out.
 fn without_first<V: Versions>(
     rt: &impl Abort,
     alloc: Global,
@@ -267,11 +206,11 @@ fn without_first<V: Versions>(
     ensures not_made { OnErr result (IsSome (V.lists store.new v)) }
 {
     let first = numbered(rt, alloc, 1);
-    change_item(store, v, Some(&first), None)
+    remove_items(store, v, &[first])
 }
 
-/// A change fails for the device, and the list is as before.
-fn assert_no_change<V: Versions>(rt: &impl Abort, alloc: Global, store: &mut V, v: u64)
+/// Taking it out fails for the device, and the list is as before.
+fn assert_not_taken<V: Versions>(rt: &impl Abort, alloc: Global, store: &mut V, v: u64)
     requires { IsSome (V.lists store.old v) }
     ensures { IsSome (V.lists store.new v) }
 {
@@ -280,22 +219,22 @@ fn assert_no_change<V: Versions>(rt: &impl Abort, alloc: Global, store: &mut V, 
     assert_list(rt, alloc, store, v, &["oai:a:1", "oai:a:2"]);
 }
 
-/// A change takes the first item out.
-fn assert_change<V: Versions>(rt: &impl Abort, alloc: Global, store: &mut V, v: u64)
+/// The first item is taken out.
+fn assert_taken<V: Versions>(rt: &impl Abort, alloc: Global, store: &mut V, v: u64)
     requires { IsSome (V.lists store.old v) }
 {
-    let w = without_first(rt, alloc, store, v).expect(rt, "change_item");
+    let w = without_first(rt, alloc, store, v).expect(rt, "remove_items");
     assert_list(rt, alloc, store, w, &["oai:a:2"]);
 }
 
 #[test]
-fn a_change_is_whole_or_none(rt: HostRuntime) {
+fn items_go_as_a_whole_or_not_at_all(rt: HostRuntime) {
     let alloc = rt.alloc();
     // the fifth call takes the item out of the frozen version
-    let mut store = FaultyVersions::new(PlainVersions::new(alloc), 5);
+    let mut store = failing(PlainVersions::new(alloc), 5);
     let v = stored(&rt, alloc, &mut store);
-    assert_no_change(&rt, alloc, &mut store, v);
-    assert_change(&rt, alloc, &mut store, v);
+    assert_not_taken(&rt, alloc, &mut store, v);
+    assert_taken(&rt, alloc, &mut store, v);
 }
 
 /// Letting go of a version is no call of the device, and a count is one: the call behind them fails.
@@ -313,18 +252,9 @@ fn assert_counted<V: Versions>(rt: &impl Abort, alloc: Global, store: &mut V, v:
 fn calls_are_counted(rt: HostRuntime) {
     let alloc = rt.alloc();
     // two items are stored by three calls, the fourth freezes them, and the fifth counts
-    let mut store = FaultyVersions::new(PlainVersions::new(alloc), 6);
+    let mut store = failing(PlainVersions::new(alloc), 6);
     let v = stored(&rt, alloc, &mut store);
     assert_counted(&rt, alloc, &mut store, v);
-}
-
-/// Another number for what the list holds.
-fn frozen<V: Versions>(rt: &impl Abort, store: &mut V, v: u64) -> u64
-    requires { IsSome (V.lists store.old v) }
-    ensures own { IsSome (V.lists store.new v) }
-    ensures frozen { IsSome (V.lists store.new result) }
-{
-    store.freeze(v).expect(rt, "freeze")
 }
 
 /// Takes the first item out of the list of `v` and puts a third one in; the list of `w` stands.

@@ -1,5 +1,5 @@
 //! Tests of one repository (`oai_repo`): what it answers requests and deposits, without the edge of
-//! the program, also in a store that is not its alone, or that lies. It holds nothing else.
+//! the program, also in a store that is not its alone, that lies, or that finds no room. It holds nothing else.
 #![tactic(auto)]
 
 #[cfg(test)]
@@ -11,10 +11,14 @@ mod lies;
 #[cfg(test)]
 mod neighbours;
 #[cfg(test)]
+mod outcomes;
+#[cfg(test)]
 mod purges;
 #[cfg(test)]
 mod repository;
 #[cfg(test)]
 mod samples;
+#[cfg(test)]
+mod shortages;
 #[cfg(test)]
 mod transcripts;

@@ -1,83 +1,28 @@
 //! A repository over a store that lies, and says that there is nothing: each call returns, and one
 //! that finds an item missing changes nothing.
-use crate::assertions::{assert_same, assert_same_at};
+use crate::assertions::assert_same;
+use crate::outcomes::{archive, assert_outcomes, outcome, page_of};
 use crate::samples::{
-    Asked, BEGIN, NEXT_DAY, change_in, deletion, deposit, formats, headers, next_records, record,
-    records,
+    Asked, BEGIN, NEXT_DAY, deletion, deposit, formats, headers, next_records, record, records,
 };
 use oai_catalogue::{PlainVersions, Versions};
-use oai_item::Fault;
 use oai_names::Sequence;
-use oai_repo::{Refusal, Reply};
-use oai_settings::RepoConfig;
 use std::alloc::Global;
-use std::panic::Expect;
 use std::process::Abort;
-use tests_archives::{LyingVersions, Stocked, archive_a, settings_of};
+use tests_archives::Stocked;
+use tests_stores::{HookedVersions, LyingHook, lying};
 
 /// More lies than are asked for.
 const ALWAYS: u64 = 1_000;
 
 /// Archive A over a store that lies after so many answers, so often.
-fn archive(
+fn lying_archive(
     rt: &impl Abort,
     alloc: Global,
     truths: u64,
     lies: u64,
-) -> Stocked<LyingVersions<PlainVersions>> {
-    let config = RepoConfig::new(
-        alloc,
-        settings_of(alloc, archive_a()).expect(rt, "settings_of"),
-    )
-    .expect(rt, "RepoConfig::new");
-    let store = LyingVersions::new(alloc, PlainVersions::new(alloc), truths, lies);
-    Stocked::new(alloc, config, store).expect(rt, "Stocked::new")
-}
-
-/// What a fault is called; the test fails where it is another than damage.
-fn damage(rt: &impl Abort, fault: Fault) -> &'static str {
-    match fault {
-        Fault::Damaged => "damaged",
-        fault => panic!(rt; "{fault:?}"),
-    }
-}
-
-/// What an exchange comes to: `ok`, the line of a refusal, `page`, or `damaged`.
-fn outcome<V: Versions + Drop>(
-    rt: &impl Abort,
-    alloc: Global,
-    repo: &mut Stocked<V>,
-    asked: Asked,
-) -> &'static str {
-    let (moment, text) = asked;
-    match change_in(rt, alloc, text) {
-        Some(change) => match repo.change(moment, &change) {
-            Ok(_) => "ok",
-            Err(Refusal::Refused(cause)) => cause.answer(),
-            Err(Refusal::Fault(fault)) => damage(rt, fault),
-        },
-        None => match repo.ask(moment, text.as_bytes()) {
-            Ok(Reply::Page(_)) => "page",
-            Ok(Reply::Later(_)) => "later",
-            Err(fault) => damage(rt, fault),
-        },
-    }
-}
-
-/// The exchanges come to that, one after the other; damage leaves the clock where it was.
-fn assert_outcomes<V: Versions + Drop>(
-    rt: &impl Abort,
-    alloc: Global,
-    repo: &mut Stocked<V>,
-    exchanges: &[(Asked, &str)],
-) {
-    for (asked, wanted) in exchanges {
-        let (moment, text) = *asked;
-        let before = repo.clock();
-        assert_same_at(rt, outcome(rt, alloc, repo, *asked), *wanted, text);
-        let clock = if *wanted == "damaged" { before } else { moment };
-        assert_same_at(rt, repo.clock(), clock, text);
-    }
+) -> Stocked<HookedVersions<PlainVersions, LyingHook>> {
+    archive(rt, alloc, lying(PlainVersions::new(alloc), truths, lies))
 }
 
 /// An item that is known is damaged; of one that is not the store is not asked.
@@ -100,7 +45,7 @@ fn all_lies() -> [(Asked, &'static str); 12] {
 
 #[test]
 fn nothing_is_found(rt: HostRuntime) {
-    let mut repo = archive(&rt, rt.alloc(), 0, ALWAYS);
+    let mut repo = lying_archive(&rt, rt.alloc(), 0, ALWAYS);
     assert_outcomes(&rt, rt.alloc(), &mut repo, &all_lies());
 }
 
@@ -120,14 +65,6 @@ fn no_lies() -> [(Asked, &'static str); 1] {
     [((BEGIN + 7, deposit(1)), "ok")]
 }
 
-/// The record of the first item.
-fn record_of<V: Versions + Drop>(rt: &impl Abort, repo: &mut Stocked<V>) -> Sequence<u8> {
-    let Reply::Page(page) = repo.ask(NEXT_DAY, record(1).as_bytes()).expect(rt, "ask") else {
-        panic!(rt; "later")
-    };
-    page
-}
-
 /// The record of the first item after these exchanges, over a store of which so many answers are lies
 /// at first.
 fn record_after(
@@ -136,9 +73,9 @@ fn record_after(
     lies: u64,
     exchanges: &[(Asked, &str)],
 ) -> Sequence<u8> {
-    let mut repo = archive(rt, alloc, 0, lies);
+    let mut repo = lying_archive(rt, alloc, 0, lies);
     assert_outcomes(rt, alloc, &mut repo, exchanges);
-    record_of(rt, &mut repo)
+    page_of(rt, &mut repo, NEXT_DAY, record(1))
 }
 
 /// Once the store lies no more, the item is there as it was.
@@ -163,7 +100,7 @@ fn missing_part() -> [(Asked, &'static str); 5] {
 /// A part that has fewer records than are left is none of the list.
 #[test]
 fn a_missing_part_is_damage(rt: HostRuntime) {
-    let mut repo = archive(&rt, rt.alloc(), 2, ALWAYS);
+    let mut repo = lying_archive(&rt, rt.alloc(), 2, ALWAYS);
     assert_outcomes(&rt, rt.alloc(), &mut repo, &missing_part());
 }
 
@@ -191,7 +128,7 @@ fn assert_each_returns<V: Versions + Drop>(rt: &impl Abort, alloc: Global, repo:
 
 /// The same over a store that lies after so many answers.
 fn assert_returns(rt: &impl Abort, alloc: Global, truths: u64) {
-    let mut repo = archive(rt, alloc, truths, ALWAYS);
+    let mut repo = lying_archive(rt, alloc, truths, ALWAYS);
     assert_each_returns(rt, alloc, &mut repo);
 }
 

@@ -1,8 +1,9 @@
 //! Repositories that forget deleted items, as transcripts.
 use crate::transcripts::{assert_transcript, assert_transcript_over};
 use oai_answers::DeletedRecord;
-use oai_catalogue::{FaultyVersions, PlainVersions};
+use oai_catalogue::PlainVersions;
 use tests_archives::{Told, archive_a, archive_b, archive_c};
+use tests_stores::failing;
 
 /// Of two items, the most that there may be, one is deleted, and forgotten a second later: below the
 /// bound, and not at it.
@@ -39,13 +40,13 @@ fn forgotten(rt: HostRuntime) {
 }
 
 /// The store fails at each of the calls in turn that these lines make after the repository's first: a
-/// new item makes one, a deletion four, a purge that removes one item three, one that removes none one,
-/// a request for a record that is there one, and one for a list two.
+/// new item makes one, a deletion two, a purge that removes one item three, one that removes none one,
+/// a request for a record that is there one, and one for a list of two records one.
 #[test]
 fn each_call_fails(rt: HostRuntime) {
     let alloc = rt.alloc();
-    for k in 2..=15 {
-        let store = FaultyVersions::new(PlainVersions::new(alloc), k);
+    for k in 2..=12 {
+        let store = failing(PlainVersions::new(alloc), k);
         assert_transcript_over(&rt, alloc, archive_c(), store, forgotten_asked());
     }
 }

@@ -76,7 +76,7 @@ fn request_in_words(rt: &impl Abort, alloc: Global, ask: &Ask) -> String {
     }
 }
 
-/// What the query is answered, in words; want of memory fails the test.
+/// What the query is answered, in words; out of memory fails the test.
 fn answer_to(rt: &impl Abort, alloc: Global, query: &str, granularity: Granularity) -> String {
     match read_request(alloc, query.as_bytes(), granularity) {
         Ok(ask) => request_in_words(rt, alloc, &ask),

@@ -7,7 +7,7 @@ use std::alloc::{AllocError, Global};
 use std::panic::Expect;
 use std::process::Abort;
 
-/// What a line is answered that is read, or refused; want of memory fails the test.
+/// What a line is answered that is read, or refused; out of memory fails the test.
 fn answer_to(alloc: Global, line: &[u8]) -> Result<&'static str, AllocError> {
     match read_line(alloc, line) {
         Ok(_) => Ok("read"),

@@ -33,7 +33,7 @@ fn dublin_core() -> &'static str {
 }
 
 /// What a transcript wants: its lines but those that begin with `> `, which are what it asks. The error is
-/// want of memory.
+/// out of memory.
 pub fn wanted_in(alloc: Global, transcript: &str) -> Result<String, AllocError> {
     let mut wanted = String::new(alloc);
     for line in transcript.lines() {
@@ -45,7 +45,7 @@ pub fn wanted_in(alloc: Global, transcript: &str) -> Result<String, AllocError> 
 }
 
 /// Adds a line of what a transcript wants: `DOC ` in front stands for what every document begins with,
-/// and `{dc}` for the start tag of a record in oai_dc. The error is want of memory.
+/// and `{dc}` for the start tag of a record in oai_dc. The error is out of memory.
 pub fn push_wanted(line: &str, wanted: &mut String) -> Result<(), AllocError> {
     let line = match line.strip_prefix("DOC ") {
         Some(rest) => {

@@ -43,7 +43,7 @@ pub(crate) fn fault_together(
     Ok(None)
 }
 
-/// Whether a name stands twice. The error is want of memory.
+/// Whether a name stands twice. The error is out of memory.
 fn has_repeat(alloc: Global, repositories: &[Settings]) -> Result<bool, AllocError>
     ensures { IfOk result (λ repeat. repeat ≡ has_repeat (spec.names_told repositories.now)) }
 {

@@ -122,7 +122,7 @@ fn is_space(b: u8) -> bool
     matches!(b, b' ' | b'\t' | b'\n' | b'\r')
 }
 
-/// Whether a text stands twice. The error is want of memory.
+/// Whether a text stands twice. The error is out of memory.
 fn has_repeat(alloc: Global, texts: &[Text]) -> Result<bool, AllocError>
     ensures { IfOk result (λ repeat. repeat ≡ has_repeat texts.now) }
 {

@@ -10,7 +10,7 @@ use Rattle.oai_edge.specs.Numbers.{moment_of, number_in}
 use Rattle.oai_edge.proofs.LineLemmas.{told_all, told_no_piece}
 use Rattle.oai_edge.proofs.events.read_event.Goals as goal
 
--- an error of the digits is the line's, but for want of memory
+-- an error of the digits is the line's, out of memory apart
 tells_nothing : (line : List ℕ) (number : ℕ) (error : FromHexError) → (error ≡ OutOfMemory) ⊎ (told line ≡ None)
     → IsTold line number (Err (stop_at number error))
 tells_nothing line number OutOfMemory h = refl

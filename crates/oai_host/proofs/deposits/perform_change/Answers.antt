@@ -4,33 +4,33 @@ use Rattle.std.proofs.lemmas.Int.{to_z-of_z}
 use Rattle.oai_time.specs.TimeTexts.{datestamp_text}
 use Rattle.oai_item.specs.Refusals.{in_repository, refusal_line}
 use Rattle.oai_settings.specs.Config.{Config}
-use Rattle.oai_repo.specs.Machine.{accepted, refused, written}
-use Rattle.oai_repo.specs.declared.refusals.Refusal.TheVariants as refusal
+use Rattle.oai_repo.specs.Machine.{accepted, refused_with, outcome_output}
+use Rattle.oai_repo.specs.declared.changes.Refusal.TheVariants as refusal
 use Rattle.oai_host.proofs.DepositLemmas.{line_more, told_line}
 use Rattle.oai_host.proofs.RoomLemmas.{room_less, room_of_change}
 use Rattle.oai_host.proofs.deposits.perform_change.Goals as goal
 
 pub returns-in-Ok-clause-ok : goal.returns-in-Ok-clause-ok
-unfolding written
+unfolding outcome_output
 returns-in-Ok-clause-ok g c = λ honest.
     let lists = g.V.Versions.lists in
     let fits : FitsSigned w64 c.args.moment = c.ranges.moment in
     let acted = rw c.in-Ok.is at (simp to_z-of_z at (c.change.ensures.changed honest)) in
     told_line c.args.repo.now (lists c.args.store.now) c.args.moment c.args.change.now (accepted c.in-Ok.stamp) c.change.new.self (lists c.change.new.store) c.args.told.now.items c.put_stamp.new.out.items
     ((codes "ok " ++ datestamp_text c.args.repo.now.config.granularity c.in-Ok.stamp) ++ 10 ∷ []) acted refl
-    (let range = rw c.in-Ok.is at c.change.type_inv in let kept = rw c.in-Ok.is at c.change.ensures.left in
+    (let range = rw c.in-Ok.is at c.change.type_inv in let kept = c.change.ensures.keeps.config in
     let stamp : FitsSigned w64 c.in-Ok.stamp = record { sfits = range.1.1.1.1.0.1 } in
-    let granularity : c.granularity.result ≡ c.args.repo.now.config.granularity = c.granularity.ensures ∙ ap (λ (config : Config). config.granularity) (c.config.ensures ∙ kept.1) in
+    let granularity : c.granularity.result ≡ c.args.repo.now.config.granularity = c.granularity.ensures ∙ ap (λ (config : Config). config.granularity) (c.config.ensures ∙ kept) in
     rw granularity at (simp to_z-of_z at c.put_stamp.ensures))
 
 pub returns-in-Err-Refused-clause-ok : goal.returns-in-Err-Refused-clause-ok
-unfolding written
+unfolding outcome_output
 returns-in-Err-Refused-clause-ok g c = λ honest.
     let lists = g.V.Versions.lists in
     let fits : FitsSigned w64 c.args.moment = c.ranges.moment in
     let cause : c.change.result ≡ Err (refusal.Refused c.in-Err-Refused.cause) = c.in-Err-Refused.is ∙ ap (λ r. Err r) c.in-Err-Refused.field-0-is in
     let acted = rw cause at (simp to_z-of_z at (c.change.ensures.changed honest)) in
-    told_line c.args.repo.now (lists c.args.store.now) c.args.moment c.args.change.now (refused (in_repository c.in-Err-Refused.cause)) c.change.new.self (lists c.change.new.store) c.args.told.now.items c.put_line.new.out.items
+    told_line c.args.repo.now (lists c.args.store.now) c.args.moment c.args.change.now (refused_with (in_repository c.in-Err-Refused.cause)) c.change.new.self (lists c.change.new.store) c.args.told.now.items c.put_line.new.out.items
     (refusal_line (in_repository c.in-Err-Refused.cause) ++ 10 ∷ []) acted refl (rw c.answer.ensures.line at c.put_line.ensures)
 
 pub returns-in-Ok-clause-line : goal.returns-in-Ok-clause-line
@@ -44,17 +44,17 @@ returns-in-Err-Refused-clause-line g c = line_more c.args.told.now.items c.answe
 
 pub returns-in-Ok-clause-room : goal.returns-in-Ok-clause-room
 returns-in-Ok-clause-room g c = λ honest.
-    let need = rw c.in-Ok.is at c.change.ensures.room in
-    room_less _ _ _ _ _ (room_of_change c.args.repo.now (g.V.Versions.lists c.args.store.now) c.args.change.now (c.requires.held honest)) need
+    let need = rw c.in-Ok.is at c.change.ensures.store.room in
+    room_less _ _ _ _ _ (room_of_change c.args.repo.now (g.V.Versions.lists c.args.store.now) c.args.change.now (c.requires.owns.held honest)) need
 
 pub returns-in-Err-Refused-clause-room : goal.returns-in-Err-Refused-clause-room
 returns-in-Err-Refused-clause-room g c = λ honest.
     let cause : c.change.result ≡ Err (refusal.Refused c.in-Err-Refused.cause) = c.in-Err-Refused.is ∙ ap (λ r. Err r) c.in-Err-Refused.field-0-is in
-    let need = rw cause at c.change.ensures.room in
-    room_less _ _ _ _ _ (room_of_change c.args.repo.now (g.V.Versions.lists c.args.store.now) c.args.change.now (c.requires.held honest)) need
+    let need = rw cause at c.change.ensures.store.room in
+    room_less _ _ _ _ _ (room_of_change c.args.repo.now (g.V.Versions.lists c.args.store.now) c.args.change.now (c.requires.owns.held honest)) need
 
 pub returns-in-Err-Fault-clause-room : goal.returns-in-Err-Fault-clause-room
 returns-in-Err-Fault-clause-room g c = λ honest.
     let cause : c.change.result ≡ Err (refusal.Fault c.in-Err-Fault.fault) = c.in-Err-Fault.is ∙ ap (λ r. Err r) c.in-Err-Fault.field-0-is in
-    let need = rw cause at c.change.ensures.room in
-    room_less _ _ _ _ _ (room_of_change c.args.repo.now (g.V.Versions.lists c.args.store.now) c.args.change.now (c.requires.held honest)) need
+    let need = rw cause at c.change.ensures.store.room in
+    room_less _ _ _ _ _ (room_of_change c.args.repo.now (g.V.Versions.lists c.args.store.now) c.args.change.now (c.requires.owns.held honest)) need

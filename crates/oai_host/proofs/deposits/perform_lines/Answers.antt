@@ -2,9 +2,9 @@
 use Rattle.std.proofs.Common.{◌≡◌, ◌∙◌, ◌∷◌, FitsSigned, w64, Bool, IsTrue, List, ℕ, suc, length, ap, arith, subst, sym, ◌+◌, ◌≤◌, Err}
 use Rattle.std.proofs.lemmas.Int.{to_z-of_z}
 use Rattle.oai_catalogue.specs.Store.{NeedsRoom}
+use Rattle.oai_repo.specs.Fields.{Keeps}
 use Rattle.oai_settings.specs.Config.{Config}
 use Rattle.oai_host.specs.Bodies.{lines_in}
-use Rattle.oai_host.specs.Housed.{IsKept}
 use Rattle.oai_host.proofs.DepositLemmas.{below, line_failed, one_done}
 use Rattle.oai_deposit.specs.Lines.{line_of}
 use Rattle.oai_host.specs.Room.{room_for_line}
@@ -26,7 +26,7 @@ loop-text-preserved g c =
     let next : c.loop-text.lines ≡ c.in-Some.text.now ∷ c.next.new.self = rw c.in-Some.is at c.next.ensures in
     let so_far = rw next at (simp to_z-of_z at c.loop-text.invariant.lines) in
     let done = rw c.in-Ok.is at (simp to_z-of_z at c.perform_line.ensures.ok) in
-    let kept = subst (λ (honest : Bool). IsKept honest mid between new after) same c.perform_line.ensures.kept in
+    let kept = subst (λ (honest : Bool). Keeps honest mid between new after) same c.perform_line.ensures.kept in
     record {
       lines = simp to_z-of_z (one_done (V.honest c.args.store.now) old mid new before between after c.args.moment (lines_in c.args.body.now) c.next.new.self c.in-Some.text.now c.loop-text.told.items c.perform_line.new.told.items c.loop-text.done
           so_far (λ honest. done (subst (λ (b : Bool). IsTrue b) (sym same) honest)) kept);

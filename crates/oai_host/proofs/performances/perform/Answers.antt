@@ -17,7 +17,7 @@ returns-in-Err-clause-tried g c = λ honest.
 pub returns-in-Ok-clause-room : goal.returns-in-Ok-clause-room
 returns-in-Ok-clause-room g c = λ honest.
     let task = rw c.in-Ok.is at (c.arguments_of.ensures c.args.moment) in
-    rw (c.in-Requests.is, task) c.perform_request.ensures.room
+    rw (c.in-Requests.is, task) c.perform_request.ensures.store.room
 
 pub returns-in-Err-clause-room : goal.returns-in-Err-clause-room
 returns-in-Err-clause-room g c = λ honest.

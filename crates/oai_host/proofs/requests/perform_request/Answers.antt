@@ -6,7 +6,7 @@ use Rattle.oai_host.proofs.requests.perform_request.Goals as goal
 pub returns-in-Err-clause-left : goal.returns-in-Err-clause-left
 returns-in-Err-clause-left g c =
     let lists = g.V.Versions.lists in
-    let left = rw c.in-Err.is at c.ask.ensures.left in
+    let left = rw c.in-Err.is at c.ask.ensures.clock in
     left_so ((c.ask.new.self ≡ c.args.repo.now) × (lists c.ask.new.store ≡ lists c.args.store.now)) c.of_fault.result left
 
 pub returns-in-Err-clause-told : goal.returns-in-Err-clause-told

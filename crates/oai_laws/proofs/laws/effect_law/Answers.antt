@@ -32,8 +32,8 @@ returns-clause-tokens c = tokens_keep
 pub returns-clause-continued : goal.returns-clause-continued
 returns-clause-continued c = tokens_shown
 
-pub returns-clause-waits : goal.returns-clause-waits
-returns-clause-waits c = wait_is
+pub returns-clause-retry_after : goal.returns-clause-retry_after
+returns-clause-retry_after c = wait_is
 
 pub returns-clause-told : goal.returns-clause-told
 returns-clause-told c = told_to_wait

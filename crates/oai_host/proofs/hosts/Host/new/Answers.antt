@@ -39,9 +39,9 @@ loop-hosted-preserved g c =
       begun = begun_more c.args.config.repositories (into_iter_items c.next.new.self) c.in-Some.hosted (repositories_of c.loop-hosted.repositories (V.lists c.loop-hosted.store)) (repositories_of c.begin.new.self (V.lists c.begin.new.store))
           so_far c.in_ok-begin.ensures.begun;
       housed = c.in_ok-begin.ensures.housed;
-      room = omega (arith, ap length next, c.loop-hosted.invariant.room, c.begin.ensures.room.used);
-      count = omega (arith, c.loop-hosted.invariant.count, c.begin.ensures.device.count);
-      honesty = c.begin.ensures.honesty.same ∙ c.loop-hosted.invariant.honesty;
+      room = omega (arith, ap length next, c.loop-hosted.invariant.room, c.begin.ensures.store.room.used);
+      count = omega (arith, c.loop-hosted.invariant.count, c.begin.ensures.store.device.count);
+      honesty = c.begin.ensures.store.honesty.same ∙ c.loop-hosted.invariant.honesty;
       named = c.loop-hosted.invariant.named;
     }
 

@@ -16,5 +16,5 @@ returns-clause-housed g c =
     let named = rw (← c.hosted.view_is) at c.requires.named in
     let unused = rw (← c.hosted.view_is) at c.requires.unused in
     rw c.in_ok-add.ensures.ok
-    (housed_last (V.honest c.args.store.now) (V.honest c.new.new.store) c.args.self.now hosted.name hosted.config c.in_ok-repo.repo (V.lists c.args.store.now) (V.lists c.new.new.store) c.in_ok-repo.ensures.honesty.same c.requires.housed named unused
+    (housed_last (V.honest c.args.store.now) (V.honest c.new.new.store) c.args.self.now hosted.name hosted.config c.in_ok-repo.repo (V.lists c.args.store.now) (V.lists c.new.new.store) c.in_ok-repo.ensures.store.honesty.same c.requires.housed named unused
     c.in_ok-repo.ensures.new)

@@ -8,19 +8,18 @@ use Rattle.oai_host.proofs.PlaceLemmas.{names_set}
 use Rattle.oai_host.proofs.RoomLemmas.{room_set}
 use Rattle.oai_host.proofs.repositories.Repositories.perform.Goals as goal
 
-pub perform-requires-clause-stands : goal.perform-requires-clause-stands
-perform-requires-clause-stands g c =
+pub perform-requires : goal.perform-requires
+perform-requires g c =
     let p = c.requires.place in
     let there = rw (← c.self.view_is) at p.there in
     let one : c.index_mut.result.now ≡ p.one = c.index_mut.ensures.value ∙ get_or_from_slice_get c.self.inside.housed.items c.args.place p.one c.index_mut.result.now there in
-    rw one (stands_at c.args.self.now c.args.place p.one (g.V.Versions.lists c.args.store.now) p.there c.requires.housed.stand)
-
-pub perform-requires-clause-held : goal.perform-requires-clause-held
-perform-requires-clause-held g c = λ honest.
-    let p = c.requires.place in
-    let there = rw (← c.self.view_is) at p.there in
-    let one : c.index_mut.result.now ≡ p.one = c.index_mut.ensures.value ∙ get_or_from_slice_get c.self.inside.housed.items c.args.place p.one c.index_mut.result.now there in
-    rw one (held_at c.args.self.now c.args.place p.one (g.V.Versions.lists c.args.store.now) p.there (c.requires.housed.held honest))
+    let all = g.V.Versions.lists c.args.store.now in
+    rw one (record {
+      owns = record {
+        stands = stands_at c.args.self.now c.args.place p.one all p.there c.requires.housed.stand;
+        held = λ honest. held_at c.args.self.now c.args.place p.one all p.there (c.requires.housed.held honest);
+      };
+    })
 
 pub invariant_of-self : goal.invariant_of-self
 invariant_of-self g c =

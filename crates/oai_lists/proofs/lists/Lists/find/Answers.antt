@@ -1,7 +1,7 @@
 use Rattle.std.proofs.Common.{rules, ◌≡◌, ◌∙◌, ◌<ℤ◌, ◌≤ℤ◌, FitsSigned, List, None, Some, ap, arith, cond, get_or, is_some, sym, w64}
 use Rattle.std.proofs.lemmas.Bool.{cond-true, cond-false}
 use Rattle.std.proofs.lemmas.Int.{ints}
-use Rattle.oai_lists.specs.Workings.{IsPlaced, none_numbered}
+use Rattle.oai_lists.specs.Workings.{IsListPlace, no_list_numbered}
 use Rattle.oai_lists.specs.OpenLists.{Table, is_open, list_numbered, open_numbered}
 use Rattle.oai_lists.specs.declared.open_lists.OpenList.{OpenList}
 use Rattle.oai_lists.proofs.Tables.{list_numbered-placed, open_numbered-none, open_numbered-placed}
@@ -14,7 +14,7 @@ returns-then-now-list-clause-found c =
     let x : OpenList = c.index-list.result.now in
     let fits_end : FitsSigned w64 x.end = search rules in
     let items : List OpenList = c.self.inside.lists.items in
-    let place : IsPlaced c.args.number items (Some c.in-Some.at) = rw c.as_slice.ensures.value at c.in-Some.ensures in
+    let place : IsListPlace c.args.number items (Some c.in-Some.at) = rw c.as_slice.ensures.value at c.in-Some.ensures in
     let early : c.args.now <ℤ x.end = omega (arith, ints, c.if-now-list.true) in
     let is : x ≡ get_or items c.in-Some.at x = c.index-list.ensures in
     sym (ap (λ (t : Table). open_numbered c.args.number c.args.now t.lists) (sym c.self.view_is)
@@ -28,7 +28,7 @@ returns-else-now-list-clause-found c =
     let x : OpenList = c.index-list.result.now in
     let fits_end : FitsSigned w64 x.end = search rules in
     let items : List OpenList = c.self.inside.lists.items in
-    let place : IsPlaced c.args.number items (Some c.in-Some.at) = rw c.as_slice.ensures.value at c.in-Some.ensures in
+    let place : IsListPlace c.args.number items (Some c.in-Some.at) = rw c.as_slice.ensures.value at c.in-Some.ensures in
     let late : x.end ≤ℤ c.args.now = omega (arith, ints, c.if-now-list.false) in
     let is : x ≡ get_or items c.in-Some.at x = c.index-list.ensures in
     sym (ap (λ (t : Table). open_numbered c.args.number c.args.now t.lists) (sym c.self.view_is)
@@ -39,12 +39,12 @@ returns-else-now-list-clause-found c =
 pub returns-in-None-clause-found : goal.returns-in-None-clause-found
 returns-in-None-clause-found c =
     let items : List OpenList = c.self.inside.lists.items in
-    let none : none_numbered c.args.number items = rw c.as_slice.ensures.value at c.in-None.ensures in
+    let none : no_list_numbered c.args.number items = rw c.as_slice.ensures.value at c.in-None.ensures in
     sym (ap (λ (t : Table). open_numbered c.args.number c.args.now t.lists) (sym c.self.view_is) ∙ open_numbered-none c.args.number c.args.now items none)
 
 pub returns-then-now-list-clause-held : goal.returns-then-now-list-clause-held
 returns-then-now-list-clause-held c =
     let items : List OpenList = c.self.inside.lists.items in
     let x : OpenList = c.index-list.result.now in
-    let place : IsPlaced c.args.number items (Some c.in-Some.at) = rw c.as_slice.ensures.value at c.in-Some.ensures in
+    let place : IsListPlace c.args.number items (Some c.in-Some.at) = rw c.as_slice.ensures.value at c.in-Some.ensures in
     ap (λ (t : Table). is_some (list_numbered c.args.number t.lists)) (sym c.self.view_is) ∙ ap is_some (list_numbered-placed c.args.number items c.in-Some.at x place)

@@ -1,7 +1,7 @@
 use Rattle.std.proofs.Common.{rules, ◌≡◌, ◌≢◌, ◌∙◌, ◌+◌, ◌++◌, ◌∷◌, [], ℕ, ℤ, FitsSigned, Fits, List, ap, arith, subst, sym, w64}
 use Rattle.std.specs.Int.{int_min}
 use Rattle.std.proofs.lemmas.Int.{to_z-of_z}
-use Rattle.oai_lists.specs.Workings.{IsHeld}
+use Rattle.oai_lists.specs.Workings.{IsHeldTable}
 use Rattle.oai_lists.specs.OpenLists.{Table, with_opened}
 use Rattle.oai_lists.specs.declared.open_lists.OpenList.{OpenList}
 use Rattle.oai_lists.specs.declared.lists.TheConstants.{LAST_NUMBER}
@@ -36,9 +36,9 @@ invariant_of-self-2 c =
     let table : Table = record { limit = c.self.inside.limit; next = c.self.inside.next; lists = items } in
     let held = held_push table c.self.inside.earliest list c.self.invariant same in
     simp to_z-of_z
-    (subst (λ (e : ℤ). IsHeld (record { limit = c.self.inside.limit; next = c.in-Ok.number + 1; lists = c.push.new.self.items }) e) (sym bound)
-    (subst (λ (lists : List OpenList). IsHeld (record { limit = c.self.inside.limit; next = c.in-Ok.number + 1; lists = lists }) (int_min c.self.inside.earliest c.args.end)) (sym pushed)
-    (subst (λ (n : ℕ). IsHeld (record { limit = c.self.inside.limit; next = n + 1; lists = items ++ list ∷ [] }) (int_min c.self.inside.earliest c.args.end)) (sym same) held)))
+    (subst (λ (e : ℤ). IsHeldTable (record { limit = c.self.inside.limit; next = c.in-Ok.number + 1; lists = c.push.new.self.items }) e) (sym bound)
+    (subst (λ (lists : List OpenList). IsHeldTable (record { limit = c.self.inside.limit; next = c.in-Ok.number + 1; lists = lists }) (int_min c.self.inside.earliest c.args.end)) (sym pushed)
+    (subst (λ (n : ℕ). IsHeldTable (record { limit = c.self.inside.limit; next = n + 1; lists = items ++ list ∷ [] }) (int_min c.self.inside.earliest c.args.end)) (sym same) held)))
 
 pub returns : goal.returns
 returns c =

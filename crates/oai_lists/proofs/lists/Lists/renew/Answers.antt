@@ -1,7 +1,7 @@
 use Rattle.std.proofs.Common.{rules, ◌≡◌, ◌∙◌, ℤ, FitsSigned, List, Some, ap, set, subst, sym, w64}
 use Rattle.std.specs.Int.{int_min}
 use Rattle.std.proofs.lemmas.Int.{to_z-of_z}
-use Rattle.oai_lists.specs.Workings.{IsHeld, IsPlaced, none_numbered}
+use Rattle.oai_lists.specs.Workings.{IsHeldTable, IsListPlace, no_list_numbered}
 use Rattle.oai_lists.specs.OpenLists.{Table, list_numbered, renewed}
 use Rattle.oai_lists.specs.declared.open_lists.OpenList.{OpenList}
 use Rattle.oai_lists.proofs.Tables.{list_numbered-none}
@@ -11,7 +11,7 @@ use Rattle.oai_lists.proofs.lists.Lists.renew.Goals as goal
 pub unreachable-requires : goal.unreachable-requires
 unreachable-requires c =
     let items : List OpenList = c.self.inside.lists.items in
-    let none : none_numbered c.args.number items = rw c.as_slice.ensures.value at c.in_default.ensures in
+    let none : no_list_numbered c.args.number items = rw c.as_slice.ensures.value at c.in_default.ensures in
     stands_not c.args.number c.args.self.now.lists (ap (λ (t : Table). list_numbered c.args.number t.lists) (sym c.self.view_is) ∙ list_numbered-none c.args.number items none) c.requires
 
 pub invariant_of-self : goal.invariant_of-self
@@ -21,21 +21,21 @@ invariant_of-self c =
     let fits_new : FitsSigned w64 c.min-self-inside.result = record { sfits = c.min-self-inside.type_inv } in
     let items : List OpenList = c.self.inside.lists.items in
     let x : OpenList = c.index_mut-list.result.now in
-    let place : IsPlaced c.args.number items (Some c.in-Some.at) = rw c.as_slice.ensures.value at c.in-Some.ensures in
+    let place : IsListPlace c.args.number items (Some c.in-Some.at) = rw c.as_slice.ensures.value at c.in-Some.ensures in
     let bound : c.min-self-inside.result ≡ int_min c.self.inside.earliest c.args.end = simp to_z-of_z at c.min-self-inside.ensures.value in
     let one : renewed c.args.number c.args.end items ≡ set items c.in-Some.at (record x { end = c.args.end }) =
     renewed-placed c.args.number c.args.end items c.in-Some.at x place ∙ ap (λ (y : OpenList). set items c.in-Some.at (record y { end = c.args.end })) (sym c.index_mut-list.ensures.value) in
     let held = held_renewed c.self.inside.limit c.self.inside.next c.args.number items c.self.inside.earliest c.args.end c.self.invariant in
     simp to_z-of_z
-    (subst (λ (e : ℤ). IsHeld (record { limit = c.self.inside.limit; next = c.self.inside.next; lists = set items c.in-Some.at (record x { end = c.args.end }) }) e) (sym bound)
-    (subst (λ (lists : List OpenList). IsHeld (record { limit = c.self.inside.limit; next = c.self.inside.next; lists = lists }) (int_min c.self.inside.earliest c.args.end)) one held))
+    (subst (λ (e : ℤ). IsHeldTable (record { limit = c.self.inside.limit; next = c.self.inside.next; lists = set items c.in-Some.at (record x { end = c.args.end }) }) e) (sym bound)
+    (subst (λ (lists : List OpenList). IsHeldTable (record { limit = c.self.inside.limit; next = c.self.inside.next; lists = lists }) (int_min c.self.inside.earliest c.args.end)) one held))
 
 pub returns : goal.returns
 returns c =
     let fits : FitsSigned w64 c.args.end = c.ranges.end in
     let items : List OpenList = c.self.inside.lists.items in
     let x : OpenList = c.index_mut-list.result.now in
-    let place : IsPlaced c.args.number items (Some c.in-Some.at) = rw c.as_slice.ensures.value at c.in-Some.ensures in
+    let place : IsListPlace c.args.number items (Some c.in-Some.at) = rw c.as_slice.ensures.value at c.in-Some.ensures in
     let one : renewed c.args.number c.args.end items ≡ set items c.in-Some.at (record x { end = c.args.end }) =
     renewed-placed c.args.number c.args.end items c.in-Some.at x place ∙ ap (λ (y : OpenList). set items c.in-Some.at (record y { end = c.args.end })) (sym c.index_mut-list.ensures.value) in
     simp to_z-of_z

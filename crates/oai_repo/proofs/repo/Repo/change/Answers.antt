@@ -1,15 +1,15 @@
 -- Each way out gives the case of the machine, over the fields that the repository is opened to, and leaves the lists of others.
-use Rattle.std.proofs.Common.{◌≡◌, ◌∙◌, ℤ, ◌∷◌, Bool, ap, sym, subst, Ok, Err, FitsSigned, w64, IsTrue}
+use Rattle.std.proofs.Common.{◌≡◌, ◌∙◌, ℤ, ◌∷◌, Bool, ap, refl, rules, sym, subst, Ok, Err, FitsSigned, w64, IsTrue}
 use Rattle.std.proofs.lemmas.Int.{to_z-of_z}
 use Rattle.oai_item.specs.Refusals.{in_repository}
 use Rattle.oai_time.specs.Clock.{tick}
 use Rattle.oai_repo.specs.Changes.{stamp_at}
-use Rattle.oai_repo.specs.Held.{Shelf, begun_of, holdings_of, numbers_of, versions_in}
-use Rattle.oai_repo.specs.Machine.{Outcome, accepted, refused}
-use Rattle.oai_repo.specs.State.{OpenLists, State}
-use Rattle.oai_repo.specs.Workings.{IsMade}
-use Rattle.oai_repo.specs.declared.refusals.Refusal.TheVariants as refusal
-use Rattle.oai_repo.proofs.BegunLemmas.{all_counted, begun_same}
+use Rattle.oai_repo.specs.Fields.{ItemIndex, open_lists_of, holdings_of, numbers_of, versions_in}
+use Rattle.oai_repo.specs.Machine.{Outcome, accepted, refused_with}
+use Rattle.oai_repo.specs.State.{OpenLists, RepoState}
+use Rattle.oai_repo.specs.Indexing.{MakesChange}
+use Rattle.oai_repo.specs.declared.changes.Refusal.TheVariants as refusal
+use Rattle.oai_repo.proofs.OpenListLemmas.{all_counted, open_lists_same}
 use Rattle.oai_repo.proofs.ClockLemmas.{in_years-tick}
 use Rattle.oai_repo.proofs.MoveLemmas.{state_moved}
 use Rattle.oai_repo.proofs.NumberLemmas.{in_use_moved, kept_moved, kept_twice, moved_others}
@@ -28,24 +28,44 @@ move_to-requires-in-Err-Refused-clause-dated g c =
     let moved : c.tick.new.self ≡ tick c.self.inside.clock c.args.moment = simp to_z-of_z at c.tick.ensures.moved in
     rw moved (in_years-tick c.self.inside.clock c.args.moment c.self.invariant.dated)
 
-pub move_to-requires-clause-stands : goal.move_to-requires-clause-stands
-move_to-requires-clause-stands g c =
-    let inside = c.self.inside in
-    let stands = rw (← c.self.view_is) at c.requires.stands in
-    in_use_moved inside.shelf.version c.make-made.new.shelf.version (versions_in inside.lists) (g.V.Versions.lists c.args.store.now) (g.V.Versions.lists c.make-made.new.store) stands c.make-made.ensures.moved
-
-pub move_to-requires-clause-held : goal.move_to-requires-clause-held
-move_to-requires-clause-held g c = λ honest.
+pub move_to-requires-clause-owns : goal.move_to-requires-clause-owns
+move_to-requires-clause-owns g c =
     let inside = c.self.inside in
     let before = g.V.Versions.lists c.args.store.now in
-    let after = g.V.Versions.lists c.make-made.new.store in
-    let was : IsTrue (g.V.Versions.honest c.args.store.now) = subst (λ (b : Bool). IsTrue b) c.make-made.ensures.honesty.same honest in
-    let stands = rw (← c.self.view_is) at c.requires.stands in
-    let held = rw (← c.self.view_is) at (c.requires.held was) in
+    let after = g.V.Versions.lists c.make_change-made.new.store in
+    let owns = rw (← c.self.view_is) at c.requires in
+    let v = inside.index.version in
+    let w = c.make_change-made.new.index.version in
+    let numbers = versions_in inside.lists in
+    let moved = c.make_change-made.ensures.moves.moved in
     record {
-      shelved = c.make-made.ensures.held was;
-      counted = all_counted before after inside.lists.lists
-          (moved_others inside.shelf.version c.make-made.new.shelf.version (versions_in inside.lists) before after stands c.make-made.ensures.moved) held.counted;
+      stands = in_use_moved v w numbers before after owns.stands moved;
+      held = λ honest.
+          let was : IsTrue (g.V.Versions.honest c.args.store.now) = subst (λ (b : Bool). IsTrue b) c.make_change-made.ensures.store.honesty.same honest in
+          record {
+            indexed = c.make_change-made.ensures.made.indexed was;
+            agrees = record { counted = all_counted before after inside.lists.lists (moved_others v w numbers before after owns.stands moved) (owns.held was).agrees.counted };
+          };
+    }
+
+pub move_to-requires-in-Err-Refused-clause-owns : goal.move_to-requires-in-Err-Refused-clause-owns
+move_to-requires-in-Err-Refused-clause-owns g c =
+    let inside = c.self.inside in
+    let before = g.V.Versions.lists c.args.store.now in
+    let after = g.V.Versions.lists c.make_change-made.new.store in
+    let owns = rw (← c.self.view_is) at c.requires in
+    let v = inside.index.version in
+    let w = c.make_change-made.new.index.version in
+    let numbers = versions_in inside.lists in
+    let moved = c.make_change-made.ensures.moves.moved in
+    record {
+      stands = in_use_moved v w numbers before after owns.stands moved;
+      held = λ honest.
+          let was : IsTrue (g.V.Versions.honest c.args.store.now) = subst (λ (b : Bool). IsTrue b) c.make_change-made.ensures.store.honesty.same honest in
+          record {
+            indexed = c.make_change-made.ensures.made.indexed was;
+            agrees = record { counted = all_counted before after inside.lists.lists (moved_others v w numbers before after owns.stands moved) (owns.held was).agrees.counted };
+          };
     }
 
 pub returns-in-Ok-clause-changed : goal.returns-in-Ok-clause-changed
@@ -54,23 +74,23 @@ returns-in-Ok-clause-changed g c = λ honest.
     let fits_now : FitsSigned w64 c.now.result = record { sfits = c.now.type_inv } in
     let fits_stamp : FitsSigned w64 c.stamp-stamp.result = record { sfits = c.stamp-stamp.type_inv } in
     let inside = c.self.inside in
-    let after = c.make-made.new in
+    let after = c.make_change-made.new in
     let before = g.V.Versions.lists c.args.store.now in
     let between = g.V.Versions.lists after.store in
     let now : ℤ = c.tick.new.self in
     let moved : now ≡ tick inside.clock c.args.moment = simp to_z-of_z at c.tick.ensures.moved in
     let dated : c.stamp-stamp.result ≡ stamp_at inside.config now = rw (← c.now.ensures, ← c.granularity.ensures) (simp to_z-of_z at c.stamp-stamp.ensures.value) in
-    let made : IsMade inside.config c.stamp-stamp.result (holdings_of inside.shelf inside.sets before) c.args.change.now (Ok tt) (holdings_of after.shelf after.sets between) =
-    simp to_z-of_z at (c.in-Ok.ensures.made honest)
+    let made : MakesChange inside.config c.stamp-stamp.result (holdings_of inside.index inside.sets before) c.args.change.now (Ok tt) (holdings_of after.index after.sets between) =
+    simp to_z-of_z at (c.in-Ok.ensures.made.made honest)
     in
-    let stands = rw (← c.self.view_is) at c.requires.stands in
-    let begun : begun_of inside.clock inside.lists between ≡ begun_of inside.clock inside.lists before =
-    begun_same inside.clock inside.lists before between (moved_others inside.shelf.version after.shelf.version (versions_in inside.lists) before between stands c.make-made.ensures.moved)
+    let stands = (rw (← c.self.view_is) at c.requires).stands in
+    let open_lists : open_lists_of inside.clock inside.lists between ≡ open_lists_of inside.clock inside.lists before =
+    open_lists_same inside.clock inside.lists before between (moved_others inside.index.version after.index.version (versions_in inside.lists) before between stands c.make_change-made.ensures.moves.moved)
     in
-    let told : State → Outcome × State = λ state. (accepted c.stamp-stamp.result, state) in
-    let done = step-made inside.config now (tick inside.clock c.args.moment) c.stamp-stamp.result (holdings_of inside.shelf inside.sets before) (holdings_of after.shelf after.sets between) (begun_of inside.clock inside.lists before) c.args.change.now moved dated made in
+    let told : RepoState → Outcome × RepoState = λ state. (accepted c.stamp-stamp.result, state) in
+    let done = step-made inside.config now (tick inside.clock c.args.moment) c.stamp-stamp.result (holdings_of inside.index inside.sets before) (holdings_of after.index after.sets between) (open_lists_of inside.clock inside.lists before) c.args.change.now moved dated made in
     rw (← c.self.view_is)
-    (simp to_z-of_z (done ∙ ap (λ (b : OpenLists). told (at_later now (holdings_of after.shelf after.sets between) b)) (sym begun) ∙ ap told (sym c.move_to.ensures.moved)))
+    (simp to_z-of_z (done ∙ ap (λ (b : OpenLists). told (at_later now (holdings_of after.index after.sets between) b)) (sym open_lists) ∙ ap told (sym c.move_to.ensures.moved)))
 
 pub returns-in-Err-Refused-clause-changed : goal.returns-in-Err-Refused-clause-changed
 returns-in-Err-Refused-clause-changed g c = λ honest.
@@ -78,65 +98,112 @@ returns-in-Err-Refused-clause-changed g c = λ honest.
     let fits_now : FitsSigned w64 c.now.result = record { sfits = c.now.type_inv } in
     let fits_stamp : FitsSigned w64 c.stamp-stamp.result = record { sfits = c.stamp-stamp.type_inv } in
     let inside = c.self.inside in
-    let after = c.make-made.new in
+    let after = c.make_change-made.new in
     let before = g.V.Versions.lists c.args.store.now in
     let between = g.V.Versions.lists after.store in
     let now : ℤ = c.tick.new.self in
     let moved : now ≡ tick inside.clock c.args.moment = simp to_z-of_z at c.tick.ensures.moved in
     let dated : c.stamp-stamp.result ≡ stamp_at inside.config now = rw (← c.now.ensures, ← c.granularity.ensures) (simp to_z-of_z at c.stamp-stamp.ensures.value) in
     let known = rw c.in-Err-Refused.is at c.in-Err-Refused.field-0-is in
-    let cause : c.make-made.result ≡ Err (refusal.Refused c.in-Err-Refused.cause) = c.in-Err-Refused.is ∙ ap (λ r. Err r) known in
-    let made : IsMade inside.config c.stamp-stamp.result (holdings_of inside.shelf inside.sets before) c.args.change.now (Err (refusal.Refused c.in-Err-Refused.cause)) (holdings_of after.shelf after.sets between) =
-    rw cause at (simp to_z-of_z at (c.make-made.ensures.made honest))
+    let cause : c.make_change-made.result ≡ Err (refusal.Refused c.in-Err-Refused.cause) = c.in-Err-Refused.is ∙ ap (λ r. Err r) known in
+    let made : MakesChange inside.config c.stamp-stamp.result (holdings_of inside.index inside.sets before) c.args.change.now (Err (refusal.Refused c.in-Err-Refused.cause)) (holdings_of after.index after.sets between) =
+    rw cause at (simp to_z-of_z at (c.make_change-made.ensures.made.made honest))
     in
-    let stands = rw (← c.self.view_is) at c.requires.stands in
-    let begun : begun_of inside.clock inside.lists between ≡ begun_of inside.clock inside.lists before =
-    begun_same inside.clock inside.lists before between (moved_others inside.shelf.version after.shelf.version (versions_in inside.lists) before between stands c.make-made.ensures.moved)
+    let stands = (rw (← c.self.view_is) at c.requires).stands in
+    let open_lists : open_lists_of inside.clock inside.lists between ≡ open_lists_of inside.clock inside.lists before =
+    open_lists_same inside.clock inside.lists before between (moved_others inside.index.version after.index.version (versions_in inside.lists) before between stands c.make_change-made.ensures.moves.moved)
     in
-    let told : State → Outcome × State = λ state. (refused (in_repository c.in-Err-Refused.cause), state) in
-    let done = step-refused inside.config now (tick inside.clock c.args.moment) c.stamp-stamp.result (holdings_of inside.shelf inside.sets before) (holdings_of after.shelf after.sets between) (begun_of inside.clock inside.lists before) c.args.change.now c.in-Err-Refused.cause moved dated made in
+    let told : RepoState → Outcome × RepoState = λ state. (refused_with (in_repository c.in-Err-Refused.cause), state) in
+    let done = step-refused inside.config now (tick inside.clock c.args.moment) c.stamp-stamp.result (holdings_of inside.index inside.sets before) (holdings_of after.index after.sets between) (open_lists_of inside.clock inside.lists before) c.args.change.now c.in-Err-Refused.cause moved dated made in
     rw (← c.self.view_is)
-    (done ∙ ap (λ (b : OpenLists). told (at_later now (holdings_of after.shelf after.sets between) b)) (sym begun) ∙ ap told (sym c.move_to-in-Err-Refused.ensures.moved))
+    (done ∙ ap (λ (b : OpenLists). told (at_later now (holdings_of after.index after.sets between) b)) (sym open_lists) ∙ ap told (sym c.move_to-in-Err-Refused.ensures.moved))
 
 pub returns-in-Err-Refused-clause-refused : goal.returns-in-Err-Refused-clause-refused
 returns-in-Err-Refused-clause-refused g c =
     let fits : FitsSigned w64 c.args.moment = c.ranges.moment in
     let inside = c.self.inside in
-    let after = c.make-made.new in
+    let after = c.make_change-made.new in
     let before = g.V.Versions.lists c.args.store.now in
     let between = g.V.Versions.lists after.store in
     let now : ℤ = c.tick.new.self in
     let moved : now ≡ tick inside.clock c.args.moment = simp to_z-of_z at c.tick.ensures.moved in
     let known = rw c.in-Err-Refused.is at c.in-Err-Refused.field-0-is in
-    let cause : c.make-made.result ≡ Err (refusal.Refused c.in-Err-Refused.cause) = c.in-Err-Refused.is ∙ ap (λ r. Err r) known in
-    let same_shelf : after.shelf ≡ inside.shelf = rw cause at c.make-made.ensures.err in
-    let same_sets : after.sets ≡ inside.sets = rw cause at c.make-made.ensures.err_sets in
-    let same_lists : between ≡ before = rw cause at c.make-made.ensures.err_lists in
-    rw (← c.self.view_is)
-    (c.move_to-in-Err-Refused.ensures.moved
-    ∙ state_moved inside.config inside.clock now (tick inside.clock c.args.moment) inside.shelf after.shelf inside.sets after.sets inside.lists before between moved same_shelf same_sets same_lists)
+    let cause : c.make_change-made.result ≡ Err (refusal.Refused c.in-Err-Refused.cause) = c.in-Err-Refused.is ∙ ap (λ r. Err r) known in
+    let same_index : after.index ≡ inside.index = rw cause at c.make_change-made.ensures.moves.err in
+    let same_sets : after.sets ≡ inside.sets = rw cause at c.make_change-made.ensures.err_sets in
+    let same_lists : between ≡ before = rw cause at c.make_change-made.ensures.moves.err_lists in
+    rw (← c.self.view_is) (record {
+      state = c.move_to-in-Err-Refused.ensures.moved
+          ∙ state_moved inside.config inside.clock now (tick inside.clock c.args.moment) inside.index after.index inside.sets after.sets inside.lists before between moved same_index same_sets same_lists;
+      index = c.move_to-in-Err-Refused.ensures.index ∙ same_index;
+    })
 
-pub returns-in-Ok-clause-others : goal.returns-in-Ok-clause-others
-returns-in-Ok-clause-others g c =
+pub returns-in-Ok-clause-keeps : goal.returns-in-Ok-clause-keeps
+returns-in-Ok-clause-keeps g c =
+    let V = g.V.Versions in
     let inside = c.self.inside in
-    let after = c.make-made.new in
-    let before = g.V.Versions.lists c.args.store.now in
-    let between = g.V.Versions.lists after.store in
+    let after = c.make_change-made.new in
+    let before = V.lists c.args.store.now in
+    let between = V.lists after.store in
     let versions = versions_in inside.lists in
-    let stands = rw (← c.self.view_is) at c.requires.stands in
-    rw (← c.self.view_is)
-    (kept_twice (inside.shelf.version ∷ versions) (after.shelf.version ∷ versions) (numbers_of c.move_to.new.self) before between (g.V.Versions.lists c.move_to.new.store)
-    (kept_moved inside.shelf.version after.shelf.version versions before between stands c.make-made.ensures.moved) c.move_to.ensures.others)
+    let owns = rw (← c.self.view_is) at c.requires in
+    let keeps = c.move_to.ensures.keeps in
+    rw (← c.self.view_is) (record {
+      config = keeps.config;
+      stands = keeps.stands;
+      held = λ honest. keeps.held (c.make_change-made.ensures.store.honesty.same ∙ honest);
+      others = kept_twice (inside.index.version ∷ versions) (after.index.version ∷ versions) (numbers_of c.move_to.new.self) before between (V.lists c.move_to.new.store)
+          (kept_moved inside.index.version after.index.version versions before between owns.stands c.make_change-made.ensures.moves.moved) keeps.others;
+    })
 
-pub returns-in-Err-Fault-clause-others : goal.returns-in-Err-Fault-clause-others
-returns-in-Err-Fault-clause-others g c =
+pub returns-in-Err-Refused-clause-keeps : goal.returns-in-Err-Refused-clause-keeps
+returns-in-Err-Refused-clause-keeps g c =
+    let V = g.V.Versions in
     let inside = c.self.inside in
-    let after = c.make-made.new in
-    let stands = rw (← c.self.view_is) at c.requires.stands in
-    rw (← c.self.view_is)
-    (kept_moved inside.shelf.version after.shelf.version (versions_in inside.lists) (g.V.Versions.lists c.args.store.now) (g.V.Versions.lists after.store) stands c.make-made.ensures.moved)
+    let after = c.make_change-made.new in
+    let before = V.lists c.args.store.now in
+    let between = V.lists after.store in
+    let versions = versions_in inside.lists in
+    let owns = rw (← c.self.view_is) at c.requires in
+    let keeps = c.move_to-in-Err-Refused.ensures.keeps in
+    rw (← c.self.view_is) (record {
+      config = keeps.config;
+      stands = keeps.stands;
+      held = λ honest. keeps.held (c.make_change-made.ensures.store.honesty.same ∙ honest);
+      others = kept_twice (inside.index.version ∷ versions) (after.index.version ∷ versions) (numbers_of c.move_to-in-Err-Refused.new.self) before between (V.lists c.move_to-in-Err-Refused.new.store)
+          (kept_moved inside.index.version after.index.version versions before between owns.stands c.make_change-made.ensures.moves.moved) keeps.others;
+    })
 
-pub returns-in-Ok-clause-noted : goal.returns-in-Ok-clause-noted
-returns-in-Ok-clause-noted g c =
+pub returns-in-Err-Fault-clause-keeps : goal.returns-in-Err-Fault-clause-keeps
+returns-in-Err-Fault-clause-keeps g c =
+    let inside = c.self.inside in
+    let before = g.V.Versions.lists c.args.store.now in
+    let after = g.V.Versions.lists c.make_change-made.new.store in
+    let v = inside.index.version in
+    let w = c.make_change-made.new.index.version in
+    let numbers = versions_in inside.lists in
+    let owns = rw (← c.self.view_is) at c.requires in
+    let moved = c.make_change-made.ensures.moves.moved in
+    rw (← c.self.view_is) (record {
+      config = refl;
+      stands = in_use_moved v w numbers before after owns.stands moved;
+      held = λ honest. record {
+        indexed = c.make_change-made.ensures.made.indexed honest;
+        agrees = record { counted = all_counted before after inside.lists.lists (moved_others v w numbers before after owns.stands moved) (owns.held honest).agrees.counted };
+      };
+      others = kept_moved v w numbers before after owns.stands moved;
+    })
+
+pub returns-in-Ok-clause-accepted : goal.returns-in-Ok-clause-accepted
+returns-in-Ok-clause-accepted g c =
+    let fits_now : FitsSigned w64 c.now.result = record { sfits = c.now.type_inv } in
     let fits_stamp : FitsSigned w64 c.stamp-stamp.result = record { sfits = c.stamp-stamp.type_inv } in
-    rw (← c.self.view_is) (simp to_z-of_z (rw (← ap (λ (s : Shelf). s.notes) c.move_to.ensures.shelf) at (simp to_z-of_z at c.in-Ok.ensures.noted)))
+    let inside = c.self.inside in
+    let stamped : c.stamp-stamp.result ≡ stamp_at inside.config c.tick.new.self = rw (← c.now.ensures, ← c.granularity.ensures) (simp to_z-of_z at c.stamp-stamp.ensures.value) in
+    let kept = simp to_z-of_z at c.in-Ok.ensures.kept in
+    let clock = ap (λ (s : RepoState). s.clock) c.move_to.ensures.moved in
+    simp to_z-of_z (rw (← c.self.view_is) (record {
+      writable = search rules;
+      stamped = rw (c.move_to.ensures.keeps.config, clock) stamped;
+      kept = record { entries = rw (← ap (λ (s : ItemIndex). s.entries) c.move_to.ensures.index) at kept.entries; sets = ap (λ (s : RepoState). s.holdings.sets) c.move_to.ensures.moved ∙ kept.sets };
+    }))

@@ -8,7 +8,7 @@ invariant_of-self g c =
     let shared = c.args.self.now in
     record {
       beside = first_changes (V.honest shared.store) (V.honest c.ask.new.store) shared.first c.ask.new.self shared.second (V.lists shared.store) (V.lists c.ask.new.store)
-          c.ask.ensures.honesty.same c.ask.ensures.others c.ask.ensures.stands c.ask.ensures.held shared.beside;
+          c.ask.ensures.store.honesty.same c.ask.ensures.keeps shared.beside;
     }
 
 pub invariant_of-self-in-Second : goal.invariant_of-self-in-Second
@@ -17,5 +17,5 @@ invariant_of-self-in-Second g c =
     let shared = c.args.self.now in
     record {
       beside = second_changes (V.honest shared.store) (V.honest c.ask-in-Second.new.store) shared.first shared.second c.ask-in-Second.new.self (V.lists shared.store) (V.lists c.ask-in-Second.new.store)
-          c.ask-in-Second.ensures.honesty.same c.ask-in-Second.ensures.others c.ask-in-Second.ensures.stands c.ask-in-Second.ensures.held shared.beside;
+          c.ask-in-Second.ensures.store.honesty.same c.ask-in-Second.ensures.keeps shared.beside;
     }

@@ -8,7 +8,7 @@ invariant_of-self g c =
     let shared = c.args.self.now in
     record {
       beside = first_changes (V.honest shared.store) (V.honest c.change.new.store) shared.first c.change.new.self shared.second (V.lists shared.store) (V.lists c.change.new.store)
-          c.change.ensures.honesty.same c.change.ensures.others c.change.ensures.stands c.change.ensures.held shared.beside;
+          c.change.ensures.store.honesty.same c.change.ensures.keeps shared.beside;
     }
 
 pub invariant_of-self-in-Second : goal.invariant_of-self-in-Second
@@ -17,5 +17,5 @@ invariant_of-self-in-Second g c =
     let shared = c.args.self.now in
     record {
       beside = second_changes (V.honest shared.store) (V.honest c.change-in-Second.new.store) shared.first shared.second c.change-in-Second.new.self (V.lists shared.store) (V.lists c.change-in-Second.new.store)
-          c.change-in-Second.ensures.honesty.same c.change-in-Second.ensures.others c.change-in-Second.ensures.stands c.change-in-Second.ensures.held shared.beside;
+          c.change-in-Second.ensures.store.honesty.same c.change-in-Second.ensures.keeps shared.beside;
     }

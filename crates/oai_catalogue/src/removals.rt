@@ -1,0 +1,49 @@
+ghost use Rattle.std.specs.Prelude.{◌≡◌, ◌+◌, None, length, IfOk, IsSome, IsTrue, OnErr, OnOk};
+ghost use Rattle.oai_catalogue.specs.Calls.{Uses};
+ghost use Rattle.oai_catalogue.specs.Store.{AreInOrder, ChangesOnly, list_at, without_each, without_list};
+
+use crate::versions::Versions;
+use oai_item::{Fault, Item};
+
+/// Takes items out of a version as a whole or not at all: under a number that was not in use it puts
+/// what `v` holds, without the items of the datestamps and identifiers of `gone`, and lets `v` go. On a
+/// fault each list is as before, and no further number is in use. Any fault may come, and `TooManyPages`
+/// only where the store may lack room for one call more than there are items to go.
+pub fn remove_items<V: Versions>(store: &mut V, v: u64, gone: &[Item]) -> Result<u64, Fault>
+    requires { IsSome (V.lists store.old v) }
+    ensures unused { IfOk result (λ w. V.lists store.old w ≡ None) }
+    ensures ok { IfOk result
+        (λ w. ChangesOnly w (without_list v (V.lists store.old)) (V.lists store.new)) }
+    ensures list { IfOk result (λ w. IsTrue (V.honest store.old) → list_at (V.lists store.new) w
+        ≡ without_each gone.now (list_at (V.lists store.old) v)) }
+    ensures err { OnErr result (V.lists store.new ≡ V.lists store.old) }
+    ensures rising { OnOk result (AreInOrder (V.lists store.old) × AreInOrder (V.lists store.new)) }
+    ensures store { Uses V.Versions (length gone.now + 1) result store.old store.new }
+{
+    let next = store.freeze(v)?;
+    match take_out_each(store, next, gone) {
+        Ok(()) => {
+            store.release(v);
+            Ok(next)
+        }
+        Err(fault) => {
+            store.release(next);
+            Err(fault)
+        }
+    }
+}
+
+/// Takes each of the items out of the list. On a fault the list may have lost some; no other list has
+/// changed.
+fn take_out_each<V: Versions>(store: &mut V, v: u64, gone: &[Item]) -> Result<(), Fault>
+    requires { IsSome (V.lists store.old v) }
+    ensures others { ChangesOnly v (V.lists store.old) (V.lists store.new) }
+    ensures list { OnOk result (IsTrue (V.honest store.old) → list_at (V.lists store.new) v
+        ≡ without_each gone.now (list_at (V.lists store.old) v)) }
+    ensures store { Uses V.Versions (length gone.now) result store.old store.new }
+{
+    for item in gone {
+        store.remove(v, item.stamp(), item.identifier())?;
+    }
+    Ok(())
+}

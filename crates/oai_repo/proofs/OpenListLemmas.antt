@@ -1,0 +1,403 @@
+-- The open lists of a repository, as its table and its store have them.
+use Rattle.std.proofs.Common.{◌≡◌, ◌∙◌, inl, inr, ℕ, ℤ, pos, ◌+◌, ◌+ℤ◌, ◌≤ℤ◌, Bool, true, false, not, ◌&&◌, ◌||◌, eqb, List, [], ◌∷◌, ◌++◌, length, map, Option, None, Some, IsSome, unwrap_or, refl, sym, ap, subst, arith}
+use Rattle.std.specs.Prelude.{filter, find, int_le, int_lt}
+use Rattle.std.specs.List.{list_all}
+use Rattle.std.specs.Option.{option_map}
+use Rattle.std.proofs.lemmas.Bool.{and_from, and_left, and_parts, and_right, cases_Bool, cond-true, cond-false, cond_both, eq-eqb, eqb-true, false_from_ne_true, not-true, or_left, or_right}
+use Rattle.std.proofs.lemmas.Int.{ints}
+use Rattle.std.proofs.lemmas.List.{map-append}
+use Rattle.std.proofs.lemmas.List.Elements.{filter-append}
+use Rattle.oai_item.specs.Item.{ItemState}
+use Rattle.oai_item.specs.Selection.{selected}
+use Rattle.oai_catalogue.specs.Store.{Lists, list_at, with_list}
+use Rattle.oai_catalogue.proofs.ListsLemmas.{list_at-with}
+use Rattle.oai_lists.specs.OpenLists.{Table, has_list_number, is_open, list_numbered, open_numbered, open_ones, renewed, renewed_one, with_opened as opening}
+use Rattle.oai_lists.specs.declared.open_lists.OpenList.{OpenList}
+use Rattle.oai_settings.specs.Config.{Config}
+use Rattle.oai_repo.specs.Fields.{AreInUse, IndexAgrees, IsIndexed, KeepsOthers, ItemIndex, are_counted, are_different, open_lists_of, frozen_in, has, is_counted, has_writable_stamp, versions_in}
+use Rattle.oai_repo.specs.Kept.{AreKept}
+use Rattle.oai_repo.specs.Listing.{is_of_number, prolonged, prolonged_at, with_new_list, with_prolonged}
+use Rattle.oai_repo.specs.State.{FrozenList, NamedSet, OpenLists, is_open_at, still_open}
+use Rattle.oai_repo.specs.Tables.{IsKeptTable, IsLeftOpen, has_end, versions_ended, without_lists}
+use Rattle.oai_repo.proofs.EndLemmas.{in_use_dropped, kept_dropped, left_same, open_here, open_later, versions}
+use Rattle.oai_repo.proofs.NumberLemmas.{clash, in_use_end, kept_end, kept_same, same_number, turned, unused_lacks}
+
+-- ---- what a version holds is all that counts
+
+frozen_same : (a b : Lists) (list : OpenList) → b list.version ≡ a list.version → frozen_in b list ≡ frozen_in a list
+frozen_same a b list same =
+    let made : Option (List ItemState) → FrozenList = λ o. record { number = list.number; verb = list.verb; prefix = list.filter.prefix; items = selected list.filter (unwrap_or o []); end = list.end } in
+    ap made same
+
+counted_at : (a b : Lists) (list : OpenList) → b list.version ≡ a list.version → is_counted b list ≡ is_counted a list
+counted_at a b list same = ap (λ (frozen : FrozenList). eqb list.size (length frozen.items)) (frozen_same a b list same)
+
+map_frozen : (a b : Lists) (lists : List OpenList) → ((n : ℕ) → has (versions lists) n ≡ true → b n ≡ a n) → map (frozen_in b) lists ≡ map (frozen_in a) lists
+map_frozen a b [] same = refl
+map_frozen a b (x ∷ lists) same =
+    ap (λ (list : FrozenList). list ∷ map (frozen_in b) lists) (frozen_same a b x (same x.version (or_left (eqb x.version x.version) (has (versions lists) x.version) (same_number x.version))))
+    ∙ ap (λ ls. frozen_in a x ∷ ls) (map_frozen a b lists (λ n there. same n (or_right (eqb x.version n) (has (versions lists) n) there)))
+
+pub all_counted : (a b : Lists) (lists : List OpenList) → ((n : ℕ) → has (versions lists) n ≡ true → b n ≡ a n) → list_all (is_counted a) lists ≡ true → list_all (is_counted b) lists ≡ true
+all_counted a b [] same h = refl
+all_counted a b (x ∷ lists) same h =
+    let parts = and_parts (is_counted a x) (list_all (is_counted a) lists) h in
+    and_from (is_counted b x) (list_all (is_counted b) lists)
+    (counted_at a b x (same x.version (or_left (eqb x.version x.version) (has (versions lists) x.version) (same_number x.version))) ∙ parts.0)
+    (all_counted a b lists (λ n there. same n (or_right (eqb x.version n) (has (versions lists) n) there)) parts.1)
+
+-- an open one is among all
+open_there : (now : ℤ) (lists : List OpenList) (n : ℕ) → has (versions (open_ones now lists)) n ≡ true → has (versions lists) n ≡ true
+open_there now [] n there = there
+open_there now (x ∷ lists) n there =
+    elim (cases_Bool (is_open now x)) [
+      | inl lasts ↦
+          let here : (eqb x.version n || has (versions (open_ones now lists)) n) ≡ true = ap (λ ls. has (versions ls) n) (sym (open_here now x lists lasts)) ∙ there in
+          elim (cases_Bool (eqb x.version n)) [
+            | inl same ↦ or_left (eqb x.version n) (has (versions lists) n) same
+            | inr other ↦ or_right (eqb x.version n) (has (versions lists) n) (open_there now lists n (ap (λ b. b || has (versions (open_ones now lists)) n) (sym other) ∙ here))
+          ]
+      | inr over ↦ or_right (eqb x.version n) (has (versions lists) n) (open_there now lists n (ap (λ ls. has (versions ls) n) (sym (open_later now x lists over)) ∙ there))
+    ]
+
+pub open_lists_same : (clock : ℤ) (table : Table) (a b : Lists) → ((n : ℕ) → has (versions_in table) n ≡ true → b n ≡ a n) → open_lists_of clock table b ≡ open_lists_of clock table a
+open_lists_same clock table a b same =
+    let made : List FrozenList → OpenLists = λ lists. record { lists = lists; next = table.next } in
+    ap made (map_frozen a b (open_ones clock table.lists) (λ n there. same n (open_there clock table.lists n there)))
+
+-- ---- a later clock
+
+open_before : (c now : ℤ) (list : OpenList) → c ≤ℤ now → is_open c list ≡ false → is_open now list ≡ false
+open_before c now list later h = let e : not (is_open now list) ≡ true = grind (arith, ints) in not-true (is_open now list) e
+
+filtered : (c now : ℤ) (all : Lists) (lists : List OpenList) → c ≤ℤ now
+    → filter (is_open_at now) (map (frozen_in all) (open_ones c lists)) ≡ map (frozen_in all) (open_ones now lists)
+filtered c now all [] later = refl
+filtered c now all (x ∷ lists) later =
+    let rest = filtered c now all lists later in
+    elim (cases_Bool (is_open c x)) [
+      | inl was ↦
+          ap (λ ls. filter (is_open_at now) (map (frozen_in all) ls)) (open_here c x lists was)
+          ∙ elim (cases_Bool (is_open now x)) [
+            | inl lasts ↦
+                cond-true (is_open now x) (frozen_in all x ∷ filter (is_open_at now) (map (frozen_in all) (open_ones c lists))) (filter (is_open_at now) (map (frozen_in all) (open_ones c lists))) lasts
+                ∙ ap (λ ls. frozen_in all x ∷ ls) rest
+                ∙ ap (map (frozen_in all)) (sym (open_here now x lists lasts))
+            | inr over ↦
+                cond-false (is_open now x) (frozen_in all x ∷ filter (is_open_at now) (map (frozen_in all) (open_ones c lists))) (filter (is_open_at now) (map (frozen_in all) (open_ones c lists))) over
+                ∙ rest
+                ∙ ap (map (frozen_in all)) (sym (open_later now x lists over))
+          ]
+      | inr gone ↦
+          ap (λ ls. filter (is_open_at now) (map (frozen_in all) ls)) (open_later c x lists gone)
+          ∙ rest
+          ∙ ap (map (frozen_in all)) (sym (open_later now x lists (open_before c now x later gone)))
+    ]
+
+pub still_same : (c now : ℤ) (table : Table) (all : Lists) → c ≤ℤ now → still_open now (open_lists_of c table all) ≡ open_lists_of now table all
+still_same c now table all later =
+    let made : List FrozenList → OpenLists = λ lists. record { lists = lists; next = table.next } in
+    ap made (filtered c now all table.lists later)
+
+-- ---- those that have ended are dropped
+
+open_twice : (now : ℤ) (lists : List OpenList) → open_ones now (open_ones now lists) ≡ open_ones now lists
+open_twice now [] = refl
+open_twice now (x ∷ lists) =
+    elim (cases_Bool (is_open now x)) [
+      | inl lasts ↦
+          ap (open_ones now) (open_here now x lists lasts) ∙ open_here now x (open_ones now lists) lasts ∙ ap (λ ls. x ∷ ls) (open_twice now lists) ∙ sym (open_here now x lists lasts)
+      | inr over ↦ ap (open_ones now) (open_later now x lists over) ∙ open_twice now lists ∙ sym (open_later now x lists over)
+    ]
+
+pub open_lists_dropped : (now : ℤ) (v : ℕ) (table : Table) (all : Lists) → are_different (v ∷ versions_in table) ≡ true
+    → open_lists_of now (record table { lists = open_ones now table.lists }) (without_lists (versions_ended now table) all) ≡ open_lists_of now table all
+open_lists_dropped now v table all apart =
+    let made : List FrozenList → OpenLists = λ lists. record { lists = lists; next = table.next } in
+    let after : Lists = without_lists (versions_ended now table) all in
+    ap made (ap (map (frozen_in after)) (open_twice now table.lists)
+    ∙ map_frozen all after (open_ones now table.lists)
+    (λ n there. left_same now v table.lists all apart n (or_right (eqb v n) (has (versions (open_ones now table.lists)) n) there)))
+
+pub some_all : (p : OpenList → Bool) (now : ℤ) (lists : List OpenList) → list_all p lists ≡ true → list_all p (open_ones now lists) ≡ true
+some_all p now [] h = refl
+some_all p now (x ∷ lists) h =
+    let parts = and_parts (p x) (list_all p lists) h in
+    elim (cases_Bool (is_open now x)) [
+      | inl lasts ↦ ap (list_all p) (open_here now x lists lasts) ∙ and_from (p x) (list_all p (open_ones now lists)) parts.0 (some_all p now lists parts.1)
+      | inr over ↦ ap (list_all p) (open_later now x lists over) ∙ some_all p now lists parts.1
+    ]
+
+-- those that are left are open
+pub all_open : (now : ℤ) (lists : List OpenList) → list_all (is_open now) (open_ones now lists) ≡ true
+all_open now [] = refl
+all_open now (x ∷ lists) =
+    elim (cases_Bool (is_open now x)) [
+      | inl lasts ↦ ap (list_all (is_open now)) (open_here now x lists lasts) ∙ and_from (is_open now x) (list_all (is_open now) (open_ones now lists)) lasts (all_open now lists)
+      | inr over ↦ ap (list_all (is_open now)) (open_later now x lists over) ∙ all_open now lists
+    ]
+
+pub counted_dropped : (now : ℤ) (v : ℕ) (table : Table) (all : Lists) → are_different (v ∷ versions_in table) ≡ true → are_counted table all ≡ true
+    → are_counted (record table { lists = open_ones now table.lists }) (without_lists (versions_ended now table) all) ≡ true
+counted_dropped now v table all apart h =
+    all_counted all (without_lists (versions_ended now table) all) (open_ones now table.lists)
+    (λ n there. left_same now v table.lists all apart n (or_right (eqb v n) (has (versions (open_ones now table.lists)) n) there))
+    (some_all (is_counted all) now table.lists h)
+
+pub table_dropped : (config : Config) (now : ℤ) (table : Table) → IsKeptTable config table → IsKeptTable config (record table { lists = open_ones now table.lists })
+table_dropped config now table kept = record { limit = kept.limit; ends = some_all has_end now table.lists kept.ends }
+
+-- the items stand as they did
+pub items_dropped : (now : ℤ) (v : ℕ) (table : Table) (all : Lists) → are_different (v ∷ versions_in table) ≡ true → without_lists (versions_ended now table) all v ≡ all v
+items_dropped now v table all apart = left_same now v table.lists all apart v (or_left (eqb v v) (has (versions (open_ones now table.lists)) v) (same_number v))
+
+-- ---- the items of a repository, where its version has not changed
+
+pub indexed_at : (config : Config) (index : ItemIndex) (sets : List NamedSet) (a b : Lists) → list_at b index.version ≡ list_at a index.version → IsIndexed config index sets a → IsIndexed config index sets b
+indexed_at config index sets a b items held = record {
+  agrees = subst (λ (xs : List ItemState). IndexAgrees index.entries xs) (sym items) held.agrees;
+  kept = subst (λ (xs : List ItemState). AreKept config (record { items = xs; sets = sets })) (sym items) held.kept;
+  dated = ap (list_all has_writable_stamp) items ∙ held.dated;
+}
+
+pub indexed_same : (config : Config) (index : ItemIndex) (sets : List NamedSet) (a b : Lists) → b index.version ≡ a index.version → IsIndexed config index sets a → IsIndexed config index sets b
+indexed_same config index sets a b same held = indexed_at config index sets a b (ap (λ (o : Option (List ItemState)). unwrap_or o []) same) held
+
+-- ---- the list that a token continues
+
+-- what is found is one of the lists
+among_them : (p : OpenList → Bool) (q : OpenList → Bool) (lists : List OpenList) (x : OpenList) → find p lists ≡ Some x → list_all q lists ≡ true → (p x ≡ true) × (q x ≡ true) × (has (versions lists) x.version ≡ true)
+among_them p q [] x found h = cc
+among_them p q (y ∷ lists) x found h =
+    let parts = and_parts (q y) (list_all q lists) h in
+    elim (cases_Bool (p y)) [
+      | inl here ↦
+          let e : Some y ≡ Some x = sym (cond-true (p y) (Some y) (find p lists) here) ∙ found in
+          let same : y ≡ x = cc in
+          subst (λ (z : OpenList). (p z ≡ true) × (q z ≡ true) × (has (versions (y ∷ lists)) z.version ≡ true)) same (here, parts.0, or_left (eqb y.version y.version) (has (versions lists) y.version) (same_number y.version))
+      | inr later ↦
+          let rest = among_them p q lists x (sym (cond-false (p y) (Some y) (find p lists) later) ∙ found) parts.1 in
+          (rest.0, rest.1, or_right (eqb y.version x.version) (has (versions lists) x.version) rest.2)
+    ]
+
+-- the list of a number that is open
+abbrev pub opened_as : ℕ → ℤ → OpenList → Bool
+opened_as number now list = has_list_number number list && is_open now list
+
+pub open_parts : (number : ℕ) (now : ℤ) (q : OpenList → Bool) (lists : List OpenList) (x : OpenList) → open_numbered number now lists ≡ Some x → list_all q lists ≡ true
+    → (x.number ≡ number) × (is_open now x ≡ true) × (q x ≡ true) × (has (versions lists) x.version ≡ true)
+unfolding open_numbered
+open_parts number now q lists x found h =
+    let parts = among_them (opened_as number now) q lists x found h in
+    let both = and_parts (has_list_number number x) (is_open now x) parts.0 in
+    (eqb-true x.number number both.0, both.1, parts.1, parts.2)
+
+pub all_true : (lists : List OpenList) → list_all (λ _. true) lists ≡ true
+all_true [] = refl
+all_true (x ∷ lists) = all_true lists
+
+-- it is among those that are open
+pub numbered_left : (number : ℕ) (now : ℤ) (lists : List OpenList) (x : OpenList) → open_numbered number now lists ≡ Some x → IsSome (list_numbered number (open_ones now lists))
+unfolding open_numbered list_numbered
+numbered_left number now [] x found = cc
+numbered_left number now (y ∷ lists) x found =
+    elim (cases_Bool (is_open now y)) [
+      | inl lasts ↦
+          subst (λ (ls : List OpenList). IsSome (find (has_list_number number) ls)) (sym (open_here now y lists lasts)) (elim (cases_Bool (has_list_number number y)) [
+            | inl here ↦ subst (λ (o : Option OpenList). IsSome o) (sym (cond-true (has_list_number number y) (Some y) (find (has_list_number number) (open_ones now lists)) here)) refl
+            | inr other ↦
+                subst (λ (o : Option OpenList). IsSome o) (sym (cond-false (has_list_number number y) (Some y) (find (has_list_number number) (open_ones now lists)) other))
+                (numbered_left number now lists x (sym (cond-false (opened_as number now y) (Some y) (find (opened_as number now) lists) (and_left (has_list_number number y) (is_open now y) other)) ∙ found))
+          ])
+      | inr over ↦
+          subst (λ (ls : List OpenList). IsSome (find (has_list_number number) ls)) (sym (open_later now y lists over))
+          (numbered_left number now lists x (sym (cond-false (opened_as number now y) (Some y) (find (opened_as number now) lists) (and_right (has_list_number number y) (is_open now y) over)) ∙ found))
+    ]
+
+-- the same list, as the state has it
+pub found_frozen : (number : ℕ) (now : ℤ) (all : Lists) (lists : List OpenList)
+    → find (is_of_number number) (map (frozen_in all) (open_ones now lists)) ≡ option_map (frozen_in all) (open_numbered number now lists)
+unfolding open_numbered
+found_frozen number now all [] = refl
+found_frozen number now all (x ∷ lists) =
+    let rest = found_frozen number now all lists in
+    elim (cases_Bool (is_open now x)) [
+      | inl lasts ↦
+          ap (λ ls. find (is_of_number number) (map (frozen_in all) ls)) (open_here now x lists lasts)
+          ∙ elim (cases_Bool (has_list_number number x)) [
+            | inl here ↦
+                cond-true (has_list_number number x) (Some (frozen_in all x)) (find (is_of_number number) (map (frozen_in all) (open_ones now lists))) here
+                ∙ sym (ap (option_map (frozen_in all)) (cond-true (opened_as number now x) (Some x) (find (opened_as number now) lists) (and_from (has_list_number number x) (is_open now x) here lasts)))
+            | inr other ↦
+                cond-false (has_list_number number x) (Some (frozen_in all x)) (find (is_of_number number) (map (frozen_in all) (open_ones now lists))) other
+                ∙ rest
+                ∙ sym (ap (option_map (frozen_in all)) (cond-false (opened_as number now x) (Some x) (find (opened_as number now) lists) (and_left (has_list_number number x) (is_open now x) other)))
+          ]
+      | inr over ↦
+          ap (λ ls. find (is_of_number number) (map (frozen_in all) ls)) (open_later now x lists over)
+          ∙ rest
+          ∙ sym (ap (option_map (frozen_in all)) (cond-false (opened_as number now x) (Some x) (find (opened_as number now) lists) (and_right (has_list_number number x) (is_open now x) over)))
+    ]
+
+-- ---- a list that stays open from now on
+
+renewed_open : (now end : ℤ) (number : ℕ) (x : OpenList) → int_lt now end ≡ true → is_open now x ≡ true → is_open now (renewed_one number end x) ≡ true
+renewed_open now end number x later lasts =
+    cond_both (has_list_number number x) (record x { end = end }) x (λ (list : OpenList). is_open now list ≡ true) (λ _. later) (λ _. lasts)
+
+renewed_frozen : (config : Config) (now end : ℤ) (number : ℕ) (all : Lists) (x : OpenList) → end ≡ now +ℤ pos config.lifetime
+    → frozen_in all (renewed_one number end x) ≡ prolonged_at config now number (frozen_in all x)
+renewed_frozen config now end number all x is =
+    elim (cases_Bool (has_list_number number x)) [
+      | inl here ↦
+          ap (frozen_in all) (cond-true (has_list_number number x) (record x { end = end }) x here)
+          ∙ ap (λ (e : ℤ). frozen_in all (record x { end = e })) is
+          ∙ sym (cond-true (has_list_number number x) (prolonged config now (frozen_in all x)) (frozen_in all x) here)
+      | inr other ↦
+          ap (frozen_in all) (cond-false (has_list_number number x) (record x { end = end }) x other)
+          ∙ sym (cond-false (has_list_number number x) (prolonged config now (frozen_in all x)) (frozen_in all x) other)
+    ]
+
+renewed_lists : (config : Config) (now end : ℤ) (number : ℕ) (all : Lists) (lists : List OpenList) → end ≡ now +ℤ pos config.lifetime → int_lt now end ≡ true
+    → map (frozen_in all) (open_ones now (renewed number end (open_ones now lists))) ≡ map (prolonged_at config now number) (map (frozen_in all) (open_ones now lists))
+renewed_lists config now end number all [] is later = refl
+renewed_lists config now end number all (x ∷ lists) is later =
+    let rest = renewed_lists config now end number all lists is later in
+    elim (cases_Bool (is_open now x)) [
+      | inl lasts ↦
+          ap (λ ls. map (frozen_in all) (open_ones now (renewed number end ls))) (open_here now x lists lasts)
+          ∙ ap (map (frozen_in all)) (open_here now (renewed_one number end x) (renewed number end (open_ones now lists)) (renewed_open now end number x later lasts))
+          ∙ ap (λ (list : FrozenList). list ∷ map (frozen_in all) (open_ones now (renewed number end (open_ones now lists)))) (renewed_frozen config now end number all x is)
+          ∙ ap (λ ls. prolonged_at config now number (frozen_in all x) ∷ ls) rest
+          ∙ ap (λ ls. map (prolonged_at config now number) (map (frozen_in all) ls)) (sym (open_here now x lists lasts))
+      | inr over ↦
+          ap (λ ls. map (frozen_in all) (open_ones now (renewed number end ls))) (open_later now x lists over)
+          ∙ rest
+          ∙ ap (λ ls. map (prolonged_at config now number) (map (frozen_in all) ls)) (sym (open_later now x lists over))
+    ]
+
+-- the table in which the others are dropped, and the end of that one is set
+abbrev pub continued_table : ℤ → ℤ → ℕ → Table → Table
+continued_table now end number table = record table { lists = renewed number end (open_ones now table.lists) }
+
+pub open_lists_renewed : (config : Config) (now end : ℤ) (number v : ℕ) (table : Table) (all : Lists) → end ≡ now +ℤ pos config.lifetime → int_lt now end ≡ true → are_different (v ∷ versions_in table) ≡ true
+    → open_lists_of now (continued_table now end number table) (without_lists (versions_ended now table) all) ≡ with_prolonged config now number (open_lists_of now table all)
+open_lists_renewed config now end number v table all is later apart =
+    let made : List FrozenList → OpenLists = λ lists. record { lists = lists; next = table.next } in
+    let after : Lists = without_lists (versions_ended now table) all in
+    ap made (renewed_lists config now end number after table.lists is later
+    ∙ ap (map (prolonged_at config now number)) (map_frozen all after (open_ones now table.lists)
+    (λ n there. left_same now v table.lists all apart n (or_right (eqb v n) (has (versions (open_ones now table.lists)) n) there))))
+
+-- the numbers stay, and what is true of each
+renewed_versions : (number : ℕ) (end : ℤ) (lists : List OpenList) → versions (renewed number end lists) ≡ versions lists
+renewed_versions number end [] = refl
+renewed_versions number end (x ∷ lists) =
+    ap (λ (v : ℕ). v ∷ versions (renewed number end lists)) (cond_both (has_list_number number x) (record x { end = end }) x (λ (list : OpenList). list.version ≡ x.version) (λ _. refl) (λ _. refl))
+    ∙ ap (λ vs. x.version ∷ vs) (renewed_versions number end lists)
+
+renewed_all : (p : OpenList → Bool) (number : ℕ) (end : ℤ) (lists : List OpenList) → ((x : OpenList) → p x ≡ true → p (record x { end = end }) ≡ true) → list_all p lists ≡ true → list_all p (renewed number end lists) ≡ true
+renewed_all p number end [] keeps h = refl
+renewed_all p number end (x ∷ lists) keeps h =
+    let parts = and_parts (p x) (list_all p lists) h in
+    and_from (p (renewed_one number end x)) (list_all p (renewed number end lists))
+    (cond_both (has_list_number number x) (record x { end = end }) x (λ (list : OpenList). p list ≡ true) (λ _. keeps x parts.0) (λ _. parts.0))
+    (renewed_all p number end lists keeps parts.1)
+
+pub counted_renewed : (now end : ℤ) (number v : ℕ) (table : Table) (all : Lists) → are_different (v ∷ versions_in table) ≡ true → are_counted table all ≡ true
+    → are_counted (continued_table now end number table) (without_lists (versions_ended now table) all) ≡ true
+counted_renewed now end number v table all apart h =
+    let after : Lists = without_lists (versions_ended now table) all in
+    renewed_all (is_counted after) number end (open_ones now table.lists) (λ x counted. counted) (counted_dropped now v table all apart h)
+
+pub table_renewed : (config : Config) (now end : ℤ) (number : ℕ) (table : Table) → int_le end (pos 253_402_300_799) ≡ true → IsKeptTable config table → IsKeptTable config (continued_table now end number table)
+table_renewed config now end number table fits kept = record {
+  limit = kept.limit;
+  ends = renewed_all has_end number end (open_ones now table.lists) (λ x h. fits) (some_all has_end now table.lists kept.ends);
+}
+
+-- a table with the same numbers as another
+pub in_use_same : (v : ℕ) (a b : List ℕ) (all : Lists) → b ≡ a → AreInUse (v ∷ a) all → AreInUse (v ∷ b) all
+in_use_same v a b all same stands = subst (λ (ns : List ℕ). AreInUse (v ∷ ns) all) (sym same) stands
+
+pub left_renewed : (config : Config) (now end : ℤ) (number v : ℕ) (table : Table) (all : Lists) → int_le end (pos 253_402_300_799) ≡ true → IsKeptTable config table → AreInUse (v ∷ versions_in table) all
+    → IsLeftOpen config now v table all (continued_table now end number table) (without_lists (versions_ended now table) all)
+left_renewed config now end number v table all fits kept stands =
+    let after : Lists = without_lists (versions_ended now table) all in
+    let same : versions_in (continued_table now end number table) ≡ versions (open_ones now table.lists) = renewed_versions number end (open_ones now table.lists) in
+    record {
+      asked = inr (inr (inl (number, end, refl)));
+      kept = table_renewed config now end number table fits kept;
+      stands = in_use_same v (versions (open_ones now table.lists)) (versions_in (continued_table now end number table)) after same (in_use_dropped now v table.lists all stands);
+      others = subst (λ (ns : List ℕ). KeepsOthers (v ∷ versions_in table) all (v ∷ ns) after) (sym same) (kept_dropped now v table.lists all);
+      items = ap (λ (o : Option (List ItemState)). unwrap_or o []) (items_dropped now v table all stands.apart);
+    }
+
+-- what is left where nothing is opened
+pub left_same_table : (config : Config) (now : ℤ) (v : ℕ) (table : Table) (all : Lists) → IsKeptTable config table → AreInUse (v ∷ versions_in table) all → IsLeftOpen config now v table all table all
+left_same_table config now v table all kept stands = record { asked = inl refl; kept = kept; stands = stands; others = kept_same (v ∷ versions_in table) all; items = refl }
+
+pub left_dropped : (config : Config) (now : ℤ) (v : ℕ) (table : Table) (all : Lists) → IsKeptTable config table → AreInUse (v ∷ versions_in table) all
+    → IsLeftOpen config now v table all (record table { lists = open_ones now table.lists }) (without_lists (versions_ended now table) all)
+left_dropped config now v table all kept stands = record {
+  asked = inr (inl refl);
+  kept = table_dropped config now table kept;
+  stands = in_use_dropped now v table.lists all stands;
+  others = kept_dropped now v table.lists all;
+  items = ap (λ (o : Option (List ItemState)). unwrap_or o []) (items_dropped now v table all stands.apart);
+}
+
+-- ---- a list that begins
+
+open_end : (now : ℤ) (lists : List OpenList) (x : OpenList) → is_open now x ≡ true → open_ones now (lists ++ x ∷ []) ≡ open_ones now lists ++ x ∷ []
+open_end now lists x lasts = filter-append (is_open now) lists (x ∷ []) ∙ ap (λ ls. open_ones now lists ++ ls) (open_here now x [] lasts)
+
+versions_end : (lists : List OpenList) (x : OpenList) → versions (lists ++ x ∷ []) ≡ versions lists ++ x.version ∷ []
+versions_end lists x = map-append (λ (list : OpenList). list.version) lists (x ∷ [])
+
+other_lists : (v : ℕ) (table : Table) (w : ℕ) (items : List ItemState) (all : Lists) → AreInUse (v ∷ versions_in table) all → all w ≡ None → (n : ℕ) → has (versions_in table) n ≡ true → with_list w items all n ≡ all n
+other_lists v table w items all stands free n there =
+    cond-false (eqb n w) (Some items) (all n)
+    (false_from_ne_true (eqb n w)
+    (λ same. clash (has (v ∷ versions_in table) w) (or_right (eqb v w) (has (versions_in table) w) (subst (λ (m : ℕ). has (versions_in table) m ≡ true) (eqb-true n w same) there))
+    (unused_lacks (v ∷ versions_in table) all w stands.used free)))
+
+pub open_lists_opened : (now : ℤ) (v : ℕ) (table : Table) (all : Lists) (list : OpenList) (items : List ItemState) → AreInUse (v ∷ versions_in table) all → all list.version ≡ None → is_open now list ≡ true
+    → open_lists_of now (opening table list) (with_list list.version items all) ≡ with_new_list (record { number = list.number; verb = list.verb; prefix = list.filter.prefix; items = selected list.filter items; end = list.end }) (open_lists_of now table all)
+open_lists_opened now v table all list items stands free lasts =
+    let after : Lists = with_list list.version items all in
+    let made : List FrozenList → OpenLists = λ lists. record { lists = lists; next = table.next + 1 } in
+    let frozen : List ItemState → FrozenList = λ xs. record { number = list.number; verb = list.verb; prefix = list.filter.prefix; items = selected list.filter xs; end = list.end } in
+    ap made (ap (map (frozen_in after)) (open_end now table.lists list lasts)
+    ∙ map-append (frozen_in after) (open_ones now table.lists) (list ∷ [])
+    ∙ ap (λ ls. ls ++ frozen_in after list ∷ []) (map_frozen all after (open_ones now table.lists) (λ n there. other_lists v table list.version items all stands free n (open_there now table.lists n there)))
+    ∙ ap (λ (xs : List ItemState). map (frozen_in all) (open_ones now table.lists) ++ frozen xs ∷ []) (list_at-with list.version items all))
+
+all_end : (p : OpenList → Bool) (lists : List OpenList) (x : OpenList) → list_all p lists ≡ true → p x ≡ true → list_all p (lists ++ x ∷ []) ≡ true
+all_end p [] x h there = and_from (p x) true there refl
+all_end p (y ∷ lists) x h there = let parts = and_parts (p y) (list_all p lists) h in and_from (p y) (list_all p (lists ++ x ∷ [])) parts.0 (all_end p lists x parts.1 there)
+
+pub counted_opened : (v : ℕ) (table : Table) (all : Lists) (list : OpenList) (items : List ItemState) → AreInUse (v ∷ versions_in table) all → all list.version ≡ None
+    → are_counted table all ≡ true → list.size ≡ length (selected list.filter items) → are_counted (opening table list) (with_list list.version items all) ≡ true
+counted_opened v table all list items stands free h size =
+    let after : Lists = with_list list.version items all in
+    all_end (is_counted after) table.lists list
+    (all_counted all after table.lists (λ n there. other_lists v table list.version items all stands free n there) h)
+    (eq-eqb list.size (length (selected list.filter (list_at after list.version))) (size ∙ ap (λ (xs : List ItemState). length (selected list.filter xs)) (sym (list_at-with list.version items all))))
+
+pub left_opened : (config : Config) (now : ℤ) (v : ℕ) (table : Table) (all : Lists) (list : OpenList) (items : List ItemState) → IsKeptTable config table → AreInUse (v ∷ versions_in table) all → all list.version ≡ None
+    → int_le list.end (pos 253_402_300_799) ≡ true → list.number ≡ table.next → IsLeftOpen config now v table all (opening table list) (with_list list.version items all)
+left_opened config now v table all list items kept stands free fits numbered =
+    let after : Lists = with_list list.version items all in
+    let same : versions_in (opening table list) ≡ versions_in table ++ list.version ∷ [] = versions_end table.lists list in
+    record {
+      asked = inr (inr (inr (list, numbered, refl)));
+      kept = record { limit = kept.limit; ends = all_end has_end table.lists list kept.ends fits };
+      stands = subst (λ (ns : List ℕ). AreInUse (v ∷ ns) after) (sym same) (in_use_end (v ∷ versions_in table) list.version items all stands free);
+      others = subst (λ (ns : List ℕ). KeepsOthers (v ∷ versions_in table) all (v ∷ ns) after) (sym same) (kept_end (v ∷ versions_in table) list.version items all free);
+      items = ap (λ (o : Option (List ItemState)). unwrap_or o [])
+          (cond-false (eqb v list.version) (Some items) (all v)
+          (turned list.version v (false_from_ne_true (eqb list.version v)
+          (λ same. clash (has (v ∷ versions_in table) list.version) (or_left (eqb v list.version) (has (versions_in table) list.version) (eq-eqb v list.version (sym (eqb-true list.version v same))))
+          (unused_lacks (v ∷ versions_in table) all list.version stands.used free)))));
+    }

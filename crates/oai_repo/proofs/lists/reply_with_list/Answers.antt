@@ -1,0 +1,29 @@
+-- What is selected in the format that was found; a set that is not found selects nothing.
+use Rattle.std.proofs.Common.{◌∙◌, ℕ, List, refl, sym, ap}
+use Rattle.std.specs.Option.{option_copied}
+use Rattle.oai_answers.specs.Borrowed.{attributes_of}
+use Rattle.oai_repo.specs.Answers.{filter_of}
+use Rattle.oai_repo.specs.declared.lists.Selection.{Selection}
+use Rattle.oai_repo.proofs.ListReplyLemmas.{reply_as, response_selected, response_unknown_set}
+use Rattle.oai_repo.proofs.lists.reply_with_list.Goals as goal
+
+pub returns-clause-reply : goal.returns-clause-reply
+returns-clause-reply g c =
+    let sets = sym c.lacks_sets.ensures ∙ c.if-lacks_sets.false in
+    let known = rw c.formats.ensures at (sym c.find_named.ensures.found ∙ ap option_copied c.in-Some.is) in
+    let request = c.args.request.now in
+    let asked = (rw c.in-Some-2.is at c.in_ok-filter.ensures) ∙ ap (λ (p : List ℕ). filter_of p request.from.now request.until.now request.set.now) c.in-Some.ensures.prefix in
+    let selection : Selection = record { verb = request.verb; format = c.in-Some.format; filter = c.in-Some-2.filter } in
+    let same = response_selected c.args.repo.now c.args.lists.now (g.V.Versions.lists c.args.store.now) request selection sets known refl asked in
+    rw same c.reply_with_selection.ensures.reply
+
+pub returns-in_default-2-clause-reply : goal.returns-in_default-2-clause-reply
+returns-in_default-2-clause-reply g c = λ honest.
+    let sets = sym c.lacks_sets.ensures ∙ c.if-lacks_sets.false in
+    let known = rw c.formats.ensures at (sym c.find_named.ensures.found ∙ ap option_copied c.in-Some.is) in
+    let lacks = rw c.in_default-2.is at c.in_ok-filter.ensures in
+    let repo = c.args.repo.now in
+    let table = c.args.lists.now in
+    let all = g.V.Versions.lists c.args.store.now in
+    let none = response_unknown_set repo table all c.args.request.now c.in-Some.format.now lacks.0 sets known (c.requires.ready.indexed honest) lacks.1 lacks.2 lacks.3 in
+    reply_as repo (attributes_of repo.asked) _ _ c.in_ok-reply_with_error-3.field-0 table all none (record { written = c.in_ok-reply_with_error-3.ensures; open_lists = refl })

@@ -1,0 +1,27 @@
+-- The index of a repository's items: under which datestamp each stands in its store. This repository's own.
+use Rattle.std.specs.Prelude.{◌≡◌, ℕ, ℤ, List, if◌then◌else◌, Option, IsSome, find, map}
+use Rattle.std.specs.BTreeMap.{BTreeMap}
+use Rattle.std.specs.Option.{option_map}
+use Rattle.std.specs.Str.{bytes_eq}
+use Rattle.std.specs.String.{string_bytes}
+use Rattle.std.specs.declared.string.String.{String}
+
+-- identifiers, each with a datestamp in seconds from 1970 on
+abbrev pub Entries : Type 0
+Entries = List (List ℕ × ℤ)
+
+-- the datestamp that the entries have for an identifier
+unfoldable pub stamp_in : List ℕ → Entries → Option ℤ
+stamp_in identifier entries = option_map (λ (entry : List ℕ × ℤ). entry.1) (find (λ (entry : List ℕ × ℤ). bytes_eq identifier entry.0) entries)
+
+-- the entries of a map from identifiers to datestamps
+abbrev pub entries_in : {Y : Type 0} → BTreeMap (String Y) ℤ → Entries
+entries_in stamps = map (λ e. (string_bytes e.0, e.1)) stamps.entries
+
+-- the entries where another datestamp, or none, stands for an identifier, and for all others what stood there
+abbrev pub SetsStamp : List ℕ → Option ℤ → Entries → Entries → Type 0
+SetsStamp identifier stamp old new = (q : List ℕ) → stamp_in q new ≡ (if bytes_eq identifier q then stamp else stamp_in q old)
+
+-- the entries where some may be gone, and none is another
+abbrev pub ForgetsSome : Entries → Entries → Type 0
+ForgetsSome old new = (q : List ℕ) → IsSome (stamp_in q new) → stamp_in q new ≡ stamp_in q old

@@ -1,0 +1,62 @@
+-- What the calls behind those of a repository do to its items, in the store and in the index: this repository's own.
+use Rattle.std.specs.Prelude.{◌≡◌, ◌⊎◌, ℕ, ℤ, Bool, List, Option, None, Some, Result, Ok, Err, IsSome, IsTrue, OnErr}
+use Rattle.std.specs.Option.{option_or}
+use Rattle.oai_item.specs.declared.changes.Change.{Change}
+use Rattle.oai_item.specs.declared.refusals.ChangeRefusal.{ChangeRefusal}
+use Rattle.oai_item.specs.Item.{ItemState}
+use Rattle.oai_catalogue.specs.Store.{Lists, list_at, with_list, without_list}
+use Rattle.oai_catalogue.specs.declared.versions.Versions.{Ghosts}
+use Rattle.oai_repo.specs.Calls.{early_refusal}
+use Rattle.oai_repo.specs.Changes.{changed, refusal_of}
+use Rattle.oai_settings.specs.Config.{Config}
+use Rattle.oai_repo.specs.Fields.{IndexAgrees, IsIndexed, ItemIndex, holdings_of, stored_items}
+use Rattle.oai_repo.specs.State.{Holdings, NamedSet}
+use Rattle.oai_repo.specs.declared.changes.Refusal.{Refusal}
+use Rattle.oai_repo.specs.declared.changes.Refusal.TheVariants as refusal
+
+-- a change with that datestamp: it is made, or refused by the first cause, or it fails; the last two leave what is held as it was
+abbrev pub MakesChange : Config → ℤ → Holdings → Change → Result (Unit {0}) Refusal → Holdings → Type 0
+MakesChange config stamp old change (Ok _) new = (refusal_of config stamp old change ≡ None) × (new ≡ changed config stamp old change)
+MakesChange config stamp old change (Err (refusal.Refused cause)) new = (refusal_of config stamp old change ≡ Some cause) × (new ≡ old)
+MakesChange config stamp old change (Err (refusal.Fault fault)) new = (early_refusal config old change ≡ None) × (new ≡ old)
+
+-- a part of what is held after a change that neither an early cause nor a late one refuses, that the first of them refuses, or
+-- that fails where there is no early one
+abbrev pub IsDone : {A : Type 0} → Option ChangeRefusal → Option ChangeRefusal → A → A → Result (Unit {0}) Refusal → A → Type 0
+IsDone early late old made (Ok _) new = (option_or early late ≡ None) × (new ≡ made)
+IsDone early late old made (Err (refusal.Refused refused)) new = (option_or early late ≡ Some refused) × (new ≡ old)
+IsDone early late old made (Err (refusal.Fault fault)) new = (early ≡ None) × (new ≡ old)
+
+-- a change over an honest store is made, refused or fails, and the index agrees with what is held then
+pub record IsMadeIn (honest : Bool) (config : Config) (stamp : ℤ) (change : Change) (result : Result (Unit {0}) Refusal) (old : ItemIndex) (old_sets : List NamedSet) (before : Lists) (new : ItemIndex) (new_sets : List NamedSet) (after : Lists) : Type 0 where
+  pub made : IsTrue honest → MakesChange config stamp (holdings_of old old_sets before) change result (holdings_of new new_sets after)
+  pub indexed : IsTrue honest → IsIndexed config new new_sets after
+
+-- ---- the index beside the store
+
+-- what becomes of the lists where a version is changed, under its number or under one that was not in use
+pub record IsMoved (v : ℕ) (before : Lists) (w : ℕ) (after : Lists) : Type 0 where
+  pub lists : after ≡ with_list w (list_at after w) (without_list v before)
+  pub number : (w ≡ v) ⊎ (before w ≡ None)
+
+-- the index's version is in use, and an honest store holds the items of its entries there
+pub record StandsOn {V : Type 0} (g : Ghosts V) (index : ItemIndex) (store : V) : Type 0 where
+  pub stands : IsSome (g.lists store index.version)
+  pub agrees : IsTrue (g.honest store) → IndexAgrees index.entries (stored_items index (g.lists store))
+
+-- the items were made into others, over an honest store, and the index agrees with those
+pub record IsMadeOn {V : Type 0} (g : Ghosts V) (make : List ItemState → List ItemState) (old : ItemIndex) (before : V) (new : ItemIndex) (after : V) : Type 0 where
+  pub list : IsTrue (g.honest before) → stored_items new (g.lists after) ≡ make (stored_items old (g.lists before))
+  pub agrees : IsTrue (g.honest before) → IndexAgrees new.entries (stored_items new (g.lists after))
+
+-- the items after a change that neither an early cause nor a late one refuses, that the first of them refuses, or that fails where there is no
+-- early one, over an honest store; and the index agrees with them
+pub record IsDoneOn {V : Type 0} (g : Ghosts V) (early late : Option ChangeRefusal) (made : List ItemState) (result : Result (Unit {0}) Refusal) (old : ItemIndex) (before : V) (new : ItemIndex) (after : V) : Type 0 where
+  pub done : IsTrue (g.honest before) → IsDone early late (stored_items old (g.lists before)) made result (stored_items new (g.lists after))
+  pub agrees : IsTrue (g.honest before) → IndexAgrees new.entries (stored_items new (g.lists after))
+
+-- no list changes but that of the index's version, which may get another number; a call that failed has left the index and all lists
+pub record Moves {V A E : Type 0} (g : Ghosts V) (result : Result A E) (old : ItemIndex) (before : V) (new : ItemIndex) (after : V) : Type 0 where
+  pub moved : IsMoved old.version (g.lists before) new.version (g.lists after)
+  pub err : OnErr result (new ≡ old)
+  pub err_lists : OnErr result (g.lists after ≡ g.lists before)

@@ -1,0 +1,149 @@
+-- What a request sees of a repository, what it needs and leaves, and what is replied: this repository's own.
+use Rattle.std.specs.Prelude.{◌≡◌, ◌+◌, ℕ, ℤ, true, false, List, ◌∷◌, take, Option, None, Some, Result, IsSome, IsTrue, OnErr}
+use Rattle.oai_names.specs.declared.list_verbs.ListVerb.{ListVerb}
+use Rattle.oai_names.specs.Sets.{HasSetsAbove, has_set}
+use Rattle.oai_item.specs.Item.{ItemState}
+use Rattle.oai_item.specs.Items.{item_named}
+use Rattle.oai_item.specs.Selection.{Filter, selected}
+use Rattle.oai_answers.specs.Answers.{Answer, Attributes}
+use Rattle.oai_answers.specs.Borrowed.{attributes_of}
+use Rattle.oai_answers.specs.Documents.{document}
+use Rattle.oai_catalogue.specs.Store.{Lists}
+use Rattle.oai_catalogue.specs.declared.versions.Versions.{Ghosts}
+use Rattle.oai_item.specs.declared.faults.Fault.{Fault}
+use Rattle.oai_lists.specs.OpenLists.{Table}
+use Rattle.oai_lists.specs.Tokens.{token_of}
+use Rattle.oai_args.specs.Asks.{AskOrError}
+use Rattle.oai_args.specs.declared.requests.Ask.{Ask}
+use Rattle.oai_repo.specs.Answers.{document_at, filter_of}
+use Rattle.oai_settings.specs.Config.{Config, is_in_years}
+use Rattle.oai_repo.specs.Fields.{AreInUse, IsIndexed, TableAgrees, open_lists_of, holdings_of, stored_items, versions_in}
+use Rattle.oai_repo.specs.Listing.{Response, ask_response, list_response, new_list, opens_list, request_response, retry_after, selection_response, token_response, wait_at, with_answer}
+use Rattle.oai_repo.specs.State.{Holdings, NamedSet, OpenLists, RepoState}
+use Rattle.oai_repo.specs.Tables.{IsKeptTable, IsLeftOpen}
+use Rattle.oai_repo.specs.declared.responses.Reply.{Reply}
+use Rattle.oai_repo.specs.declared.responses.Reply.TheVariants.{Page, Later}
+use Rattle.oai_repo.specs.declared.lists.ListRequest.{ListRequest}
+use Rattle.oai_repo.specs.declared.lists.Selection.{Selection}
+use Rattle.oai_repo.specs.declared.view.RepoView.{RepoView}
+
+-- ---- what is seen
+
+-- what the repository holds
+abbrev pub view_holdings : RepoView → Lists → Holdings
+view_holdings repo lists = holdings_of repo.index.now repo.sets.now lists
+
+-- its open lists
+abbrev pub view_open_lists : RepoView → Table → Lists → OpenLists
+view_open_lists repo table lists = open_lists_of repo.clock table lists
+
+-- its state
+abbrev pub view_state : RepoView → Table → Lists → RepoState
+view_state repo table lists = record { clock = repo.clock; holdings = view_holdings repo lists; open_lists = view_open_lists repo table lists }
+
+-- what an honest store has of it
+abbrev pub IsViewIndexed : RepoView → Lists → Type 0
+IsViewIndexed repo lists = IsIndexed repo.config.now repo.index.now repo.sets.now lists
+
+-- the item of that identifier, if there is one
+abbrev pub view_item : RepoView → Lists → List ℕ → Option ItemState
+view_item repo lists identifier = item_named identifier (stored_items repo.index.now lists)
+
+-- the items that a filter lets pass
+abbrev pub view_selected : RepoView → Lists → Filter → List ItemState
+view_selected repo lists filter = selected filter (stored_items repo.index.now lists)
+
+-- its numbers
+abbrev pub view_numbers : RepoView → Table → List ℕ
+view_numbers repo table = repo.index.now.version ∷ versions_in table
+
+-- ---- what is replied
+
+-- the document that has the answer to the arguments of the request
+abbrev pub document_reply : RepoView → Answer → Reply
+document_reply repo answer = Page (document (document_at repo.config.now repo.clock (attributes_of repo.asked) answer))
+
+-- the reply of a response to these arguments: a document, or the seconds to wait
+abbrev pub reply_of : Config → ℤ → Attributes → Response → Reply
+reply_of config clock asked (with_answer answer) = Page (document (document_at config clock asked answer))
+reply_of config clock asked (retry_after seconds) = Later seconds
+
+-- the reply is that of the response to these arguments, and the open lists are those that it leaves
+pub record IsViewReplyTo (repo : RepoView) (asked : Attributes) (response : Response × OpenLists) (reply : Reply) (new : Table) (after : Lists) : Type 0 where
+  pub written : reply ≡ reply_of repo.config.now repo.clock asked response.0
+  pub open_lists : view_open_lists repo new after ≡ response.1
+
+-- and to those of the request
+abbrev pub IsViewReply : RepoView → Response × OpenLists → Reply → Table → Lists → Type 0
+IsViewReply repo response reply new after = IsViewReplyTo repo (attributes_of repo.asked) response reply new after
+
+-- ---- what a request needs and leaves
+
+-- a request may read: the clock is in its years, the version of the items is in use, and an honest store holds them there
+pub record IsReadable {V : Type 0} (g : Ghosts V) (repo : RepoView) (store : V) : Type 0 where
+  pub dated : is_in_years repo.clock ≡ true
+  pub stands : IsSome (g.lists store repo.index.now.version)
+  pub indexed : IsTrue (g.honest store) → IsViewIndexed repo (g.lists store)
+
+-- a request may be performed: besides, the table is kept, all numbers are in use, and the table agrees with what an honest store holds
+pub record IsReady {V : Type 0} (g : Ghosts V) (repo : RepoView) (table : Table) (store : V) : Type 0 where
+  pub dated : is_in_years repo.clock ≡ true
+  pub kept : IsKeptTable repo.config.now table
+  pub stands : AreInUse (view_numbers repo table) (g.lists store)
+  pub agrees : IsTrue (g.honest store) → TableAgrees table (g.lists store)
+  pub indexed : IsTrue (g.honest store) → IsViewIndexed repo (g.lists store)
+
+-- what a request leaves of the table and of the lists, and that one which failed has left both as they were
+pub record Leaves {V A : Type 0} (g : Ghosts V) (result : Result A Fault) (repo : RepoView) (old : Table) (before : V) (new : Table) (after : V) : Type 0 where
+  pub left : IsLeftOpen repo.config.now repo.clock repo.index.now.version old (g.lists before) new (g.lists after)
+  pub agrees : IsTrue (g.honest before) → TableAgrees new (g.lists after)
+  pub err : OnErr result (new ≡ old)
+  pub err_lists : OnErr result (g.lists after ≡ g.lists before)
+
+-- ---- what a list request asks for
+
+abbrev pub filter_asked : ListRequest → Filter
+filter_asked request = filter_of request.prefix.now request.from.now request.until.now request.set.now
+
+-- what asks for the items, or a set is asked for that the repository lacks, and what lies in it too
+abbrev pub IsFilter : List NamedSet → List ℕ → Option (List ℕ) → Option (List ℕ) → Option (List ℕ) → Option Filter → Type 0
+IsFilter sets prefix from until set (Some filter) = filter ≡ filter_of prefix from until set
+IsFilter sets prefix from until set None = (name : List ℕ) × (set ≡ Some name) × (has_set sets name ≡ false) × HasSetsAbove sets
+
+-- the first of the selected items, one more than a part of a list may have
+abbrev pub first_items : RepoView → Lists → Filter → List ItemState
+first_items repo lists filter = take (repo.config.now.chunk + 1) (view_selected repo lists filter)
+
+-- ---- the responses
+
+-- to a list request
+abbrev pub view_list_response : RepoView → Table → Lists → ListRequest → Response × OpenLists
+view_list_response repo table lists request =
+    list_response repo.config.now repo.clock (view_open_lists repo table lists) repo.sets.now request.verb request.prefix.now request.set.now (view_selected repo lists (filter_asked request))
+
+-- to one whose items were selected
+abbrev pub view_selection_response : RepoView → Table → Lists → Selection → Response × OpenLists
+view_selection_response repo table lists selection =
+    selection_response repo.config.now repo.clock (view_open_lists repo table lists) selection.verb selection.format.now (view_selected repo lists selection.filter)
+
+-- where a list begins, or the request is to wait
+abbrev pub view_new_list : RepoView → Table → Lists → Selection → Option ℤ → Response × OpenLists
+view_new_list repo table lists selection wait =
+    let open_lists = view_open_lists repo table lists in
+    opens_list repo.config.now open_lists selection.format.now (new_list repo.config.now repo.clock open_lists selection.verb selection.format.now.prefix (view_selected repo lists selection.filter)) wait
+
+-- why it is to wait
+abbrev pub view_wait : RepoView → Table → Lists → Option ℤ
+view_wait repo table lists = wait_at repo.config.now repo.clock (view_open_lists repo table lists)
+
+-- to a token
+abbrev pub view_token_response : RepoView → Table → Lists → ListVerb → List ℕ → Response × OpenLists
+view_token_response repo table lists verb text = token_response repo.config.now repo.clock (view_open_lists repo table lists) verb (token_of text)
+
+-- to a well-formed request
+abbrev pub view_ask_response : RepoView → Table → Lists → Ask → Response × OpenLists
+view_ask_response repo table lists ask = ask_response repo.config.now repo.clock (view_holdings repo lists) (view_open_lists repo table lists) ask
+
+-- to a request
+abbrev pub view_response : RepoView → Table → Lists → AskOrError → Response × OpenLists
+view_response repo table lists request = request_response repo.config.now (view_state repo table lists) request

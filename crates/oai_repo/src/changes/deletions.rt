@@ -1,0 +1,130 @@
+//! What a deletion makes of a repository's items, or why it is refused.
+ghost use Rattle.std.specs.Prelude.{◌≡◌, true, not, Some, IsSome, IsTrue, OnOk};
+ghost use Rattle.std.specs.List.{list_all};
+ghost use Rattle.oai_item.specs.Item.{IsStamp, tombstone_of};
+ghost use Rattle.oai_item.specs.Items.{item_named};
+ghost use Rattle.oai_catalogue.specs.Calls.{Uses};
+ghost use Rattle.oai_repo.specs.Accepted.{stamp_after_deletion};
+ghost use Rattle.oai_repo.specs.Calls.{fault_in};
+ghost use Rattle.oai_repo.specs.Changes.{after_deletion, dead_refusal, missing_refusal, with_new};
+ghost use Rattle.oai_repo.specs.Entries.{SetsStamp, stamp_in};
+ghost use Rattle.oai_repo.specs.Fields.{stored_items};
+ghost use Rattle.oai_repo.specs.Indexing.{IsDoneOn, IsMadeOn, Moves, StandsOn};
+ghost use Rattle.oai_repo.specs.Kept.{is_too_large};
+
+use crate::changes::{ChangeContext, Refusal};
+use crate::item_index::ItemIndex;
+use oai_answers::DeletedRecord;
+use oai_catalogue::Versions;
+use oai_item::{ChangeRefusal, Fault, Item};
+use oai_names::Identifier;
+
+/// Deletes the item of that identifier: it goes where nothing is kept of deleted records, and stays
+/// as a deleted one of that datestamp elsewhere (OAI-PMH 2.0, section 2.5.1). Or refuses it by the
+/// first cause.
+pub(crate) fn delete<V: Versions>(
+    context: &ChangeContext<'_>,
+    store: &mut V,
+    index: &mut ItemIndex,
+    identifier: &Identifier,
+) -> Result<(), Refusal>
+    requires stamped { IsStamp context.now.stamp }
+    requires stands { StandsOn V.Versions index.old store.old }
+    requires small { IsTrue (V.honest store.old) → list_all
+        (λ item. not (is_too_large item)) (stored_items index.old (V.lists store.old)) ≡ true }
+    ensures done { let items = stored_items index.old (V.lists store.old) in
+        let found = item_named identifier.now items in
+        IsDoneOn V.Versions (missing_refusal found) (dead_refusal found)
+        (after_deletion context.now.config.now.deleted context.now.stamp identifier.now items)
+        result index.old store.old index.new store.new }
+    ensures there { OnOk result (IsSome (stamp_in identifier.now index.old.entries)) }
+    ensures stamped { OnOk result (SetsStamp identifier.now (stamp_after_deletion context.now.config.now.deleted context.now.stamp)
+        index.old.entries index.new.entries) }
+    ensures moves { Moves V.Versions result index.old store.old index.new store.new }
+    ensures store { Uses V.Versions 1 (fault_in result) store.old store.new }
+{
+    let Some(item) = index.find(store, identifier)? else {
+        return Err(Refusal::Refused(ChangeRefusal::NoSuchItem));
+    };
+    delete_item(context, store, index, &item)
+}
+
+/// Deletes the item, which stands among the others, or refuses it where it is a deleted one.
+fn delete_item<V: Versions>(
+    context: &ChangeContext<'_>,
+    store: &mut V,
+    index: &mut ItemIndex,
+    item: &Item,
+) -> Result<(), Refusal>
+    requires stamped { IsStamp context.now.stamp }
+    requires stands { StandsOn V.Versions index.old store.old }
+    requires small { IsTrue (V.honest store.old) → not (is_too_large item.now) ≡ true }
+    requires there { IsTrue (V.honest store.old) → item_named item.now.identifier
+        (stored_items index.old (V.lists store.old)) ≡ Some item.now }
+    ensures done { let items = stored_items index.old (V.lists store.old) in
+        IsDoneOn V.Versions None (dead_refusal (Some item.now))
+        (after_deletion context.now.config.now.deleted context.now.stamp item.now.identifier items)
+        result index.old store.old index.new store.new }
+    ensures stamped { OnOk result (SetsStamp item.now.identifier (stamp_after_deletion context.now.config.now.deleted context.now.stamp)
+        index.old.entries index.new.entries) }
+    ensures moves { Moves V.Versions result index.old store.old index.new store.new }
+    ensures store { Uses V.Versions 1 (fault_in result) store.old store.new }
+{
+    if !item.is_live() {
+        return Err(Refusal::Refused(ChangeRefusal::AlreadyDeleted));
+    }
+    Ok(take_out(context, store, index, item)?)
+}
+
+/// Takes the item out where nothing is kept of deleted records, and puts what is left of it in its
+/// place elsewhere.
+fn take_out<V: Versions>(
+    context: &ChangeContext<'_>,
+    store: &mut V,
+    index: &mut ItemIndex,
+    item: &Item,
+) -> Result<(), Fault>
+    requires stamped { IsStamp context.now.stamp }
+    requires stands { StandsOn V.Versions index.old store.old }
+    requires small { IsTrue (V.honest store.old) → not (is_too_large item.now) ≡ true }
+    requires there { IsTrue (V.honest store.old) → item_named item.now.identifier
+        (stored_items index.old (V.lists store.old)) ≡ Some item.now }
+    ensures made { OnOk result (IsMadeOn V.Versions
+        (after_deletion context.now.config.now.deleted context.now.stamp item.now.identifier) index.old store.old index.new store.new) }
+    ensures stamped { OnOk result (SetsStamp item.now.identifier (stamp_after_deletion context.now.config.now.deleted context.now.stamp)
+        index.old.entries index.new.entries) }
+    ensures moves { Moves V.Versions result index.old store.old index.new store.new }
+    ensures store { Uses V.Versions 1 result store.old store.new }
+{
+    match context.config.deleted() {
+        DeletedRecord::No => index.remove(store, item),
+        DeletedRecord::Transient => replace_with_tombstone(context, store, index, item),
+        DeletedRecord::Persistent => replace_with_tombstone(context, store, index, item),
+    }
+}
+
+/// Puts what is left of the item in its place.
+fn replace_with_tombstone<V: Versions>(
+    context: &ChangeContext<'_>,
+    store: &mut V,
+    index: &mut ItemIndex,
+    item: &Item,
+) -> Result<(), Fault>
+    requires stamped { IsStamp context.now.stamp }
+    requires stands { StandsOn V.Versions index.old store.old }
+    requires small { IsTrue (V.honest store.old) → not (is_too_large item.now) ≡ true }
+    requires there { IsTrue (V.honest store.old) → item_named item.now.identifier
+        (stored_items index.old (V.lists store.old)) ≡ Some item.now }
+    ensures made { OnOk result (IsMadeOn V.Versions
+        (with_new (tombstone_of context.now.stamp item.now)) index.old store.old index.new store.new) }
+    ensures stamped { OnOk result (SetsStamp item.now.identifier (Some context.now.stamp) index.old.entries
+        index.new.entries) }
+    ensures moves { Moves V.Versions result index.old store.old index.new store.new }
+    ensures store { Uses V.Versions 1 result store.old store.new }
+{
+    let left = item.tombstone(context.alloc, context.stamp)?;
+    if left.encoded_len().is_err() {
+        return Err(Fault::Damaged);
+    }
+    index.put(context.alloc, store, &left)
+}

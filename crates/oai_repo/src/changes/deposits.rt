@@ -1,0 +1,245 @@
+//! What is deposited: why it is refused, and the item that it makes.
+ghost use Rattle.std.specs.Prelude.{◌≡◌, ◌≤◌, None, Some, codes, length, OnOk};
+ghost use Rattle.std.specs.List.{list_all};
+ghost use Rattle.std.specs.Option.{option_copied};
+ghost use Rattle.oai_names.specs.Names.{is_among};
+ghost use Rattle.oai_names.specs.Sets.{has_set};
+ghost use Rattle.oai_item.specs.Encoding.{encoded};
+ghost use Rattle.oai_item.specs.Items.{item_named};
+ghost use Rattle.oai_item.specs.declared.sizes.TheConstants.{MOST_ITEM_BYTES};
+ghost use Rattle.oai_catalogue.specs.Calls.{Uses};
+ghost use Rattle.oai_item.specs.Item.{IsStamp, Metadata, has_record, live_item, record_named};
+ghost use Rattle.oai_item.specs.Known.{are_fields_of, has_format, has_known_fields};
+ghost use Rattle.oai_item.specs.Membership.{reduced};
+ghost use Rattle.oai_repo.specs.Calls.{fault_in};
+ghost use Rattle.oai_repo.specs.Changes as spec;
+ghost use Rattle.oai_repo.specs.Entries.{SetsStamp};
+ghost use Rattle.oai_repo.specs.Fields.{stored_items};
+ghost use Rattle.oai_repo.specs.Indexing.{IsDoneOn, Moves, StandsOn};
+
+use crate::changes::{ChangeContext, Refusal};
+use crate::item_index::ItemIndex;
+use oai_catalogue::Versions;
+use oai_item::{ChangeRefusal, Field, Format, Formats, Item, Records};
+use oai_names::{Identifier, Sequence, SetSpec, SetTree, Text};
+use oai_settings::RepoConfig;
+
+/// A record of a deposit: the text that names its format, and its fields.
+type Record = (Text, Sequence<Field>);
+
+/// What is deposited: the identifier, the setSpecs as they were given, and the records.
+#[derive(Clone, Copy)]
+pub(crate) struct Deposit<'a> {
+    pub(crate) identifier: &'a Identifier,
+    pub(crate) sets: &'a [SetSpec],
+    pub(crate) records: &'a Records,
+}
+
+/// Puts the item that is deposited among the others, or refuses it by the first cause.
+pub(crate) fn put_deposit<V: Versions>(
+    context: &ChangeContext<'_>,
+    sets: &SetTree,
+    store: &mut V,
+    index: &mut ItemIndex,
+    deposit: &Deposit<'_>,
+) -> Result<(), Refusal>
+    requires stamped { IsStamp context.now.stamp }
+    requires stands { StandsOn V.Versions index.old store.old }
+    ensures done { let items = stored_items index.old (V.lists store.old) in
+        let item = live_item deposit.now.identifier.now context.now.stamp
+        (reduced deposit.now.sets.now) deposit.now.records.now in
+        IsDoneOn V.Versions (spec.deposit_refusal context.now.config.now sets.now
+        deposit.now.sets.now deposit.now.records.now)
+        (spec.item_refusal context.now.config.now (item_named item.identifier items)
+        (length items) item)
+        (spec.with_new item items) result index.old store.old index.new store.new }
+    ensures stamped { OnOk result (SetsStamp deposit.now.identifier.now (Some context.now.stamp) index.old.entries
+        index.new.entries) }
+    ensures moves { Moves V.Versions result index.old store.old index.new store.new }
+    ensures store { Uses V.Versions 1 (fault_in result) store.old store.new }
+{
+    match deposit_refusal(
+        context.config,
+        sets,
+        deposit.sets,
+        deposit.records.as_slice(),
+    ) {
+        Some(cause) => return Err(Refusal::Refused(cause)),
+        None => {}
+    }
+    let item = Item::deposited(
+        context.alloc,
+        context.config.formats(),
+        deposit.identifier,
+        context.stamp,
+        deposit.sets,
+        deposit.records,
+    )?;
+    put_item(context, store, index, &item)
+}
+
+/// Puts the item among the others, or refuses it by the first cause.
+fn put_item<V: Versions>(
+    context: &ChangeContext<'_>,
+    store: &mut V,
+    index: &mut ItemIndex,
+    item: &Item,
+) -> Result<(), Refusal>
+    requires stands { StandsOn V.Versions index.old store.old }
+    ensures done { let items = stored_items index.old (V.lists store.old) in
+        IsDoneOn V.Versions None (spec.item_refusal context.now.config.now
+        (item_named item.now.identifier items) (length items) item.now)
+        (spec.with_new item.now items) result index.old store.old index.new store.new }
+    ensures stamped { OnOk result (SetsStamp item.now.identifier (Some item.now.stamp) index.old.entries
+        index.new.entries) }
+    ensures moves { Moves V.Versions result index.old store.old index.new store.new }
+    ensures store { Uses V.Versions 1 (fault_in result) store.old store.new }
+{
+    let replaced = index.find(store, item.identifier())?;
+    match item_refusal(context.config, replaced.as_ref(), index.len(), item) {
+        Some(cause) => Err(Refusal::Refused(cause)),
+        None => Ok(index.put(context.alloc, store, item)?),
+    }
+}
+
+/// Why the deposit may not stand as it is: the first cause.
+#[tactic(auto, unfolding(crate::specs::Changes::deposit_refusal))]
+fn deposit_refusal(
+    config: &RepoConfig,
+    sets: &SetTree,
+    specs: &[SetSpec],
+    records: &[Record],
+) -> Option<ChangeRefusal>
+    ensures { result ≡ spec.deposit_refusal config.now sets.now specs.now records.now }
+{
+    if !have_sets(sets, specs) {
+        return Some(ChangeRefusal::UnknownSet);
+    }
+    if !have_formats(config.formats(), records) {
+        return Some(ChangeRefusal::UnknownFormat);
+    }
+    if !has_record(records, "oai_dc") {
+        return Some(ChangeRefusal::NoDc);
+    }
+    if !have_known_fields(config.formats(), records) {
+        return Some(ChangeRefusal::UnknownField);
+    }
+    None
+}
+
+/// Why the item may not stand in place of that one, if there is one, among so many: the first cause.
+#[tactic(auto, unfolding(crate::specs::Changes::item_refusal))]
+fn item_refusal(
+    config: &RepoConfig,
+    replaced: Option<&Item>,
+    count: u64,
+    item: &Item,
+) -> Option<ChangeRefusal>
+    ensures cause { result ≡ spec.item_refusal config.now (option_copied replaced.entry) count
+        item.now }
+    ensures fits { result ≡ None → length (encoded item.now) ≤ MOST_ITEM_BYTES }
+{
+    if drops_format(replaced, item) {
+        return Some(ChangeRefusal::DropsFormat);
+    }
+    if item.encoded_len().is_err() {
+        return Some(ChangeRefusal::TooLarge);
+    }
+    if is_one_too_many(config, replaced, count) {
+        return Some(ChangeRefusal::TooManyItems);
+    }
+    None
+}
+
+/// Whether each setSpec is that of a set.
+fn have_sets(tree: &SetTree, specs: &[SetSpec]) -> bool
+    ensures { result ≡ list_all (has_set tree.now) specs.now }
+{
+    specs.iter().all(|spec| tree.has(spec))
+}
+
+/// Whether the repository has the format of each record.
+fn have_formats(formats: &Formats, records: &[Record]) -> bool
+    ensures { result ≡ list_all (has_format formats.now) records.now }
+{
+    records
+        .iter()
+        .all(|record| formats.find_named(record.0.as_str()).is_some())
+}
+
+/// Whether there is a record of that prefix.
+fn has_record(records: &[Record], prefix: &str) -> bool
+    ensures { result ≡ has_record prefix.now records.now }
+{
+    record_named(records, prefix).is_some()
+}
+
+/// The record of that prefix.
+#[tactic(auto, unfolding(oai_item::specs::Item::record_named))]
+fn record_named<'a>(records: &'a [Record], prefix: &str) -> Option<&'a Record>
+    ensures { option_copied result ≡ record_named prefix.now records.now }
+{
+    records.iter().find(|record| record.0.as_str() == prefix)
+}
+
+/// Whether each field of each record is one of its format's.
+fn have_known_fields(formats: &Formats, records: &[Record]) -> bool
+    ensures { result ≡ list_all (has_known_fields formats.now) records.now }
+{
+    records
+        .iter()
+        .all(|record| has_known_fields(formats, record))
+}
+
+/// Whether each field of the record is one of its format's.
+fn has_known_fields(formats: &Formats, made: &Record) -> bool
+    ensures { result ≡ has_known_fields formats.now made.now }
+{
+    match formats.find_named(made.0.as_str()) {
+        Some(format) => are_fields_of(format, made.1.as_slice()),
+        None => true,
+    }
+}
+
+/// Whether each field is one of the format's.
+fn are_fields_of(format: &Format, fields: &[Field]) -> bool
+    ensures { result ≡ are_fields_of (Some format.now) fields.now }
+{
+    fields.iter().all(|field| is_among(format.fields.as_slice(), field.name.as_str()))
+}
+
+/// Whether the name is one of these.
+fn is_among(names: &[Text], name: &str) -> bool
+    ensures { result ≡ is_among names.now name.now }
+{
+    names.iter().any(|other| other.as_str() == name)
+}
+
+/// Whether the item that is replaced has a format in which the new one has no record.
+fn drops_format(replaced: Option<&Item>, item: &Item) -> bool
+    ensures { result ≡ spec.drops_format (option_copied replaced.entry) item.now.formats }
+{
+    match replaced {
+        Some(replaced) => !has_each_format(item, replaced),
+        None => false,
+    }
+}
+
+/// Whether the item has a record in each format of the other one.
+fn has_each_format(item: &Item, other: &Item) -> bool
+    ensures { result ≡ list_all (λ (metadata : Metadata). has_record metadata.0 item.now.formats)
+        other.now.formats }
+{
+    other
+        .formats()
+        .iter()
+        .all(|format| item.has_record(format.0.as_str()))
+}
+
+/// Whether none is replaced and no further item may stand beside so many.
+#[tactic(auto, unfolding(crate::specs::Changes::is_one_too_many))]
+fn is_one_too_many(config: &RepoConfig, replaced: Option<&Item>, count: u64) -> bool
+    ensures { result ≡ spec.is_one_too_many config.now (option_copied replaced.entry) count }
+{
+    replaced.is_none() && config.items() <= count
+}

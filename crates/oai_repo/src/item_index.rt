@@ -1,0 +1,331 @@
+//! Where the items of a repository stand: in a version of a store, in which they are found by their
+//! datestamps.
+ghost use Rattle.std.specs.Prelude.{◌≡◌, ◌≤◌, ◌+◌, ℕ, List, [], if◌then◌else◌, None, Some, true, is_none, length, IfErr, IfOk, IfSome, IsSome, IsTrue, OnErr, OnOk};
+ghost use Rattle.std.specs.BTreeMap.{get_by_text};
+ghost use Rattle.std.specs.Option.{option_copied};
+ghost use Rattle.std.specs.Str.{bytes_eq};
+ghost use Rattle.oai_names.specs.Names.{may_be_identifier};
+ghost use Rattle.oai_item.specs.Encoding.{encoded};
+ghost use Rattle.oai_item.specs.Items.{item_named, without};
+ghost use Rattle.oai_item.specs.declared.faults.Fault.TheVariants as fault;
+ghost use Rattle.oai_item.specs.declared.sizes.TheConstants.{MOST_ITEM_BYTES};
+ghost use Rattle.oai_catalogue.specs.Calls.{OnlyReads, Uses};
+ghost use Rattle.oai_catalogue.specs.Store.{without_each};
+ghost use Rattle.oai_repo.specs.Changes.{purged, with_new};
+ghost use Rattle.oai_repo.specs.Fields.{IndexAgrees, has_writable_stamp, stored_items};
+ghost use Rattle.oai_repo.specs.Purges.{AreTaken, is_in_core};
+ghost use Rattle.oai_time.specs.Stamp.{IsWritable};
+ghost use Rattle.oai_item.specs.Item.{ItemState};
+ghost use Rattle.std.specs.List.{list_all};
+ghost use Rattle.oai_repo.specs.Entries.{ForgetsSome, SetsStamp, stamp_in};
+ghost use Rattle.oai_repo.specs.Indexing.{IsMadeOn, Moves, StandsOn};
+
+use crate::changes::deleted_below;
+use oai_catalogue::{Versions, remove_items};
+use oai_item::{Fault, Item};
+use oai_names::{Identifier, NameFault};
+use std::alloc::Global;
+use std::collections::BTreeMap;
+use std::marker::Model;
+
+/// Where the items of a repository stand: the number of their version in a store, and beside it the
+/// datestamp of each item under its identifier. An item is found by it in one search of the store; the
+/// search among the datestamps takes time in the logarithm of their number.
+#[derive(Debug, Drop)]
+pub(crate) struct ItemIndex {
+    version: u64,
+    stamps: BTreeMap<String, i64>,
+}
+
+impl Model for ItemIndex {
+    ghost use Rattle.std.specs.Prelude.{◌≡◌, ℕ, List, true, IsSome};
+    ghost use Rattle.oai_names.specs.Names.{may_be_identifier};
+    ghost use Rattle.oai_repo.specs.Fields as fields;
+    ghost use Rattle.oai_repo.specs.Entries.{stamp_in, entries_in};
+
+    ghost Value = { fields.ItemIndex };
+
+    ghost view = { λ s. record { version = s.version; entries = entries_in s.stamps } };
+
+    ghost invariant = { λ s. (identifier : List ℕ)
+        → IsSome (stamp_in identifier (entries_in s.stamps)) → may_be_identifier identifier ≡ true };
+}
+
+impl ItemIndex {
+    /// No items, in the version of that number. It takes no memory.
+    pub(crate) fn new(alloc: Global, version: u64) -> ItemIndex
+        ensures { result ≡ record { version = version; entries = [] } }
+    {
+        ItemIndex {
+            version,
+            stamps: BTreeMap::new(alloc),
+        }
+    }
+
+    /// The number of the version.
+    pub(crate) fn version(&self) -> u64
+        ensures { result ≡ self.now.version }
+    {
+        self.version
+    }
+
+    /// How many items there are.
+    pub(crate) fn len(&self) -> u64
+        ensures { result ≡ length self.now.entries }
+    {
+        self.stamps.len() as u64
+    }
+
+    /// The datestamp of the item of that identifier, in seconds from 1970 on, if there is one.
+    fn stamp_of(&self, identifier: &str) -> Option<i64>
+        ensures stamped { result ≡ stamp_in identifier.now self.now.entries }
+        ensures named { IsSome result → may_be_identifier identifier.now ≡ true }
+    {
+        self.stamps.get(identifier).copied()
+    }
+
+    /// The item of the identifier of that text, if there is one, as `find` gives it.
+    pub(crate) fn find_named<V: Versions>(
+        &self,
+        alloc: Global,
+        store: &mut V,
+        text: &str,
+    ) -> Result<Option<Item>, Fault>
+        requires stands { StandsOn V.Versions self.now store.old }
+        ensures found { IfOk result (λ item. IsTrue (V.honest store.old) → item
+            ≡ item_named text.now (stored_items self.now (V.lists store.old))) }
+        ensures reads { OnlyReads V.Versions result store.old store.new }
+    {
+        if self.stamp_of(text).is_none() {
+            return Ok(None);
+        }
+        let identifier = identifier_of(alloc, text)?;
+        self.find(store, &identifier)
+    }
+
+    /// The item of that identifier, if there is one. Any fault but `TooManyPages` may come where it is
+    /// there, and `Damaged` where the store lacks it or returns another.
+    pub(crate) fn find<V: Versions>(
+        &self,
+        store: &mut V,
+        identifier: &Identifier,
+    ) -> Result<Option<Item>, Fault>
+        requires stands { StandsOn V.Versions self.now store.old }
+        ensures found { IfOk result (λ item. IsTrue (V.honest store.old) → item
+            ≡ item_named identifier.now (stored_items self.now (V.lists store.old))) }
+        ensures known { OnErr result (IsTrue (V.honest store.old)
+            → IsSome (item_named identifier.now (stored_items self.now (V.lists store.old)))) }
+        ensures there { IfOk result (λ item. IsSome item
+            → IsSome (stamp_in identifier.now self.now.entries)) }
+        ensures named { IfOk result (λ item. IfSome item (λ item. item.identifier
+            ≡ identifier.now)) }
+        ensures reads { OnlyReads V.Versions result store.old store.new }
+    {
+        let Some(stamp) = self.stamp_of(identifier.as_str()) else {
+            return Ok(None);
+        };
+        let Some(item) = store.find(self.version, stamp, identifier)? else {
+            return Err(Fault::Damaged);
+        };
+        if item.identifier().as_str() != identifier.as_str() {
+            return Err(Fault::Damaged);
+        }
+        Ok(Some(item))
+    }
+
+    /// Puts the item among the others, in place of the one of its identifier, if there is one. A fault
+    /// leaves everything as it was.
+    pub(crate) fn put<V: Versions>(
+        &mut self,
+        alloc: Global,
+        store: &mut V,
+        item: &Item,
+    ) -> Result<(), Fault>
+        requires stands { StandsOn V.Versions self.old store.old }
+        requires fits { length (encoded item.now) ≤ MOST_ITEM_BYTES }
+        ensures made { OnOk result
+            (IsMadeOn V.Versions (with_new item.now) self.old store.old self.new store.new) }
+        ensures stamped { OnOk result (SetsStamp item.now.identifier (Some item.now.stamp)
+            self.old.entries self.new.entries) }
+        ensures moves { Moves V.Versions result self.old store.old self.new store.new }
+        ensures store { Uses V.Versions 1 result store.old store.new }
+    {
+        match self.stamp_of(item.identifier().as_str()) {
+            None => self.insert(alloc, store, item),
+            Some(stamp) if stamp == item.stamp() => self.overwrite(store, item),
+            Some(stamp) => self.move_to_new_stamp(store, stamp, item),
+        }
+    }
+
+    /// Puts in an item of an identifier that no other has.
+    fn insert<V: Versions>(
+        &mut self,
+        alloc: Global,
+        store: &mut V,
+        item: &Item,
+    ) -> Result<(), Fault>
+        requires stands { StandsOn V.Versions self.old store.old }
+        requires fits { length (encoded item.now) ≤ MOST_ITEM_BYTES }
+        requires first { stamp_in item.now.identifier self.old.entries ≡ None }
+        ensures made { OnOk result
+            (IsMadeOn V.Versions (with_new item.now) self.old store.old self.new store.new) }
+        ensures stamped { OnOk result (SetsStamp item.now.identifier (Some item.now.stamp)
+            self.old.entries self.new.entries) }
+        ensures moves { Moves V.Versions result self.old store.old self.new store.new }
+        ensures store { Uses V.Versions 1 result store.old store.new }
+    {
+        let identifier = item.identifier().as_str();
+        let key = String::from_str(alloc, identifier)?;
+        self.stamps.insert(key, item.stamp())?;
+        match store.put(self.version, item) {
+            Ok(()) => Ok(()),
+            Err(fault) => {
+                self.stamps.remove(identifier);
+                Err(fault)
+            }
+        }
+    }
+
+    /// Puts in an item in place of the one of its identifier, which has the same datestamp.
+    fn overwrite<V: Versions>(&self, store: &mut V, item: &Item) -> Result<(), Fault>
+        requires stands { StandsOn V.Versions self.now store.old }
+        requires fits { length (encoded item.now) ≤ MOST_ITEM_BYTES }
+        requires again { stamp_in item.now.identifier self.now.entries ≡ Some item.now.stamp }
+        ensures made { OnOk result
+            (IsMadeOn V.Versions (with_new item.now) self.now store.old self.now store.new) }
+        ensures stamped { SetsStamp item.now.identifier (Some item.now.stamp) self.now.entries
+            self.now.entries }
+        ensures moves { Moves V.Versions result self.now store.old self.now store.new }
+        ensures store { Uses V.Versions 1 result store.old store.new }
+    {
+        store.put(self.version, item)
+    }
+
+    /// Puts in an item in place of the one of its identifier, which has the datestamp `old`, another one.
+    fn move_to_new_stamp<V: Versions>(
+        &mut self,
+        store: &mut V,
+        old: i64,
+        item: &Item,
+    ) -> Result<(), Fault>
+        requires stands { StandsOn V.Versions self.old store.old }
+        requires fits { length (encoded item.now) ≤ MOST_ITEM_BYTES }
+        requires there { stamp_in item.now.identifier self.old.entries ≡ Some old }
+        ensures made { OnOk result
+            (IsMadeOn V.Versions (with_new item.now) self.old store.old self.new store.new) }
+        ensures stamped { OnOk result (SetsStamp item.now.identifier (Some item.now.stamp)
+            self.old.entries self.new.entries) }
+        ensures moves { Moves V.Versions result self.old store.old self.new store.new }
+        ensures store { Uses V.Versions 1 result store.old store.new }
+    {
+        store.replace(self.version, old, item.identifier(), item)?;
+        self.restamp(item.identifier().as_str(), item.stamp());
+        Ok(())
+    }
+
+    /// Keeps another datestamp under an identifier that has one. It takes no memory.
+    fn restamp(&mut self, identifier: &str, stamp: i64)
+        requires { IsSome (stamp_in identifier.now self.old.entries) }
+        ensures version { self.new.version ≡ self.old.version }
+        ensures entries { SetsStamp identifier.now (Some stamp) self.old.entries self.new.entries }
+        ensures many { length self.new.entries ≡ length self.old.entries }
+    {
+        overwrite_stamp(&mut self.stamps, identifier, stamp);
+    }
+
+    /// Takes the item out, which stands among the others. A fault leaves everything as it was.
+    pub(crate) fn remove<V: Versions>(&mut self, store: &mut V, item: &Item) -> Result<(), Fault>
+        requires stands { StandsOn V.Versions self.old store.old }
+        requires there { IsTrue (V.honest store.old)
+            → item_named item.now.identifier (stored_items self.old (V.lists store.old))
+            ≡ Some item.now }
+        ensures made { OnOk result (IsMadeOn V.Versions (without item.now.identifier) self.old
+            store.old self.new store.new) }
+        ensures stamped { OnOk result (SetsStamp item.now.identifier None self.old.entries
+            self.new.entries) }
+        ensures moves { Moves V.Versions result self.old store.old self.new store.new }
+        ensures store { Uses V.Versions 1 result store.old store.new }
+    {
+        store.remove(self.version, item.stamp(), item.identifier())?;
+        self.forget(item.identifier().as_str());
+        Ok(())
+    }
+
+    /// Takes out the deleted items of datestamps below the limit, in seconds from 1970 on, by a change of
+    /// a version of its own. Where there is none, nothing changes. A fault leaves everything as it was.
+    /// It reads each item of a datestamp below the limit once.
+    pub(crate) fn purge<V: Versions>(
+        &mut self,
+        alloc: Global,
+        store: &mut V,
+        limit: i64,
+    ) -> Result<(), Fault>
+        requires stands { StandsOn V.Versions self.old store.old }
+        requires limit { IsWritable limit }
+        requires core { IsTrue (V.honest store.old)
+            → list_all is_in_core (stored_items self.old (V.lists store.old)) ≡ true }
+        requires dated { IsTrue (V.honest store.old)
+            → list_all has_writable_stamp (stored_items self.old (V.lists store.old)) ≡ true }
+        ensures made { OnOk result
+            (IsMadeOn V.Versions (purged limit) self.old store.old self.new store.new) }
+        ensures forgotten { OnOk result (ForgetsSome self.old.entries self.new.entries) }
+        ensures moves { Moves V.Versions result self.old store.old self.new store.new }
+        ensures store { Uses V.Versions (length self.old.entries + 1) result store.old store.new }
+    {
+        let gone = deleted_below(alloc, store, self.version, limit, self.stamps.len())?;
+        if gone.is_empty() {
+            return Ok(());
+        }
+        self.version = remove_items(store, self.version, gone.as_slice())?;
+        self.forget_each(gone.as_slice());
+        Ok(())
+    }
+
+    /// Forgets the identifiers of the items. It takes no memory.
+    fn forget_each(&mut self, gone: &[Item])
+        ensures version { self.new.version ≡ self.old.version }
+        ensures agrees { (items : List ItemState) → IndexAgrees self.old.entries items
+            → AreTaken gone.now items → IndexAgrees self.new.entries (without_each gone.now items) }
+        ensures forgotten { ForgetsSome self.old.entries self.new.entries }
+    {
+        for deleted in gone {
+            self.forget(deleted.identifier().as_str());
+        }
+    }
+
+    /// Forgets the identifier. It takes no memory.
+    fn forget(&mut self, identifier: &str)
+        ensures version { self.new.version ≡ self.old.version }
+        ensures entries { SetsStamp identifier.now None self.old.entries self.new.entries }
+        ensures many { IsSome (stamp_in identifier.now self.old.entries) → length self.new.entries + 1
+            ≡ length self.old.entries }
+    {
+        self.stamps.remove(identifier);
+    }
+}
+
+/// Writes another datestamp under a key that is there. It takes no memory.
+fn overwrite_stamp(stamps: &mut BTreeMap<String, i64>, identifier: &str, stamp: i64)
+    requires { IsSome (get_by_text stamps.old identifier.now) }
+    ensures stamps { (q : List ℕ) → get_by_text stamps.new q
+        ≡ (if bytes_eq identifier.now q then Some stamp else get_by_text stamps.old q) }
+    ensures many { length stamps.new.entries ≡ length stamps.old.entries }
+{
+    match stamps.get_mut(identifier) {
+        Some(kept) => *kept = stamp,
+        None => {}
+    }
+}
+
+/// The identifier of that text, which is one. The error is out of memory.
+fn identifier_of(alloc: Global, text: &str) -> Result<Identifier, Fault>
+    requires { may_be_identifier text.now ≡ true }
+    ensures ok { IfOk result (λ identifier. identifier ≡ text.now) }
+    ensures err { IfErr result (λ f. f ≡ fault.NoMemory) }
+{
+    match Identifier::read(alloc, text) {
+        Ok(identifier) => Ok(identifier),
+        Err(NameFault::NoMemory) => Err(Fault::NoMemory),
+        Err(_) => unreachable!(),
+    }
+}

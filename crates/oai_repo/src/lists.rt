@@ -1,0 +1,347 @@
+//! ListIdentifiers and ListRecords (OAI-PMH 2.0, sections 4.3 and 4.5): what is selected is answered
+//! whole, or with the first part of a list that begins.
+ghost use Rattle.std.specs.Prelude.{◌≡◌, ◌+◌, ◌<◌, ◌-ℤ◌, ◌&&◌, pos, int_le, int_lt, is_some, length, true, None, Ok, IfOk, IsSome, IsTrue};
+ghost use Rattle.std.specs.List.{list_all};
+ghost use Rattle.oai_args.specs.Bounds.{given_bound};
+ghost use Rattle.oai_answers.specs.Answers.{HasWritableEnd, HasWritableTimes};
+ghost use Rattle.oai_answers.specs.Borrowed.{answer_of, continuation_of, page_of};
+ghost use Rattle.oai_catalogue.specs.Calls.{Frees, OnlyReads, Uses};
+ghost use Rattle.oai_catalogue.specs.Store.{Lists as Versioned};
+ghost use Rattle.oai_lists.specs.OpenLists.{number_or_fault, open_fault, open_ones};
+ghost use Rattle.oai_settings.specs.Config.{is_in_years};
+ghost use Rattle.oai_repo.specs.Answers as spec;
+ghost use Rattle.oai_repo.specs.Fields.{AreInUse, open_lists_of, versions_in};
+ghost use Rattle.oai_repo.specs.Listing as listing;
+ghost use Rattle.oai_repo.specs.Tables.{has_end, versions_ended, without_lists};
+ghost use Rattle.oai_repo.specs.Views.{IsFilter, IsReady, IsViewReply, Leaves, first_items, view_list_response, view_new_list, view_selected, view_selection_response, view_wait};
+
+use crate::responses::{Reply, make_reply, reply_with_error};
+use crate::tokens::{ListPart, reply_with_part};
+use crate::view::RepoView;
+use oai_answers::{Body, ErrorCode, Extent, Listed, Resumption};
+use oai_args::given_bound;
+use oai_catalogue::{Filter, Versions};
+use oai_item::{Fault, Format, Item};
+use oai_lists::{Lists, OpenFault};
+use oai_names::{ListVerb, Prefix, Sequence, SetTree, Text};
+use oai_time::{lower, upper};
+use std::alloc::{AllocError, Global};
+
+/// The first second of the years 0000 to 9999.
+pub(crate) const FIRST_SECOND: i64 = -62_167_219_200;
+
+/// The last second of these years.
+const LAST_SECOND: i64 = 253_402_300_799;
+
+/// A list request.
+#[derive(Clone, Copy)]
+pub(crate) struct ListRequest<'a> {
+    /// Its verb.
+    pub(crate) verb: ListVerb,
+    /// The metadataPrefix.
+    pub(crate) prefix: &'a str,
+    /// The first datestamp, where it is given.
+    pub(crate) from: &'a Option<Text>,
+    /// The last datestamp, where it is given.
+    pub(crate) until: &'a Option<Text>,
+    /// The setSpec, where it is given.
+    pub(crate) set: &'a Option<Text>,
+}
+
+/// What a list request selects, and how it lists it.
+#[derive(Drop)]
+pub(crate) struct Selection<'a> {
+    /// Its verb.
+    pub(crate) verb: ListVerb,
+    /// The format that is asked for.
+    pub(crate) format: &'a Format,
+    /// What asks for the items.
+    pub(crate) filter: Filter,
+}
+
+/// Replies to a list request: a set is asked for only where there are sets, and one that the repository
+/// lacks has no items.
+pub(crate) fn reply_with_list<V: Versions>(
+    repo: &RepoView<'_>,
+    lists: &mut Lists,
+    store: &mut V,
+    request: &ListRequest<'_>,
+) -> Result<Reply, Fault>
+    requires ready { IsReady V.Versions repo.now lists.old store.old }
+    ensures reply { IfOk result (λ reply. IsTrue (V.honest store.old)
+        → IsViewReply repo.now
+        (view_list_response repo.now lists.old (V.lists store.old) request.now)
+        reply lists.new (V.lists store.new)) }
+    ensures left { Leaves V.Versions result repo.now lists.old store.old lists.new store.new }
+    ensures store { Uses V.Versions 1 result store.old store.new }
+{
+    if lacks_sets(repo.sets, request.set) {
+        return Ok(reply_with_error(repo, ErrorCode::NoSetHierarchy)?);
+    }
+    let Some(format) = repo.config.formats().find_named(request.prefix) else {
+        return Ok(reply_with_error(repo, ErrorCode::CannotDisseminateFormat)?);
+    };
+    let Some(filter) = filter_of(repo.alloc, repo.sets, &format.prefix, request)? else {
+        return Ok(reply_with_error(repo, ErrorCode::NoRecordsMatch)?);
+    };
+    let selection = Selection {
+        verb: request.verb,
+        format,
+        filter,
+    };
+    reply_with_selection(repo, lists, store, selection)
+}
+
+/// Replies with what is selected: whole where it is no more than a part of a list may have.
+fn reply_with_selection<V: Versions>(
+    repo: &RepoView<'_>,
+    lists: &mut Lists,
+    store: &mut V,
+    selection: Selection<'_>,
+) -> Result<Reply, Fault>
+    requires ready { IsReady V.Versions repo.now lists.old store.old }
+    requires prefix { selection.filter.prefix ≡ selection.format.now.prefix }
+    ensures reply { IfOk result (λ reply. IsTrue (V.honest store.old)
+        → IsViewReply repo.now
+        (view_selection_response repo.now lists.old (V.lists store.old) selection.entry)
+        reply lists.new (V.lists store.new)) }
+    ensures left { Leaves V.Versions result repo.now lists.old store.old lists.new store.new }
+    ensures store { Uses V.Versions 1 result store.old store.new }
+{
+    let first = store.part(
+        repo.index.version(),
+        &selection.filter,
+        0,
+        most_and_one(repo),
+    )?;
+    if first.is_empty() {
+        return Ok(reply_with_error(repo, ErrorCode::NoRecordsMatch)?);
+    }
+    if repo.config.chunk() < first.len() as u64 {
+        return open_list(repo, lists, store, selection, first);
+    }
+    let whole = Listed {
+        items: first.as_slice(),
+        granularity: repo.config.granularity(),
+        resumption: Resumption::Whole,
+    };
+    Ok(make_reply(
+        repo,
+        answer_by_verb(selection.verb, selection.format, whole),
+    )?)
+}
+
+/// One more than a part of a list may have.
+#[tactic(auto, unfolding(oai_settings::specs::Config::are_limits))]
+fn most_and_one(repo: &RepoView<'_>) -> usize
+    ensures { result ≡ repo.now.config.now.chunk + 1 }
+{
+    repo.config.chunk() as usize + 1
+}
+
+/// Replies with the first part of a list that begins, or with the seconds to wait. The first items are
+/// one more than a part may have.
+fn open_list<V: Versions>(
+    repo: &RepoView<'_>,
+    lists: &mut Lists,
+    store: &mut V,
+    selection: Selection<'_>,
+    first: Sequence<Item>,
+) -> Result<Reply, Fault>
+    requires ready { IsReady V.Versions repo.now lists.old store.old }
+    requires prefix { selection.filter.prefix ≡ selection.format.now.prefix }
+    requires first { IsTrue (V.honest store.old)
+        → first ≡ first_items repo.now (V.lists store.old) selection.filter }
+    requires more { repo.now.config.now.chunk < length first }
+    ensures reply { IfOk result (λ reply. IsTrue (V.honest store.old)
+        → IsViewReply repo.now
+        (view_new_list repo.now lists.old (V.lists store.old) selection.entry
+        (view_wait repo.now lists.old (V.lists store.old)))
+        reply lists.new (V.lists store.new)) }
+    ensures left { Leaves V.Versions result repo.now lists.old store.old lists.new store.new }
+    ensures store { Uses V.Versions 1 result store.old store.new }
+{
+    match lists.next(repo.clock) {
+        Ok(number) => start_list(repo, lists, store, selection, first, number),
+        Err(OpenFault::Full) => Ok(Reply::Later(seconds_to_end(lists, store, repo.clock))),
+        Err(OpenFault::NumbersSpent) => Ok(Reply::Later(repo.lifetime())),
+        Err(OpenFault::NoMemory) => Err(Fault::NoMemory),
+    }
+}
+
+/// Replies with the first part of a list, which begins with that number, the next one.
+fn start_list<V: Versions>(
+    repo: &RepoView<'_>,
+    lists: &mut Lists,
+    store: &mut V,
+    selection: Selection<'_>,
+    first: Sequence<Item>,
+    number: u64,
+) -> Result<Reply, Fault>
+    requires ready { IsReady V.Versions repo.now lists.old store.old }
+    requires prefix { selection.filter.prefix ≡ selection.format.now.prefix }
+    requires first { IsTrue (V.honest store.old)
+        → first ≡ first_items repo.now (V.lists store.old) selection.filter }
+    requires more { repo.now.config.now.chunk < length first }
+    requires next { number_or_fault (open_fault lists.old repo.now.clock) lists.old.next ≡ Ok number }
+    ensures reply { IfOk result (λ reply. IsTrue (V.honest store.old)
+        → IsViewReply repo.now
+        (view_new_list repo.now lists.old (V.lists store.old) selection.entry None)
+        reply lists.new (V.lists store.new)) }
+    ensures left { Leaves V.Versions result repo.now lists.old store.old lists.new store.new }
+    ensures store { Uses V.Versions 1 result store.old store.new }
+{
+    let version = repo.index.version();
+    let size = count_beyond(repo, store, &selection.filter, first.as_slice())?;
+    let part = ListPart {
+        number,
+        end: repo.end(),
+        extent: Extent { size, cursor: 0 },
+    };
+    let items = &first.as_slice()[..repo.config.chunk() as usize];
+    let reply = reply_with_part(repo, selection.verb, selection.format, items, part)?;
+    let frozen = store.freeze(version)?;
+    match lists.open(
+        repo.clock,
+        selection.verb,
+        selection.filter,
+        frozen,
+        size,
+        part.end,
+    ) {
+        Ok(_) => Ok(reply),
+        Err(_) => {
+            store.release(frozen);
+            Err(Fault::NoMemory)
+        }
+    }
+}
+
+/// How many items the filter selects, of which the first are known, one more than a part of a list may
+/// have. Any fault but `TooManyPages` may come, and `Damaged` where the store counts fewer.
+fn count_beyond<V: Versions>(
+    repo: &RepoView<'_>,
+    store: &mut V,
+    filter: &Filter,
+    first: &[Item],
+) -> Result<u64, Fault>
+    requires stands { IsSome (V.lists store.old repo.now.index.now.version) }
+    requires first { IsTrue (V.honest store.old)
+        → first.now ≡ first_items repo.now (V.lists store.old) filter.now }
+    requires more { repo.now.config.now.chunk < length first.now }
+    ensures size { IfOk result (λ size. IsTrue (V.honest store.old)
+        → size ≡ length (view_selected repo.now (V.lists store.old) filter.now)) }
+    ensures beyond { IfOk result (λ size. repo.now.config.now.chunk < size) }
+    ensures reads { OnlyReads V.Versions result store.old store.new }
+{
+    let size = store.count(repo.index.version(), filter)? as u64;
+    if size <= repo.config.chunk() {
+        return Err(Fault::Damaged);
+    }
+    Ok(size)
+}
+
+/// The answer with the items in the format, as the verb lists them.
+pub(crate) fn answer_by_verb<'a>(verb: ListVerb, format: &'a Format, list: Listed<'a>) -> Body<'a>
+    requires { HasWritableEnd (continuation_of list.resumption) }
+    ensures answer { answer_of result ≡ listing.answer_by_verb verb format.now (page_of list.entry) }
+    ensures writable { HasWritableTimes (answer_of result) }
+{
+    match verb {
+        ListVerb::Identifiers => Body::ListIdentifiers(list),
+        ListVerb::Records => Body::ListRecords(format, list),
+        ListVerb::Sets => Body::Error(ErrorCode::BadVerb),
+    }
+}
+
+/// Whether a set is asked for where there are none.
+fn lacks_sets(sets: &SetTree, set: &Option<Text>) -> bool
+    ensures { result ≡ (is_some set.now && listing.has_no_sets sets.now) }
+{
+    set.is_some() && sets.as_slice().is_empty()
+}
+
+/// What asks for the items, or None where the repository lacks the set.
+fn filter_of(
+    alloc: Global,
+    sets: &SetTree,
+    prefix: &Prefix,
+    request: &ListRequest<'_>,
+) -> Result<Option<Filter>, AllocError>
+    ensures { IfOk result (λ filter. IsFilter sets.now prefix.now request.now.from.now
+        request.now.until.now request.now.set.now filter) }
+{
+    let prefix = prefix.copy(alloc)?;
+    let (lower, upper) = (lower_given(request.from), upper_given(request.until));
+    match request.set {
+        Some(set) => match sets.find(set.as_str()) {
+            Some(set) => Ok(Some(Filter::new(prefix, lower, upper, Some(set.copy(alloc)?)))),
+            None => Ok(None),
+        },
+        None => Ok(Some(Filter::new(prefix, lower, upper, None))),
+    }
+}
+
+/// The first second that the argument `from` lets pass.
+fn lower_given(from: &Option<Text>) -> i64
+    ensures { result ≡ spec.lower_given (given_bound from.now) }
+{
+    match given_bound(from) {
+        Some(bound) => lower(bound),
+        None => FIRST_SECOND,
+    }
+}
+
+/// The last second that the argument `until` lets pass.
+fn upper_given(until: &Option<Text>) -> i64
+    ensures { result ≡ spec.upper_given (given_bound until.now) }
+{
+    match given_bound(until) {
+        Some(bound) => upper(bound),
+        None => LAST_SECOND,
+    }
+}
+
+/// Drops the lists that have ended at `now`, in seconds from 1970 on, and releases their versions. It
+/// takes no memory and cannot fail.
+pub(crate) fn drop_ended<V: Versions>(lists: &mut Lists, store: &mut V, now: i64)
+    requires stands { AreInUse (versions_in lists.old) (V.lists store.old) }
+    ensures table { lists.new ≡ record lists.old { lists = open_ones now lists.old.lists } }
+    ensures released { V.lists store.new
+        ≡ without_lists (versions_ended now lists.old) (V.lists store.old) }
+    ensures store { Frees V.Versions store.old store.new }
+{
+    while let Some(version) = lists.expire(now) {
+        store.release(version);
+    }
+}
+
+/// Drops the lists that have ended, and returns the seconds until the first of the others ends; 0 where
+/// there is none.
+pub(crate) fn seconds_to_end<V: Versions>(lists: &mut Lists, store: &mut V, now: i64) -> i64
+    requires dated { is_in_years now ≡ true }
+    requires ends { list_all has_end lists.old.lists ≡ true }
+    requires stands { AreInUse (versions_in lists.old) (V.lists store.old) }
+    ensures seconds { (all : Versioned)
+        → result ≡ listing.seconds_to_end now (open_lists_of now lists.old all).lists }
+    ensures table { lists.new ≡ record lists.old { lists = open_ones now lists.old.lists } }
+    ensures released { V.lists store.new
+        ≡ without_lists (versions_ended now lists.old) (V.lists store.old) }
+    ensures store { Frees V.Versions store.old store.new }
+{
+    drop_ended(lists, store, now);
+    match lists.earliest_end() {
+        Some(end) => seconds_until(now, end),
+        None => 0,
+    }
+}
+
+/// The seconds from a moment to a later one.
+fn seconds_until(now: i64, end: i64) -> i64
+    requires dated { is_in_years now ≡ true }
+    requires later { int_lt now end ≡ true }
+    requires ends { int_le end (pos 253_402_300_799) ≡ true }
+    ensures { result ≡ end -ℤ now }
+{
+    end - now
+}

@@ -1,0 +1,121 @@
+//! Identify, ListMetadataFormats, ListSets and GetRecord (OAI-PMH 2.0, sections 4.1, 4.2, 4.4 and 4.6).
+ghost use Rattle.std.specs.Prelude.{◌≡◌, IfOk, IsTrue};
+ghost use Rattle.std.specs.Option.{option_copied};
+ghost use Rattle.oai_time.specs.Stamp.{IsWritable};
+ghost use Rattle.oai_answers.specs.Answers.{HasWritableTimes, lists_formats, offered};
+ghost use Rattle.oai_answers.specs.Borrowed.{answer_of, description_of};
+ghost use Rattle.oai_catalogue.specs.Calls.{OnlyReads};
+ghost use Rattle.oai_repo.specs.Answers as spec;
+ghost use Rattle.oai_repo.specs.Views.{IsReadable, document_reply, view_item};
+
+use crate::responses::{Reply, make_reply};
+use crate::view::RepoView;
+use oai_answers::{Body, ErrorCode, Identity, Offered, Record};
+use oai_catalogue::Versions;
+use oai_item::{Fault, Item};
+use oai_names::{SetSpec, Text};
+use oai_settings::RepoConfig;
+
+/// Replies to ListMetadataFormats of an item.
+pub(crate) fn reply_with_formats<V: Versions>(
+    repo: &RepoView<'_>,
+    store: &mut V,
+    identifier: &str,
+) -> Result<Reply, Fault>
+    requires { IsReadable V.Versions repo.now store.old }
+    ensures reply { IfOk result (λ reply. IsTrue (V.honest store.old) → reply
+        ≡ document_reply repo.now (spec.item_formats_answer repo.now.config.now
+        (view_item repo.now (V.lists store.old) identifier.now))) }
+    ensures reads { OnlyReads V.Versions result store.old store.new }
+{
+    let item = repo.index.find_named(repo.alloc, store, identifier)?;
+    Ok(make_reply(repo, item_formats_answer(repo.config, item.as_ref()))?)
+}
+
+/// Replies to GetRecord.
+pub(crate) fn reply_with_record<V: Versions>(
+    repo: &RepoView<'_>,
+    store: &mut V,
+    identifier: &str,
+    prefix: &str,
+) -> Result<Reply, Fault>
+    requires { IsReadable V.Versions repo.now store.old }
+    ensures reply { IfOk result (λ reply. IsTrue (V.honest store.old) → reply
+        ≡ document_reply repo.now (spec.record_answer repo.now.config.now
+        (view_item repo.now (V.lists store.old) identifier.now) prefix.now)) }
+    ensures reads { OnlyReads V.Versions result store.old store.new }
+{
+    let item = repo.index.find_named(repo.alloc, store, identifier)?;
+    Ok(make_reply(repo, record_answer(repo.config, item.as_ref(), prefix))?)
+}
+
+/// The answer to ListSets.
+pub(crate) fn sets_answer(sets: &[(SetSpec, Text)]) -> Body<'_>
+    ensures answer { answer_of result ≡ spec.sets_answer sets.now }
+    ensures writable { HasWritableTimes (answer_of result) }
+{
+    if sets.is_empty() {
+        Body::Error(ErrorCode::NoSetHierarchy)
+    } else {
+        Body::ListSets(sets)
+    }
+}
+
+/// The answer to ListMetadataFormats of the item, if there is one.
+fn item_formats_answer<'a>(config: &'a RepoConfig, item: Option<&'a Item>) -> Body<'a>
+    ensures answer { answer_of result ≡ spec.item_formats_answer config.now
+        (option_copied item.entry) }
+    ensures writable { HasWritableTimes (answer_of result) }
+{
+    match item {
+        Some(item) if item.is_live() => formats_of(config, Some(item)),
+        Some(_) => Body::Error(ErrorCode::NoMetadataFormats),
+        None => Body::Error(ErrorCode::IdDoesNotExist),
+    }
+}
+
+/// The formats of the repository, or those of them that the item has.
+pub(crate) fn formats_of<'a>(config: &'a RepoConfig, item: Option<&'a Item>) -> Body<'a>
+    ensures answer { answer_of result ≡ lists_formats
+        (offered config.now.formats (option_copied item.entry)) }
+    ensures writable { HasWritableTimes (answer_of result) }
+{
+    Body::ListMetadataFormats(Offered {
+        formats: config.formats().as_slice(),
+        of: item,
+    })
+}
+
+/// The answer to GetRecord of the item, if there is one, in the format of that prefix.
+fn record_answer<'a>(config: &'a RepoConfig, item: Option<&'a Item>, prefix: &str) -> Body<'a>
+    ensures answer { answer_of result ≡ spec.record_answer config.now (option_copied item.entry)
+        prefix.now }
+    ensures writable { HasWritableTimes (answer_of result) }
+{
+    let Some(item) = item else {
+        return Body::Error(ErrorCode::IdDoesNotExist);
+    };
+    match config.formats().find_named(prefix) {
+        Some(format) if item.has_record(format.prefix.as_str()) => Body::GetRecord(Record {
+            item,
+            granularity: config.granularity(),
+            format,
+        }),
+        Some(_) => Body::Error(ErrorCode::CannotDisseminateFormat),
+        None => Body::Error(ErrorCode::CannotDisseminateFormat),
+    }
+}
+
+/// The answer to Identify.
+pub(crate) fn identity(config: &RepoConfig) -> Identity<'_>
+    ensures identity { description_of result ≡ spec.description config.now }
+    ensures writable { IsWritable result.earliest }
+{
+    Identity {
+        name: config.repository_name(),
+        addresses: config.addresses(),
+        earliest: config.earliest(),
+        deleted: config.deleted(),
+        granularity: config.granularity(),
+    }
+}

@@ -1,0 +1,137 @@
+//! A repository as a request sees it.
+ghost use Rattle.std.specs.Prelude.{◌≡◌, ◌+ℤ◌, pos, int_le, int_lt, true};
+ghost use Rattle.std.specs.Option.{option_copied};
+ghost use Rattle.oai_time.specs.Stamp.{IsWritable};
+ghost use Rattle.oai_args.specs.Verbs.{name_of, verb_of_list};
+ghost use Rattle.oai_answers.specs.Borrowed.{attributes_of};
+ghost use Rattle.oai_settings.specs.Config.{is_in_years};
+ghost use Rattle.oai_repo.specs.Answers as spec;
+ghost use Rattle.oai_repo.specs.Seen.{SeesSame};
+
+use crate::item_index::ItemIndex;
+use oai_answers::Asked;
+use oai_args::Ask;
+use oai_names::{ListVerb, SetTree, Text};
+use oai_settings::RepoConfig;
+use std::alloc::Global;
+
+/// A repository as a request sees it, and what the request asks for.
+#[derive(Clone, Copy)]
+pub(crate) struct RepoView<'a> {
+    /// What a reply takes its memory from.
+    pub(crate) alloc: Global,
+    /// The configuration.
+    pub(crate) config: &'a RepoConfig,
+    /// The clock, in seconds from 1970 on.
+    pub(crate) clock: i64,
+    /// Where the items stand.
+    pub(crate) index: &'a ItemIndex,
+    /// The sets.
+    pub(crate) sets: &'a SetTree,
+    /// The arguments of the request, as a document has them.
+    pub(crate) asked: Asked<'a>,
+}
+
+impl RepoView<'_> {
+    /// How long a list stays open, in seconds.
+    #[tactic(auto, unfolding(oai_settings::specs::Config::are_limits))]
+    pub(crate) fn lifetime(&self) -> i64
+        ensures { result ≡ pos self.now.config.now.lifetime }
+    {
+        self.config.lifetime() as i64
+    }
+
+    /// When a list ends of which a part is returned now, in seconds from 1970 on.
+    #[tactic(auto, unfolding(oai_settings::specs::Config::are_limits))]
+    pub(crate) fn end(&self) -> i64
+        requires { is_in_years self.now.clock ≡ true }
+        ensures end { result ≡ self.now.clock +ℤ pos self.now.config.now.lifetime }
+        ensures writable { IsWritable result }
+        ensures later { int_lt self.now.clock result ≡ true }
+        ensures last { int_le result (pos 253_402_300_799) ≡ true }
+    {
+        self.clock + self.config.lifetime() as i64
+    }
+}
+
+/// The same repository, with the arguments of that request.
+pub(crate) fn with_arguments<'a>(repo: RepoView<'a>, ask: &'a Ask) -> RepoView<'a>
+    ensures same { SeesSame repo.entry result }
+    ensures asked { attributes_of result.asked ≡ spec.arguments_of_ask ask.now }
+{
+    RepoView {
+        alloc: repo.alloc,
+        config: repo.config,
+        clock: repo.clock,
+        index: repo.index,
+        sets: repo.sets,
+        asked: arguments_of(ask),
+    }
+}
+
+/// The arguments of a request, as a document has them.
+fn arguments_of(ask: &Ask) -> Asked<'_>
+    ensures { attributes_of result ≡ spec.arguments_of_ask ask.now }
+{
+    match ask {
+        Ask::Identify => asked_for("Identify"),
+        Ask::Formats { identifier } => Asked {
+            identifier: text_in(identifier),
+            ..asked_for("ListMetadataFormats")
+        },
+        Ask::Sets => asked_for("ListSets"),
+        Ask::Get { identifier, prefix } => Asked {
+            identifier: Some(identifier.as_str()),
+            prefix: Some(prefix.as_str()),
+            ..asked_for("GetRecord")
+        },
+        Ask::List {
+            verb,
+            prefix,
+            from,
+            until,
+            set,
+        } => Asked {
+            prefix: Some(prefix.as_str()),
+            from: text_in(from),
+            until: text_in(until),
+            set: text_in(set),
+            ..asked_for(name_of(*verb))
+        },
+        Ask::Resume { verb, token } => Asked {
+            token: Some(token.as_str()),
+            ..asked_for(name_of(*verb))
+        },
+    }
+}
+
+/// The verb alone.
+fn asked_for(verb: &str) -> Asked<'_>
+    ensures { attributes_of result ≡ spec.asked_for verb.now }
+{
+    Asked {
+        verb: Some(verb),
+        ..Asked::nothing()
+    }
+}
+
+/// The name of the verb.
+fn name_of(verb: ListVerb) -> &'static str
+    ensures { result.now ≡ name_of (verb_of_list verb) }
+{
+    match verb {
+        ListVerb::Identifiers => "ListIdentifiers",
+        ListVerb::Records => "ListRecords",
+        ListVerb::Sets => "ListSets",
+    }
+}
+
+/// The text, where it was given.
+pub(crate) fn text_in(text: &Option<Text>) -> Option<&str>
+    ensures { option_copied result ≡ text.now }
+{
+    match text {
+        Some(text) => Some(text.as_str()),
+        None => None,
+    }
+}
