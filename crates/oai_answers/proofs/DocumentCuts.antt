@@ -16,7 +16,7 @@ use Rattle.oai_answers.specs.Markup.{attribute_start, element, end_tag, plain, s
 use Rattle.oai_answers.specs.Seen.{SeenFormat, SeenMetadata, answer_seen, document_seen, empty_token, format_seen, header_seen, identity_seen, metadata_seen, no_token, offer_seen, record_seen, seen_error, seen_formats, seen_headers, seen_identity, seen_record, seen_records, seen_sets, seen_token, token_seen}
 use Rattle.oai_answers.specs.declared.errors.ErrorCode.{ErrorCode}
 use Rattle.oai_answers.specs.declared.errors.ErrorCode.TheVariants.{BadVerb}
-use Rattle.oai_answers.specs.declared.identify.DeletedRecord.TheVariants.{No}
+use Rattle.oai_item.specs.declared.deleted_record.DeletedRecord.TheVariants.{No}
 use Rattle.oai_answers.specs.declared.tokens.Extent.{Extent}
 use Rattle.oai_answers.proofs.PartCuts.{error_cut, formats_cut, identify_cut, request_cut, second_cut, sets_cut}
 use Rattle.oai_answers.proofs.Printed.{decimal_lacks, quote_is, second_lacks}

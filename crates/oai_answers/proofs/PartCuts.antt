@@ -17,8 +17,8 @@ use Rattle.oai_answers.specs.Markup.{attribute, attribute_start, element, end_ta
 use Rattle.oai_answers.specs.Seen.{identity_seen, offer_seen}
 use Rattle.oai_answers.specs.declared.errors.ErrorCode.{ErrorCode}
 use Rattle.oai_answers.specs.declared.errors.ErrorCode.TheVariants.{BadVerb, BadArgument, BadResumptionToken, CannotDisseminateFormat, IdDoesNotExist, NoRecordsMatch, NoMetadataFormats, NoSetHierarchy}
-use Rattle.oai_answers.specs.declared.identify.DeletedRecord.{DeletedRecord}
-use Rattle.oai_answers.specs.declared.identify.DeletedRecord.TheVariants.{No, Transient, Persistent}
+use Rattle.oai_item.specs.declared.deleted_record.DeletedRecord.{DeletedRecord}
+use Rattle.oai_item.specs.declared.deleted_record.DeletedRecord.TheVariants.{No, Transient, Persistent}
 use Rattle.oai_answers.proofs.Printed.{angle_is, datestamp_lacks, second_lacks}
 use Rattle.oai_answers.proofs.Spelled.{attribute_cut, element_cut, elements_cut, tag_at, text_element_cut}
 

@@ -7,7 +7,7 @@ use Rattle.oai_item.specs.declared.formats.Format.{Format}
 use Rattle.oai_item.specs.Item.{ItemState, has_record}
 use Rattle.oai_answers.specs.declared.errors.ErrorCode.{ErrorCode}
 use Rattle.oai_answers.specs.declared.errors.ErrorCode.TheVariants.{BadArgument, BadVerb}
-use Rattle.oai_answers.specs.declared.identify.DeletedRecord.{DeletedRecord}
+use Rattle.oai_item.specs.declared.deleted_record.DeletedRecord.{DeletedRecord}
 use Rattle.oai_answers.specs.declared.tokens.Extent.{Extent}
 
 -- what was asked, as the attributes of `request` repeat it: the arguments, decoded, as far as they were given (section 3.2)

@@ -50,20 +50,20 @@ page_of list = record {
   continuation = continuation_of list.resumption;
 }
 
-abbrev pub answer_of : Body → Answer
-answer_of (Error code) = fails code
-answer_of (Identify identity) = identifies (description_of identity)
-answer_of (ListMetadataFormats list) =
+abbrev pub body_answer : Body → Answer
+body_answer (Error code) = fails code
+body_answer (Identify identity) = identifies (description_of identity)
+body_answer (ListMetadataFormats list) =
     lists_formats (offered list.formats.now (option_copied list.of))
-answer_of (ListSets sets) = lists_sets sets.now
-answer_of (GetRecord r) = gives_record (dissemination_of r)
-answer_of (ListIdentifiers list) = lists_headers (page_of list)
-answer_of (ListRecords format list) = lists_records format.now (page_of list)
+body_answer (ListSets sets) = lists_sets sets.now
+body_answer (GetRecord r) = gives_record (dissemination_of r)
+body_answer (ListIdentifiers list) = lists_headers (page_of list)
+body_answer (ListRecords format list) = lists_records format.now (page_of list)
 
 abbrev pub document_of : Doc → Document
 document_of d = record {
   date = d.date;
   base = d.base.now;
   asked = attributes_of d.asked;
-  answer = answer_of d.body;
+  answer = body_answer d.body;
 }

@@ -15,8 +15,8 @@ use Rattle.oai_item.specs.Item.{ItemState, fields_in}
 use Rattle.oai_answers.specs.Markup.{plain, end_tag, element, text_element, spelled_attribute, attribute}
 use Rattle.oai_answers.specs.declared.errors.ErrorCode.{ErrorCode}
 use Rattle.oai_answers.specs.declared.errors.ErrorCode.TheVariants.{BadVerb, BadArgument, BadResumptionToken, CannotDisseminateFormat, IdDoesNotExist, NoRecordsMatch, NoMetadataFormats, NoSetHierarchy}
-use Rattle.oai_answers.specs.declared.identify.DeletedRecord.{DeletedRecord}
-use Rattle.oai_answers.specs.declared.identify.DeletedRecord.TheVariants.{No, Transient, Persistent}
+use Rattle.oai_item.specs.declared.deleted_record.DeletedRecord.{DeletedRecord}
+use Rattle.oai_item.specs.declared.deleted_record.DeletedRecord.TheVariants.{No, Transient, Persistent}
 use Rattle.oai_answers.specs.declared.tokens.Extent.{Extent}
 
 -- The root and the request. Section 3.2

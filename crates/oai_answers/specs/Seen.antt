@@ -14,7 +14,7 @@ use Rattle.oai_item.specs.declared.fields.Field.{Field}
 use Rattle.oai_item.specs.declared.formats.Format.{Format}
 use Rattle.oai_answers.specs.Answers.{Answer, Attributes, Continuation, Description, Document, arguments_told, completes, fails, gives_record, identifies, lists_formats, lists_headers, lists_records, lists_sets, remains, whole}
 use Rattle.oai_answers.specs.declared.errors.ErrorCode.{ErrorCode}
-use Rattle.oai_answers.specs.declared.identify.DeletedRecord.{DeletedRecord}
+use Rattle.oai_item.specs.declared.deleted_record.DeletedRecord.{DeletedRecord}
 
 -- ---- what is seen
 

@@ -28,9 +28,9 @@ first_second = neg_ℤ (pos 62_167_219_200)
 abbrev pub issue : ℕ → List Metadata → ItemState
 issue before records = live_item (codes "oai:a:1") (neg_ℤ (pos before)) [] records
 
--- the item, told in a format
-abbrev pub told : Granularity → List ℕ → ItemState → Document
-told granularity prefix item = record {
+-- the item, item_document in a format
+abbrev pub item_document : Granularity → List ℕ → ItemState → Document
+item_document granularity prefix item = record {
   date = first_second;
   base = codes "http://host.example/oai/a";
   asked = no_arguments;
@@ -39,16 +39,16 @@ told granularity prefix item = record {
 
 -- an article in one format
 abbrev pub plain_issue : Document
-plain_issue = told Day (codes "jnl") (issue 62_167_219_200 (article (codes "jnl") ∷ []))
+plain_issue = item_document Day (codes "jnl") (issue 62_167_219_200 (article (codes "jnl") ∷ []))
 
 -- the same in a format of another prefix, with the same root, namespace and schema
 abbrev pub issue_by_prefix : Document
-issue_by_prefix = told Day (codes "art") (issue 62_167_219_200 (article (codes "art") ∷ []))
+issue_by_prefix = item_document Day (codes "art") (issue 62_167_219_200 (article (codes "art") ∷ []))
 
 -- five seconds later, where datestamps are days
 abbrev pub issue_of_day : Document
-issue_of_day = told Day (codes "jnl") (issue 62_167_219_195 (article (codes "jnl") ∷ []))
+issue_of_day = item_document Day (codes "jnl") (issue 62_167_219_195 (article (codes "jnl") ∷ []))
 
 -- with a record in another format
 abbrev pub issue_in_both : Document
-issue_in_both = told Day (codes "jnl") (issue 62_167_219_200 (article (codes "jnl") ∷ (codes "oai_dc", []) ∷ []))
+issue_in_both = item_document Day (codes "jnl") (issue 62_167_219_200 (article (codes "jnl") ∷ (codes "oai_dc", []) ∷ []))

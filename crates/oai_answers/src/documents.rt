@@ -1,7 +1,7 @@
 ghost use Rattle.std.specs.Prelude.{◌≡◌, ◌++◌, OnOk, OnErr};
 ghost use Rattle.oai_answers.specs.Answers.{HasWritableTimes, IsWritableDocument};
 ghost use Rattle.oai_answers.specs.Appends.{Appends};
-ghost use Rattle.oai_answers.specs.Borrowed.{answer_of, document_of};
+ghost use Rattle.oai_answers.specs.Borrowed.{body_answer, document_of};
 ghost use Rattle.oai_answers.specs.Documents.{answer_element, document};
 
 use crate::dates::second_element;
@@ -90,9 +90,9 @@ fn append(doc: &Doc<'_>, out: &mut Vec<u8>) -> Result<(), AllocError>
 
 /// Appends the answer itself.
 fn write_body(base: &str, body: &Body<'_>, out: &mut Vec<u8>) -> Result<(), AllocError>
-    requires { HasWritableTimes (answer_of body.now) }
+    requires { HasWritableTimes (body_answer body.now) }
     ensures { OnOk result (Appends out.old.items out.new.items
-        (answer_element base.now (answer_of body.now))) }
+        (answer_element base.now (body_answer body.now))) }
 {
     match body {
         Body::Error(code) => write_error(*code, out),

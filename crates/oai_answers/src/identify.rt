@@ -6,20 +6,10 @@ ghost use Rattle.oai_answers.specs.Documents.{deleted_text, granularity_text, id
 
 use crate::dates::datestamp_element;
 use crate::markup::{end, plain_element, start, text_element, text_elements};
+use oai_item::DeletedRecord;
 use oai_names::Text;
 use oai_time::Granularity;
 use std::alloc::AllocError;
-
-/// What a repository keeps of deleted records (OAI-PMH 2.0, section 2.5.1).
-#[derive(Clone, Copy, Debug, PartialEq, Eq)]
-pub enum DeletedRecord {
-    /// Nothing.
-    No,
-    /// Something, perhaps not for ever.
-    Transient,
-    /// Everything, for ever.
-    Persistent,
-}
 
 /// What Identify tells of a repository beside its base URL (OAI-PMH 2.0, section 4.2).
 #[derive(Clone, Copy, Debug)]

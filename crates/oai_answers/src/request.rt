@@ -2,7 +2,7 @@ ghost use Rattle.std.specs.Prelude.{◌≡◌, OnOk};
 ghost use Rattle.std.specs.Option.{option_copied};
 ghost use Rattle.oai_answers.specs.Answers.{arguments_told, no_arguments};
 ghost use Rattle.oai_answers.specs.Appends.{Appends};
-ghost use Rattle.oai_answers.specs.Borrowed.{answer_of, attributes_of, document_of};
+ghost use Rattle.oai_answers.specs.Borrowed.{body_answer, attributes_of, document_of};
 ghost use Rattle.oai_answers.specs.Documents.{attributes, given_attribute, request_element};
 
 use crate::documents::{Body, Doc};
@@ -69,7 +69,7 @@ fn write_attributes_beside(
     out: &mut Vec<u8>,
 ) -> Result<(), AllocError>
     ensures { OnOk result (Appends out.old.items out.new.items
-        (attributes (arguments_told (answer_of body.now) (attributes_of asked.now)))) }
+        (attributes (arguments_told (body_answer body.now) (attributes_of asked.now)))) }
 {
     match body {
         Body::Error(ErrorCode::BadVerb) => Ok(()),

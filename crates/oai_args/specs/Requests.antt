@@ -1,6 +1,7 @@
 -- What the arguments ask for, as a function; and what reading them answers. OAI-PMH 2.0, sections 3.6 and 4.
-use Rattle.std.specs.Prelude.{◌≡◌, ◌≢◌, ℕ, Bool, ◌&&◌, List, [], bytes_eq, Option, Some, None, option_and_then, Result, Ok, Err, find, if◌then◌else◌, ◌↔◌}
+use Rattle.std.specs.Prelude.{◌≡◌, ◌≢◌, ℕ, Bool, ◌&&◌, List, [], bytes_eq, Option, Some, None, Result, Ok, Err, find, if◌then◌else◌, ◌↔◌}
 use Rattle.oai_names.specs.Names.{is_prefix}
+use Rattle.oai_names.specs.Optional.{◌>>=◌}
 use Rattle.oai_names.specs.declared.list_verbs.ListVerb.{ListVerb}
 use Rattle.oai_names.specs.declared.list_verbs.ListVerb.TheVariants as list
 use Rattle.oai_time.specs.declared.granularity.Granularity.{Granularity}
@@ -19,10 +20,6 @@ use Rattle.oai_args.specs.declared.roles.Part.{Part}
 use Rattle.oai_args.specs.declared.roles.Part.TheVariants.{First, Next}
 use Rattle.oai_args.specs.declared.verbs.Verb.{Verb}
 use Rattle.oai_args.specs.declared.verbs.Verb.TheVariants.{Identify, ListMetadataFormats, ListSets, GetRecord, ListIdentifiers, ListRecords}
-
-infixl 10 ◌>>=◌
-abbrev pub ◌>>=◌ : {A B : Type 0} → Option A → (A → Option B) → Option B
-o >>= f = option_and_then f o
 
 -- a value, if the test passes
 abbrev pub provided : {A : Type 0} → Bool → A → Option A

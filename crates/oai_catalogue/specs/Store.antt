@@ -7,7 +7,7 @@ use Rattle.oai_item.specs.Items.{is_at}
 use Rattle.oai_item.specs.Order.{are_in_order}
 use Rattle.oai_item.specs.declared.faults.Fault.{Fault}
 use Rattle.oai_item.specs.declared.faults.Fault.TheVariants.{Device, Damaged, TooManyPages}
-use Rattle.oai_catalogue.specs.declared.versions.TheConstants.{MOST_FAILURES}
+use Rattle.oai_catalogue.specs.declared.versions.TheConstants.{MAX_FAILURES}
 
 -- ---- the lists
 
@@ -45,7 +45,7 @@ AreInOrder lists = (v : ℕ) → are_in_order (list_at lists v) ≡ true
 -- number that it can have
 pub record IsCounted {A : Type 0} (result : Result A Fault) (old new : ℕ) : Type 0 where
   pub count : old ≤ new
-  pub device : IfErr result (λ fault. fault ≡ Device → (old < new) ⊎ (old ≡ MOST_FAILURES))
+  pub device : IfErr result (λ fault. fault ≡ Device → (old < new) ⊎ (old ≡ MAX_FAILURES))
 
 -- the device is as honest as before; and damage is found only over one that is not
 pub record IsHonest {A : Type 0} (result : Result A Fault) (old new : Bool) : Type 0 where

@@ -3,7 +3,7 @@ ghost use Rattle.oai_item.specs.Encoding.{encoded};
 ghost use Rattle.oai_item.specs.Item.{ItemState};
 ghost use Rattle.oai_item.specs.Items.{item_at, items_after, with_item, without_at};
 ghost use Rattle.oai_item.specs.Selection.{selected};
-ghost use Rattle.oai_item.specs.declared.sizes.TheConstants.{MOST_ITEM_BYTES};
+ghost use Rattle.oai_item.specs.declared.sizes.TheConstants.{MAX_ITEM_BYTES};
 ghost use Rattle.oai_catalogue.specs.Store.{AreInOrder, ChangesOnly, Spares, Spends, list_at, with_list, without_list};
 
 use crate::filters::Filter;
@@ -11,7 +11,7 @@ use oai_item::{Fault, Item};
 use oai_names::{Identifier, Sequence};
 
 /// The last number that the count of a device's failures can have; it then stays there.
-pub const MOST_FAILURES: u64 = 18_446_744_073_709_551_615;
+pub const MAX_FAILURES: u64 = 18_446_744_073_709_551_615;
 
 /// A store of versions: lists of items, each under a number of its own, and each in the order of
 /// datestamps and, where these are equal, of identifiers. A list stands under its number until it is
@@ -56,7 +56,7 @@ pub trait Versions {
     /// one. Its spelling has at most 16,000 bytes. Any fault may come.
     fn put(&mut self, v: u64, item: &Item) -> Result<(), Fault>
         requires stands { IsSome (lists self.old v) }
-        requires fits { length (encoded item.now) ≤ MOST_ITEM_BYTES }
+        requires fits { length (encoded item.now) ≤ MAX_ITEM_BYTES }
         ensures ok { OnOk result (ChangesOnly v (lists self.old) (lists self.new)) }
         ensures list { OnOk result (IsTrue (honest self.old)
             → list_at (lists self.new) v ≡ with_item item.now (list_at (lists self.old) v)) }
@@ -89,7 +89,7 @@ pub trait Versions {
         item: &Item,
     ) -> Result<bool, Fault>
         requires stands { IsSome (lists self.old v) }
-        requires fits { length (encoded item.now) ≤ MOST_ITEM_BYTES }
+        requires fits { length (encoded item.now) ≤ MAX_ITEM_BYTES }
         ensures found { IfOk result (λ found. IsTrue (honest self.old)
             → found ≡ is_some (item_at stamp identifier.now (list_at (lists self.old) v))) }
         ensures ok { OnOk result (ChangesOnly v (lists self.old) (lists self.new)) }

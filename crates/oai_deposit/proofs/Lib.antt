@@ -1,5 +1,6 @@
 pub mod JsonLemmas
 pub mod LineLemmas
+pub mod MemberLemmas
 pub mod ReaderLemmas
 pub mod ReadingLemmas
 pub mod RecordLemmas

@@ -1,28 +1,21 @@
 -- The records of a line: lists and objects as calls see them, and why the prefixes rise.
-use Rattle.std.proofs.Common.{◌≡◌, ℕ, true, Some, is_some, List, [], ◌∷◌, map, String, Global, BTreeMap, string_bytes, Less, Ok, refl, sym, ap, ◌∙◌}
+use Rattle.std.proofs.Common.{◌≡◌, ℕ, true, Some, is_some, List, [], ◌∷◌, map, String, Global, BTreeMap, string_bytes, Less, refl, sym, ap, ◌∙◌}
 use Rattle.std.specs.List.Sorted.{IsStrictlySortedBy}
 use Rattle.std.specs.Map.{keys_of}
-use Rattle.std.specs.Option.{ok_or, option_map}
 use Rattle.std.specs.String.{string_cmp}
 use Rattle.std.specs.Ordering.{nat_cmp, is_lt}
 use Rattle.std.specs.Cmp.Lexicographic.{slice_cmp}
 use Rattle.serde_json.specs.Data.{Data}
-use Rattle.serde_json.specs.Find.{as_array, as_object}
-use Rattle.serde_json.specs.View.{view, items_view}
+use Rattle.serde_json.specs.Find.{as_object}
+use Rattle.serde_json.specs.View.{view}
 use Rattle.serde_json.specs.declared.value.Value.{Value, Object}
 use Rattle.serde_json.proofs.Views.{view-Object}
 use Rattle.oai_item.specs.declared.fields.Field.{Field}
-use Rattle.oai_item.specs.declared.refusals.LineRefusal.TheVariants.{BadCommand}
 use Rattle.oai_item.specs.Item.{Metadata, is_before, are_rising}
-use Rattle.oai_deposit.specs.Json.{elements_in}
-use Rattle.oai_deposit.specs.Lines.{elements_of, field_list_of, record_of, records_of}
-use Rattle.oai_deposit.specs.Readings.{◌>>=◌, each_of}
-use Rattle.oai_deposit.proofs.JsonLemmas.{elements_in-items_view, members_in-members_view, seen}
-use Rattle.oai_deposit.proofs.ReadingLemmas.{bind-Ok, Ok-injective}
-
-pub elements_of-Ok : (d : Data) (vs : List Value) → Some (items_view vs) ≡ as_array d → elements_of d ≡ Ok (map view vs)
-unfolding elements_of
-elements_of-Ok d vs is = ap (λ o. ok_or (option_map elements_in o) BadCommand) (sym is) ∙ ap (λ ds. Ok ds) (elements_in-items_view vs)
+use Rattle.oai_names.specs.Optional.{◌>>=◌, each_of}
+use Rattle.oai_deposit.specs.Lines.{field_list_of, record_of, records_of}
+use Rattle.oai_deposit.proofs.JsonLemmas.{members_in-members_view, seen}
+use Rattle.oai_deposit.proofs.ReadingLemmas.{bind-Some, Some-injective}
 
 pub records_of-Object : (m : BTreeMap (String Global) Value) → records_of (view (Object m)) ≡ each_of record_of (map seen m.entries)
 unfolding records_of
@@ -31,25 +24,25 @@ records_of-Object m = ap records_of (view-Object m) ∙ ap (each_of record_of) (
 pub is_object : (m : BTreeMap (String Global) Value) → is_some (as_object (view (Object m))) ≡ true
 is_object m = ap (λ d. is_some (as_object d)) (view-Object m)
 
-pub record_of-Ok : (m : List ℕ × Data) (fields : List Field) → field_list_of m.1 ≡ Ok fields → record_of m ≡ Ok (m.0, fields)
+pub record_of-Some : (m : List ℕ × Data) (fields : List Field) → field_list_of m.1 ≡ Some fields → record_of m ≡ Some (m.0, fields)
 unfolding record_of
-record_of-Ok m fields is = ap (λ r. r >>= λ fields. Ok (m.0, fields)) is
+record_of-Some m fields is = ap (λ r. r >>= λ fields. Some (m.0, fields)) is
 
 -- a record keeps the name of its member
-record_of-name : (m : List ℕ × Data) (r : Metadata) → record_of m ≡ Ok r → m.0 ≡ r.0
+record_of-name : (m : List ℕ × Data) (r : Metadata) → record_of m ≡ Some r → m.0 ≡ r.0
 unfolding record_of
 record_of-name m r is =
-    let fields = bind-Ok (field_list_of m.1) (λ fields. Ok (m.0, fields)) r is in
-    ap (λ (x : Metadata). x.0) (Ok-injective (m.0, fields.0) r fields.2)
+    let fields = bind-Some (field_list_of m.1) (λ fields. Some (m.0, fields)) r is in
+    ap (λ (x : Metadata). x.0) (Some-injective (m.0, fields.0) r fields.2)
 
-names_kept : (ms : List (List ℕ × Data)) (rs : List Metadata) → each_of record_of ms ≡ Ok rs → map (λ m. m.0) ms ≡ map (λ r. r.0) rs
-names_kept [] rs is = ap (map (λ (r : Metadata). r.0)) (Ok-injective [] rs is)
+names_kept : (ms : List (List ℕ × Data)) (rs : List Metadata) → each_of record_of ms ≡ Some rs → map (λ m. m.0) ms ≡ map (λ r. r.0) rs
+names_kept [] rs is = ap (map (λ (r : Metadata). r.0)) (Some-injective [] rs is)
 names_kept (m ∷ ms) rs is =
-    let first = bind-Ok (record_of m) (λ y. each_of record_of ms >>= λ ys. Ok (y ∷ ys)) rs is in
-    let others = bind-Ok (each_of record_of ms) (λ ys. Ok (first.0 ∷ ys)) rs first.2 in
+    let first = bind-Some (record_of m) (λ y. each_of record_of ms >>= λ ys. Some (y ∷ ys)) rs is in
+    let others = bind-Some (each_of record_of ms) (λ ys. Some (first.0 ∷ ys)) rs first.2 in
     ap (λ name. name ∷ map (λ (m : List ℕ × Data). m.0) ms) (record_of-name m first.0 first.1)
     ∙ ap (λ names. first.0.0 ∷ names) (names_kept ms others.0 others.1)
-    ∙ ap (map (λ (r : Metadata). r.0)) (Ok-injective (first.0 ∷ others.0) rs others.2)
+    ∙ ap (map (λ (r : Metadata). r.0)) (Some-injective (first.0 ∷ others.0) rs others.2)
 
 before : (a b : List ℕ) → slice_cmp nat_cmp a b ≡ Less → is_before a b ≡ true
 before a b less = ap is_lt less
@@ -74,6 +67,6 @@ seen_names [] = refl
 seen_names (e ∷ es) = ap (λ names. string_bytes e.0 ∷ names) (seen_names es)
 
 -- the records of an object's members rise
-pub rising : (es : List (String Global × Value)) (rs : List Metadata) → each_of record_of (map seen es) ≡ Ok rs
+pub rising : (es : List (String Global × Value)) (rs : List Metadata) → each_of record_of (map seen es) ≡ Some rs
     → IsStrictlySortedBy string_cmp (keys_of es) → are_rising rs ≡ true
 rising es rs is sorted = rising_names es rs (sym (seen_names es) ∙ names_kept (map seen es) rs is) sorted

@@ -1,9 +1,25 @@
--- JSON values as plain lists. RFC 8259, sections 3 to 5.
-use Rattle.std.specs.Prelude.{ℕ, Bool, ◌==◌, ◌&&◌, is_some, List, [], ◌∷◌, length}
+-- JSON texts, and their values as plain lists; what a value, or a member of an object, is where it is of a kind. RFC 8259, sections 2 to 8.
+use Rattle.std.specs.Prelude.{◌≡◌, ◌<◌, ℕ, Bool, true, ◌==◌, ◌&&◌, if◌then◌else◌, is_some, List, [], ◌∷◌, length, Option, None, option_map}
 use Rattle.std.specs.List.{list_all}
 use Rattle.std.specs.Option.{option_map_or}
+use Rattle.std.specs.Str.{is_utf8}
 use Rattle.serde_json.specs.Data.{Data, array, object, Items, no_items, item, Members, no_members, member}
-use Rattle.serde_json.specs.Find.{get, as_object}
+use Rattle.serde_json.specs.Read.{read}
+use Rattle.serde_json.specs.Find.{get, as_number, as_str, as_array, as_object, as_u64}
+use Rattle.oai_names.specs.Optional.{◌>>=◌, each_of}
+
+-- ---- a text
+
+-- the value of a JSON text in UTF-8 (RFC 8259, sections 2 and 8.1)
+unfoldable pub json_in : List ℕ → Option Data
+json_in text = if is_utf8 text then read text else None
+
+-- the texts that memory may be taken for: those in UTF-8, but not the empty one
+pub record TakesMemory (line : List ℕ) : Type 0 where
+  pub text : is_utf8 line ≡ true
+  pub some : 0 < length line
+
+-- ---- arrays and objects
 
 -- the elements of an array, in order
 abbrev pub elements_in : Items → List Data
@@ -44,3 +60,25 @@ has_each names d = list_all (λ name. is_some (get name d)) names
 -- an object of exactly these members, which are of different names
 unfoldable pub has_members : List (List ℕ) → Data → Bool
 has_members names d = (size d == length names) && has_each names d
+
+-- ---- a value of a kind, and a member of a kind
+
+-- a list
+unfoldable pub elements_of : Data → Option (List Data)
+elements_of d = option_map elements_in (as_array d)
+
+-- a string, as the member of that name
+unfoldable pub text_at : List ℕ → Data → Option (List ℕ)
+text_at name d = get name d >>= as_str
+
+-- a number: none in it, where it is not of 64 bits, whole and not negative
+unfoldable pub number_at : List ℕ → Data → Option (Option ℕ)
+number_at name d = option_map as_u64 (get name d >>= as_number)
+
+-- a list
+unfoldable pub elements_at : List ℕ → Data → Option (List Data)
+elements_at name d = get name d >>= elements_of
+
+-- a list of strings
+unfoldable pub texts_at : List ℕ → Data → Option (List (List ℕ))
+texts_at name d = elements_at name d >>= each_of as_str

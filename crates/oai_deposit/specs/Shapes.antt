@@ -1,9 +1,8 @@
 -- The JSON object that a command is written as. RFC 8259, sections 4, 5 and 7.
-use Rattle.std.specs.Prelude.{◌≡◌, ◌↔◌, ℕ, List, [], ◌∷◌, map, codes, Some, Ok, Err}
+use Rattle.std.specs.Prelude.{◌≡◌, ◌↔◌, ℕ, List, [], ◌∷◌, map, codes, Some, None}
 use Rattle.serde_json.specs.Data.{Data, string}
 use Rattle.serde_json.specs.Find.{get}
 use Rattle.oai_item.specs.declared.fields.Field.{Field}
-use Rattle.oai_item.specs.declared.refusals.LineRefusal.TheVariants.{BadCommand}
 use Rattle.oai_item.specs.Item.{Metadata}
 use Rattle.oai_deposit.specs.Json.{size, array_of, object_of}
 use Rattle.oai_deposit.specs.Lines.{Shape, deposits, deletes, purges, adds_set, shape_of}
@@ -55,11 +54,10 @@ IsShape (deletes identifier) d = IsDeletion identifier d
 IsShape (purges before) d = IsPurge before d
 IsShape (adds_set spec name) d = IsNewSet spec name d
 
--- the value is of a shape exactly where it is the object that the shape is written as; where it is so of none, it is refused as no
--- command
+-- the value is of a shape exactly where it is the object that the shape is written as, and of none exactly where it is no such object
 pub record IsReadAsWritten (d : Data) : Type 0 where
-  pub fits : (shape : Shape) → (shape_of d ≡ Ok shape) ↔ IsShape shape d
-  pub fits_none : (shape_of d ≡ Err BadCommand) ↔ ((shape : Shape) → ¬ IsShape shape d)
+  pub fits : (shape : Shape) → (shape_of d ≡ Some shape) ↔ IsShape shape d
+  pub fits_none : (shape_of d ≡ None) ↔ ((shape : Shape) → ¬ IsShape shape d)
 
 -- the law of the shapes, at every value
 abbrev pub ShapeLaw : Type 0

@@ -1,16 +1,28 @@
-ghost use Rattle.std.specs.Prelude.{◌≡◌, true, is_ok, is_some, map};
+ghost use Rattle.std.specs.Prelude.{◌≡◌, is_some, map, option_copied, option_map, IfOk, OnErr};
 ghost use Rattle.std.specs.List.{list_all};
 ghost use Rattle.serde_json.specs.Find.{get};
 ghost use Rattle.serde_json.specs.View.{view};
-ghost use Rattle.oai_deposit.specs.Calls.{Anywhere, Reads};
 ghost use Rattle.oai_deposit.specs.Json as json;
-ghost use Rattle.oai_deposit.specs.Lines as lines;
-ghost use Rattle.oai_deposit.specs.Readings.{GivesBy, each_of};
 
-use crate::faults::LineFault;
-use oai_item::LineRefusal;
 use serde_json::Value;
-use std::alloc::Global;
+use std::alloc::{AllocError, Global};
+
+/// The JSON value that the text is, in UTF-8 (RFC 8259); `None` where it is no JSON text. The error is
+/// out of memory, which does not come for a text that is empty or not in UTF-8.
+#[tactic(auto, unfolding(crate::specs::Json::json_in))]
+pub fn read_json(alloc: Global, text: &[u8]) -> Result<Option<Value>, AllocError>
+    ensures ok { IfOk result (λ value. json.json_in text.now ≡ option_map view value) }
+    ensures err { OnErr result (json.TakesMemory text.now) }
+{
+    let Ok(text) = str::from_utf8(text) else {
+        return Ok(None);
+    };
+    match Value::from_str(alloc, text) {
+        Ok(value) => Ok(Some(value)),
+        Err(error) if error.is_memory() => Err(AllocError),
+        Err(_) => Ok(None),
+    }
+}
 
 /// Whether the value is an object of exactly these members (RFC 8259, section 4), in any order. It takes
 /// no memory.
@@ -45,58 +57,47 @@ fn size(value: &Value) -> usize
     }
 }
 
-/// The member of that name; `BadCommand` where there is none.
-#[tactic(auto, unfolding(crate::specs::Lines::member_of))]
-pub(crate) fn member_of<'v>(value: &'v Value, name: &str) -> Result<&'v Value, LineRefusal>
-    ensures { Reads (λ v. view v.now) result (lines.member_of name.now (view value.now)) }
+/// The text of the member of that name; `None` where there is no such string. It takes no memory.
+#[tactic(auto, unfolding(crate::specs::Json::text_at))]
+pub fn text_at<'v>(value: &'v Value, name: &str) -> Option<&'v str>
+    ensures { json.text_at name.now (view value.now) ≡ option_copied result }
 {
     match value.get(name) {
-        Some(member) => Ok(member),
-        None => Err(LineRefusal::BadCommand),
+        Some(member) => member.as_str(),
+        None => None,
     }
 }
 
-/// The elements of an array; `BadCommand` at any other value.
-#[tactic(auto, unfolding(crate::specs::Lines::elements_of))]
-pub(crate) fn elements_of(value: &Value) -> Result<&[Value], LineRefusal>
-    ensures { Reads (λ values. map view values.now) result (lines.elements_of (view value.now)) }
+/// The number of the member of that name, `None` in it where it is none of 64 bits that is whole and
+/// not negative; `None` where there is no such number. It takes no memory.
+#[tactic(auto, unfolding(crate::specs::Json::number_at))]
+pub fn number_at(value: &Value, name: &str) -> Option<Option<u64>>
+    ensures { json.number_at name.now (view value.now) ≡ result }
+{
+    match value.get(name)?.as_number() {
+        Some(number) => Some(number.as_u64()),
+        None => None,
+    }
+}
+
+/// The elements of the member of that name; `None` where there is no such array. It takes no memory.
+#[tactic(auto, unfolding(crate::specs::Json::elements_at))]
+pub fn elements_at<'v>(value: &'v Value, name: &str) -> Option<&'v [Value]>
+    ensures { json.elements_at name.now (view value.now) ≡ option_map (λ values. map view values.now) result }
+{
+    match value.get(name) {
+        Some(member) => elements_of(member),
+        None => None,
+    }
+}
+
+/// The elements of an array; `None` at any other value.
+#[tactic(auto, unfolding(crate::specs::Json::elements_of))]
+pub(crate) fn elements_of(value: &Value) -> Option<&[Value]>
+    ensures { json.elements_of (view value.now) ≡ option_map (λ values. map view values.now) result }
 {
     match value.as_array() {
-        Some(values) => Ok(values.as_slice()),
-        None => Err(LineRefusal::BadCommand),
+        Some(values) => Some(values.as_slice()),
+        None => None,
     }
-}
-
-/// The text of a string; `BadCommand` at any other value.
-#[tactic(auto, unfolding(crate::specs::Lines::text_of))]
-pub(crate) fn text_of(value: &Value) -> Result<&str, LineRefusal>
-    ensures { Reads (λ text. text.now) result (lines.text_of (view value.now)) }
-{
-    match value.as_str() {
-        Some(text) => Ok(text),
-        None => Err(LineRefusal::BadCommand),
-    }
-}
-
-/// The texts of an array of strings; `BadCommand` at any other value.
-#[tactic(auto, unfolding(crate::specs::Lines::texts_of))]
-pub(crate) fn texts_of(alloc: Global, value: &Value) -> Result<Vec<&str>, LineFault>
-    ensures { GivesBy (λ texts. map (λ text. text.now) texts.items)
-        (is_ok (lines.elements_of (view value.now)) ≡ true) result
-        (lines.texts_of (view value.now)) }
-{
-    texts_in(alloc, elements_of(value)?)
-}
-
-/// The text of each string; `BadCommand` at the first that is none.
-#[tactic(auto, using(crate::proofs::ReadingLemmas::starts))]
-fn texts_in(alloc: Global, values: &[Value]) -> Result<Vec<&str>, LineFault>
-    ensures { GivesBy (λ texts. map (λ text. text.now) texts.items) Anywhere result
-        (each_of lines.text_of (map view values.now)) }
-{
-    let mut texts = Vec::new(alloc);
-    for value in values {
-        texts.push(text_of(value)?)?;
-    }
-    Ok(texts)
 }

@@ -1,11 +1,13 @@
-//! Deposit lines: which change a line of JSON asks a repository for, or why the line is refused.
+//! Deposit lines: which change a line of JSON asks a repository for, or why the line is refused. And
+//! what a JSON value has, for whatever else is told in JSON.
 #![tactic(auto)]
 
 mod faults;
 mod json;
 mod lines;
+mod members;
 mod records;
 
 pub use faults::LineFault;
-pub use json::has_members;
+pub use json::{elements_at, has_members, number_at, read_json, text_at};
 pub use lines::{read_line, shape_law};

@@ -1,17 +1,21 @@
-ghost use Rattle.std.specs.Prelude.{◌≡◌, true, map, is_ok};
+ghost use Rattle.std.specs.Prelude.{◌≡◌, true, map, is_some};
+ghost use Rattle.std.specs.List.{list_all};
 ghost use Rattle.serde_json.specs.View.{view};
 ghost use Rattle.oai_names.specs.Names.{may_be_identifier};
+ghost use Rattle.oai_names.specs.Optional.{each_of, tested};
 ghost use Rattle.oai_names.specs.Sets.{may_be_set_spec};
 ghost use Rattle.oai_item.specs.ShortTexts.{is_short_text};
 ghost use Rattle.oai_item.specs.declared.refusals.LineRefusal.TheVariants.{BadIdentifier, BadSetSpec, BadText};
-ghost use Rattle.oai_deposit.specs.Calls.{Anywhere, asked_by, has_command_members};
+ghost use Rattle.oai_deposit.specs.Calls.{Anywhere, has_command_members};
+ghost use Rattle.oai_deposit.specs.Json as json;
 ghost use Rattle.oai_deposit.specs.Lines as lines;
-ghost use Rattle.oai_deposit.specs.Readings.{Gives, GivesBy, each_of, tested};
+ghost use Rattle.oai_deposit.specs.Readings.{FindsBy, Gives, passed};
 ghost use Rattle.oai_deposit.specs.Shapes.{ShapeLaw};
 
 use crate::faults::LineFault;
-use crate::json::{has_members, member_of, text_of, texts_of};
-use crate::records::{have_xml_texts, records_of};
+use crate::json::{has_members, read_json};
+use crate::members::{command_text, texts_at};
+use crate::records::{have_xml_texts, records_at};
 use oai_item::{Change, LineRefusal, Records, is_short_text};
 use oai_names::{Identifier, NameFault, Sequence, SetSpec, Text};
 use serde_json::Value;
@@ -24,10 +28,12 @@ use std::alloc::Global;
 /// Each text of the JSON value is copied at most once.
 #[tactic(auto, unfolding(crate::specs::Lines::line_of))]
 pub fn read_line(alloc: Global, line: &[u8]) -> Result<Change, LineFault>
-    ensures { Gives (lines.TakesMemory line.now) result (lines.line_of line.now) }
+    ensures { Gives (json.TakesMemory line.now) result (lines.line_of line.now) }
 {
-    let value = json_of(alloc, line)?;
-    read_value(alloc, &value)
+    match read_json(alloc, line)? {
+        Some(value) => read_value(alloc, &value),
+        None => Err(LineFault::Refused(LineRefusal::BadJson)),
+    }
 }
 
 /// The law of the shapes: a value has the shape of a command exactly where it is the JSON object
@@ -37,26 +43,11 @@ pub fn shape_law()
     ensures { ShapeLaw }
 {}
 
-/// The JSON text that the line is.
-#[tactic(auto, unfolding(crate::specs::Lines::json_of))]
-fn json_of(alloc: Global, line: &[u8]) -> Result<Value, LineFault>
-    ensures { GivesBy view (lines.TakesMemory line.now) result (lines.json_of line.now) }
-{
-    let Ok(text) = str::from_utf8(line) else {
-        return Err(LineFault::Refused(LineRefusal::BadJson));
-    };
-    match Value::from_str(alloc, text) {
-        Ok(value) => Ok(value),
-        Err(error) if error.is_memory() => Err(LineFault::NoMemory),
-        Err(_) => Err(LineFault::Refused(LineRefusal::BadJson)),
-    }
-}
-
 /// The change that the value asks for, of the shape that its members have.
 #[tactic(auto, unfolding(crate::specs::Lines::shape_of))]
 fn read_value(alloc: Global, value: &Value) -> Result<Change, LineFault>
     ensures { Gives (has_command_members (view value.now) ≡ true) result
-        (asked_by (lines.shape_of (view value.now))) }
+        (lines.change_asked (lines.shape_of (view value.now))) }
 {
     if has_members(value, &["deposit", "sets", "records"]) {
         deposit_of(alloc, value)
@@ -75,11 +66,11 @@ fn read_value(alloc: Global, value: &Value) -> Result<Change, LineFault>
 /// looked at.
 #[tactic(auto, unfolding(crate::specs::Lines::deposit_shape))]
 fn deposit_of(alloc: Global, value: &Value) -> Result<Change, LineFault>
-    ensures { Gives Anywhere result (asked_by (lines.deposit_shape (view value.now))) }
+    ensures { Gives Anywhere result (lines.change_asked (lines.deposit_shape (view value.now))) }
 {
-    let identifier = text_of(member_of(value, "deposit")?)?;
-    let sets = texts_of(alloc, member_of(value, "sets")?)?;
-    let records = records_of(alloc, member_of(value, "records")?)?;
+    let identifier = command_text(value, "deposit")?;
+    let sets = texts_at(alloc, value, "sets")?;
+    let records = records_at(alloc, value)?;
     deposit_from(alloc, identifier, sets.as_slice(), records)
 }
 
@@ -110,10 +101,10 @@ fn deposit_from(
 /// The deletion that an object of its member asks for.
 #[tactic(auto, unfolding(crate::specs::Lines::deletion_shape))]
 fn deletion_of(alloc: Global, value: &Value) -> Result<Change, LineFault>
-    ensures { Gives (is_ok (lines.deletion_shape (view value.now)) ≡ true) result
-        (asked_by (lines.deletion_shape (view value.now))) }
+    ensures { Gives (is_some (lines.deletion_shape (view value.now)) ≡ true) result
+        (lines.change_asked (lines.deletion_shape (view value.now))) }
 {
-    let identifier = text_of(member_of(value, "delete")?)?;
+    let identifier = command_text(value, "delete")?;
     deletion_from(alloc, identifier)
 }
 
@@ -131,10 +122,10 @@ fn deletion_from(alloc: Global, identifier: &str) -> Result<Change, LineFault>
 /// The purge that an object of its member asks for.
 #[tactic(auto, unfolding(crate::specs::Lines::purge_shape, crate::specs::Lines::asked_change))]
 fn purge_of(alloc: Global, value: &Value) -> Result<Change, LineFault>
-    ensures { Gives (is_ok (lines.purge_shape (view value.now)) ≡ true) result
-        (asked_by (lines.purge_shape (view value.now))) }
+    ensures { Gives (is_some (lines.purge_shape (view value.now)) ≡ true) result
+        (lines.change_asked (lines.purge_shape (view value.now))) }
 {
-    let before = text_of(member_of(value, "purge")?)?;
+    let before = command_text(value, "purge")?;
     Ok(Change::Purge {
         before: Text::new(alloc, before)?,
     })
@@ -143,11 +134,11 @@ fn purge_of(alloc: Global, value: &Value) -> Result<Change, LineFault>
 /// The new set that an object of its members asks for.
 #[tactic(auto, unfolding(crate::specs::Lines::set_shape))]
 fn new_set_of(alloc: Global, value: &Value) -> Result<Change, LineFault>
-    ensures { Gives (is_ok (lines.set_shape (view value.now)) ≡ true) result
-        (asked_by (lines.set_shape (view value.now))) }
+    ensures { Gives (is_some (lines.set_shape (view value.now)) ≡ true) result
+        (lines.change_asked (lines.set_shape (view value.now))) }
 {
-    let spec = text_of(member_of(value, "set")?)?;
-    let name = text_of(member_of(value, "name")?)?;
+    let spec = command_text(value, "set")?;
+    let name = command_text(value, "name")?;
     new_set_from(alloc, spec, name)
 }
 
@@ -166,7 +157,7 @@ fn new_set_from(alloc: Global, spec: &str, name: &str) -> Result<Change, LineFau
 /// The identifier that the text is; `BadIdentifier` where it is none.
 fn identifier_of(alloc: Global, text: &str) -> Result<Identifier, LineFault>
     ensures { Gives (may_be_identifier text.now ≡ true) result
-        (tested may_be_identifier BadIdentifier text.now) }
+        (passed (may_be_identifier text.now) BadIdentifier text.now) }
 {
     match Identifier::read(alloc, text) {
         Ok(identifier) => Ok(identifier),
@@ -176,11 +167,19 @@ fn identifier_of(alloc: Global, text: &str) -> Result<Identifier, LineFault>
     }
 }
 
-/// The setSpec that each text is, in order; `BadSetSpec` at the first that is none.
-#[tactic(auto, using(crate::proofs::ReadingLemmas::starts))]
+/// The setSpec that each text is, in order; `BadSetSpec` where one is none.
 fn set_specs_of(alloc: Global, texts: &[&str]) -> Result<Sequence<SetSpec>, LineFault>
-    ensures { Gives Anywhere result
-        (each_of (tested may_be_set_spec BadSetSpec) (map (λ text. text.now) texts.now)) }
+    ensures { Gives Anywhere result (passed (list_all may_be_set_spec (map (λ text. text.now) texts.now))
+        BadSetSpec (map (λ text. text.now) texts.now)) }
+{
+    each_set_spec(alloc, texts)
+}
+
+/// The same, up to the first that is none.
+#[tactic(auto, using(crate::proofs::ReadingLemmas::starts))]
+fn each_set_spec(alloc: Global, texts: &[&str]) -> Result<Sequence<SetSpec>, LineFault>
+    ensures { FindsBy BadSetSpec (λ specs. specs) Anywhere result
+        (each_of (tested may_be_set_spec) (map (λ text. text.now) texts.now)) }
 {
     let mut specs = Vec::new(alloc);
     for text in texts {
@@ -192,7 +191,7 @@ fn set_specs_of(alloc: Global, texts: &[&str]) -> Result<Sequence<SetSpec>, Line
 /// The setSpec that the text is; `BadSetSpec` where it is none.
 fn set_spec_of(alloc: Global, text: &str) -> Result<SetSpec, LineFault>
     ensures { Gives (may_be_set_spec text.now ≡ true) result
-        (tested may_be_set_spec BadSetSpec text.now) }
+        (passed (may_be_set_spec text.now) BadSetSpec text.now) }
 {
     match SetSpec::read(alloc, text) {
         Ok(spec) => Ok(spec),
@@ -205,7 +204,7 @@ fn set_spec_of(alloc: Global, text: &str) -> Result<SetSpec, LineFault>
 /// The setName that the text is; `BadText` where it is none.
 fn set_name_of(alloc: Global, text: &str) -> Result<Text, LineFault>
     ensures { Gives (is_short_text text.now ≡ true) result
-        (tested is_short_text BadText text.now) }
+        (passed (is_short_text text.now) BadText text.now) }
 {
     if !is_short_text(text) {
         return Err(LineFault::Refused(LineRefusal::BadText));

@@ -1,25 +1,39 @@
-ghost use Rattle.std.specs.Prelude.{◌≡◌, true, map, is_ok, is_some, string_bytes};
+ghost use Rattle.std.specs.Prelude.{◌≡◌, true, map, is_some, string_bytes, Some};
 ghost use Rattle.std.specs.List.{list_all};
 ghost use Rattle.serde_json.specs.Find.{as_object};
 ghost use Rattle.serde_json.specs.View.{view};
 ghost use Rattle.oai_names.specs.Characters.{is_xml_text};
+ghost use Rattle.oai_names.specs.Optional.{each_of};
 ghost use Rattle.oai_deposit.specs.Calls.{Anywhere};
+ghost use Rattle.oai_deposit.specs.Json as json;
 ghost use Rattle.oai_deposit.specs.Lines as lines;
-ghost use Rattle.oai_deposit.specs.Readings.{Gives, each_of};
+ghost use Rattle.oai_deposit.specs.Readings.{Finds};
 
 use crate::faults::LineFault;
-use crate::json::{elements_of, text_of};
+use crate::json::elements_of;
+use crate::members::text_of;
 use oai_item::{Field, LineRefusal, Records};
 use oai_names::{Sequence, Text, is_xml_text};
 use serde_json::Value;
 use std::alloc::Global;
 use std::collections::BTreeMap;
 
+/// The records that the member of them has; `BadCommand` where there is no such member.
+#[tactic(auto, unfolding(crate::specs::Lines::records_at))]
+pub(crate) fn records_at(alloc: Global, value: &Value) -> Result<Records, LineFault>
+    ensures { Finds Anywhere result (lines.records_at (view value.now)) }
+{
+    match value.get("records") {
+        Some(records) => records_of(alloc, records),
+        None => Err(LineFault::Refused(LineRefusal::BadCommand)),
+    }
+}
+
 /// The records that the members of an object are; `BadCommand` at any other value. Each text is
 /// copied once.
 #[tactic(auto, unfolding(crate::specs::Lines::records_of))]
-pub(crate) fn records_of(alloc: Global, value: &Value) -> Result<Records, LineFault>
-    ensures { Gives (is_some (as_object (view value.now)) ≡ true) result
+fn records_of(alloc: Global, value: &Value) -> Result<Records, LineFault>
+    ensures { Finds (is_some (as_object (view value.now)) ≡ true) result
         (lines.records_of (view value.now)) }
 {
     match value {
@@ -31,7 +45,7 @@ pub(crate) fn records_of(alloc: Global, value: &Value) -> Result<Records, LineFa
 /// The record that each member is, in the order of the prefixes.
 #[tactic(auto, using(crate::proofs::ReadingLemmas::starts), unfolding(crate::specs::Lines::record_of))]
 fn records_in(alloc: Global, members: &BTreeMap<String, Value>) -> Result<Records, LineFault>
-    ensures { Gives Anywhere result
+    ensures { Finds Anywhere result
         (each_of lines.record_of (map (λ m. (string_bytes m.0, view m.1)) members.now.entries)) }
 {
     let mut records = Vec::new(alloc);
@@ -45,16 +59,19 @@ fn records_in(alloc: Global, members: &BTreeMap<String, Value>) -> Result<Record
 /// The fields of an array of them; `BadCommand` at any other value.
 #[tactic(auto, unfolding(crate::specs::Lines::field_list_of))]
 fn field_list_of(alloc: Global, value: &Value) -> Result<Sequence<Field>, LineFault>
-    ensures { Gives (is_ok (lines.elements_of (view value.now)) ≡ true) result
+    ensures { Finds (is_some (json.elements_of (view value.now)) ≡ true) result
         (lines.field_list_of (view value.now)) }
 {
-    fields_in(alloc, elements_of(value)?)
+    match elements_of(value) {
+        Some(values) => fields_in(alloc, values),
+        None => Err(LineFault::Refused(LineRefusal::BadCommand)),
+    }
 }
 
 /// The field that each value is; `BadCommand` at the first that is none.
 #[tactic(auto, using(crate::proofs::ReadingLemmas::starts))]
 fn fields_in(alloc: Global, values: &[Value]) -> Result<Sequence<Field>, LineFault>
-    ensures { Gives Anywhere result (each_of lines.field_of (map view values.now)) }
+    ensures { Finds Anywhere result (each_of lines.field_of (map view values.now)) }
 {
     let mut fields = Vec::new(alloc);
     for value in values {
@@ -66,16 +83,19 @@ fn fields_in(alloc: Global, values: &[Value]) -> Result<Sequence<Field>, LineFau
 /// The field that `[NAME,TEXT]` is; `BadCommand` at any other value.
 #[tactic(auto, unfolding(crate::specs::Lines::field_of))]
 fn field_of(alloc: Global, value: &Value) -> Result<Field, LineFault>
-    ensures { Gives (is_ok (lines.field_of (view value.now)) ≡ true) result
+    ensures { Finds (is_some (lines.field_of (view value.now)) ≡ true) result
         (lines.field_of (view value.now)) }
 {
-    pair_of(alloc, elements_of(value)?)
+    match elements_of(value) {
+        Some(values) => pair_of(alloc, values),
+        None => Err(LineFault::Refused(LineRefusal::BadCommand)),
+    }
 }
 
 /// The field of two strings; `BadCommand` at any other values.
 #[tactic(auto, unfolding(crate::specs::Lines::pair_of))]
 fn pair_of(alloc: Global, values: &[Value]) -> Result<Field, LineFault>
-    ensures { Gives (is_ok (lines.pair_of (map view values.now)) ≡ true) result
+    ensures { Finds (is_some (lines.pair_of (map view values.now)) ≡ true) result
         (lines.pair_of (map view values.now)) }
 {
     match values {
@@ -86,7 +106,7 @@ fn pair_of(alloc: Global, values: &[Value]) -> Result<Field, LineFault>
 
 /// The field of that name and that text.
 fn field_from(alloc: Global, name: &str, text: &str) -> Result<Field, LineFault>
-    ensures { Gives Anywhere result (Ok (record { name = name.now; text = text.now })) }
+    ensures { Finds Anywhere result (Some (record { name = name.now; text = text.now })) }
 {
     Ok(Field {
         name: Text::new(alloc, name)?,

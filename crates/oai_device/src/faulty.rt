@@ -1,6 +1,6 @@
 ghost use Rattle.std.specs.Prelude.{◌≡◌, ◌+◌, if◌then◌else◌, min};
 
-use crate::devices::{DeviceFault, MOST_FAILURES, Page, PageDevice};
+use crate::devices::{DeviceFault, MAX_FAILURES, Page, PageDevice};
 
 /// A device over another one, of whose calls one fails, for tests of what stands on devices.
 #[derive(Drop)]
@@ -11,11 +11,11 @@ pub struct FaultyDevice<D: PageDevice> {
 }
 
 impl<D: PageDevice> PageDevice for FaultyDevice<D> {
-    ghost use Rattle.oai_device.specs.declared.devices.TheConstants.{MOST_FAILURES};
+    ghost use Rattle.oai_device.specs.declared.devices.TheConstants.{MAX_FAILURES};
 
     ghost pages = { λ d. D.pages d.inner };
 
-    ghost failures = { λ d. min (D.failures d.inner + d.failed) MOST_FAILURES };
+    ghost failures = { λ d. min (D.failures d.inner + d.failed) MAX_FAILURES };
 
     ghost honest = { λ d. D.honest d.inner };
 
@@ -48,7 +48,7 @@ impl<D: PageDevice> FaultyDevice<D> {
     pub fn new(inner: D, k: u64) -> FaultyDevice<D>
         ensures pages { ⟦<FaultyDevice<D> as PageDevice>⟧.pages result ≡ D.pages inner }
         ensures failures { ⟦<FaultyDevice<D> as PageDevice>⟧.failures result
-            ≡ min (D.failures inner) MOST_FAILURES }
+            ≡ min (D.failures inner) MAX_FAILURES }
         ensures honest { ⟦<FaultyDevice<D> as PageDevice>⟧.honest result ≡ D.honest inner }
     {
         FaultyDevice {
@@ -62,7 +62,7 @@ impl<D: PageDevice> FaultyDevice<D> {
     fn fails(&mut self) -> bool
         ensures inner { self.new.inner ≡ self.old.inner }
         ensures failed { self.new.failed
-            ≡ (if result then min (self.old.failed + 1) MOST_FAILURES else self.old.failed) }
+            ≡ (if result then min (self.old.failed + 1) MAX_FAILURES else self.old.failed) }
     {
         let fails = self.calls_left == 1;
         self.calls_left = self.calls_left.saturating_sub(1);

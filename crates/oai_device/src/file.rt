@@ -7,7 +7,7 @@ ghost use Rattle.std.specs.Prelude.{◌≡◌, ◌⊎◌, ◌<◌, ◌≤◌, �
 ghost use Rattle.std.specs.Map.{lookup};
 ghost use Rattle.oai_device.specs.declared.devices.DeviceFault.TheVariants as fault;
 
-use crate::devices::{DeviceFault, MOST_FAILURES, PAGE_BYTES, Page, PageDevice};
+use crate::devices::{DeviceFault, MAX_FAILURES, PAGE_BYTES, Page, PageDevice};
 use crate::written::Written;
 use std::fs::File;
 use std::os::unix::fs::FileExt;
@@ -71,7 +71,7 @@ fn start_of(no: u32) -> u64 {
 fn counted(done: bool, failed: &mut u64) -> Result<(), DeviceFault>
     ensures ok { is_ok result ≡ done }
     ensures fault { IfErr result (λ cause. cause ≡ fault.Failed) }
-    ensures counted { OnErr result ((failed.old < failed.new) ⊎ (failed.old ≡ MOST_FAILURES)) }
+    ensures counted { OnErr result ((failed.old < failed.new) ⊎ (failed.old ≡ MAX_FAILURES)) }
     ensures count { failed.old ≤ failed.new }
 {
     if done {

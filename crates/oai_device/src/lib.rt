@@ -9,7 +9,7 @@ mod flipping;
 mod memory;
 mod written;
 
-pub use devices::{DeviceFault, MOST_FAILURES, PAGE_BYTES, Page, PageDevice};
+pub use devices::{DeviceFault, MAX_FAILURES, PAGE_BYTES, Page, PageDevice};
 pub use faulty::FaultyDevice;
 pub use file::FileDevice;
 pub use flipping::FlippingDevice;

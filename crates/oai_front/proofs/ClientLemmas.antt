@@ -21,7 +21,7 @@ use Rattle.oai_http.specs.declared.exchanges.Answer.{Answer}
 use Rattle.oai_http.specs.declared.statuses.Status.{Status}
 use Rattle.oai_http.specs.declared.statuses.Status.TheVariants as status
 use Rattle.oai_front.specs.Clients.{IsReadBack}
-use Rattle.oai_front.specs.Fields.{any_close, is_alike, is_named, lists_close, values_named}
+use Rattle.oai_front.specs.Fields.{any_close, is_alike, is_field_named, lists_close, values_named}
 use Rattle.oai_front.specs.Heads.{allow_field, answer_bytes, answer_head, close_field, done_field, fault_bytes, field, head_told, length_field, plain, retry_field, status_fields, status_line, type_field}
 use Rattle.oai_front.specs.declared.heads.AnswerHead.{AnswerHead}
 use Rattle.oai_http.specs.declared.targets.Endpoint.{Endpoint}
@@ -116,9 +116,9 @@ record Tells (bytes : List ℕ) (sizes closes : List (List ℕ)) : Type 0 where
 values_join : (name : List ℕ) (fields others : List Field) → values name (fields ++ others) ≡ values name fields ++ values name others
 unfolding values_named
 values_join name fields others =
-    ap (λ (xs : List (List ℕ × List ℕ)). map (λ field. field.1) (filter (is_named name) xs)) (map-append name_and_value fields others)
-    ∙ ap (map (λ (field : List ℕ × List ℕ). field.1)) (filter-append (is_named name) (map name_and_value fields) (map name_and_value others))
-    ∙ map-append (λ (field : List ℕ × List ℕ). field.1) (filter (is_named name) (map name_and_value fields)) (filter (is_named name) (map name_and_value others))
+    ap (λ (xs : List (List ℕ × List ℕ)). map (λ field. field.1) (filter (is_field_named name) xs)) (map-append name_and_value fields others)
+    ∙ ap (map (λ (field : List ℕ × List ℕ). field.1)) (filter-append (is_field_named name) (map name_and_value fields) (map name_and_value others))
+    ∙ map-append (λ (field : List ℕ × List ℕ). field.1) (filter (is_field_named name) (map name_and_value fields)) (filter (is_field_named name) (map name_and_value others))
 
 nothing : Tells [] [] []
 unfolding values_named

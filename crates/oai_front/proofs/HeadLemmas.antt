@@ -12,14 +12,14 @@ use Rattle.httparse.specs.declared.spans.RequestSpans.{RequestSpans}
 use Rattle.httparse.specs.declared.spans.Span.{Span}
 use Rattle.httparse.proofs.GrammarLemmas.{ReadsRequest-append}
 use Rattle.oai_http.specs.declared.statuses.Status.{Status}
-use Rattle.oai_front.specs.Fields.{first_value, plan_of, values_named}
-use Rattle.oai_front.specs.Messages.{Begins, HasNoHead, IsRefused, NeverHasHead, fields_of, plan_behind}
-use Rattle.oai_front.specs.Workings.{IsBeginning, IsHead, IsKept}
-use Rattle.oai_front.specs.declared.beginnings.Beginning.{Beginning}
-use Rattle.oai_front.specs.declared.beginnings.Beginning.TheVariants.{Unknown, Fault, Whole}
-use Rattle.oai_front.specs.declared.beginnings.Head.{Head}
-use Rattle.oai_front.specs.declared.plans.Plan.{Plan}
-use Rattle.oai_front.specs.declared.beginnings.TheConstants.{MOST_HEAD_FIELDS, MOST_HEAD_BYTES}
+use Rattle.oai_front.specs.Fields.{first_value, framing_of, values_named}
+use Rattle.oai_front.specs.Messages.{Begins, HasNoHead, IsRefused, NeverHasHead, head_fields, framing_in}
+use Rattle.oai_front.specs.RequestHeads.{IsHeadParse, IsHead, IsKept}
+use Rattle.oai_front.specs.declared.request_heads.HeadParse.{HeadParse}
+use Rattle.oai_front.specs.declared.request_heads.HeadParse.TheVariants.{Unknown, Fault, Whole}
+use Rattle.oai_front.specs.declared.request_heads.Head.{Head}
+use Rattle.oai_front.specs.declared.framings.Framing.{Framing}
+use Rattle.oai_front.specs.declared.request_heads.TheConstants.{MAX_HEAD_FIELDS, MAX_HEAD_BYTES}
 
 -- ---- more bytes
 
@@ -35,7 +35,7 @@ refused_more bytes more status r = record {
   head = r.head;
   behind = r.behind ++ more;
   begins = begins_more bytes more r.head r.behind r.begins;
-  plan = r.plan;
+  framing = r.framing;
 }
 
 within_more : (bytes more : List ℕ) (s : Span) → IsWithin (length bytes) s → IsWithin (length (bytes ++ more)) s
@@ -61,7 +61,7 @@ head_more bytes more kept h = record {
   head = h.head;
   behind = h.behind ++ more;
   begins = begins_more bytes more h.head h.behind h.begins;
-  plan = h.plan;
+  framing = h.framing;
   start = h.start;
   method_in = within_more bytes more kept.method h.method_in;
   method = sym (span_more bytes more kept.method h.method_in) ∙ h.method;
@@ -71,30 +71,30 @@ head_more bytes more kept h = record {
   content_type = sym (spans_more bytes more kept.content_type h.type_in) ∙ h.content_type;
 }
 
-kept_more : (bytes more : List ℕ) (b : Beginning) → IsKept bytes b → IsBeginning (bytes ++ more) b
+kept_more : (bytes more : List ℕ) (b : HeadParse) → IsKept bytes b → IsHeadParse (bytes ++ more) b
 kept_more bytes more Unknown k = absurd k
 kept_more bytes more (Fault status) k = inr (refused_more bytes more status k)
 kept_more bytes more (Whole head) k = head_more bytes more head k
 
 -- what is kept of the first so many bytes is kept of all
-pub kept_in_front : (bytes : List ℕ) (most : ℕ) (b : Beginning) → IsKept (take most bytes) b → IsBeginning bytes b
+pub kept_in_front : (bytes : List ℕ) (most : ℕ) (b : HeadParse) → IsKept (take most bytes) b → IsHeadParse bytes b
 kept_in_front bytes most b k =
-    subst (λ (all : List ℕ). IsBeginning all b) (take-append-drop most bytes) (kept_more (take most bytes) (drop most bytes) b k)
+    subst (λ (all : List ℕ). IsHeadParse all b) (take-append-drop most bytes) (kept_more (take most bytes) (drop most bytes) b k)
 
 -- ---- the first so many bytes
 
 -- a head is seen in as many bytes as it may have
-begins_front : (bytes : List ℕ) (most : ℕ) (head : RequestHead) (behind : List ℕ) → MOST_HEAD_BYTES ≤ most → Begins bytes head behind
+begins_front : (bytes : List ℕ) (most : ℕ) (head : RequestHead) (behind : List ℕ) → MAX_HEAD_BYTES ≤ most → Begins bytes head behind
     → ReadsRequest (take most bytes) head (take (most - length (print_request head)) behind)
 begins_front bytes most head behind room b =
     let text = print_request head in
     let long : length text + (most - length text) ≡ most = omega (arith, b.short) in
     (b.reads.0, ap (take most) b.reads.1 ∙ ap (λ (n : ℕ). take n (text ++ behind)) (sym long) ∙ take-append-add text behind (most - length text))
 
-pub none_in_front : (bytes : List ℕ) (most : ℕ) → MOST_HEAD_BYTES ≤ most → HasNoRequest (take most bytes) → HasNoHead bytes
+pub none_in_front : (bytes : List ℕ) (most : ℕ) → MAX_HEAD_BYTES ≤ most → HasNoRequest (take most bytes) → HasNoHead bytes
 none_in_front bytes most room none head behind b = none head _ (begins_front bytes most head behind room b)
 
-pub never_in_front : (bytes : List ℕ) (most : ℕ) → MOST_HEAD_BYTES ≤ most → most ≤ length bytes → HasNoRequest (take most bytes) → NeverHasHead bytes
+pub never_in_front : (bytes : List ℕ) (most : ℕ) → MAX_HEAD_BYTES ≤ most → most ≤ length bytes → HasNoRequest (take most bytes) → NeverHasHead bytes
 never_in_front bytes most room full none more =
     none_in_front (bytes ++ more) most room (subst HasNoRequest (sym (take-append-le most bytes more full)) none)
 
@@ -106,7 +106,7 @@ pub never_request : (bytes : List ℕ) (most : ℕ) → NeverHasRequest (take mo
 never_request bytes most never more = subst HasNoRequest (sym (parted bytes more most)) (never (drop most bytes ++ more))
 
 -- where the parser fails on them, no head ever comes
-pub never_after : (bytes : List ℕ) (most : ℕ) → RequestOverflows MOST_HEAD_FIELDS (take most bytes) → NeverHasHead bytes
+pub never_after : (bytes : List ℕ) (most : ℕ) → RequestOverflows MAX_HEAD_FIELDS (take most bytes) → NeverHasHead bytes
 never_after bytes most over more head behind b =
     let many = over (drop most bytes ++ more) head behind (subst (λ (all : List ℕ). ReadsRequest all head behind) (parted bytes more most) b.reads) in
     omega (arith, many, b.few)
@@ -116,8 +116,8 @@ none_after bytes never = subst HasNoHead (append-nil bytes) (never [])
 
 -- ---- a head that was read
 
-pub read_begins : (bytes : List ℕ) (headers : List HeaderSpan) (spans : RequestSpans) (h : RequestHead) → length bytes ≤ MOST_HEAD_BYTES
-    → length headers ≤ MOST_HEAD_FIELDS → IsRequestWithin bytes headers spans → IsRequestAt bytes headers spans h → Begins bytes h (drop spans.len bytes)
+pub read_begins : (bytes : List ℕ) (headers : List HeaderSpan) (spans : RequestSpans) (h : RequestHead) → length bytes ≤ MAX_HEAD_BYTES
+    → length headers ≤ MAX_HEAD_FIELDS → IsRequestWithin bytes headers spans → IsRequestAt bytes headers spans h → Begins bytes h (drop spans.len bytes)
 read_begins bytes headers spans h short few within at = record {
   reads = at.reads;
   short = omega (arith, at.len, within.section.len_fits, short);
@@ -131,15 +131,15 @@ read_begins bytes headers spans h short few within at = record {
   );
 }
 
-pub read_plan : (bytes : List ℕ) (headers : List HeaderSpan) (spans : RequestSpans) (h : RequestHead) (plan : Plan) → IsRequestAt bytes headers spans h
-    → plan ≡ plan_of spans.version (map (header_bytes bytes) (take spans.headers headers)) → plan_behind h ≡ plan
-unfolding plan_behind
-read_plan bytes headers spans h plan at e =
-    ap₂ plan_of (sym at.version) (sym at.fields) ∙ sym e
+pub read_framing : (bytes : List ℕ) (headers : List HeaderSpan) (spans : RequestSpans) (h : RequestHead) (framing : Framing) → IsRequestAt bytes headers spans h
+    → framing ≡ framing_of spans.version (map (header_bytes bytes) (take spans.headers headers)) → framing_in h ≡ framing
+unfolding framing_in
+read_framing bytes headers spans h framing at e =
+    ap₂ framing_of (sym at.version) (sym at.fields) ∙ sym e
 
 pub read_type : (bytes : List ℕ) (headers : List HeaderSpan) (spans : RequestSpans) (h : RequestHead) (value : Option (List ℕ)) → IsRequestAt bytes headers spans h
     → value ≡ first_value (values_named (codes "Content-Type") (map (header_bytes bytes) (take spans.headers headers)))
-    → value ≡ first_value (values_named (codes "Content-Type") (fields_of h))
+    → value ≡ first_value (values_named (codes "Content-Type") (head_fields h))
 read_type bytes headers spans h value at e = e ∙ ap (λ (fields : List (List ℕ × List ℕ)). first_value (values_named (codes "Content-Type") fields)) at.fields
 
 pub within_len : (bytes : List ℕ) (n : ℕ) (s : Span) → n ≤ length bytes → IsWithin n s → IsWithin (length bytes) s

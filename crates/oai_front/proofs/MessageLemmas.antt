@@ -9,30 +9,31 @@ use Rattle.oai_http.specs.declared.statuses.Status.{Status}
 use Rattle.oai_http.specs.declared.exchanges.Answer.{Answer}
 use Rattle.oai_front.specs.Heads.{answer_bytes, fault_bytes}
 use Rattle.oai_http.specs.Exchanges.{Asked}
-use Rattle.oai_front.specs.Messages.{Begins, End, HasNoHead, HasWhole, IsClosing, IsFault, IsUnfinished, MayBegin, Message, Reads, Splits, closes, faults, plan_behind, waits}
+use Rattle.oai_front.specs.Messages.{Begins, End, HasNoHead, HasWhole, IsClosing, IsFault, IsUnfinished, MayBegin, Message, ReadsMessages, Splits, closes, faults, framing_in, waits}
 use Rattle.oai_front.specs.Performing.{Completes, Done, Performs, Run, Steps, answers_of, done_bytes, end_bytes, messages_of}
-use Rattle.oai_front.specs.Workings.{IsHead, IsSoFar, Writes, behind, message_behind}
-use Rattle.oai_front.specs.declared.beginnings.Head.{Head}
-use Rattle.oai_front.specs.declared.beginnings.TheConstants.{MOST_HEAD_BYTES}
-use Rattle.oai_front.specs.declared.plans.Plan.{Plan}
-use Rattle.oai_front.specs.declared.plans.Plan.TheVariants.{Followed, Refused}
+use Rattle.oai_front.specs.RequestHeads.{IsHead}
+use Rattle.oai_front.specs.Pipelining.{IsSoFar, WritesBehind, behind, message_behind}
+use Rattle.oai_front.specs.declared.request_heads.Head.{Head}
+use Rattle.oai_front.specs.declared.request_heads.TheConstants.{MAX_HEAD_BYTES}
+use Rattle.oai_front.specs.declared.framings.Framing.{Framing}
+use Rattle.oai_front.specs.declared.framings.Framing.TheVariants.{Body, Refused}
 use Rattle.oai_front.proofs.HeadLemmas.{behind_is, head_has_bytes, start_within}
 
 -- ---- what stands at the front
 
 -- the size and the end that a plan tells
-size_in : Plan → ℕ
-size_in (Followed size last) = size
+size_in : Framing → ℕ
+size_in (Body size last) = size
 size_in (Refused status) = 0
 
-last_in : Plan → Bool
-last_in (Followed size last) = last
+last_in : Framing → Bool
+last_in (Body size last) = last
 last_in (Refused status) = false
 
-not_refused : (status : Status) (size : ℕ) (last : Bool) → Refused status ≡ Followed size last → ⊥
+not_refused : (status : Status) (size : ℕ) (last : Bool) → Refused status ≡ Body size last → ⊥
 not_refused status size last e = cc
 
-pub unfinished_without : (bytes : List ℕ) → HasNoHead bytes → length bytes < MOST_HEAD_BYTES → MayBegin bytes → IsUnfinished bytes
+pub unfinished_without : (bytes : List ℕ) → HasNoHead bytes → length bytes < MAX_HEAD_BYTES → MayBegin bytes → IsUnfinished bytes
 unfinished_without bytes none few begins = record {
   message = λ message after r. none r.head _ r.begins;
   fault = λ status r. none r.head r.behind r.begins;
@@ -45,12 +46,12 @@ unfolding size_in
 unfinished_body bytes kept h few = record {
   message = λ message after r.
       let same = request_unique bytes r.head h.head _ h.behind r.begins.reads h.begins.reads in
-      let size : length message.asked.body ≡ kept.size = ap size_in (sym r.plan ∙ ap plan_behind same.0 ∙ h.plan) in
+      let size : length message.asked.body ≡ kept.size = ap size_in (sym r.framing ∙ ap framing_in same.0 ∙ h.framing) in
       let long : length message.asked.body + length after ≡ length h.behind = sym (length-append message.asked.body after) ∙ ap (λ (xs : List ℕ). length xs) same.1 in
       omega (arith, few, ap (λ (xs : List ℕ). length xs) (behind_is bytes kept h), size, long);
   fault = λ status r.
       let same = request_unique bytes r.head h.head r.behind h.behind r.begins.reads h.begins.reads in
-      not_refused status kept.size kept.last (sym r.plan ∙ ap plan_behind same.0 ∙ h.plan);
+      not_refused status kept.size kept.last (sym r.framing ∙ ap framing_in same.0 ∙ h.framing);
   short = λ none. absurd (none h.head h.behind h.begins);
   begins = λ none. absurd (none h.head h.behind h.begins);
 }
@@ -59,7 +60,7 @@ unfinished_body bytes kept h few = record {
 abbrev pub message_at : List ℕ → Head → Message
 message_at bytes kept = record { asked = message_behind bytes kept; last = kept.last }
 
-pub message_reads : (bytes : List ℕ) (kept : Head) → IsHead bytes kept → kept.size ≤ length (drop kept.start bytes) → Reads bytes (message_at bytes kept) (behind bytes kept)
+pub message_reads : (bytes : List ℕ) (kept : Head) → IsHead bytes kept → kept.size ≤ length (drop kept.start bytes) → ReadsMessages bytes (message_at bytes kept) (behind bytes kept)
 message_reads bytes kept h whole =
     let rest = drop kept.start bytes in
     let long : length (take kept.size rest) ≡ kept.size = length-take-le kept.size rest whole in
@@ -67,7 +68,7 @@ message_reads bytes kept h whole =
     record {
       head = h.head;
       begins = subst (Begins bytes h.head) (sym all) h.begins;
-      plan = h.plan ∙ ap (λ (n : ℕ). Followed n kept.last) (sym long);
+      framing = h.framing ∙ ap (λ (n : ℕ). Body n kept.last) (sym long);
       method = h.method;
       target = h.target;
       content_type = h.content_type;
@@ -75,9 +76,9 @@ message_reads bytes kept h whole =
 
 -- ---- one more message
 
-pub splits_more : (bytes rest after : List ℕ) (message : Message) (messages : List Message) → Splits bytes messages rest → Reads rest message after
+pub splits_more : (bytes rest after : List ℕ) (message : Message) (messages : List Message) → Splits bytes messages rest → ReadsMessages rest message after
     → message.last ≡ false → Splits bytes (messages ++ message ∷ []) after
-splits_more bytes rest after message [] s r stays = (after, subst (λ (xs : List ℕ). Reads xs message after) (sym s) r, stays, refl)
+splits_more bytes rest after message [] s r stays = (after, subst (λ (xs : List ℕ). ReadsMessages xs message after) (sym s) r, stays, refl)
 splits_more bytes rest after message (m ∷ messages) s r stays = (s.0, s.1, s.2, splits_more s.0 rest after message messages s.3 r stays)
 
 run_more : {H : Type 0} (step : Steps H) (moment : ℤ) (old mid new : H) (d : Done) (done : List Done) → Run step moment old done mid
@@ -99,7 +100,7 @@ performs_none step moment old bytes = record { done = []; splits = refl; run = r
 
 -- a message that leaves the connection open is performed behind the others
 pub performs_more : {H : Type 0} (step : Steps H) (moment : ℤ) (old mid new : H) (bytes rest after written : List ℕ) (d : Done)
-    → Performs step moment old mid bytes rest written → Reads rest d.message after → d.message.last ≡ false → step mid moment d.message.asked d.answer new
+    → Performs step moment old mid bytes rest written → ReadsMessages rest d.message after → d.message.last ≡ false → step mid moment d.message.asked d.answer new
     → Performs step moment old new bytes after (written ++ done_bytes d)
 performs_more step moment old mid new bytes rest after written d p r stays s = record {
   done = p.done ++ d ∷ [];
@@ -129,7 +130,7 @@ completes_fault step moment old new bytes rest written status p f = record {
 }
 
 pub completes_last : {H : Type 0} (step : Steps H) (moment : ℤ) (old mid new : H) (bytes rest after written : List ℕ) (d : Done)
-    → Performs step moment old mid bytes rest written → Reads rest d.message after → d.message.last ≡ true → step mid moment d.message.asked d.answer new
+    → Performs step moment old mid bytes rest written → ReadsMessages rest d.message after → d.message.last ≡ true → step mid moment d.message.asked d.answer new
     → Completes step moment old new bytes closes (written ++ done_bytes d)
 completes_last step moment old mid new bytes rest after written d p r last s = record {
   done = p.done ++ d ∷ [];
@@ -151,7 +152,7 @@ sofar_none step moment old bytes before known h = record {
 
 pub sofar_fault : {H : Type 0} (step : Steps H) (moment : ℤ) (old new : H) (bytes before mid after rest : List ℕ) (known : Option Head) (status : Status)
     → IsSoFar step moment old new bytes before mid rest known → IsFault rest status → after ≡ mid ++ fault_bytes status
-    → (end : End) × Writes before after (Completes step moment old new bytes end) × IsClosing end
+    → (end : End) × WritesBehind before after (Completes step moment old new bytes end) × IsClosing end
 sofar_fault step moment old new bytes before mid after rest known status s f e =
     let p = s.performed in (
       faults status,
@@ -166,26 +167,26 @@ sofar_fault step moment old new bytes before mid after rest known status s f e =
 -- out of memory: the message that stands there was not performed
 pub sofar_refused : {H : Type 0} (step : Steps H) (moment : ℤ) (old mid new : H) (bytes before between after rest : List ℕ) (known : Option Head) (kept : Head)
     → IsSoFar step moment old mid bytes before between rest known → IsHead rest kept → kept.size ≤ length (drop kept.start rest) → new ≡ mid → after ≡ between
-    → Writes before after (Performs step moment old new bytes (drop (length bytes - length rest) bytes)) × (length bytes - length rest ≤ length bytes)
+    → WritesBehind before after (Performs step moment old new bytes (drop (length bytes - length rest) bytes)) × (length bytes - length rest ≤ length bytes)
     × IsHead (drop (length bytes - length rest) bytes) kept × HasWhole (drop (length bytes - length rest) bytes)
 sofar_refused {H} step moment old mid new bytes before between after rest known kept s h whole same e =
     let p = s.performed in
     let performed : Performs step moment old new bytes rest p.0 = subst (λ (x : H). Performs step moment old x bytes rest p.0) (sym same) p.2 in
     let left : HasWhole rest = inl (message_at rest kept, behind rest kept, message_reads rest kept h whole) in
     let few : length bytes - length rest ≤ length bytes = omega arith in
-    subst (λ (xs : List ℕ). Writes before after (Performs step moment old new bytes xs) × (length bytes - length rest ≤ length bytes) × IsHead xs kept × HasWhole xs) s.end
+    subst (λ (xs : List ℕ). WritesBehind before after (Performs step moment old new bytes xs) × (length bytes - length rest ≤ length bytes) × IsHead xs kept × HasWhole xs) s.end
     ((p.0, e ∙ p.1, performed), few, h, left)
 
 -- out of memory: the fault that stands there was not answered
 pub sofar_untold : {H : Type 0} (step : Steps H) (moment : ℤ) (old new : H) (bytes before between after rest : List ℕ) (known : Option Head) (status : Status)
     → IsSoFar step moment old new bytes before between rest known → IsFault rest status → after ≡ between
-    → Writes before after (Performs step moment old new bytes (drop (length bytes - length rest) bytes)) × (length bytes - length rest ≤ length bytes) × Unit {0}
+    → WritesBehind before after (Performs step moment old new bytes (drop (length bytes - length rest) bytes)) × (length bytes - length rest ≤ length bytes) × Unit {0}
     × HasWhole (drop (length bytes - length rest) bytes)
 sofar_untold step moment old new bytes before between after rest known status s f e =
     let p = s.performed in
     let left : HasWhole rest = inr (status, f) in
     let few : length bytes - length rest ≤ length bytes = omega arith in
-    subst (λ (xs : List ℕ). Writes before after (Performs step moment old new bytes xs) × (length bytes - length rest ≤ length bytes) × Unit {0} × HasWhole xs) s.end
+    subst (λ (xs : List ℕ). WritesBehind before after (Performs step moment old new bytes xs) × (length bytes - length rest ≤ length bytes) × Unit {0} × HasWhole xs) s.end
     ((p.0, e ∙ p.1, p.2), few, tt, left)
 
 -- the message that was performed next
@@ -200,7 +201,7 @@ IsAnswered step moment mid new asked last before after =
 pub sofar_last : {H : Type 0} (step : Steps H) (moment : ℤ) (old mid new : H) (bytes before between after rest : List ℕ) (known : Option Head) (kept : Head) (asked : Asked)
     → IsSoFar step moment old mid bytes before between rest known → IsHead rest kept → kept.size ≤ length (drop kept.start rest) → kept.last ≡ true
     → asked ≡ message_behind rest kept → IsAnswered step moment mid new asked kept.last between after
-    → (end : End) × Writes before after (Completes step moment old new bytes end) × IsClosing end
+    → (end : End) × WritesBehind before after (Completes step moment old new bytes end) × IsClosing end
 sofar_last step moment old mid new bytes before between after rest known kept asked s h whole last e a =
     let p = s.performed in
     let b : IsAnswered step moment mid new (message_behind rest kept) kept.last between after =

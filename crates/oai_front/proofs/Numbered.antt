@@ -11,18 +11,18 @@ use Rattle.oai_names.proofs.Lists.{all-filter, all-weaker, cut, filter_all, set_
 use Rattle.oai_names.proofs.Numbered.{found-none, found-placed, rise-join}
 use Rattle.oai_front.specs.Places.{IsPlaced, none_numbered}
 use Rattle.oai_front.specs.Connections.{Connection}
-use Rattle.oai_front.specs.Fronts.{IsTable, are_numbered, connection_numbered, is_numbered, number_of, replaced, with_connection, without_connection}
+use Rattle.oai_front.specs.Fronts.{IsTable, are_numbered, connection_numbered, is_numbered, connection_number, replaced, with_connection, without_connection}
 use Rattle.oai_front.specs.declared.numbers.TheConstants.{LAST_NUMBER}
 
 -- ---- the connection of a number
 
 pub connection_numbered-placed : (number : ℕ) (connections : List Connection) (at : ℕ) (d : Connection) → IsPlaced number connections (Some at) → connection_numbered number connections ≡ Some (get_or connections at d)
 unfolding connection_numbered
-connection_numbered-placed number connections at d placed = found-placed number_of number connections at d placed
+connection_numbered-placed number connections at d placed = found-placed connection_number number connections at d placed
 
 pub connection_numbered-none : (number : ℕ) (connections : List Connection) → none_numbered number connections → connection_numbered number connections ≡ None
 unfolding connection_numbered
-connection_numbered-none number connections h = found-none number_of number connections h
+connection_numbered-none number connections h = found-none connection_number number connections h
 
 -- ---- changes of the connection at a place
 
@@ -88,11 +88,11 @@ table_replaced d connections last t = record {
 numbered_filtered : (p : Connection → Bool) (connections : List Connection) → are_numbered connections ≡ true → are_numbered (filter p connections) ≡ true
 numbered_filtered p [] h = refl
 numbered_filtered p (x ∷ connections) h =
-    let parts = and_parts (list_all (is_lower number_of x) connections) (are_numbered connections) h in
+    let parts = and_parts (list_all (is_lower connection_number x) connections) (are_numbered connections) h in
     let rest = numbered_filtered p connections parts.1 in
     elim (cases_Bool (p x)) [
       | inl stays ↦ ap are_numbered (cond-true (p x) (x ∷ filter p connections) (filter p connections) stays)
-          ∙ and_from (list_all (is_lower number_of x) (filter p connections)) (are_numbered (filter p connections)) (all-filter (is_lower number_of x) p connections parts.0) rest
+          ∙ and_from (list_all (is_lower connection_number x) (filter p connections)) (are_numbered (filter p connections)) (all-filter (is_lower connection_number x) p connections parts.0) rest
       | inr goes ↦ ap are_numbered (cond-false (p x) (x ∷ filter p connections) (filter p connections) goes) ∙ rest
     ]
 
@@ -105,14 +105,14 @@ table_without number connections last t = record {
 }
 
 above_all : (connections : List Connection) (last : ℕ) (d : Connection) → d.number ≡ last + 1 → list_all (λ c. nat_le c.number last) connections ≡ true
-    → list_all (λ c. list_all (is_lower number_of c) (d ∷ [])) connections ≡ true
+    → list_all (λ c. list_all (is_lower connection_number c) (d ∷ [])) connections ≡ true
 above_all connections last d e h =
-    all-weaker (λ (c : Connection). nat_le c.number last) (λ c. list_all (is_lower number_of c) (d ∷ []))
-    (λ c below. and_from (is_lower number_of c d) true (lt-ltb c.number d.number (omega (arith, e, leb-true c.number last below))) refl) connections h
+    all-weaker (λ (c : Connection). nat_le c.number last) (λ c. list_all (is_lower connection_number c) (d ∷ []))
+    (λ c below. and_from (is_lower connection_number c d) true (lt-ltb c.number d.number (omega (arith, e, leb-true c.number last below))) refl) connections h
 
 pub table_pushed : (connections : List Connection) (last : ℕ) (d : Connection) → d.number ≡ last + 1 → last + 1 < LAST_NUMBER → IsTable connections last → IsTable (connections ++ d ∷ []) (last + 1)
 table_pushed connections last d e below t = record {
-  numbered = rise-join number_of connections (d ∷ []) t.numbered refl (above_all connections last d e t.given);
+  numbered = rise-join connection_number connections (d ∷ []) t.numbered refl (above_all connections last d e t.given);
   given = list_all-append (λ c. nat_le c.number (last + 1)) connections (d ∷ [])
       ∙ and_from (list_all (λ (c : Connection). nat_le c.number (last + 1)) connections) (list_all (λ (c : Connection). nat_le c.number (last + 1)) (d ∷ []))
       (all-weaker (λ (c : Connection). nat_le c.number last) (λ c. nat_le c.number (last + 1)) (λ c h. le-leb c.number (last + 1) (omega (arith, leb-true c.number last h))) connections t.given)

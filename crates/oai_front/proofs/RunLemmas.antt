@@ -16,9 +16,9 @@ use Rattle.oai_front.proofs.HeadLemmas.{head_has_bytes}
 use Rattle.oai_front.proofs.StreamLemmas.{splits_join, splits_more, stream_join, stream_over}
 use Rattle.oai_front.specs.Connections.{Connection, IsEnded, bytes_with, connection_at, fresh, rest_at, stage_at}
 use Rattle.oai_front.specs.Fronts.{HasOutput, IsChange, IsTaking, State, connection_numbered, is_numbered, replaced, with_connection, without_connection}
-use Rattle.oai_front.specs.Messages.{End, Begins, HasWhole, IsClosing, IsFault, IsRefused, IsUnfinished, Message, Reads, Splits, Stream, closes, faults, waits}
+use Rattle.oai_front.specs.Messages.{End, Begins, HasWhole, IsClosing, IsFault, IsRefused, IsUnfinished, Message, ReadsMessages, Splits, Stream, closes, faults, waits}
 use Rattle.oai_front.specs.Performing.{Done, Run, Steps, answers_of, done_bytes, end_bytes, messages_of}
-use Rattle.oai_front.specs.Runs.{AreMessages, ArePerformed, AreServed, Came, Comes, Coming, Deed, Forgotten, IsCall, IsOwn, IsReading, IsToCome, Opened, Over, Piece, Seen, Served, Serves, Taken, all_served, bytes_of, bytes_on, calls_of, comes_on, count_of, done_on, is_forgotten, is_over, is_whole, seen, served_by, served_on, served_with, stage_where}
+use Rattle.oai_front.specs.Runs.{AreMessages, ArePerformed, AreServed, Came, Comes, FrontCall, CallOutcome, Forgotten, IsCall, IsOwn, IsReadingConnection, IsToCome, Opened, Over, Piece, Seen, Served, Serves, Taken, all_served, bytes_of, bytes_on, calls_of, comes_on, taken_count, done_on, is_forgotten, is_over, is_whole, seen, served_by, served_on, served_with, stage_where}
 use Rattle.oai_front.specs.Stages.{is_closing, stage_ended}
 use Rattle.oai_front.specs.declared.stages.Stage.{Stage}
 use Rattle.oai_front.specs.declared.stages.Stage.TheVariants as phase
@@ -83,7 +83,7 @@ number_found number (x ∷ connections) c h = elim (cases_Bool (is_numbered numb
 
 -- ---- no bytes
 
-no_message_in_none : (message : Message) (after : List ℕ) → ¬ (Reads [] message after)
+no_message_in_none : (message : Message) (after : List ℕ) → ¬ (ReadsMessages [] message after)
 no_message_in_none message after r =
     omega (arith, head_has_bytes r.head, ap (λ (xs : List ℕ). length xs) r.begins.reads.1, length-append (print_request r.head) (message.asked.body ++ after))
 
@@ -117,10 +117,10 @@ no_fault_in_none : (status : Status) → ¬ (IsFault [] status)
 no_fault_in_none status (inl never) = never.0.0 (print_request some_head) some_head [] some_begins
 no_fault_in_none status (inr refused) = not_refused_in_none status refused
 
-nothing_closes : (bytes : List ℕ) (messages front : List Message) (rest : List ℕ) (m : Message) (after : List ℕ) → bytes ≡ [] → Splits bytes front rest → Reads rest m after
+nothing_closes : (bytes : List ℕ) (messages front : List Message) (rest : List ℕ) (m : Message) (after : List ℕ) → bytes ≡ [] → Splits bytes front rest → ReadsMessages rest m after
     → (messages ≡ []) × (closes ≡ waits [])
-nothing_closes bytes messages [] rest m after e s r = absurd (no_message_in_none m after (subst (λ (xs : List ℕ). Reads xs m after) (sym s ∙ e) r))
-nothing_closes bytes messages (n ∷ front) rest m after e s r = absurd (no_message_in_none n s.0 (subst (λ (xs : List ℕ). Reads xs n s.0) e s.1))
+nothing_closes bytes messages [] rest m after e s r = absurd (no_message_in_none m after (subst (λ (xs : List ℕ). ReadsMessages xs m after) (sym s ∙ e) r))
+nothing_closes bytes messages (n ∷ front) rest m after e s r = absurd (no_message_in_none n s.0 (subst (λ (xs : List ℕ). ReadsMessages xs n s.0) e s.1))
 
 not_nil : (m : Message) (messages : List Message) → m ∷ messages ≡ [] → ⊥
 not_nil m messages e = cc
@@ -128,9 +128,9 @@ not_nil m messages e = cc
 -- nothing comes of no bytes
 nothing_comes : (bytes : List ℕ) (messages : List Message) (end : End) → bytes ≡ [] → Stream bytes messages end → (messages ≡ []) × (end ≡ waits [])
 nothing_comes bytes [] (waits rest) e s = (refl, ap waits (sym s.0 ∙ e))
-nothing_comes bytes (m ∷ messages) (waits rest) e s = absurd (no_message_in_none m s.0.0 (subst (λ (xs : List ℕ). Reads xs m s.0.0) e s.0.1))
+nothing_comes bytes (m ∷ messages) (waits rest) e s = absurd (no_message_in_none m s.0.0 (subst (λ (xs : List ℕ). ReadsMessages xs m s.0.0) e s.0.1))
 nothing_comes bytes [] (faults status) e s = absurd (no_fault_in_none status (subst (λ (xs : List ℕ). IsFault xs status) (sym s.1 ∙ e) s.2))
-nothing_comes bytes (m ∷ messages) (faults status) e s = absurd (no_message_in_none m s.1.0 (subst (λ (xs : List ℕ). Reads xs m s.1.0) e s.1.1))
+nothing_comes bytes (m ∷ messages) (faults status) e s = absurd (no_message_in_none m s.1.0 (subst (λ (xs : List ℕ). ReadsMessages xs m s.1.0) e s.1.1))
 nothing_comes bytes messages closes e s = nothing_closes bytes messages s.0 s.1 s.2 s.3 e s.4 s.5
 
 -- no bytes are nothing whole
@@ -194,12 +194,12 @@ opened_own number (x ∷ connections) none = elim (cases_Bool (is_numbered numbe
 
 -- something whole stands in some bytes
 none_whole : (bytes : List ℕ) → bytes ≡ [] → ¬ (HasWhole bytes)
-none_whole bytes e (inl r) = no_message_in_none r.0 r.1 (subst (λ (xs : List ℕ). Reads xs r.0 r.1) e r.2)
+none_whole bytes e (inl r) = no_message_in_none r.0 r.1 (subst (λ (xs : List ℕ). ReadsMessages xs r.0 r.1) e r.2)
 none_whole bytes e (inr f) = no_fault_in_none f.0 (subst (λ (xs : List ℕ). IsFault xs f.0) e f.1)
 
 nothing_split : (bytes rest : List ℕ) (messages : List Message) → bytes ≡ [] → Splits bytes messages rest → rest ≡ []
 nothing_split bytes rest [] e s = sym s ∙ e
-nothing_split bytes rest (m ∷ messages) e s = absurd (no_message_in_none m s.0 (subst (λ (xs : List ℕ). Reads xs m s.0) e s.1))
+nothing_split bytes rest (m ∷ messages) e s = absurd (no_message_in_none m s.0 (subst (λ (xs : List ℕ). ReadsMessages xs m s.0) e s.1))
 
 -- nothing is performed of no bytes
 nothing_performed : (whole : Bool) (bytes : List ℕ) (messages : List Message) (end : End) → bytes ≡ [] → ArePerformed whole bytes messages end
@@ -412,7 +412,7 @@ keeps_over c x y bytes done taken whole over k e = record {
 
 -- ---- what calls are to a connection, one call more
 
-before_cons : (p : Coming → Bool) (x : Coming) (calls : List Coming) → before_first p (x ∷ calls) ≡ cond (p x) [] (x ∷ before_first p calls)
+before_cons : (p : FrontCall → Bool) (x : FrontCall) (calls : List FrontCall) → before_first p (x ∷ calls) ≡ cond (p x) [] (x ∷ before_first p calls)
 before_cons p x calls = by_test (p x) refl
   where
     more : (n : ℕ) → take (1 + n) (x ∷ calls) ≡ x ∷ take n calls
@@ -422,22 +422,22 @@ before_cons p x calls = by_test (p x) refl
     by_test true here = ap (λ (b : Bool). take (cond (not b) (1 + prefix_len (λ c. not (p c)) calls) 0) (x ∷ calls)) here
     by_test false there = ap (λ (b : Bool). take (cond (not b) (1 + prefix_len (λ c. not (p c)) calls) 0) (x ∷ calls)) there ∙ more (prefix_len (λ c. not (p c)) calls)
 
-no_bytes : (number : ℕ) (x : Coming) → is_over number x ≡ true → bytes_of number x ≡ []
+no_bytes : (number : ℕ) (x : FrontCall) → is_over number x ≡ true → bytes_of number x ≡ []
 no_bytes number (Came p) over = absurd (false≢true over)
 no_bytes number (Taken other count) over = refl
 no_bytes number (Over other) over = refl
 no_bytes number (Forgotten other) over = refl
 no_bytes number Opened over = refl
 
-bytes_first : (number : ℕ) (x : Coming) (b : Bool) → is_over number x ≡ b → flat_map (bytes_of number) (cond b [] (x ∷ [])) ≡ bytes_of number x
+bytes_first : (number : ℕ) (x : FrontCall) (b : Bool) → is_over number x ≡ b → flat_map (bytes_of number) (cond b [] (x ∷ [])) ≡ bytes_of number x
 bytes_first number x true here = sym (no_bytes number x here)
 bytes_first number x false there = append-nil (bytes_of number x)
 
 -- the calls before the end, and a test whether it came
-abbrev bytes_before : ℕ → List Coming → Coming → Bool → List ℕ
+abbrev bytes_before : ℕ → List FrontCall → FrontCall → Bool → List ℕ
 bytes_before number calls x over = flat_map (bytes_of number) calls ++ cond over [] (bytes_of number x)
 
-bytes_next : (number : ℕ) (y x : Coming) (calls : List Coming) (b : Bool) → is_over number y ≡ b
+bytes_next : (number : ℕ) (y x : FrontCall) (calls : List FrontCall) (b : Bool) → is_over number y ≡ b
     → flat_map (bytes_of number) (before_first (is_over number) (calls ++ x ∷ [])) ≡ bytes_before number (before_first (is_over number) calls) x (list_any (is_over number) calls)
     → flat_map (bytes_of number) (cond b [] (y ∷ before_first (is_over number) (calls ++ x ∷ [])))
     ≡ bytes_before number (cond b [] (y ∷ before_first (is_over number) calls)) x (b || list_any (is_over number) calls)
@@ -446,40 +446,40 @@ bytes_next number y x calls false there e =
     ap (λ (xs : List ℕ). bytes_of number y ++ xs) e
     ∙ sym (append_assoc (bytes_of number y) (flat_map (bytes_of number) (before_first (is_over number) calls)) (cond (list_any (is_over number) calls) [] (bytes_of number x)))
 
-bytes_more : (number : ℕ) (calls : List Coming) (x : Coming)
+bytes_more : (number : ℕ) (calls : List FrontCall) (x : FrontCall)
     → bytes_on number (calls ++ x ∷ []) ≡ bytes_on number calls ++ cond (list_any (is_over number) calls) [] (bytes_of number x)
 unfolding bytes_on
 bytes_more number [] x = ap (flat_map (bytes_of number)) (before_cons (is_over number) x []) ∙ bytes_first number x (is_over number x) refl
 bytes_more number (y ∷ calls) x =
     ap (flat_map (bytes_of number)) (before_cons (is_over number) y (calls ++ x ∷ [])) ∙ bytes_next number y x calls (is_over number y) refl (bytes_more number calls x)
-    ∙ ap (λ (cs : List Coming). bytes_before number cs x (is_over number y || list_any (is_over number) calls)) (sym (before_cons (is_over number) y calls))
+    ∙ ap (λ (cs : List FrontCall). bytes_before number cs x (is_over number y || list_any (is_over number) calls)) (sym (before_cons (is_over number) y calls))
 
-served_more : (deeds : List Deed) (d : Deed) → all_served (deeds ++ d ∷ []) ≡ all_served deeds ++ served_by d.call d.done
+served_more : (outcomes : List CallOutcome) (d : CallOutcome) → all_served (outcomes ++ d ∷ []) ≡ all_served outcomes ++ served_by d.call d.done
 unfolding all_served
-served_more deeds d =
-    flat_map-append (λ (e : Deed). served_by e.call e.done) deeds (d ∷ [])
-    ∙ ap (λ (xs : List Served). flat_map (λ (e : Deed). served_by e.call e.done) deeds ++ xs) (append-nil (served_by d.call d.done))
+served_more outcomes d =
+    flat_map-append (λ (e : CallOutcome). served_by e.call e.done) outcomes (d ∷ [])
+    ∙ ap (λ (xs : List Served). flat_map (λ (e : CallOutcome). served_by e.call e.done) outcomes ++ xs) (append-nil (served_by d.call d.done))
 
 done_join : (number : ℕ) (a b : List Served) → done_on number (a ++ b) ≡ done_on number a ++ done_on number b
 unfolding done_on
 done_join number a b =
     ap (map (λ (s : Served). s.done)) (filter-append (served_on number) a b) ∙ map-append (λ (s : Served). s.done) (filter (served_on number) a) (filter (served_on number) b)
 
-taken_more : (number : ℕ) (calls : List Coming) (x : Coming) → sum_by (count_of number) (calls ++ x ∷ []) ≡ sum_by (count_of number) calls + count_of number x
+taken_more : (number : ℕ) (calls : List FrontCall) (x : FrontCall) → sum_by (taken_count number) (calls ++ x ∷ []) ≡ sum_by (taken_count number) calls + taken_count number x
 taken_more number calls x =
-    let none : sum_by (count_of number) [] ≡ 0 = refl in
-    omega (arith, sum_by-append (count_of number) calls (x ∷ []), sum_by-cons (count_of number) x [], none)
+    let none : sum_by (taken_count number) [] ≡ 0 = refl in
+    omega (arith, sum_by-append (taken_count number) calls (x ∷ []), sum_by-cons (taken_count number) x [], none)
 
 or_false : (b : Bool) → (b || false) ≡ b
 or_false true = refl
 or_false false = refl
 
-any_more : (p : Coming → Bool) (calls : List Coming) (x : Coming) → list_any p (calls ++ x ∷ []) ≡ (list_any p calls || p x)
+any_more : (p : FrontCall → Bool) (calls : List FrontCall) (x : FrontCall) → list_any p (calls ++ x ∷ []) ≡ (list_any p calls || p x)
 any_more p calls x = list_any-append p calls (x ∷ []) ∙ ap (λ (b : Bool). list_any p calls || b) (or_false (p x))
 
-whole_more : (number : ℕ) (calls : List Coming) (x : Coming)
+whole_more : (number : ℕ) (calls : List FrontCall) (x : FrontCall)
     → is_whole (find (comes_on number) (reverse (calls ++ x ∷ []))) ≡ cond (comes_on number x) (is_whole (Some x)) (is_whole (find (comes_on number) (reverse calls)))
-whole_more number calls x = ap (λ (cs : List Coming). is_whole (find (comes_on number) cs)) (reverse-append calls (x ∷ [])) ∙ by_test (comes_on number x)
+whole_more number calls x = ap (λ (cs : List FrontCall). is_whole (find (comes_on number) cs)) (reverse-append calls (x ∷ [])) ∙ by_test (comes_on number x)
   where
     by_test : (b : Bool) → is_whole (cond b (Some x) (find (comes_on number) (reverse calls))) ≡ cond b (is_whole (Some x)) (is_whole (find (comes_on number) (reverse calls)))
     by_test true = refl
@@ -502,14 +502,14 @@ forgotten_seen : Bool → Seen → Seen
 forgotten_seen true s = record { bytes = s.bytes; done = s.done; taken = s.taken; whole = s.whole; over = s.over; forgotten = true }
 forgotten_seen false s = s
 
-seen_more : ℕ → Seen → Coming → List Done → Seen
+seen_more : ℕ → Seen → FrontCall → List Done → Seen
 seen_more number s (Came p) done = piece_seen (p.number == number) s p done
 seen_more number s (Taken other count) done = taken_seen (other == number) s count
 seen_more number s (Over other) done = over_seen (other == number) s
 seen_more number s (Forgotten other) done = forgotten_seen (other == number) s
 seen_more number s Opened done = s
 
--- the same, part by part
+-- what some calls were to a connection, part by part
 seen_with : Seen → List ℕ → List Done → ℕ → Bool → Bool → Bool → Seen
 seen_with s bytes done count whole over forgotten = record {
   bytes = s.bytes ++ cond s.over [] bytes;
@@ -630,8 +630,8 @@ done_with number p done = elim (cases_Bool (p.number == number)) [
   | inr away ↦ done_away number p done away ∙ sym (cond-false (p.number == number) done [] away)
 ]
 
-seen_parts : (number : ℕ) (s : Seen) (x : Coming) (done : List Done)
-    → seen_with s (bytes_of number x) (done_on number (served_by x done)) (count_of number x) (cond (comes_on number x) (is_whole (Some x)) s.whole) (is_over number x) (is_forgotten number x)
+seen_parts : (number : ℕ) (s : Seen) (x : FrontCall) (done : List Done)
+    → seen_with s (bytes_of number x) (done_on number (served_by x done)) (taken_count number x) (cond (comes_on number x) (is_whole (Some x)) s.whole) (is_over number x) (is_forgotten number x)
     ≡ seen_more number s x done
 unfolding seen_more over_seen done_on
 seen_parts number s (Came p) done = with_piece (p.number == number) s p done (done_on number (map (served_with p) done)) (done_with number p done)
@@ -640,19 +640,19 @@ seen_parts number s (Over other) done = with_over (other == number) s
 seen_parts number s (Forgotten other) done = with_forgotten (other == number) s
 seen_parts number s Opened done = with_over false s
 
-seen_step : (number : ℕ) (deeds : List Deed) (d : Deed) → seen number (deeds ++ d ∷ []) ≡ seen_more number (seen number deeds) d.call d.done
+seen_step : (number : ℕ) (outcomes : List CallOutcome) (d : CallOutcome) → seen number (outcomes ++ d ∷ []) ≡ seen_more number (seen number outcomes) d.call d.done
 unfolding seen seen_with
-seen_step number deeds d =
-    let calls = map (λ (e : Deed). e.call) deeds in
-    let all : map (λ (e : Deed). e.call) (deeds ++ d ∷ []) ≡ calls ++ d.call ∷ [] = map-append (λ (e : Deed). e.call) deeds (d ∷ []) in
+seen_step number outcomes d =
+    let calls = map (λ (e : CallOutcome). e.call) outcomes in
+    let all : map (λ (e : CallOutcome). e.call) (outcomes ++ d ∷ []) ≡ calls ++ d.call ∷ [] = map-append (λ (e : CallOutcome). e.call) outcomes (d ∷ []) in
     let bytes = ap (bytes_on number) all ∙ bytes_more number calls d.call in
-    let done = ap (done_on number) (served_more deeds d) ∙ done_join number (all_served deeds) (served_by d.call d.done) in
-    let count = ap (sum_by (count_of number)) all ∙ taken_more number calls d.call in
-    let whole = ap (λ (cs : List Coming). is_whole (find (comes_on number) (reverse cs))) all ∙ whole_more number calls d.call in
+    let done = ap (done_on number) (served_more outcomes d) ∙ done_join number (all_served outcomes) (served_by d.call d.done) in
+    let count = ap (sum_by (taken_count number)) all ∙ taken_more number calls d.call in
+    let whole = ap (λ (cs : List FrontCall). is_whole (find (comes_on number) (reverse cs))) all ∙ whole_more number calls d.call in
     let over = ap (list_any (is_over number)) all ∙ any_more (is_over number) calls d.call in
     let forgotten = ap (list_any (is_forgotten number)) all ∙ any_more (is_forgotten number) calls d.call in
     (λ i. record { bytes = bytes i; done = done i; taken = count i; whole = whole i; over = over i; forgotten = forgotten i })
-    ∙ seen_parts number (seen number deeds) d.call d.done
+    ∙ seen_parts number (seen number outcomes) d.call d.done
 
 -- before the first call
 nothing_seen : Seen
@@ -779,7 +779,7 @@ takes_in {H} step number moment bytes false old mid e =
     }
 
 -- what a call is to the handler and to each connection
-record Does {H : Type 0} (step : Steps H) (call : Coming) (old mid : State H) : Type 0 where
+record Does {H : Type 0} (step : Steps H) (call : FrontCall) (old mid : State H) : Type 0 where
   done : List Done
   run : Serves step old.handler (served_by call done) mid.handler
   rises : old.last ≤ mid.last
@@ -1033,7 +1033,7 @@ does_opened {H} step old mid e =
           subst (λ (t : State H). Stand number c (connection_numbered number t.connections) t.last s) (sym is) (opened_stand number c old.connections old.last s st);
     }
 
-does : {H : Type 0} (step : Steps H) (call : Coming) (old mid : State H) → IsCall step call old mid → Does step call old mid
+does : {H : Type 0} (step : Steps H) (call : FrontCall) (old mid : State H) → IsCall step call old mid → Does step call old mid
 does step (Came p) old mid e = does_piece step p old mid (takes_in step p.number p.moment p.bytes p.whole old mid e)
 does step (Taken number count) old mid e = does_taken step number count old mid e
 does step (Over number) old mid e = does_over step number old mid e
@@ -1047,8 +1047,8 @@ serves_join {H} step old mid new [] others a b = subst (λ (h : H). Serves step 
 serves_join step old mid new (s ∷ first) others a b = (a.0, a.1, serves_join step a.0 mid new first others a.2 b)
 
 -- what comes of the calls that are left, behind those that came
-record Onward {H : Type 0} (step : Steps H) (first : H) (front : List Deed) (old new : State H) (calls : List Coming) : Type 0 where
-  each : List Deed
+record Onward {H : Type 0} (step : Steps H) (first : H) (front : List CallOutcome) (old new : State H) (calls : List FrontCall) : Type 0 where
+  each : List CallOutcome
   calls_are : calls_of each ≡ calls
   run : Serves step first (all_served (front ++ each)) new.handler
   rises : old.last ≤ new.last
@@ -1056,18 +1056,18 @@ record Onward {H : Type 0} (step : Steps H) (first : H) (front : List Deed) (old
       → Stand number c (connection_numbered number new.connections) new.last (seen number (front ++ each))
   prompt : (count number : ℕ) (c : Connection) → Stand number c (connection_numbered number old.connections) old.last (seen number front) → AreMessages c (seen number (front ++ take count each))
 
-messages_front : (number : ℕ) (c : Connection) (now : Option Connection) (last : ℕ) (front : List Deed) → Stand number c now last (seen number front) → AreMessages c (seen number (front ++ []))
+messages_front : (number : ℕ) (c : Connection) (now : Option Connection) (last : ℕ) (front : List CallOutcome) → Stand number c now last (seen number front) → AreMessages c (seen number (front ++ []))
 messages_front number c now last front st =
-    subst (λ (ds : List Deed). AreMessages c (seen number ds)) (sym (append-nil front)) (messages_at number c now last (seen number front) st)
+    subst (λ (ds : List CallOutcome). AreMessages c (seen number ds)) (sym (append-nil front)) (messages_at number c now last (seen number front) st)
 
-onward_none : {H : Type 0} (step : Steps H) (first : H) (front : List Deed) (old new : State H) → Serves step first (all_served front) old.handler → new ≡ old → Onward step first front old new []
+onward_none : {H : Type 0} (step : Steps H) (first : H) (front : List CallOutcome) (old new : State H) → Serves step first (all_served front) old.handler → new ≡ old → Onward step first front old new []
 onward_none {H} step first front old new run e = record {
   each = [];
   calls_are = refl;
-  run = subst (λ (ds : List Deed). Serves step first (all_served ds) new.handler) (sym (append-nil front)) (subst (λ (h : H). Serves step first (all_served front) h) (sym (ap (λ s. s.handler) e)) run);
+  run = subst (λ (ds : List CallOutcome). Serves step first (all_served ds) new.handler) (sym (append-nil front)) (subst (λ (h : H). Serves step first (all_served front) h) (sym (ap (λ s. s.handler) e)) run);
   rises = omega (arith, ap (λ s. s.last) e);
   stands = λ number c st.
-      subst (λ (ds : List Deed). Stand number c (connection_numbered number new.connections) new.last (seen number ds)) (sym (append-nil front))
+      subst (λ (ds : List CallOutcome). Stand number c (connection_numbered number new.connections) new.last (seen number ds)) (sym (append-nil front))
       (subst (λ (s : State H). Stand number c (connection_numbered number s.connections) s.last (seen number front)) (sym e) st);
   prompt = elim [
     | zero ↦ λ number c st. messages_front number c (connection_numbered number old.connections) old.last front st
@@ -1075,36 +1075,36 @@ onward_none {H} step first front old new run e = record {
   ];
 }
 
-onward_more : {H : Type 0} (step : Steps H) (first : H) (front : List Deed) (old mid new : State H) (call : Coming) (calls : List Coming) (d : Does step call old mid)
+onward_more : {H : Type 0} (step : Steps H) (first : H) (front : List CallOutcome) (old mid new : State H) (call : FrontCall) (calls : List FrontCall) (d : Does step call old mid)
     → Onward step first (front ++ record { call = call; done = d.done } ∷ []) mid new calls → Onward step first front old new (call ∷ calls)
 onward_more {H} step first front old mid new call calls d o =
-    let deed : Deed = record { call = call; done = d.done } in
+    let outcome : CallOutcome = record { call = call; done = d.done } in
     let next : (number : ℕ) (c : Connection) → Stand number c (connection_numbered number old.connections) old.last (seen number front)
-    → Stand number c (connection_numbered number mid.connections) mid.last (seen number (front ++ deed ∷ [])) = λ number c st.
-    subst (Stand number c (connection_numbered number mid.connections) mid.last) (sym (seen_step number front deed)) (d.stands number c (seen number front) st) in
+    → Stand number c (connection_numbered number mid.connections) mid.last (seen number (front ++ outcome ∷ [])) = λ number c st.
+    subst (Stand number c (connection_numbered number mid.connections) mid.last) (sym (seen_step number front outcome)) (d.stands number c (seen number front) st) in
     record {
-      each = deed ∷ o.each;
-      calls_are = ap (λ (cs : List Coming). call ∷ cs) o.calls_are;
-      run = subst (λ (ds : List Deed). Serves step first (all_served ds) new.handler) (append_assoc front (deed ∷ []) o.each) o.run;
+      each = outcome ∷ o.each;
+      calls_are = ap (λ (cs : List FrontCall). call ∷ cs) o.calls_are;
+      run = subst (λ (ds : List CallOutcome). Serves step first (all_served ds) new.handler) (append_assoc front (outcome ∷ []) o.each) o.run;
       rises = omega (arith, d.rises, o.rises);
       stands = λ number c st.
-          subst (λ (ds : List Deed). Stand number c (connection_numbered number new.connections) new.last (seen number ds)) (append_assoc front (deed ∷ []) o.each) (o.stands number c (next number c st));
+          subst (λ (ds : List CallOutcome). Stand number c (connection_numbered number new.connections) new.last (seen number ds)) (append_assoc front (outcome ∷ []) o.each) (o.stands number c (next number c st));
       prompt = elim [
         | zero ↦ λ number c st. messages_front number c (connection_numbered number old.connections) old.last front st
         | suc count ↦ λ number c st.
-            subst (λ (ds : List Deed). AreMessages c (seen number ds)) (append_assoc front (deed ∷ []) (take count o.each)) (o.prompt count number c (next number c st))
+            subst (λ (ds : List CallOutcome). AreMessages c (seen number ds)) (append_assoc front (outcome ∷ []) (take count o.each)) (o.prompt count number c (next number c st))
       ];
     }
 
-onward : {H : Type 0} (step : Steps H) (first : H) (front : List Deed) (old new : State H) (calls : List Coming) → Serves step first (all_served front) old.handler → Comes step old calls new
+onward : {H : Type 0} (step : Steps H) (first : H) (front : List CallOutcome) (old new : State H) (calls : List FrontCall) → Serves step first (all_served front) old.handler → Comes step old calls new
     → Onward step first front old new calls
 onward step first front old new [] run e = onward_none step first front old new run e
 onward step first front old new (call ∷ calls) run e =
     let d = does step call old e.0 e.1 in
-    let deed : Deed = record { call = call; done = d.done } in
-    let more = subst (λ (served : List Served). Serves step first served e.0.handler) (sym (served_more front deed))
+    let outcome : CallOutcome = record { call = call; done = d.done } in
+    let more = subst (λ (served : List Served). Serves step first served e.0.handler) (sym (served_more front outcome))
     (serves_join step first old.handler e.0.handler (all_served front) (served_by call d.done) run d.run) in
-    onward_more step first front old e.0 new call calls d (onward step first (front ++ deed ∷ []) e.0 new calls more e.2)
+    onward_more step first front old e.0 new call calls d (onward step first (front ++ outcome ∷ []) e.0 new calls more e.2)
 
 -- where a connection stands at first
 keeps_first : (number : ℕ) (c : Connection) → c.stage ≡ phase.Reading → IsUnfinished c.rest → KeepsSeen c c nothing_seen
@@ -1119,7 +1119,7 @@ keeps_first number c reads unfinished = record {
   rest = inl refl;
 }
 
-first_stand : {H : Type 0} (number : ℕ) (c : Connection) (old new : State H) → IsReading number old c ⊎ IsToCome number old new c
+first_stand : {H : Type 0} (number : ℕ) (c : Connection) (old new : State H) → IsReadingConnection number old c ⊎ IsToCome number old new c
     → Stand number c (connection_numbered number old.connections) old.last (seen number [])
 unfolding Stand nothing_seen
 first_stand number c old new (inl r) =
@@ -1127,7 +1127,7 @@ first_stand number c old new (inl r) =
     (inr (inl (record { here = c; stands = r.stands; keeps = keeps_first number c r.reads r.waits; stays = refl; given = r.given })))
 first_stand number c old new (inr t) = inl (record { none = t.none; above = t.later; first = t.opened; nothing = seen_none number })
 
-given_by : {H : Type 0} (number : ℕ) (c : Connection) (old new : State H) → old.last ≤ new.last → IsReading number old c ⊎ IsToCome number old new c → number ≤ new.last
+given_by : {H : Type 0} (number : ℕ) (c : Connection) (old new : State H) → old.last ≤ new.last → IsReadingConnection number old c ⊎ IsToCome number old new c → number ≤ new.last
 given_by number c old new rises (inl r) = omega (arith, rises, r.given)
 given_by number c old new rises (inr t) = t.given
 
@@ -1135,7 +1135,7 @@ none_served : {H : Type 0} (step : Steps H) (h : H) → Serves step h (all_serve
 unfolding all_served
 none_served step h = refl
 
-pub come_served : {H : Type 0} (step : Steps H) (old new : State H) (calls : List Coming) → Comes step old calls new → AreServed step old new calls
+pub come_served : {H : Type 0} (step : Steps H) (old new : State H) (calls : List FrontCall) → Comes step old calls new → AreServed step old new calls
 come_served step old new calls e =
     let o = onward step old.handler [] old new calls (none_served step old.handler) e in record {
       each = o.each;

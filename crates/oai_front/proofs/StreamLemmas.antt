@@ -9,27 +9,27 @@ use Rattle.httparse.proofs.GrammarLemmas.{request_unique}
 use Rattle.oai_http.specs.declared.statuses.Status.{Status}
 use Rattle.oai_http.specs.declared.statuses.Status.TheVariants.{BadRequest}
 use Rattle.oai_front.specs.Fields.{first_value, values_named}
-use Rattle.oai_front.specs.Messages.{fields_of, AreAlike, Begins, End, HasNoHead, IsClosing, IsFault, IsRefused, IsUnfinished, Message, NeverHasHead, Reads, Splits, Stream, closes, faults, plan_behind, waits}
-use Rattle.oai_front.specs.declared.beginnings.TheConstants.{MOST_HEAD_BYTES}
-use Rattle.oai_front.specs.declared.plans.Plan.{Plan}
-use Rattle.oai_front.specs.declared.plans.Plan.TheVariants.{Followed, Refused}
+use Rattle.oai_front.specs.Messages.{head_fields, AreAlike, Begins, End, HasNoHead, IsClosing, IsFault, IsRefused, IsUnfinished, Message, NeverHasHead, ReadsMessages, Splits, Stream, closes, faults, framing_in, waits}
+use Rattle.oai_front.specs.declared.request_heads.TheConstants.{MAX_HEAD_BYTES}
+use Rattle.oai_front.specs.declared.framings.Framing.{Framing}
+use Rattle.oai_front.specs.declared.framings.Framing.TheVariants.{Body, Refused}
 use Rattle.oai_front.proofs.HeadLemmas.{begins_more, none_after, refused_more}
 
 -- ---- one message
 
-size_in : Plan → ℕ
-size_in (Followed size last) = size
+size_in : Framing → ℕ
+size_in (Body size last) = size
 size_in (Refused status) = 0
 
-last_in : Plan → Bool
-last_in (Followed size last) = last
+last_in : Framing → Bool
+last_in (Body size last) = last
 last_in (Refused status) = false
 
-status_in : Plan → Status
-status_in (Followed size last) = BadRequest
+status_in : Framing → Status
+status_in (Body size last) = BadRequest
 status_in (Refused status) = status
 
-not_refused : (status : Status) (size : ℕ) (last : Bool) → Refused status ≡ Followed size last → ⊥
+not_refused : (status : Status) (size : ℕ) (last : Bool) → Refused status ≡ Body size last → ⊥
 not_refused status size last e = cc
 
 refused_alike : (s t : Status) → Refused s ≡ Refused t → s ≡ t
@@ -37,7 +37,7 @@ unfolding status_in
 refused_alike s t e = ap status_in e
 
 type_of : RequestHead → Option (List ℕ)
-type_of head = first_value (values_named (codes "Content-Type") (fields_of head))
+type_of head = first_value (values_named (codes "Content-Type") (head_fields head))
 
 -- fronts of one length, with what comes behind them
 fronts_of : (a b c d : List ℕ) → length a ≡ length b → a ++ c ≡ b ++ d → (a ≡ b) × (c ≡ d)
@@ -46,24 +46,24 @@ fronts_of a b c d long e = (
   sym (drop-append_seam a c) ∙ ap₂ (λ (n : ℕ) (xs : List ℕ). drop n xs) long e ∙ drop-append_seam b d,
 )
 
-reads_unique : (bytes : List ℕ) (m n : Message) (after other : List ℕ) → Reads bytes m after → Reads bytes n other → (m ≡ n) × (after ≡ other)
+reads_unique : (bytes : List ℕ) (m n : Message) (after other : List ℕ) → ReadsMessages bytes m after → ReadsMessages bytes n other → (m ≡ n) × (after ≡ other)
 unfolding size_in last_in type_of
 reads_unique bytes m n after other r q =
     let same = request_unique bytes r.head q.head _ _ r.begins.reads q.begins.reads in
-    let plans : Followed (length m.asked.body) m.last ≡ Followed (length n.asked.body) n.last = sym r.plan ∙ ap plan_behind same.0 ∙ q.plan in
-    let long : length m.asked.body ≡ length n.asked.body = ap size_in plans in
-    let last : m.last ≡ n.last = ap last_in plans in
+    let framings : Body (length m.asked.body) m.last ≡ Body (length n.asked.body) n.last = sym r.framing ∙ ap framing_in same.0 ∙ q.framing in
+    let long : length m.asked.body ≡ length n.asked.body = ap size_in framings in
+    let last : m.last ≡ n.last = ap last_in framings in
     let parts = fronts_of m.asked.body n.asked.body after other long same.1 in
     let method : m.asked.method ≡ n.asked.method = r.method ∙ ap (λ (h : RequestHead). h.method) same.0 ∙ sym q.method in
     let target : m.asked.target ≡ n.asked.target = r.target ∙ ap (λ (h : RequestHead). h.target) same.0 ∙ sym q.target in
     let kind : m.asked.content_type ≡ n.asked.content_type = r.content_type ∙ ap type_of same.0 ∙ sym q.content_type in
     (λ i. record { asked = record { method = method i; target = target i; content_type = kind i; body = parts.0 i }; last = last i }, parts.1)
 
-reads_more : (bytes more : List ℕ) (m : Message) (after : List ℕ) → Reads bytes m after → Reads (bytes ++ more) m (after ++ more)
+reads_more : (bytes more : List ℕ) (m : Message) (after : List ℕ) → ReadsMessages bytes m after → ReadsMessages (bytes ++ more) m (after ++ more)
 reads_more bytes more m after r = record {
   head = r.head;
   begins = subst (Begins (bytes ++ more) r.head) (append_assoc m.asked.body after more) (begins_more bytes more r.head (m.asked.body ++ after) r.begins);
-  plan = r.plan;
+  framing = r.framing;
   method = r.method;
   target = r.target;
   content_type = r.content_type;
@@ -71,15 +71,15 @@ reads_more bytes more m after r = record {
 
 -- ---- what excludes a message
 
-no_head_no_message : (bytes : List ℕ) → NeverHasHead bytes → (m : Message) (after : List ℕ) → ¬ (Reads bytes m after)
+no_head_no_message : (bytes : List ℕ) → NeverHasHead bytes → (m : Message) (after : List ℕ) → ¬ (ReadsMessages bytes m after)
 no_head_no_message bytes never m after r = none_after bytes never r.head _ r.begins
 
-refused_no_message : (bytes : List ℕ) (status : Status) → IsRefused bytes status → (m : Message) (after : List ℕ) → ¬ (Reads bytes m after)
+refused_no_message : (bytes : List ℕ) (status : Status) → IsRefused bytes status → (m : Message) (after : List ℕ) → ¬ (ReadsMessages bytes m after)
 refused_no_message bytes status f m after r =
     let same = request_unique bytes f.head r.head _ _ f.begins.reads r.begins.reads in
-    not_refused status (length m.asked.body) m.last (sym f.plan ∙ ap plan_behind same.0 ∙ r.plan)
+    not_refused status (length m.asked.body) m.last (sym f.framing ∙ ap framing_in same.0 ∙ r.framing)
 
-fault_no_message : (bytes : List ℕ) (status : Status) → IsFault bytes status → (m : Message) (after : List ℕ) → ¬ (Reads bytes m after)
+fault_no_message : (bytes : List ℕ) (status : Status) → IsFault bytes status → (m : Message) (after : List ℕ) → ¬ (ReadsMessages bytes m after)
 fault_no_message bytes status (inl never) = no_head_no_message bytes never.0.0
 fault_no_message bytes status (inr refused) = refused_no_message bytes status refused
 
@@ -90,7 +90,7 @@ faults_alike bytes s t (inl a) (inr b) = absurd (none_after bytes a.0.0 b.head b
 faults_alike bytes s t (inr a) (inl b) = absurd (none_after bytes b.0.0 a.head a.behind a.begins)
 faults_alike bytes s t (inr a) (inr b) =
     let same = request_unique bytes a.head b.head _ _ a.begins.reads b.begins.reads in
-    refused_alike s t (sym a.plan ∙ ap plan_behind same.0 ∙ b.plan)
+    refused_alike s t (sym a.framing ∙ ap framing_in same.0 ∙ b.framing)
 
 fault_waits : (bytes : List ℕ) (s : Status) → IsUnfinished bytes → IsFault bytes s → s ≡ BadRequest
 fault_waits bytes s u (inl never) = never.1
@@ -125,7 +125,7 @@ stream_join bytes rest ms ns closes s t = (
 pub stream_cut : (a b rest : List ℕ) (ms ns : List Message) (end : End) → Stream a ms (waits rest) → Stream (rest ++ b) ns end → Stream (a ++ b) (ms ++ ns) end
 stream_cut a b rest ms ns end s t = stream_join (a ++ b) (rest ++ b) ms ns end (splits_more a b rest ms s.0) t
 
-hopeless_more : (bytes more : List ℕ) → NeverHasRequest bytes ⊎ (MOST_HEAD_BYTES ≤ length bytes) → NeverHasRequest (bytes ++ more) ⊎ (MOST_HEAD_BYTES ≤ length (bytes ++ more))
+hopeless_more : (bytes more : List ℕ) → NeverHasRequest bytes ⊎ (MAX_HEAD_BYTES ≤ length bytes) → NeverHasRequest (bytes ++ more) ⊎ (MAX_HEAD_BYTES ≤ length (bytes ++ more))
 hopeless_more bytes more (inl never) = inl (λ others. subst HasNoRequest (sym (append_assoc bytes more others)) (never (more ++ others)))
 hopeless_more bytes more (inr full) = inr (omega (arith, full, length-append bytes more))
 
@@ -151,7 +151,7 @@ AtEnd bytes closes = ⊥
 record IsLast (bytes : List ℕ) (messages : List Message) (end : End) : Type 0 where
   message : Message
   after : List ℕ
-  reads : Reads bytes message after
+  reads : ReadsMessages bytes message after
   last : message.last ≡ true
   whole : messages ≡ message ∷ []
   closed : end ≡ closes
@@ -160,7 +160,7 @@ record IsMore (bytes : List ℕ) (messages : List Message) (end : End) : Type 0 
   message : Message
   after : List ℕ
   others : List Message
-  reads : Reads bytes message after
+  reads : ReadsMessages bytes message after
   stays : message.last ≡ false
   whole : messages ≡ message ∷ others
   goes_on : Stream after others end
@@ -168,11 +168,11 @@ record IsMore (bytes : List ℕ) (messages : List Message) (end : End) : Type 0 
 Front : List ℕ → List Message → End → Type 0
 Front bytes messages end = ((messages ≡ []) × AtEnd bytes end) ⊎ (IsLast bytes messages end ⊎ IsMore bytes messages end)
 
-closes_front : (bytes : List ℕ) (messages front : List Message) (rest : List ℕ) (m : Message) (after : List ℕ) → Splits bytes front rest → Reads rest m after
+closes_front : (bytes : List ℕ) (messages front : List Message) (rest : List ℕ) (m : Message) (after : List ℕ) → Splits bytes front rest → ReadsMessages rest m after
     → m.last ≡ true → messages ≡ front ++ m ∷ [] → Front bytes messages closes
 unfolding AtEnd Front
 closes_front bytes messages [] rest m after s r last e =
-    inr (inl (record { message = m; after = after; reads = subst (λ (xs : List ℕ). Reads xs m after) (sym s) r; last = last; whole = e; closed = refl }))
+    inr (inl (record { message = m; after = after; reads = subst (λ (xs : List ℕ). ReadsMessages xs m after) (sym s) r; last = last; whole = e; closed = refl }))
 closes_front bytes messages (n ∷ front) rest m after s r last e =
     inr (inr (record { message = n; after = s.0; others = front ++ m ∷ []; reads = s.1; stays = s.2; whole = e; goes_on = (front, rest, m, after, s.3, r, last, refl) }))
 
@@ -186,7 +186,7 @@ front_of bytes (m ∷ ms) (faults status) s =
     inr (inr (record { message = m; after = s.1.0; others = ms; reads = s.1.1; stays = s.1.2; whole = refl; goes_on = (s.0, s.1.3, s.2) }))
 front_of bytes messages closes s = closes_front bytes messages s.0 s.1 s.2 s.3 s.4 s.5 s.6 s.7
 
-at_end_no_message : (bytes : List ℕ) (end : End) → AtEnd bytes end → (m : Message) (after : List ℕ) → ¬ (Reads bytes m after)
+at_end_no_message : (bytes : List ℕ) (end : End) → AtEnd bytes end → (m : Message) (after : List ℕ) → ¬ (ReadsMessages bytes m after)
 unfolding AtEnd
 at_end_no_message bytes (waits rest) a = a.1.message
 at_end_no_message bytes (faults status) a = fault_no_message bytes status a

@@ -8,8 +8,8 @@ use Rattle.oai_http.specs.declared.statuses.Status.{Status}
 use Rattle.oai_front.specs.Fields.{any_close, values_named}
 
 -- the fields of the head, each its name and its value
-abbrev pub fields_in : ResponseHead → List (List ℕ × List ℕ)
-fields_in head = map name_and_value head.fields
+abbrev pub response_fields : ResponseHead → List (List ℕ × List ℕ)
+response_fields head = map name_and_value head.fields
 
 -- the bytes begin with an answer that has that status and that body, and then come others: a head, in which stand the number of the status,
 -- one length, in decimal digits, which is the body's, and no coding in place of it; and `close` where the connection is closed behind it
@@ -17,6 +17,6 @@ pub record IsReadBack (bytes : List ℕ) (status : Status) (last : Bool) (body o
   pub head : ResponseHead
   pub reads : ReadsResponse bytes head (body ++ others)
   pub number : status_code head ≡ number_of status
-  pub size : values_named (codes "Content-Length") (fields_in head) ≡ decimal (length body) ∷ []
-  pub coding : values_named (codes "Transfer-Encoding") (fields_in head) ≡ []
-  pub close : any_close (fields_in head) ≡ last
+  pub size : values_named (codes "Content-Length") (response_fields head) ≡ decimal (length body) ∷ []
+  pub coding : values_named (codes "Transfer-Encoding") (response_fields head) ≡ []
+  pub close : any_close (response_fields head) ≡ last

@@ -8,8 +8,8 @@ use Rattle.oai_front.specs.declared.stages.Stage.TheVariants.{Reading, Closed}
 use Rattle.oai_front.specs.declared.faults.PieceFault.{PieceFault}
 use Rattle.oai_front.specs.declared.faults.PieceFault.TheVariants.{NoSuchConnection, NoMemory, Unfinished}
 
--- a connection: its number, the bytes that came and belong to no message that was performed, the bytes that were answered and not taken, and
--- whether it reads on
+-- a connection: its number, the bytes that came and belong to no message that was performed, the bytes that were answered and not taken,
+-- and whether it reads on
 pub record Connection : Type 0 where
   pub number : ℕ
   pub rest : List ℕ
@@ -32,7 +32,7 @@ pub record IsFrontOf (bytes all : List ℕ) : Type 0 where
 abbrev pub bytes_with : Connection → List ℕ → List ℕ
 bytes_with c piece = if is_closing c.stage then c.rest else c.rest ++ piece
 
--- what is left of a connection whose messages ended so
+-- what is left of a connection whose messages came to that end
 abbrev pub rest_at : End → List ℕ
 rest_at (waits rest) = rest
 rest_at closes = []

@@ -8,21 +8,21 @@ use Rattle.std.specs.Str.Parse.{digits_value}
 use Rattle.httparse.specs.Ascii.{comma}
 use Rattle.httparse.specs.Grammar.{trim_ows}
 use Rattle.oai_http.specs.declared.statuses.Status.TheVariants.{BadRequest, ContentTooLarge, NotImplemented}
-use Rattle.oai_front.specs.declared.plans.Plan.{Plan}
-use Rattle.oai_front.specs.declared.plans.Plan.TheVariants.{Refused, Followed}
-use Rattle.oai_front.specs.declared.plans.TheConstants.{MOST_BODY_BYTES, MOST_LENGTH_DIGITS}
+use Rattle.oai_front.specs.declared.framings.Framing.{Framing}
+use Rattle.oai_front.specs.declared.framings.Framing.TheVariants.{Refused, Body}
+use Rattle.oai_front.specs.declared.framings.TheConstants.{MAX_BODY_BYTES, MAX_LENGTH_DIGITS}
 
 -- the texts differ at most in the case of ASCII letters
 unfoldable pub is_alike : List ℕ → List ℕ → Bool
 is_alike a b = str_eq_ignore_ascii_case a b
 
 -- the field has that name, without regard to case: RFC 9110, section 5.1
-abbrev pub is_named : List ℕ → List ℕ × List ℕ → Bool
-is_named name field = is_alike field.0 name
+abbrev pub is_field_named : List ℕ → List ℕ × List ℕ → Bool
+is_field_named name field = is_alike field.0 name
 
 -- the values of the fields of that name, in order
 unfoldable pub values_named : List ℕ → List (List ℕ × List ℕ) → List (List ℕ)
-values_named name fields = map (λ field. field.1) (filter (is_named name) fields)
+values_named name fields = map (λ field. field.1) (filter (is_field_named name) fields)
 
 -- the first value, where there is one
 abbrev pub first_value : List (List ℕ) → Option (List ℕ)
@@ -39,7 +39,7 @@ are_digits value = list_all is_ascii_digit value
 
 unfoldable pub length_written : List ℕ → Option ℕ
 length_written value =
-    if nat_le 1 (length value) && nat_le (length value) MOST_LENGTH_DIGITS && are_digits value
+    if nat_le 1 (length value) && nat_le (length value) MAX_LENGTH_DIGITS && are_digits value
     then Some (digits_value 10 value) else None
 
 -- the length of the body that the fields Content-Length give: none where there is no field, and no length where there are several or one
@@ -71,17 +71,18 @@ any_close fields = list_any lists_close (values_named (codes "Connection") field
 abbrev pub is_last : ℕ → List (List ℕ × List ℕ) → Bool
 is_last minor fields = minor == 0 || any_close fields
 
--- what comes behind a head that says that a body of that size follows
-abbrev pub plan_sized : ℕ → Bool → Plan
-plan_sized size last = if nat_lt MOST_BODY_BYTES size then Refused ContentTooLarge else Followed size last
+-- the framing where a body of that size is announced
+abbrev pub framing_sized : ℕ → Bool → Framing
+framing_sized size last = if nat_lt MAX_BODY_BYTES size then Refused ContentTooLarge else Body size last
 
-abbrev pub plan_by : Option ℕ → Bool → Plan
-plan_by None last = Refused BadRequest
-plan_by (Some size) last = plan_sized size last
+abbrev pub framing_by : Option ℕ → Bool → Framing
+framing_by None last = Refused BadRequest
+framing_by (Some size) last = framing_sized size last
 
--- what comes behind a head of HTTP/1.minor with these fields: the first fault, or the body of a message. RFC 9112, sections 3.2, 6.1 and 6.3
-unfoldable pub plan_of : ℕ → List (List ℕ × List ℕ) → Plan
-plan_of minor fields =
+-- the framing behind a head of HTTP/1.minor with these fields: the first fault, or the body of a message. RFC 9112, sections 3.2, 6.1 and
+-- 6.3
+unfoldable pub framing_of : ℕ → List (List ℕ × List ℕ) → Framing
+framing_of minor fields =
     if not (is_host_count minor (length (values_named (codes "Host") fields))) then Refused BadRequest
     else (if nat_lt 0 (length (values_named (codes "Transfer-Encoding") fields)) then Refused NotImplemented
-    else plan_by (length_given (values_named (codes "Content-Length") fields)) (is_last minor fields))
+    else framing_by (length_given (values_named (codes "Content-Length") fields)) (is_last minor fields))

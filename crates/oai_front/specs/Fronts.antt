@@ -45,12 +45,12 @@ without_connection number connections = filter (λ c. not (is_numbered number c)
 -- ---- what is true of each front
 
 -- the number of a connection
-abbrev pub number_of : Connection → ℕ
-number_of c = c.number
+abbrev pub connection_number : Connection → ℕ
+connection_number c = c.number
 
 -- the numbers rise strictly
 abbrev pub are_numbered : List Connection → Bool
-are_numbered connections = numbers_rise number_of connections
+are_numbered connections = numbers_rise connection_number connections
 
 -- no number stands twice, and none above the one that was given last
 pub record IsTable (connections : List Connection) (last : ℕ) : Type 0 where
@@ -60,8 +60,8 @@ pub record IsTable (connections : List Connection) (last : ℕ) : Type 0 where
 
 -- ---- the calls
 
--- opening: the connection gets the number after the one that was given last, and nothing has come on it; or the first cause that applies is told,
--- out of memory, where it is refused, ahead of the last
+-- opening: the connection gets the number after the one that was given last, and nothing has come on it; or the first cause that applies is
+-- told, out of memory, where it is refused, ahead of the last
 abbrev pub IsOpening : {H : Type 0} → State H → Result ConnId OpenFault → State H → Type 0
 IsOpening old (Ok conn) new =
     (length old.connections < old.limit) × (conn.number ≡ old.last + 1) × (conn.number < LAST_NUMBER)

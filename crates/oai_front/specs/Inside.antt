@@ -3,7 +3,7 @@ use Rattle.std.specs.Prelude.{IfSome, drop}
 use Rattle.std.specs.List.{concat}
 use Rattle.oai_front.specs.Connections.{Connection}
 use Rattle.oai_front.specs.Queues.{AreFilled, IsTaken}
-use Rattle.oai_front.specs.Workings.{IsHead}
+use Rattle.oai_front.specs.RequestHeads.{IsHead}
 use Rattle.oai_front.specs.declared.connections.Connection.TheInside.{Inside}
 
 abbrev pub connection_in : Inside → Connection

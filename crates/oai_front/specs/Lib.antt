@@ -3,7 +3,8 @@ pub mod Messages
 pub mod Heads
 pub mod Clients
 pub mod Performing
-pub mod Workings
+pub mod RequestHeads
+pub mod Pipelining
 pub mod Queues
 pub mod Stages
 pub mod Connections

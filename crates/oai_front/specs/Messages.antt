@@ -6,10 +6,10 @@ use Rattle.httparse.specs.Spans.{RequestExceeds, name_and_value}
 use Rattle.oai_http.specs.declared.statuses.Status.{Status}
 use Rattle.oai_http.specs.declared.statuses.Status.TheVariants.{BadRequest}
 use Rattle.oai_http.specs.Exchanges.{Asked}
-use Rattle.oai_front.specs.Fields.{first_value, plan_of, values_named}
-use Rattle.oai_front.specs.declared.plans.Plan.{Plan}
-use Rattle.oai_front.specs.declared.plans.Plan.TheVariants.{Followed, Refused}
-use Rattle.oai_front.specs.declared.beginnings.TheConstants.{MOST_HEAD_FIELDS, MOST_HEAD_BYTES}
+use Rattle.oai_front.specs.Fields.{first_value, framing_of, values_named}
+use Rattle.oai_front.specs.declared.framings.Framing.{Framing}
+use Rattle.oai_front.specs.declared.framings.Framing.TheVariants.{Body, Refused}
+use Rattle.oai_front.specs.declared.request_heads.TheConstants.{MAX_HEAD_FIELDS, MAX_HEAD_BYTES}
 
 -- a message, and whether the connection is closed after it
 pub record Message : Type 0 where
@@ -17,52 +17,52 @@ pub record Message : Type 0 where
   pub last : Bool
 
 -- the fields of a head, each its name and its value
-abbrev pub fields_of : RequestHead → List (List ℕ × List ℕ)
-fields_of head = map name_and_value head.fields
+abbrev pub head_fields : RequestHead → List (List ℕ × List ℕ)
+head_fields head = map name_and_value head.fields
 
--- what comes behind a head
-unfoldable pub plan_behind : RequestHead → Plan
-plan_behind head = plan_of head.minor (fields_of head)
+-- the framing of the body behind a head: RFC 9112, section 6
+unfoldable pub framing_in : RequestHead → Framing
+framing_in head = framing_of head.minor (head_fields head)
 
 -- the bytes are a head of at most so many bytes and fields, and then `behind`
 pub record Begins (bytes : List ℕ) (head : RequestHead) (behind : List ℕ) : Type 0 where
   pub reads : ReadsRequest bytes head behind
-  pub short : length (print_request head) ≤ MOST_HEAD_BYTES
-  pub few : length head.fields ≤ MOST_HEAD_FIELDS
+  pub short : length (print_request head) ≤ MAX_HEAD_BYTES
+  pub few : length head.fields ≤ MAX_HEAD_FIELDS
 
 -- the bytes do not begin with such a head
 abbrev pub HasNoHead : List ℕ → Type 0
 HasNoHead bytes = (head : RequestHead) (behind : List ℕ) → ¬ (Begins bytes head behind)
 
--- nor do they, whatever bytes follow
+-- no such head begins the bytes, whatever bytes follow
 abbrev pub NeverHasHead : List ℕ → Type 0
 NeverHasHead bytes = (more : List ℕ) → HasNoHead (bytes ++ more)
 
 -- the bytes are this message and then `after`: a head, and a body of the length that it gives
-pub record Reads (bytes : List ℕ) (message : Message) (after : List ℕ) : Type 0 where
+pub record ReadsMessages (bytes : List ℕ) (message : Message) (after : List ℕ) : Type 0 where
   pub head : RequestHead
   pub begins : Begins bytes head (message.asked.body ++ after)
-  pub plan : plan_behind head ≡ Followed (length message.asked.body) message.last
+  pub framing : framing_in head ≡ Body (length message.asked.body) message.last
   pub method : message.asked.method ≡ head.method
   pub target : message.asked.target ≡ head.target
-  pub content_type : message.asked.content_type ≡ first_value (values_named (codes "Content-Type") (fields_of head))
+  pub content_type : message.asked.content_type ≡ first_value (values_named (codes "Content-Type") (head_fields head))
 
--- the bytes begin with a head whose fields are refused so
+-- the bytes begin with a head whose fields are refused with that status
 pub record IsRefused (bytes : List ℕ) (status : Status) : Type 0 where
   pub head : RequestHead
   pub behind : List ℕ
   pub begins : Begins bytes head behind
-  pub plan : plan_behind head ≡ Refused status
+  pub framing : framing_in head ≡ Refused status
 
--- no head stands at their front, whatever bytes follow, and it is time to say so: no head of the grammar ever will, of whatever size, or there
--- are as many bytes as a head may have
+-- no head stands at their front, whatever bytes follow, and it is time to say so: no head of the grammar ever will, of whatever size, or
+-- there are as many bytes as a head may have
 abbrev pub IsHopeless : List ℕ → Type 0
-IsHopeless bytes = NeverHasHead bytes × (NeverHasRequest bytes ⊎ (MOST_HEAD_BYTES ≤ length bytes))
+IsHopeless bytes = NeverHasHead bytes × (NeverHasRequest bytes ⊎ (MAX_HEAD_BYTES ≤ length bytes))
 
--- in bytes without a head one may still begin: they can become a head of the grammar, or they have the lines of one with too many fields, of
--- which nothing is said before there are as many bytes as a head may have
+-- in bytes without a head one may still begin: they can become a head of the grammar, or they have the lines of one with too many fields,
+-- of which nothing is said before there are as many bytes as a head may have
 abbrev pub MayBegin : List ℕ → Type 0
-MayBegin bytes = MayBecomeRequest bytes ⊎ RequestExceeds MOST_HEAD_FIELDS bytes
+MayBegin bytes = MayBecomeRequest bytes ⊎ RequestExceeds MAX_HEAD_FIELDS bytes
 
 -- no message can come of the bytes: no head ever stands at their front, or the one that does is refused
 abbrev pub IsFault : List ℕ → Status → Type 0
@@ -71,14 +71,14 @@ IsFault bytes status = (IsHopeless bytes × (status ≡ BadRequest)) ⊎ IsRefus
 -- nothing whole stands at the front of the bytes: no message and no head that is refused; and a head that is not whole has fewer bytes than
 -- a head may have, and may still come
 pub record IsUnfinished (bytes : List ℕ) : Type 0 where
-  pub message : (message : Message) (after : List ℕ) → ¬ (Reads bytes message after)
+  pub message : (message : Message) (after : List ℕ) → ¬ (ReadsMessages bytes message after)
   pub fault : (status : Status) → ¬ (IsRefused bytes status)
-  pub short : HasNoHead bytes → length bytes < MOST_HEAD_BYTES
+  pub short : HasNoHead bytes → length bytes < MAX_HEAD_BYTES
   pub begins : HasNoHead bytes → MayBegin bytes
 
 -- a message or a fault stands at the front of the bytes
 abbrev pub HasWhole : List ℕ → Type 0
-HasWhole bytes = ((message : Message) × (after : List ℕ) × Reads bytes message after) ⊎ ((status : Status) × IsFault bytes status)
+HasWhole bytes = ((message : Message) × (after : List ℕ) × ReadsMessages bytes message after) ⊎ ((status : Status) × IsFault bytes status)
 
 -- ---- the whole stream
 
@@ -92,7 +92,7 @@ pub data End : Type 0 where
 abbrev pub Splits : List ℕ → List Message → List ℕ → Type 0
 Splits bytes [] rest = bytes ≡ rest
 Splits bytes (message ∷ messages) rest =
-    (after : List ℕ) × Reads bytes message after × (message.last ≡ false) × Splits after messages rest
+    (after : List ℕ) × ReadsMessages bytes message after × (message.last ≡ false) × Splits after messages rest
 
 -- the connection is closed at that end
 abbrev pub IsClosing : End → Type 0
@@ -106,7 +106,7 @@ Stream bytes messages (waits rest) = Splits bytes messages rest × IsUnfinished 
 Stream bytes messages (faults status) = (rest : List ℕ) × Splits bytes messages rest × IsFault rest status
 Stream bytes messages closes =
     (front : List Message) × (rest : List ℕ) × (message : Message) × (after : List ℕ)
-    × Splits bytes front rest × Reads rest message after × (message.last ≡ true) × (messages ≡ front ++ message ∷ [])
+    × Splits bytes front rest × ReadsMessages rest message after × (message.last ≡ true) × (messages ≡ front ++ message ∷ [])
 
 -- two ends are alike: they are equal, but that the 400 for bytes in which a head never comes may wait for more of them where a line behind
 -- more than 64 fields is none of a head, or where the target is not in UTF-8

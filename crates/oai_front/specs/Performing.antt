@@ -31,7 +31,7 @@ abbrev pub Chain : {A S : Type 0} → (A → S → S → Type 0) → List A → 
 Chain Step [] old new = new ≡ old
 Chain {A} {S} Step (x ∷ xs) old new = (mid : S) × Step x old mid × Chain Step xs mid new
 
--- the messages are performed in order, at one moment, and answered so
+-- the messages are performed in order, at one moment, and these are their answers
 abbrev pub Run : {H : Type 0} → Steps H → ℤ → H → List Done → H → Type 0
 Run step moment old done new = Chain (λ d before after. step before moment d.message.asked d.answer after) done old new
 

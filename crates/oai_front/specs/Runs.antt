@@ -20,28 +20,29 @@ pub record Piece : Type 0 where
   pub bytes : List ℕ
   pub whole : Bool
 
--- a call that changes a front: a piece comes on a connection; so many bytes that are to be written on it are taken; no more come on it; it is
--- forgotten; one is opened. A call that is refused changes nothing, and is none of them
-pub data Coming : Type 0 where
-  Came : (piece : Piece) → Coming
-  Taken : (number count : ℕ) → Coming
-  Over : (number : ℕ) → Coming
-  Forgotten : (number : ℕ) → Coming
-  Opened : Coming
+-- a call that changes a front: a piece comes on a connection; so many bytes that are to be written on it are taken; no more come on it; it
+-- is forgotten; one is opened. A call that is refused changes nothing, and is none of them
+pub data FrontCall : Type 0 where
+  Came : (piece : Piece) → FrontCall
+  Taken : (number count : ℕ) → FrontCall
+  Over : (number : ℕ) → FrontCall
+  Forgotten : (number : ℕ) → FrontCall
+  Opened : FrontCall
 
-abbrev pub answer_of : Bool → Result Unit PieceFault
-answer_of true = Ok tt
-answer_of false = Err refusal.Unfinished
+abbrev pub piece_answer : Bool → Result Unit PieceFault
+piece_answer true = Ok tt
+piece_answer false = Err refusal.Unfinished
 
-abbrev pub IsCall : {H : Type 0} → Steps H → Coming → State H → State H → Type 0
-IsCall step (Came p) old new = IsPiece step p.number p.moment p.bytes old (answer_of p.whole) new
-IsCall step (Taken number count) old new = HasOutput number count old.connections × IsChange number old new (IsTaking count) × (new.handler ≡ old.handler)
+abbrev pub IsCall : {H : Type 0} → Steps H → FrontCall → State H → State H → Type 0
+IsCall step (Came p) old new = IsPiece step p.number p.moment p.bytes old (piece_answer p.whole) new
+IsCall step (Taken number count) old new =
+    HasOutput number count old.connections × IsChange number old new (IsTaking count) × (new.handler ≡ old.handler)
 IsCall step (Over number) old new = IsEnding number old (Ok tt) new
 IsCall step (Forgotten number) old new = IsForgetting number old (Ok tt) new
 IsCall step Opened old new = (conn : ConnId) × IsOpening old (Ok conn) new
 
 -- the calls come one after the other
-abbrev pub Comes : {H : Type 0} → Steps H → State H → List Coming → State H → Type 0
+abbrev pub Comes : {H : Type 0} → Steps H → State H → List FrontCall → State H → Type 0
 Comes step old calls new = Chain (IsCall step) calls old new
 
 -- ---- what was performed
@@ -56,28 +57,28 @@ pub record Served : Type 0 where
 abbrev pub Serves : {H : Type 0} → Steps H → H → List Served → H → Type 0
 Serves step old served new = Chain (λ s before after. step before s.moment s.done.message.asked s.done.answer after) served old new
 
--- a call, and the messages that were performed with it
-pub record Deed : Type 0 where
-  pub call : Coming
+-- what came of a call: the messages that were performed with it
+pub record CallOutcome : Type 0 where
+  pub call : FrontCall
   pub done : List Done
 
-abbrev pub calls_of : List Deed → List Coming
-calls_of deeds = map (λ d. d.call) deeds
+abbrev pub calls_of : List CallOutcome → List FrontCall
+calls_of outcomes = map (λ d. d.call) outcomes
 
--- with a piece they were: on its connection, at its moment
+-- a message performed with a piece was served on its connection, at its moment
 abbrev pub served_with : Piece → Done → Served
 served_with p done = record { number = p.number; moment = p.moment; done = done }
 
-abbrev pub served_by : Coming → List Done → List Served
+abbrev pub served_by : FrontCall → List Done → List Served
 served_by (Came p) done = map (served_with p) done
 served_by call done = []
 
-unfoldable pub all_served : List Deed → List Served
-all_served deeds = flat_map (λ d. served_by d.call d.done) deeds
+unfoldable pub all_served : List CallOutcome → List Served
+all_served outcomes = flat_map (λ d. served_by d.call d.done) outcomes
 
 -- ---- one connection
 
--- what was performed on it
+-- what was served on the connection of the number
 abbrev pub served_on : ℕ → Served → Bool
 served_on number s = s.number == number
 
@@ -85,33 +86,33 @@ unfoldable pub done_on : ℕ → List Served → List Done
 done_on number served = map (λ s. s.done) (filter (served_on number) served)
 
 -- the bytes that came on it before no more did
-abbrev pub is_over : ℕ → Coming → Bool
+abbrev pub is_over : ℕ → FrontCall → Bool
 is_over number (Over other) = other == number
 is_over number call = false
 
-abbrev pub bytes_of : ℕ → Coming → List ℕ
+abbrev pub bytes_of : ℕ → FrontCall → List ℕ
 bytes_of number (Came p) = if p.number == number then p.bytes else []
 bytes_of number call = []
 
-unfoldable pub bytes_on : ℕ → List Coming → List ℕ
+unfoldable pub bytes_on : ℕ → List FrontCall → List ℕ
 bytes_on number calls = flat_map (bytes_of number) (before_first (is_over number) calls)
 
 -- how many bytes of its output were taken
-abbrev pub count_of : ℕ → Coming → ℕ
-count_of number (Taken other count) = if other == number then count else 0
-count_of number call = 0
+abbrev pub taken_count : ℕ → FrontCall → ℕ
+taken_count number (Taken other count) = if other == number then count else 0
+taken_count number call = 0
 
 -- it was forgotten
-abbrev pub is_forgotten : ℕ → Coming → Bool
+abbrev pub is_forgotten : ℕ → FrontCall → Bool
 is_forgotten number (Forgotten other) = other == number
 is_forgotten number call = false
 
--- all that was whole with the last piece that came on it was performed; so it is where none came
-abbrev pub comes_on : ℕ → Coming → Bool
+-- all that was whole with the last piece that came on it was performed, or none came
+abbrev pub comes_on : ℕ → FrontCall → Bool
 comes_on number (Came p) = p.number == number
 comes_on number call = false
 
-abbrev pub is_whole : Option Coming → Bool
+abbrev pub is_whole : Option FrontCall → Bool
 is_whole (Some (Came p)) = p.whole
 is_whole call = true
 
@@ -124,14 +125,14 @@ pub record Seen : Type 0 where
   pub over : Bool
   pub forgotten : Bool
 
-unfoldable pub seen : ℕ → List Deed → Seen
-seen number deeds = record {
-  bytes = bytes_on number (calls_of deeds);
-  done = done_on number (all_served deeds);
-  taken = sum_by (count_of number) (calls_of deeds);
-  whole = is_whole (find (comes_on number) (reverse (calls_of deeds)));
-  over = list_any (is_over number) (calls_of deeds);
-  forgotten = list_any (is_forgotten number) (calls_of deeds);
+unfoldable pub seen : ℕ → List CallOutcome → Seen
+seen number outcomes = record {
+  bytes = bytes_on number (calls_of outcomes);
+  done = done_on number (all_served outcomes);
+  taken = sum_by (taken_count number) (calls_of outcomes);
+  whole = is_whole (find (comes_on number) (reverse (calls_of outcomes)));
+  over = list_any (is_over number) (calls_of outcomes);
+  forgotten = list_any (is_forgotten number) (calls_of outcomes);
 }
 
 -- the messages of the bytes, up to that end: all of them; or the first of them, and something whole waits
@@ -150,7 +151,7 @@ abbrev pub stage_where : Bool → Stage
 stage_where true = phase.Ended
 stage_where false = phase.Reading
 
--- so it is left: what was to be written, the answers, and that to a fault are to be written, without what was taken
+-- what is left of the connection: what was to be written, the answers, and that to a fault are to be written, without what was taken
 pub record IsWhatIsLeft (c : Connection) (s : Seen) (end : End) (d : Connection) : Type 0 where
   pub same : d.number ≡ c.number
   pub output : d.output ≡ drop s.taken (c.output ++ (answers_of s.done ++ end_bytes end))
@@ -166,7 +167,7 @@ pub record IsOwn (c : Connection) (s : Seen) (now : Option Connection) : Type 0 
 -- ---- all connections
 
 -- a connection that reads, and on which nothing whole waits
-pub record IsReading {H : Type 0} (number : ℕ) (state : State H) (c : Connection) : Type 0 where
+pub record IsReadingConnection {H : Type 0} (number : ℕ) (state : State H) (c : Connection) : Type 0 where
   pub stands : connection_numbered number state.connections ≡ Some c
   pub reads : c.stage ≡ phase.Reading
   pub waits : IsUnfinished c.rest
@@ -179,11 +180,12 @@ pub record IsToCome {H : Type 0} (number : ℕ) (old new : State H) (c : Connect
   pub given : number ≤ new.last
   pub opened : c ≡ fresh number
 
--- all that was performed, call by call, and what of it belongs to each connection, one that is opened among the calls as well. `prompt`: so it
--- is after each of the calls, so a message is performed with the piece that brings its last byte, or, where memory was refused, with a later one
-pub record AreServed {H : Type 0} (step : Steps H) (old new : State H) (calls : List Coming) : Type 0 where
-  pub each : List Deed
+-- all that was performed, call by call, and what of it belongs to each connection, one that is opened among the calls as well. `prompt`:
+-- this holds after each of the calls, so a message is performed with the piece that brings its last byte, or, where memory was refused,
+-- with a later one
+pub record AreServed {H : Type 0} (step : Steps H) (old new : State H) (calls : List FrontCall) : Type 0 where
+  pub each : List CallOutcome
   pub calls_are : calls_of each ≡ calls
   pub run : Serves step old.handler (all_served each) new.handler
-  pub own : (number : ℕ) (c : Connection) → IsReading number old c ⊎ IsToCome number old new c → IsOwn c (seen number each) (connection_numbered number new.connections)
-  pub prompt : (count number : ℕ) (c : Connection) → IsReading number old c ⊎ IsToCome number old new c → AreMessages c (seen number (take count each))
+  pub own : (number : ℕ) (c : Connection) → IsReadingConnection number old c ⊎ IsToCome number old new c → IsOwn c (seen number each) (connection_numbered number new.connections)
+  pub prompt : (count number : ℕ) (c : Connection) → IsReadingConnection number old c ⊎ IsToCome number old new c → AreMessages c (seen number (take count each))

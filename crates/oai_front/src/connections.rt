@@ -2,10 +2,10 @@ ghost use Rattle.std.specs.Prelude.{◌≡◌, ◌≤◌, length, drop, OnErr, O
 ghost use Rattle.oai_front.specs.Connections.{IsEnded, IsFrontOf, IsGoneOver, IsTakenIn, bytes_with, fresh};
 ghost use Rattle.oai_front.specs.Stages.{is_closing};
 
-use crate::beginnings::Head;
 use crate::faults::PieceFault;
 use crate::messages::{Left, Next, next_in, perform_all};
 use crate::queues::{drop_front, drop_taken, left_of};
+use crate::request_heads::Head;
 use crate::stages::Stage;
 use oai_http::Handler;
 use oai_names::Sequence;

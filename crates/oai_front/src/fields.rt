@@ -5,7 +5,7 @@ ghost use Rattle.std.specs.Option.{option_map};
 ghost use Rattle.std.specs.Prelude.{IfSome};
 ghost use Rattle.oai_front.specs.Fields as spec;
 
-use crate::plans::MOST_LENGTH_DIGITS;
+use crate::framings::MAX_LENGTH_DIGITS;
 use httparse::spans::{HeaderSpan, Span};
 use oai_http::trim;
 
@@ -43,7 +43,7 @@ pub(crate) fn first_named(bytes: &[u8], headers: &[HeaderSpan], name: &[u8]) -> 
 /// Whether the field has that name, without regard to case (RFC 9110, section 5.1).
 fn is_named(bytes: &[u8], header: &HeaderSpan, name: &[u8]) -> bool
     requires { IsHeaderWithin (length bytes.now) header.now }
-    ensures { result ≡ spec.is_named name.now (header_bytes bytes.now header.now) }
+    ensures { result ≡ spec.is_field_named name.now (header_bytes bytes.now header.now) }
 {
     is_alike(header.name.of(bytes), name)
 }
@@ -77,7 +77,7 @@ pub(crate) fn length_given(bytes: &[u8], headers: &[HeaderSpan]) -> Option<usize
 fn length_written(value: &[u8]) -> Option<usize>
     ensures { result ≡ spec.length_written value.now }
 {
-    if value.is_empty() || value.len() > MOST_LENGTH_DIGITS || !are_digits(value) {
+    if value.is_empty() || value.len() > MAX_LENGTH_DIGITS || !are_digits(value) {
         return None;
     }
     Some(number(value))
@@ -92,7 +92,7 @@ fn are_digits(value: &[u8]) -> bool
 
 /// The number that the digits write.
 fn number(digits: &[u8]) -> usize
-    requires few { length digits.now ≤ MOST_LENGTH_DIGITS }
+    requires few { length digits.now ≤ MAX_LENGTH_DIGITS }
     requires digits { spec.are_digits digits.now ≡ true }
     ensures { result ≡ digits_value 10 digits.now }
 {

@@ -5,11 +5,11 @@ ghost use Rattle.oai_front.specs.Clients.{IsReadBack};
 ghost use Rattle.oai_front.specs.Fronts.{State};
 ghost use Rattle.oai_front.specs.Heads.{answer_bytes, fault_bytes};
 ghost use Rattle.oai_front.specs.Messages.{AreAlike, End, IsClosing, IsUnfinished, Message, Splits, Stream, waits};
-ghost use Rattle.oai_front.specs.Runs.{AreServed, Comes, Coming};
+ghost use Rattle.oai_front.specs.Runs.{AreServed, Comes, FrontCall};
 
-use crate::beginnings::{MOST_HEAD_BYTES, MOST_HEAD_FIELDS};
+use crate::framings::{MAX_BODY_BYTES, MAX_LENGTH_DIGITS};
 use crate::numbers::LAST_NUMBER;
-use crate::plans::{MOST_BODY_BYTES, MOST_LENGTH_DIGITS};
+use crate::request_heads::{MAX_HEAD_BYTES, MAX_HEAD_FIELDS};
 use oai_http::Handler;
 
 /// The messages of bytes are these and no others, however many there are, and all that is told of their end
@@ -43,7 +43,7 @@ pub fn cut_law()
 /// It is said of each connection that reads and on which nothing whole waits, and of each that is opened
 /// among the calls. It does nothing.
 pub fn run_law<H: Handler>()
-    ensures served { (old new : State H) (calls : List Coming)
+    ensures served { (old new : State H) (calls : List FrontCall)
         → Comes H.step old calls new → AreServed H.step old new calls }
     ensures begun { IsUnfinished [] }
 {}
@@ -60,9 +60,9 @@ pub fn head_law()
 
 /// The limits in numbers, since definitions read them by their names. It does nothing.
 pub fn limit_law()
-    ensures head { MOST_HEAD_BYTES ≡ 16_384 }
-    ensures fields { MOST_HEAD_FIELDS ≡ 64 }
-    ensures body { MOST_BODY_BYTES ≡ 1_048_576 }
-    ensures digits { MOST_LENGTH_DIGITS ≡ 19 }
+    ensures head { MAX_HEAD_BYTES ≡ 16_384 }
+    ensures fields { MAX_HEAD_FIELDS ≡ 64 }
+    ensures body { MAX_BODY_BYTES ≡ 1_048_576 }
+    ensures digits { MAX_LENGTH_DIGITS ≡ 19 }
     ensures number { LAST_NUMBER ≡ 18_446_744_073_709_551_615 }
 {}

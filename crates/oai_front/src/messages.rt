@@ -4,10 +4,11 @@ ghost use Rattle.std.specs.Option.{option_copied, option_map};
 ghost use Rattle.httparse.specs.Spans.{IsWithin, span_bytes};
 ghost use Rattle.oai_http.specs.Exchanges.{asked_by};
 ghost use Rattle.oai_front.specs.Queues.{AreFilled, IsTaken};
-ghost use Rattle.oai_front.specs.Workings.{IsHead, IsLeft, IsNext, behind, message_behind};
+ghost use Rattle.oai_front.specs.RequestHeads.{IsHead};
+ghost use Rattle.oai_front.specs.Pipelining.{IsRemainder, IsNext, behind, message_behind};
 
-use crate::beginnings::{Beginning, Head, read_beginning};
 use crate::queues::{perform, put_fault};
+use crate::request_heads::{Head, HeadParse, read_head};
 use httparse::spans::Span;
 use oai_http::{Exchange, Handler, Status};
 use oai_names::Sequence;
@@ -51,7 +52,7 @@ pub(crate) fn perform_all<H: Handler>(
 ) -> Left
     requires known { IfSome head (IsHead bytes.now) }
     requires filled { AreFilled queue.old.items }
-    ensures left { IsLeft H.step moment handler.old handler.new bytes.now (concat queue.old.items)
+    ensures left { IsRemainder H.step moment handler.old handler.new bytes.now (concat queue.old.items)
         (concat queue.new.items) result }
     ensures filled { AreFilled queue.new.items }
     ensures taken { (taken : ℕ) → IsTaken taken queue.old.items → IsTaken taken queue.new.items }
@@ -90,10 +91,10 @@ pub(crate) fn next_in(bytes: &[u8], known: Option<Head>) -> Next
 {
     match known {
         Some(head) => if_whole(bytes, head),
-        None => match read_beginning(bytes) {
-            Beginning::Unknown => Next::Unfinished(None),
-            Beginning::Fault(status) => Next::Faulty(status),
-            Beginning::Whole(head) => if_whole(bytes, head),
+        None => match read_head(bytes) {
+            HeadParse::Unknown => Next::Unfinished(None),
+            HeadParse::Fault(status) => Next::Faulty(status),
+            HeadParse::Whole(head) => if_whole(bytes, head),
         },
     }
 }

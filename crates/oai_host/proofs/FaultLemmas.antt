@@ -5,7 +5,7 @@ use Rattle.std.proofs.lemmas.Bool.{cases_lt}
 use Rattle.oai_item.specs.declared.faults.Fault.{Fault}
 use Rattle.oai_item.specs.declared.faults.Fault.TheVariants.{Damaged, Device, NoMemory, TooManyPages}
 use Rattle.oai_catalogue.specs.Store.{IsCounted, IsHonest}
-use Rattle.oai_catalogue.specs.declared.versions.TheConstants.{MOST_FAILURES}
+use Rattle.oai_catalogue.specs.declared.versions.TheConstants.{MAX_FAILURES}
 use Rattle.oai_host.specs.Answers.{AreCounted, AreHonest, OnFailed, Tells, failure_in}
 use Rattle.oai_http.specs.Answers.{failed}
 use Rattle.oai_host.specs.Tasks.{asking, depositing}
@@ -24,7 +24,7 @@ counted_on (Err fault) old mid new c later = record {
   ];
 }
 
-rose_since : (old mid new : ℕ) → old ≤ mid → (mid < new) ⊎ (mid ≡ MOST_FAILURES) → mid ≤ new → (old < new) ⊎ (old ≡ MOST_FAILURES)
+rose_since : (old mid new : ℕ) → old ≤ mid → (mid < new) ⊎ (mid ≡ MAX_FAILURES) → mid ≤ new → (old < new) ⊎ (old ≡ MAX_FAILURES)
 rose_since old mid new before (inl rose) later = inl (omega (arith, before, rose))
 rose_since old mid new before (inr last) later = elim (cases_lt old mid) [
   | inl less ↦ inl (omega (arith, less, later))

@@ -1,110 +1,110 @@
 -- Which repository an exchange is for, and what is answered where it is none's.
-use Rattle.std.proofs.Common.{◌≡◌, ◌∙◌, ℕ, zero, suc, true, false, not, List, [], ◌∷◌, ◌++◌, map, None, Some, refl, sym, ap, subst}
+use Rattle.std.proofs.Common.{◌≡◌, ◌∙◌, ℕ, zero, suc, true, false, not, List, [], ◌∷◌, ◌++◌, map, None, Some, refl, sym, ap, subst, arith}
 use Rattle.std.specs.List.{AllZip, list_all, list_any, slice_get}
 use Rattle.std.specs.Str.{bytes_eq}
 use Rattle.std.proofs.lemmas.Bool.{and_from, and_parts, false_from_ne_true, not-true, not_from_false, or_from, or_parts}
 use Rattle.oai_catalogue.specs.Store.{Lists}
 use Rattle.oai_item.specs.Rules.{has_repeat}
-use Rattle.oai_host.specs.Configs.{AreNamed, Hosted, names_of}
-use Rattle.oai_host.specs.Hosts.{IsAnswered, IsStep, Repository, begun, is_of_none, refused}
-use Rattle.oai_host.specs.Housed.{housed_names, place_in, repositories_of}
+use Rattle.oai_config.specs.Configs.{AreNamed, NamedConfig, names_of}
+use Rattle.oai_host.specs.Hosts.{HostState, IsAnswered, IsStep, Repository, begun, is_of_none, refused}
+use Rattle.oai_host.specs.NamedRepos.{repo_names, place_in, repositories_of}
 use Rattle.oai_settings.specs.Config.{is_repository_name}
 use Rattle.oai_http.specs.Targets.{front_of, leads_to_repository, path_of}
-use Rattle.oai_host.specs.Workings.{IsPlace, LeadsNowhere}
+use Rattle.oai_host.specs.Places.{IsRepoPlace, LeadsNowhere}
 use Rattle.oai_http.specs.declared.exchanges.Answer.{Answer}
 use Rattle.oai_http.specs.declared.exchanges.Call.{Call}
-use Rattle.oai_host.specs.declared.housed.Housed.{Housed}
+use Rattle.oai_host.specs.declared.repositories.NamedRepo.{NamedRepo}
 use Rattle.oai_http.specs.declared.targets.Endpoint.{Endpoint}
 use Rattle.oai_http.proofs.TargetLemmas.{bytes_same, bytes_turned, clash, leads_by, leads_there}
 use Rattle.oai_host.proofs.PlaceLemmas.{nothing_there, place_none, place_there, same_one}
 
 -- a path that is none of the two
-pub nowhere_path : (housed : List Housed) (target : List ℕ) → list_all is_repository_name (housed_names housed) ≡ true → ((endpoint : Endpoint) (name : List ℕ) → is_repository_name name ≡ true → path_of target ≡ front_of endpoint ++ name → ⊥)
-    → LeadsNowhere housed target
+pub nowhere_path : (repos : List NamedRepo) (target : List ℕ) → list_all is_repository_name (repo_names repos) ≡ true → ((endpoint : Endpoint) (name : List ℕ) → is_repository_name name ≡ true → path_of target ≡ front_of endpoint ++ name → ⊥)
+    → LeadsNowhere repos target
 nowhere_path [] target named never = tt
-nowhere_path (x ∷ housed) target named never =
-    let parts = and_parts (is_repository_name x.name) (list_all is_repository_name (housed_names housed)) named in
-    (false_from_ne_true (leads_to_repository x.name target) (λ leads. let by = leads_by x.name target leads in never by.0 x.name parts.0 by.1), nowhere_path housed target parts.1 never)
+nowhere_path (x ∷ repos) target named never =
+    let parts = and_parts (is_repository_name x.name) (list_all is_repository_name (repo_names repos)) named in
+    (false_from_ne_true (leads_to_repository x.name target) (λ leads. let by = leads_by x.name target leads in never by.0 x.name parts.0 by.1), nowhere_path repos target parts.1 never)
 
 -- a name that none has
-nowhere_among : (housed : List Housed) (target name : List ℕ) → list_all is_repository_name (housed_names housed) ≡ true → list_any (λ (one : List ℕ). bytes_eq one name) (housed_names housed) ≡ false
-    → ((endpoint : Endpoint) (other : List ℕ) → is_repository_name other ≡ true → path_of target ≡ front_of endpoint ++ other → name ≡ other) → LeadsNowhere housed target
+nowhere_among : (repos : List NamedRepo) (target name : List ℕ) → list_all is_repository_name (repo_names repos) ≡ true → list_any (λ (one : List ℕ). bytes_eq one name) (repo_names repos) ≡ false
+    → ((endpoint : Endpoint) (other : List ℕ) → is_repository_name other ≡ true → path_of target ≡ front_of endpoint ++ other → name ≡ other) → LeadsNowhere repos target
 nowhere_among [] target name named none only = tt
-nowhere_among (x ∷ housed) target name named none only =
-    let parts = and_parts (is_repository_name x.name) (list_all is_repository_name (housed_names housed)) named in
-    let apart = or_parts (bytes_eq x.name name) (list_any (λ (one : List ℕ). bytes_eq one name) (housed_names housed)) none in (
+nowhere_among (x ∷ repos) target name named none only =
+    let parts = and_parts (is_repository_name x.name) (list_all is_repository_name (repo_names repos)) named in
+    let apart = or_parts (bytes_eq x.name name) (list_any (λ (one : List ℕ). bytes_eq one name) (repo_names repos)) none in (
       false_from_ne_true (leads_to_repository x.name target) (λ leads.
           let by = leads_by x.name target leads in
           clash (bytes_eq x.name name) (ap (bytes_eq x.name) (only by.0 x.name parts.0 by.1) ∙ bytes_same x.name) apart.0),
-      nowhere_among housed target name parts.1 apart.1 only,
+      nowhere_among repos target name parts.1 apart.1 only,
     )
 
-pub nowhere_name : (housed : List Housed) (target name : List ℕ) → list_all is_repository_name (housed_names housed) ≡ true → place_in (housed_names housed) name ≡ None
-    → ((endpoint : Endpoint) (other : List ℕ) → is_repository_name other ≡ true → path_of target ≡ front_of endpoint ++ other → name ≡ other) → LeadsNowhere housed target
-nowhere_name housed target name named none only = nowhere_among housed target name named (place_none (housed_names housed) name none) only
+pub nowhere_name : (repos : List NamedRepo) (target name : List ℕ) → list_all is_repository_name (repo_names repos) ≡ true → place_in (repo_names repos) name ≡ None
+    → ((endpoint : Endpoint) (other : List ℕ) → is_repository_name other ≡ true → path_of target ≡ front_of endpoint ++ other → name ≡ other) → LeadsNowhere repos target
+nowhere_name repos target name named none only = nowhere_among repos target name named (place_none (repo_names repos) name none) only
 
-pub place_found : (housed : List Housed) (target name : List ℕ) (place : ℕ) (endpoint : Endpoint) → place_in (housed_names housed) name ≡ Some place → path_of target ≡ front_of endpoint ++ name → IsPlace housed place endpoint target
-place_found housed target name place endpoint found path =
-    let there = place_there housed name place found in
+pub place_found : (repos : List NamedRepo) (target name : List ℕ) (place : ℕ) (endpoint : Endpoint) → place_in (repo_names repos) name ≡ Some place → path_of target ≡ front_of endpoint ++ name → IsRepoPlace repos place endpoint target
+place_found repos target name place endpoint found path =
+    let there = place_there repos name place found in
     record { one = there.0; there = there.1; path = path ∙ ap (λ (n : List ℕ). front_of endpoint ++ n) (sym there.2) }
 
 -- ---- answers
 
 -- the exchange is a repository's
-owned : {P : Type 0} (housed : List Housed) (i : ℕ) (one : Housed) (lists : Lists) (call : Call) → slice_get housed i ≡ Some one → leads_to_repository one.name call.target ≡ true
-    → is_of_none (repositories_of housed lists) call ≡ true → P
+owned : {P : Type 0} (repos : List NamedRepo) (i : ℕ) (one : NamedRepo) (lists : Lists) (call : Call) → slice_get repos i ≡ Some one → leads_to_repository one.name call.target ≡ true
+    → is_of_none (repositories_of repos lists) call ≡ true → P
 owned [] i one lists call there leads none = nothing_there one there
-owned (x ∷ housed) zero one lists call there leads none =
-    let parts = and_parts (not (leads_to_repository x.name call.target)) (is_of_none (repositories_of housed lists) call) none in
-    clash (leads_to_repository x.name call.target) (ap (λ (y : Housed). leads_to_repository y.name call.target) (same_one x one there) ∙ leads) (not-true (leads_to_repository x.name call.target) parts.0)
-owned (x ∷ housed) (suc i) one lists call there leads none =
-    owned housed i one lists call there leads (and_parts (not (leads_to_repository x.name call.target)) (is_of_none (repositories_of housed lists) call) none).1
+owned (x ∷ repos) zero one lists call there leads none =
+    let parts = and_parts (not (leads_to_repository x.name call.target)) (is_of_none (repositories_of repos lists) call) none in
+    clash (leads_to_repository x.name call.target) (ap (λ (y : NamedRepo). leads_to_repository y.name call.target) (same_one x one there) ∙ leads) (not-true (leads_to_repository x.name call.target) parts.0)
+owned (x ∷ repos) (suc i) one lists call there leads none =
+    owned repos i one lists call there leads (and_parts (not (leads_to_repository x.name call.target)) (is_of_none (repositories_of repos lists) call) none).1
 
-pub owned_there : {P : Type 0} (housed : List Housed) (i : ℕ) (endpoint : Endpoint) (lists : Lists) (call : Call) → IsPlace housed i endpoint call.target → is_of_none (repositories_of housed lists) call ≡ true → P
-owned_there housed i endpoint lists call place none = owned housed i place.one lists call place.there (leads_there endpoint place.one.name call.target place.path) none
+pub owned_there : {P : Type 0} (repos : List NamedRepo) (i : ℕ) (endpoint : Endpoint) (lists : Lists) (call : Call) → IsRepoPlace repos i endpoint call.target → is_of_none (repositories_of repos lists) call ≡ true → P
+owned_there repos i endpoint lists call place none = owned repos i place.one lists call place.there (leads_there endpoint place.one.name call.target place.path) none
 
-pub none_there : (housed : List Housed) (i : ℕ) (endpoint : Endpoint) (lists : Lists) (call : Call) (answer : Answer) → IsPlace housed i endpoint call.target
-    → is_of_none (repositories_of housed lists) call ≡ true → answer ≡ refused call
-none_there housed i endpoint lists call answer place none = owned_there housed i endpoint lists call place none
+pub none_there : (repos : List NamedRepo) (i : ℕ) (endpoint : Endpoint) (lists : Lists) (call : Call) (answer : Answer) → IsRepoPlace repos i endpoint call.target
+    → is_of_none (repositories_of repos lists) call ≡ true → answer ≡ refused call
+none_there repos i endpoint lists call answer place none = owned_there repos i endpoint lists call place none
 
 -- the exchange is no repository's
-pub none_nowhere : (housed : List Housed) (lists : Lists) (call : Call) → LeadsNowhere housed call.target → is_of_none (repositories_of housed lists) call ≡ true
+pub none_nowhere : (repos : List NamedRepo) (lists : Lists) (call : Call) → LeadsNowhere repos call.target → is_of_none (repositories_of repos lists) call ≡ true
 none_nowhere [] lists call nowhere = refl
-none_nowhere (x ∷ housed) lists call nowhere =
-    and_from (not (leads_to_repository x.name call.target)) (is_of_none (repositories_of housed lists) call) (not_from_false (leads_to_repository x.name call.target) nowhere.0)
-    (none_nowhere housed lists call nowhere.1)
+none_nowhere (x ∷ repos) lists call nowhere =
+    and_from (not (leads_to_repository x.name call.target)) (is_of_none (repositories_of repos lists) call) (not_from_false (leads_to_repository x.name call.target) nowhere.0)
+    (none_nowhere repos lists call nowhere.1)
 
-pub answered_there : (housed : List Housed) (i : ℕ) (endpoint : Endpoint) (lists : Lists) (call : Call) (answer : Answer) (after : List Repository) → IsPlace housed i endpoint call.target
-    → AllZip (IsStep call answer) (repositories_of housed lists) after → IsAnswered call answer (repositories_of housed lists) after
-answered_there housed i endpoint lists call answer after place each = record { each = each; none = none_there housed i endpoint lists call answer place }
+none_steps : (repos : List NamedRepo) (lists : Lists) (call : Call) (answer : Answer) (m n : ℕ) → LeadsNowhere repos call.target → AllZip (IsStep call answer m n) (repositories_of repos lists) (repositories_of repos lists)
+none_steps [] lists call answer m n nowhere = tt
+none_steps (x ∷ repos) lists call answer m n nowhere =
+    (record { name = refl; config = refl; own = λ leads. clash (leads_to_repository x.name call.target) leads nowhere.0; other = λ _. refl }, none_steps repos lists call answer m n nowhere.1)
 
-none_steps : (housed : List Housed) (lists : Lists) (call : Call) (answer : Answer) → LeadsNowhere housed call.target → AllZip (IsStep call answer) (repositories_of housed lists) (repositories_of housed lists)
-none_steps [] lists call answer nowhere = tt
-none_steps (x ∷ housed) lists call answer nowhere =
-    (record { name = refl; config = refl; own = λ leads. clash (leads_to_repository x.name call.target) leads nowhere.0; other = λ _. refl }, none_steps housed lists call answer nowhere.1)
-
-pub answered_nowhere : (housed : List Housed) (lists : Lists) (call : Call) (answer : Answer) → LeadsNowhere housed call.target → answer ≡ refused call
-    → IsAnswered call answer (repositories_of housed lists) (repositories_of housed lists)
-answered_nowhere housed lists call answer nowhere is = record { each = none_steps housed lists call answer nowhere; none = λ _. is }
+pub answered_nowhere : (repos : List NamedRepo) (lists : Lists) (host : HostState) (call : Call) (answer : Answer) → host.repositories ≡ repositories_of repos lists → LeadsNowhere repos call.target → answer ≡ refused call
+    → IsAnswered call answer host host
+answered_nowhere repos lists host call answer here nowhere is = record {
+  each = subst (λ (rs : List Repository). AllZip (IsStep call answer host.failures host.failures) rs rs) (sym here) (none_steps repos lists call answer host.failures host.failures nowhere);
+  none = λ _. is;
+  count = omega arith;
+}
 
 -- ---- those that begin
 
-begun_names : (housed : List Housed) (lists : Lists) → map (λ (r : Repository). r.name) (repositories_of housed lists) ≡ housed_names housed
+begun_names : (repos : List NamedRepo) (lists : Lists) → map (λ (r : Repository). r.name) (repositories_of repos lists) ≡ repo_names repos
 begun_names [] lists = refl
-begun_names (x ∷ housed) lists = ap (λ (names : List (List ℕ)). x.name ∷ names) (begun_names housed lists)
+begun_names (x ∷ repos) lists = ap (λ (names : List (List ℕ)). x.name ∷ names) (begun_names repos lists)
 
-configured_names : (front : List Hosted) → map (λ (r : Repository). r.name) (map begun front) ≡ names_of front
+configured_names : (front : List NamedConfig) → map (λ (r : Repository). r.name) (map begun front) ≡ names_of front
 configured_names [] = refl
 configured_names (x ∷ front) = ap (λ (names : List (List ℕ)). x.name ∷ names) (configured_names front)
 
-same_names : (housed : List Housed) (lists : Lists) (front : List Hosted) → repositories_of housed lists ≡ map begun front → housed_names housed ≡ names_of front
-same_names housed lists front same = sym (begun_names housed lists) ∙ ap (map (λ (r : Repository). r.name)) same ∙ configured_names front
+same_names : (repos : List NamedRepo) (lists : Lists) (front : List NamedConfig) → repositories_of repos lists ≡ map begun front → repo_names repos ≡ names_of front
+same_names repos lists front same = sym (begun_names repos lists) ∙ ap (map (λ (r : Repository). r.name)) same ∙ configured_names front
 
-none_apart : (name : List ℕ) (front rest : List Hosted) (one : Hosted) → list_any (bytes_eq name) (names_of (front ++ one ∷ rest)) ≡ false → bytes_eq name one.name ≡ false
+none_apart : (name : List ℕ) (front rest : List NamedConfig) (one : NamedConfig) → list_any (bytes_eq name) (names_of (front ++ one ∷ rest)) ≡ false → bytes_eq name one.name ≡ false
 none_apart name [] rest one none = (or_parts (bytes_eq name one.name) (list_any (bytes_eq name) (names_of rest)) none).0
 none_apart name (x ∷ front) rest one none = none_apart name front rest one (or_parts (bytes_eq name x.name) (list_any (bytes_eq name) (names_of (front ++ one ∷ rest))) none).1
 
-unused_name : (front rest : List Hosted) (one : Hosted) → has_repeat (names_of (front ++ one ∷ rest)) ≡ false → list_any (bytes_eq one.name) (names_of front) ≡ false
+unused_name : (front rest : List NamedConfig) (one : NamedConfig) → has_repeat (names_of (front ++ one ∷ rest)) ≡ false → list_any (bytes_eq one.name) (names_of front) ≡ false
 unused_name [] rest one distinct = refl
 unused_name (x ∷ front) rest one distinct =
     let parts = or_parts (list_any (bytes_eq x.name) (names_of (front ++ one ∷ rest))) (has_repeat (names_of (front ++ one ∷ rest))) distinct in
@@ -112,47 +112,47 @@ unused_name (x ∷ front) rest one distinct =
     (bytes_turned x.name one.name (none_apart x.name front rest one parts.0))
     (unused_name front rest one parts.1)
 
-named_one : (front rest : List Hosted) (one : Hosted) → list_all is_repository_name (names_of (front ++ one ∷ rest)) ≡ true → is_repository_name one.name ≡ true
+named_one : (front rest : List NamedConfig) (one : NamedConfig) → list_all is_repository_name (names_of (front ++ one ∷ rest)) ≡ true → is_repository_name one.name ≡ true
 named_one [] rest one all = (and_parts (is_repository_name one.name) (list_all is_repository_name (names_of rest)) all).0
 named_one (x ∷ front) rest one all = named_one front rest one (and_parts (is_repository_name x.name) (list_all is_repository_name (names_of (front ++ one ∷ rest))) all).1
 
 -- the next of the repositories that are to begin has a name of its own
-pub next_named : (all front rest : List Hosted) (one : Hosted) → AreNamed (names_of all) → all ≡ front ++ one ∷ rest → is_repository_name one.name ≡ true
-next_named all front rest one named is = named_one front rest one (subst (λ (hs : List Hosted). list_all is_repository_name (names_of hs) ≡ true) is named.named)
+pub next_named : (all front rest : List NamedConfig) (one : NamedConfig) → AreNamed (names_of all) → all ≡ front ++ one ∷ rest → is_repository_name one.name ≡ true
+next_named all front rest one named is = named_one front rest one (subst (λ (hs : List NamedConfig). list_all is_repository_name (names_of hs) ≡ true) is named.named)
 
-pub next_unused : (all front rest : List Hosted) (one : Hosted) (housed : List Housed) (lists : Lists) → AreNamed (names_of all) → all ≡ front ++ one ∷ rest → repositories_of housed lists ≡ map begun front
-    → list_any (bytes_eq one.name) (housed_names housed) ≡ false
-next_unused all front rest one housed lists named is same =
-    ap (list_any (bytes_eq one.name)) (same_names housed lists front same) ∙ unused_name front rest one (subst (λ (hs : List Hosted). has_repeat (names_of hs) ≡ false) is named.distinct)
+pub next_unused : (all front rest : List NamedConfig) (one : NamedConfig) (repos : List NamedRepo) (lists : Lists) → AreNamed (names_of all) → all ≡ front ++ one ∷ rest → repositories_of repos lists ≡ map begun front
+    → list_any (bytes_eq one.name) (repo_names repos) ≡ false
+next_unused all front rest one repos lists named is same =
+    ap (list_any (bytes_eq one.name)) (same_names repos lists front same) ∙ unused_name front rest one (subst (λ (hs : List NamedConfig). has_repeat (names_of hs) ≡ false) is named.distinct)
 
-join_hosted : (front rest : List Hosted) (one : Hosted) → front ++ one ∷ rest ≡ (front ++ one ∷ []) ++ rest
-join_hosted [] rest one = refl
-join_hosted (x ∷ front) rest one = ap (λ (hs : List Hosted). x ∷ hs) (join_hosted front rest one)
+join_entry : (front rest : List NamedConfig) (one : NamedConfig) → front ++ one ∷ rest ≡ (front ++ one ∷ []) ++ rest
+join_entry [] rest one = refl
+join_entry (x ∷ front) rest one = ap (λ (hs : List NamedConfig). x ∷ hs) (join_entry front rest one)
 
-map_begun : (front : List Hosted) (one : Hosted) → map begun (front ++ one ∷ []) ≡ map begun front ++ begun one ∷ []
+map_begun : (front : List NamedConfig) (one : NamedConfig) → map begun (front ++ one ∷ []) ≡ map begun front ++ begun one ∷ []
 map_begun [] one = refl
 map_begun (x ∷ front) one = ap (λ (rs : List Repository). begun x ∷ rs) (map_begun front one)
 
 -- the repositories that have begun, and the configurations of those that are to begin
-pub record AreBegun (all rest : List Hosted) (repositories : List Repository) : Type 0 where
-  pub front : List Hosted
+pub record AreBegun (all rest : List NamedConfig) (repositories : List Repository) : Type 0 where
+  pub front : List NamedConfig
   pub whole : all ≡ front ++ rest
   pub begun_so : repositories ≡ map begun front
 
-pub begun_none : (all : List Hosted) → AreBegun all all []
+pub begun_none : (all : List NamedConfig) → AreBegun all all []
 begun_none all = record { front = []; whole = refl; begun_so = refl }
 
-pub begun_more : (all rest : List Hosted) (one : Hosted) (before after : List Repository) → AreBegun all (one ∷ rest) before → after ≡ before ++ begun one ∷ [] → AreBegun all rest after
+pub begun_more : (all rest : List NamedConfig) (one : NamedConfig) (before after : List Repository) → AreBegun all (one ∷ rest) before → after ≡ before ++ begun one ∷ [] → AreBegun all rest after
 begun_more all rest one before after so_far is = record {
   front = so_far.front ++ one ∷ [];
-  whole = so_far.whole ∙ join_hosted so_far.front rest one;
+  whole = so_far.whole ∙ join_entry so_far.front rest one;
   begun_so = is ∙ ap (λ (rs : List Repository). rs ++ begun one ∷ []) so_far.begun_so ∙ sym (map_begun so_far.front one);
 }
 
-all_front : (front : List Hosted) → front ++ [] ≡ front
+all_front : (front : List NamedConfig) → front ++ [] ≡ front
 all_front [] = refl
-all_front (x ∷ front) = ap (λ (hs : List Hosted). x ∷ hs) (all_front front)
+all_front (x ∷ front) = ap (λ (hs : List NamedConfig). x ∷ hs) (all_front front)
 
-pub begun_all : (all rest : List Hosted) (repositories : List Repository) → AreBegun all rest repositories → rest ≡ [] → repositories ≡ map begun all
+pub begun_all : (all rest : List NamedConfig) (repositories : List Repository) → AreBegun all rest repositories → rest ≡ [] → repositories ≡ map begun all
 begun_all all rest repositories so_far none =
-    so_far.begun_so ∙ ap (map begun) (sym (so_far.whole ∙ ap (λ (hs : List Hosted). so_far.front ++ hs) none ∙ all_front so_far.front))
+    so_far.begun_so ∙ ap (map begun) (sym (so_far.whole ∙ ap (λ (hs : List NamedConfig). so_far.front ++ hs) none ∙ all_front so_far.front))

@@ -6,7 +6,7 @@ use Rattle.std.proofs.lemmas.Bool.{cond_both}
 use Rattle.std.proofs.lemmas.List.Splits.{length-slice_split, slice_split_first, slice_split_none}
 use Rattle.std.proofs.lemmas.List.Sums.{count_by-le-length, fails_before_first}
 use Rattle.oai_host.specs.Bodies.{is_blank, is_line_end, lines_in}
-use Rattle.oai_host.specs.Cuts.{from_line}
+use Rattle.oai_host.specs.DepositLines.{from_line}
 
 at_most : (p : List ℕ → Bool) (xs : List (List ℕ)) → length (filter p xs) ≤ length xs
 at_most p [] = omega arith

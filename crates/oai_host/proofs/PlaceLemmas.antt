@@ -7,15 +7,15 @@ use Rattle.std.proofs.lemmas.Bool.{and_from, and_parts, cases_Bool, cases_lt, co
 use Rattle.oai_repo.specs.Fields.{RepoFields}
 use Rattle.oai_http.proofs.TargetLemmas.{bytes_equal, bytes_turned}
 use Rattle.oai_item.specs.Rules.{has_repeat}
-use Rattle.oai_host.specs.Configs.{AreNamed}
-use Rattle.oai_host.specs.Housed.{housed_names, place_in}
+use Rattle.oai_config.specs.Configs.{AreNamed}
+use Rattle.oai_host.specs.NamedRepos.{repo_names, place_in}
 use Rattle.oai_settings.specs.Config.{is_repository_name}
-use Rattle.oai_host.specs.declared.housed.Housed.{Housed}
+use Rattle.oai_host.specs.declared.repositories.NamedRepo.{NamedRepo}
 
 -- ---- places
 
-pub same_one : (x y : Housed) → Some x ≡ Some y → x ≡ y
-same_one x y h = ap (λ (o : Option Housed). unwrap_or o x) h
+pub same_one : (x y : NamedRepo) → Some x ≡ Some y → x ≡ y
+same_one x y h = ap (λ (o : Option NamedRepo). unwrap_or o x) h
 
 same_place : (x y : ℕ) → Some x ≡ Some y → x ≡ y
 same_place x y h = ap (λ (o : Option ℕ). unwrap_or o x) h
@@ -24,10 +24,10 @@ pub nothing_there : {P : Type 0} {A : Type 0} (x : A) → None ≡ Some x → P
 nothing_there {P} {A} x h = absurd (false≢true (ap (λ (o : Option A). is_some o) h))
 
 -- a repository in place of the one of its name
-pub names_set : (housed : List Housed) (i : ℕ) (one : Housed) (repo : RepoFields) → slice_get housed i ≡ Some one → housed_names (slice_set housed i (record { name = one.name; repo = repo })) ≡ housed_names housed
+pub names_set : (repos : List NamedRepo) (i : ℕ) (one : NamedRepo) (repo : RepoFields) → slice_get repos i ≡ Some one → repo_names (slice_set repos i (record { name = one.name; repo = repo })) ≡ repo_names repos
 names_set [] i one repo there = nothing_there one there
-names_set (x ∷ housed) zero one repo there = ap (λ (y : Housed). y.name ∷ housed_names housed) (sym (same_one x one there))
-names_set (x ∷ housed) (suc i) one repo there = ap (λ (names : List (List ℕ)). x.name ∷ names) (names_set housed i one repo there)
+names_set (x ∷ repos) zero one repo there = ap (λ (y : NamedRepo). y.name ∷ repo_names repos) (sym (same_one x one there))
+names_set (x ∷ repos) (suc i) one repo there = ap (λ (names : List (List ℕ)). x.name ∷ names) (names_set repos i one repo there)
 
 shifted : (b : Bool) (n : ℕ) → cond b (Some (suc n)) None ≡ option_map suc (cond b (Some n) None)
 shifted true n = refl
@@ -56,18 +56,18 @@ mapped None i h = nothing_there i h
 mapped (Some j) i h = (j, refl, same_place (suc j) i h)
 
 -- at the place of a name stands the repository of that name
-pub place_there : (housed : List Housed) (name : List ℕ) (i : ℕ) → place_in (housed_names housed) name ≡ Some i → (one : Housed) × (slice_get housed i ≡ Some one) × (one.name ≡ name)
+pub place_there : (repos : List NamedRepo) (name : List ℕ) (i : ℕ) → place_in (repo_names repos) name ≡ Some i → (one : NamedRepo) × (slice_get repos i ≡ Some one) × (one.name ≡ name)
 place_there [] name i h = nothing_there i h
-place_there (x ∷ housed) name i found =
-    let h = sym (place_next x.name (housed_names housed) name) ∙ found in
+place_there (x ∷ repos) name i found =
+    let h = sym (place_next x.name (repo_names repos) name) ∙ found in
     elim (cases_Bool (bytes_eq x.name name)) [
       | inl same ↦
-          let first : 0 ≡ i = same_place 0 i (sym (cond-true (bytes_eq x.name name) (Some 0) (option_map suc (place_in (housed_names housed) name)) same) ∙ h) in
-          (x, ap (λ (n : ℕ). slice_get (x ∷ housed) n) (sym first), bytes_equal x.name name same)
+          let first : 0 ≡ i = same_place 0 i (sym (cond-true (bytes_eq x.name name) (Some 0) (option_map suc (place_in (repo_names repos) name)) same) ∙ h) in
+          (x, ap (λ (n : ℕ). slice_get (x ∷ repos) n) (sym first), bytes_equal x.name name same)
       | inr other ↦
-          let later = mapped (place_in (housed_names housed) name) i (sym (cond-false (bytes_eq x.name name) (Some 0) (option_map suc (place_in (housed_names housed) name)) other) ∙ h) in
-          let there = place_there housed name later.0 later.1 in
-          (there.0, ap (λ (n : ℕ). slice_get (x ∷ housed) n) (sym later.2) ∙ there.1, there.2)
+          let later = mapped (place_in (repo_names repos) name) i (sym (cond-false (bytes_eq x.name name) (Some 0) (option_map suc (place_in (repo_names repos) name)) other) ∙ h) in
+          let there = place_there repos name later.0 later.1 in
+          (there.0, ap (λ (n : ℕ). slice_get (x ∷ repos) n) (sym later.2) ∙ there.1, there.2)
     ]
 
 mapped_none : (o : Option ℕ) → option_map suc o ≡ None → o ≡ None
@@ -133,21 +133,21 @@ all_last (one ∷ names) new all named =
 pub named_last : (names : List (List ℕ)) (new : List ℕ) → AreNamed names → is_repository_name new ≡ true → list_any (bytes_eq new) names ≡ false → AreNamed (names ++ new ∷ [])
 named_last names new old named unused = record { named = all_last names new old.named named; distinct = distinct_last names new old.distinct unused }
 
-pub names_last : (housed : List Housed) (one : Housed) → housed_names (housed ++ one ∷ []) ≡ housed_names housed ++ one.name ∷ []
+pub names_last : (repos : List NamedRepo) (one : NamedRepo) → repo_names (repos ++ one ∷ []) ≡ repo_names repos ++ one.name ∷ []
 names_last [] one = refl
-names_last (x ∷ housed) one = ap (λ (names : List (List ℕ)). x.name ∷ names) (names_last housed one)
+names_last (x ∷ repos) one = ap (λ (names : List (List ℕ)). x.name ∷ names) (names_last repos one)
 
-names_len : (housed : List Housed) → length (housed_names housed) ≡ length housed
+names_len : (repos : List NamedRepo) → length (repo_names repos) ≡ length repos
 names_len [] = refl
-names_len (x ∷ housed) = ap suc (names_len housed)
+names_len (x ∷ repos) = ap suc (names_len repos)
 
 -- one more repository, with its name in the index
-pub place_added : (housed : List Housed) (one : Housed) (was is : List ℕ → Option ℕ) (n : ℕ) → ((name : List ℕ) → was name ≡ place_in (housed_names housed) name)
-    → list_any (bytes_eq one.name) (housed_names housed) ≡ false → n ≡ length housed → ((name : List ℕ) → is name ≡ cond (bytes_eq one.name name) (Some n) (was name))
-    → (name : List ℕ) → is name ≡ place_in (housed_names (housed ++ one ∷ [])) name
-place_added housed one was is n old unused last updates name =
+pub place_added : (repos : List NamedRepo) (one : NamedRepo) (was is : List ℕ → Option ℕ) (n : ℕ) → ((name : List ℕ) → was name ≡ place_in (repo_names repos) name)
+    → list_any (bytes_eq one.name) (repo_names repos) ≡ false → n ≡ length repos → ((name : List ℕ) → is name ≡ cond (bytes_eq one.name name) (Some n) (was name))
+    → (name : List ℕ) → is name ≡ place_in (repo_names (repos ++ one ∷ [])) name
+place_added repos one was is n old unused last updates name =
     updates name
     ∙ ap (λ (o : Option ℕ). cond (bytes_eq one.name name) (Some n) o) (old name)
-    ∙ ap (λ (m : ℕ). cond (bytes_eq one.name name) (Some m) (place_in (housed_names housed) name)) (last ∙ sym (names_len housed))
-    ∙ sym (place_last (housed_names housed) one.name name unused)
-    ∙ ap (λ (names : List (List ℕ)). place_in names name) (sym (names_last housed one))
+    ∙ ap (λ (m : ℕ). cond (bytes_eq one.name name) (Some m) (place_in (repo_names repos) name)) (last ∙ sym (names_len repos))
+    ∙ sym (place_last (repo_names repos) one.name name unused)
+    ∙ ap (λ (names : List (List ℕ)). place_in names name) (sym (names_last repos one))

@@ -12,19 +12,19 @@ use Rattle.oai_catalogue.specs.Store.{Lists, NeedsRoom}
 use Rattle.oai_deposit.specs.Lines.{line_of}
 use Rattle.oai_settings.specs.Config.{Config}
 use Rattle.oai_repo.specs.Calls.{room_to_change}
-use Rattle.oai_repo.specs.Fields.{RepoFields, IsStored, stored_items}
+use Rattle.oai_repo.specs.Fields.{RepoFields}
 use Rattle.oai_http.specs.Answers.{failed}
 use Rattle.oai_host.specs.Answers.{failure_in}
-use Rattle.oai_host.specs.Housed.{housed_names, repositories_of}
+use Rattle.oai_host.specs.NamedRepos.{repo_names, repositories_of}
 use Rattle.oai_host.specs.Room.{FindsRoom, room_for_line, room_for_lines, room_for_task}
 use Rattle.oai_http.specs.Targets.{front_of, leads_to_repository, path_of}
 use Rattle.oai_host.specs.Tasks.{task_at, task_in, task_of}
-use Rattle.oai_host.specs.Workings.{LeadsNowhere}
+use Rattle.oai_host.specs.Places.{LeadsNowhere}
 use Rattle.oai_http.specs.declared.exchanges.Answer.{Answer}
 use Rattle.oai_http.specs.declared.exchanges.Call.{Call}
-use Rattle.oai_host.specs.declared.housed.Housed.{Housed}
+use Rattle.oai_host.specs.declared.repositories.NamedRepo.{NamedRepo}
 use Rattle.oai_http.specs.declared.targets.Endpoint.{Endpoint}
-use Rattle.oai_host.proofs.HousedLemmas.{unused_at}
+use Rattle.oai_host.proofs.NamedRepoLemmas.{unused_at}
 use Rattle.oai_http.proofs.TargetLemmas.{bytes_turned, clash, endpoint_is, leads_not}
 use Rattle.oai_host.proofs.PlaceLemmas.{nothing_there, same_one}
 
@@ -36,15 +36,12 @@ room_less n m (Ok value) old new more need = let used = need.used in record { en
 room_less n m (Err fault) old new more need =
     let used = need.used in record { enough = λ is. let few = need.enough is in omega (arith, more, few); used = omega (arith, more, used) }
 
--- a change of a repository of which an honest store holds what it has to
-pub room_of_change : (old : RepoFields) (lists : Lists) (made : Change) → IsStored old lists → room_to_change (length old.index.entries) made ≤ room_to_change old.config.items made
-room_of_change old lists (change.Deposit identifier sets records) held = omega arith
-room_of_change old lists (change.Delete identifier) held = omega arith
-room_of_change old lists (change.Purge before) held =
-    let many : length old.index.entries ≡ length (stored_items old.index lists) = held.indexed.agrees.many in
-    let few : length (stored_items old.index lists) ≤ old.config.items = held.indexed.kept.few in
-    omega (arith, many, few)
-room_of_change old lists (change.AddSet spec name) held = omega arith
+-- a change of a repository that has no more entries than items may be
+pub room_of_change : (old : RepoFields) (made : Change) → length old.index.entries ≤ old.config.items → room_to_change (length old.index.entries) made ≤ room_to_change old.config.items made
+room_of_change old (change.Deposit identifier sets records) few = omega arith
+room_of_change old (change.Delete identifier) few = omega arith
+room_of_change old (change.Purge before) few = omega (arith, few)
+room_of_change old (change.AddSet spec name) few = omega arith
 
 -- ---- lines
 
@@ -85,35 +82,35 @@ room_failed config text left all was mid is done fault so_far need =
 -- ---- one of many repositories
 
 module _ (call : Call) (answer : Answer) (lists : Lists) (old new : ℕ) where
-  elsewhere : (endpoint : Endpoint) (name : List ℕ) (others : List Housed) → path_of call.target ≡ front_of endpoint ++ name → list_any (bytes_eq name) (housed_names others) ≡ false
+  elsewhere : (endpoint : Endpoint) (name : List ℕ) (others : List NamedRepo) → path_of call.target ≡ front_of endpoint ++ name → list_any (bytes_eq name) (repo_names others) ≡ false
       → FindsRoom call answer (repositories_of others lists) old new
   elsewhere endpoint name [] path unused = tt
   elsewhere endpoint name (x ∷ others) path unused =
-      let parts = or_parts (bytes_eq name x.name) (list_any (bytes_eq name) (housed_names others)) unused in
+      let parts = or_parts (bytes_eq name x.name) (list_any (bytes_eq name) (repo_names others)) unused in
       (λ leads. clash (leads_to_repository x.name call.target) leads (leads_not endpoint name x.name call.target path parts.0), elsewhere endpoint name others path parts.1)
 
-  pub room_nowhere : (housed : List Housed) → LeadsNowhere housed call.target → FindsRoom call answer (repositories_of housed lists) old new
+  pub room_nowhere : (repos : List NamedRepo) → LeadsNowhere repos call.target → FindsRoom call answer (repositories_of repos lists) old new
   room_nowhere [] nowhere = tt
-  room_nowhere (x ∷ housed) nowhere = (λ leads. clash (leads_to_repository x.name call.target) leads nowhere.0, room_nowhere housed nowhere.1)
+  room_nowhere (x ∷ repos) nowhere = (λ leads. clash (leads_to_repository x.name call.target) leads nowhere.0, room_nowhere repos nowhere.1)
 
-  at_place : (endpoint : Endpoint) (housed : List Housed) (i : ℕ) (one : Housed) → slice_get housed i ≡ Some one → has_repeat (housed_names housed) ≡ false
+  at_place : (endpoint : Endpoint) (repos : List NamedRepo) (i : ℕ) (one : NamedRepo) → slice_get repos i ≡ Some one → has_repeat (repo_names repos) ≡ false
       → path_of call.target ≡ front_of endpoint ++ one.name → NeedsRoom (room_for_task one.repo.config (task_of call)) (failure_in answer) old new
-      → FindsRoom call answer (repositories_of housed lists) old new
+      → FindsRoom call answer (repositories_of repos lists) old new
   at_place endpoint [] i one there distinct path need = nothing_there one there
-  at_place endpoint (x ∷ housed) zero one there distinct path need =
-      let parts = or_parts (list_any (bytes_eq x.name) (housed_names housed)) (has_repeat (housed_names housed)) distinct in
+  at_place endpoint (x ∷ repos) zero one there distinct path need =
+      let parts = or_parts (list_any (bytes_eq x.name) (repo_names repos)) (has_repeat (repo_names repos)) distinct in
       let same = same_one x one there in (
-        λ _. subst (λ (y : Housed). NeedsRoom (room_for_task y.repo.config (task_of call)) (failure_in answer) old new) (sym same) need,
-        elsewhere endpoint one.name housed path (subst (λ (y : Housed). list_any (bytes_eq y.name) (housed_names housed) ≡ false) same parts.0),
+        λ _. subst (λ (y : NamedRepo). NeedsRoom (room_for_task y.repo.config (task_of call)) (failure_in answer) old new) (sym same) need,
+        elsewhere endpoint one.name repos path (subst (λ (y : NamedRepo). list_any (bytes_eq y.name) (repo_names repos) ≡ false) same parts.0),
       )
-  at_place endpoint (x ∷ housed) (suc i) one there distinct path need =
-      let parts = or_parts (list_any (bytes_eq x.name) (housed_names housed)) (has_repeat (housed_names housed)) distinct in
-      let apart = bytes_turned x.name one.name (unused_at x.name housed i one there parts.0) in
-      (λ leads. clash (leads_to_repository x.name call.target) leads (leads_not endpoint one.name x.name call.target path apart), at_place endpoint housed i one there parts.1 path need)
+  at_place endpoint (x ∷ repos) (suc i) one there distinct path need =
+      let parts = or_parts (list_any (bytes_eq x.name) (repo_names repos)) (has_repeat (repo_names repos)) distinct in
+      let apart = bytes_turned x.name one.name (unused_at x.name repos i one there parts.0) in
+      (λ leads. clash (leads_to_repository x.name call.target) leads (leads_not endpoint one.name x.name call.target path apart), at_place endpoint repos i one there parts.1 path need)
 
-  pub room_set : (endpoint : Endpoint) (housed : List Housed) (i : ℕ) (one : Housed) → slice_get housed i ≡ Some one → has_repeat (housed_names housed) ≡ false
+  pub room_set : (endpoint : Endpoint) (repos : List NamedRepo) (i : ℕ) (one : NamedRepo) → slice_get repos i ≡ Some one → has_repeat (repo_names repos) ≡ false
       → path_of call.target ≡ front_of endpoint ++ one.name → NeedsRoom (room_for_task one.repo.config (task_in endpoint call)) (failure_in answer) old new
-      → FindsRoom call answer (repositories_of housed lists) old new
-  room_set endpoint housed i one there distinct path need =
-      at_place endpoint housed i one there distinct path
+      → FindsRoom call answer (repositories_of repos lists) old new
+  room_set endpoint repos i one there distinct path need =
+      at_place endpoint repos i one there distinct path
       (subst (λ (at : Option Endpoint). NeedsRoom (room_for_task one.repo.config (task_at at call)) (failure_in answer) old new) (sym (endpoint_is endpoint one.name call.target path)) need)

@@ -1,6 +1,7 @@
 -- One repository alone: what it is answered to its own exchanges, one after the other. This repository's own, over the machine of OAI-PMH 2.0.
-use Rattle.std.specs.Prelude.{◌≡◌, ◌⊎◌, ◌<◌, ℕ, ℤ, List, [], ◌∷◌, ◌++◌, length, take, filter, map, None, Some}
+use Rattle.std.specs.Prelude.{◌≡◌, ◌⊎◌, ◌<◌, ◌≤◌, ℕ, ℤ, List, [], ◌∷◌, ◌++◌, length, take, filter, map, None, Some}
 use Rattle.std.specs.List.{zip}
+use Rattle.oai_catalogue.specs.declared.versions.TheConstants.{MAX_FAILURES}
 use Rattle.oai_deposit.specs.Lines.{line_of}
 use Rattle.oai_item.specs.declared.faults.Fault.{Fault}
 use Rattle.oai_settings.specs.Config.{Config}
@@ -12,6 +13,7 @@ use Rattle.oai_http.specs.Targets.{leads_to_repository}
 use Rattle.oai_host.specs.Tasks.{Task, asking, depositing, refusing, task_of}
 use Rattle.oai_http.specs.declared.exchanges.Answer.{Answer}
 use Rattle.oai_http.specs.declared.exchanges.Call.{Call}
+use Rattle.oai_http.specs.declared.statuses.Status.TheVariants.{InternalServerError}
 
 -- ---- the machine alone
 
@@ -71,14 +73,21 @@ HasFailed config before moment (depositing lines) answer after =
 abbrev pub IsTried : Config → RepoState → ℤ → Task → Answer → RepoState → Type 0
 IsTried config before moment task answer after = (done_alone config before moment task ≡ (answer, after)) ⊎ HasFailed config before moment task answer after
 
--- an exchange, from a state to a state
-abbrev pub IsExchange : Config → RepoState → Call → Answer → RepoState → Type 0
-IsExchange config before call answer after = IsTried config before call.moment (task_of call) answer after
+-- an exchange, from a state to a state, and from one count of the device's failures to another: it was done, or it failed; and that it
+-- could not be performed (RFC 9110, section 15.6.1) is answered only where the count rose in it, or stands at its last number
+pub record IsExchange (config : Config) (call : Call) (before : RepoState) (old : ℕ) (answer : Answer) (after : RepoState) (new : ℕ) : Type 0 where
+  pub tried : IsTried config before call.moment (task_of call) answer after
+  pub broken : answer.status ≡ InternalServerError → (old < new) ⊎ (old ≡ MAX_FAILURES)
 
--- exchanges, one after the other
-abbrev pub IsRun : Config → RepoState → List Call → List Answer → RepoState → Type 0
-IsRun config before [] [] after = after ≡ before
-IsRun config before [] (answer ∷ answers) after = ⊥
-IsRun config before (call ∷ calls) [] after = ⊥
-IsRun config before (call ∷ calls) (answer ∷ answers) after =
-    (between : RepoState) × IsExchange config before call answer between × IsRun config between calls answers after
+-- exchanges, one after the other; the count may rise between them as well
+abbrev pub IsRun : Config → RepoState → ℕ → List Call → List Answer → RepoState → ℕ → Type 0
+IsRun config before old [] [] after new = (after ≡ before) × (old ≤ new)
+IsRun config before old [] (answer ∷ answers) after new = ⊥
+IsRun config before old (call ∷ calls) [] after new = ⊥
+IsRun config before old (call ∷ calls) (answer ∷ answers) after new =
+    (first : ℕ)
+    × (between : RepoState)
+    × (next : ℕ)
+    × (old ≤ first)
+    × IsExchange config call before first answer between next
+    × IsRun config between next calls answers after new

@@ -23,8 +23,8 @@ abbrev pub is_post : List ℕ → Bool
 is_post method = bytes_eq method (codes "POST")
 
 -- a request is a GET with its arguments in the query, or a POST with a form in the body
-abbrev pub request_in : Call → Task
-request_in call =
+abbrev pub request_task : Call → Task
+request_task call =
     if is_get call.method then asking (query_of call.target)
     else (if is_post call.method then (if is_form call.content_type then asking call.body else refusing status.UnsupportedMediaType)
     else refusing status.MethodNotAllowed)
@@ -34,7 +34,7 @@ abbrev pub deposit_in : Call → Task
 deposit_in call = if is_post call.method then depositing (lines_in call.body) else refusing status.MethodNotAllowed
 
 abbrev pub task_in : Endpoint → Call → Task
-task_in Requests call = request_in call
+task_in Requests call = request_task call
 task_in Deposits call = deposit_in call
 
 -- what a call asks, by what its target is for; nothing where it is for neither

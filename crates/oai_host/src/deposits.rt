@@ -1,31 +1,34 @@
 //! Deposits: lines, each of which is performed and answered in a line of its own.
-ghost use Rattle.std.specs.Prelude.{◌≡◌, ◌≤◌, ◌+◌, ◌++◌, [], ◌∷◌, length, vec_len, vec_capacity, codes, IsTrue, OnErr, OnOk};
-ghost use Rattle.oai_time.specs.Stamp.{IsWritable};
-ghost use Rattle.oai_time.specs.TimeTexts.{datestamp_text};
-ghost use Rattle.oai_deposit.specs.Lines.{line_of};
 ghost use Rattle.oai_catalogue.specs.Calls.{Frees};
 ghost use Rattle.oai_catalogue.specs.Store.{IsCounted, IsHonest, NeedsRoom};
-ghost use Rattle.oai_repo.specs.Fields.{Keeps, Owns, state_of};
-ghost use Rattle.oai_repo.specs.Machine.{line};
+ghost use Rattle.oai_deposit.specs.Lines.{line_of};
 ghost use Rattle.oai_host.specs.Alone.{IsTried};
 ghost use Rattle.oai_host.specs.Answers.{OnFailed, Tells, failure_in};
+ghost use Rattle.oai_host.specs.Bodies as spec;
 ghost use Rattle.oai_host.specs.Bodies.{lines_in};
+ghost use Rattle.oai_host.specs.DepositLines.{HasMoreLines, IsLineAdded, IsLineWritten, bytes_left, from_line, lines_left};
+ghost use Rattle.oai_host.specs.Performed.{IsPerformed};
 ghost use Rattle.oai_host.specs.Room.{room_for_line, room_for_task};
 ghost use Rattle.oai_host.specs.Tasks.{depositing};
-ghost use Rattle.oai_host.specs.Workings.{HasMoreLines, IsLineDone};
+ghost use Rattle.oai_repo.specs.Fields.{Keeps, Owns, state_of};
+ghost use Rattle.oai_repo.specs.Machine.{line};
+ghost use Rattle.oai_time.specs.Stamp.{IsWritable};
+ghost use Rattle.oai_time.specs.TimeTexts.{datestamp_text};
+ghost use Rattle.std.specs.Option.{option_copied};
+ghost use Rattle.std.specs.Prelude.{IsTrue, MatchOption, OnErr, OnOk, Some, [], codes, length, vec_capacity, vec_len, ◌++◌, ◌+◌, ◌<◌, ◌∷◌, ◌≡◌, ◌≤◌};
 
-use crate::lines::Lines;
 use oai_catalogue::Versions;
 use oai_deposit::{LineFault, read_line};
-use oai_http::Answer;
+use oai_http::{Answer, len_before};
 use oai_item::{Change, Fault, LineRefusal};
 use oai_names::Sequence;
 use oai_repo::{Refusal, Repo};
 use oai_time::{Granularity, write_datestamp};
 use std::alloc::Global;
+use std::marker::Model;
 
 /// The most bytes of the line that answers a line, its end included.
-const MOST_LINE: usize = 32;
+const MAX_LINE: usize = 32;
 
 /// Performs the lines of a deposit at the moment, in seconds from 1970 on, one after the other, and
 /// answers them; a fault ends them. Room for the answer to a line is taken before it is performed, so a
@@ -41,12 +44,14 @@ pub(crate) fn perform_lines<V: Versions>(
     ensures tried { IsTrue (V.honest store.old)
         → IsTried repo.old.config (state_of repo.old (V.lists store.old)) moment
         (depositing (lines_in body.now)) result (state_of repo.new (V.lists store.new)) }
+    ensures performed { IsPerformed repo.old.config moment (depositing (lines_in body.now))
+        (state_of repo.old (V.lists store.old)) result (state_of repo.new (V.lists store.new)) }
     ensures left { OnFailed result ((repo.new ≡ repo.old)
         × (V.lists store.new ≡ V.lists store.old)) }
     ensures told { Tells (depositing (lines_in body.now)) result }
     ensures kept { Keeps (V.honest store.old) repo.old (V.lists store.old) repo.new
         (V.lists store.new) }
-    ensures room { IsTrue (V.honest store.old) → NeedsRoom (room_for_task repo.old.config
+    ensures room { NeedsRoom (room_for_task repo.old.config
         (depositing (lines_in body.now))) (failure_in result) (V.room store.old) (V.room store.new) }
     ensures device { IsCounted (failure_in result) (V.failures store.old) (V.failures store.new) }
     ensures honesty { IsHonest (failure_in result) (V.honest store.old) (V.honest store.new) }
@@ -75,19 +80,21 @@ fn perform_line<V: Versions>(
 ) -> Result<(), Fault>
     requires owns { Owns (V.honest store.old) repo.old (V.lists store.old) }
     ensures ok { OnOk result (IsTrue (V.honest store.old)
-        → IsLineDone repo.old (V.lists store.old) moment (line_of text.now) told.old.items repo.new
+        → IsLineAdded repo.old (V.lists store.old) moment (line_of text.now) told.old.items repo.new
         (V.lists store.new) told.new.items) }
+    ensures written { OnOk result (IsLineWritten repo.old (V.lists store.old) moment (line_of text.now)
+        told.old.items repo.new (V.lists store.new) told.new.items) }
     ensures line { OnOk result (HasMoreLines told.old.items told.new.items) }
     ensures err { OnErr result (repo.new ≡ repo.old) }
     ensures err_lists { OnErr result (V.lists store.new ≡ V.lists store.old) }
     ensures kept { Keeps (V.honest store.old) repo.old (V.lists store.old) repo.new
         (V.lists store.new) }
-    ensures room { IsTrue (V.honest store.old) → NeedsRoom (room_for_line repo.old.config
+    ensures room { NeedsRoom (room_for_line repo.old.config
         (line_of text.now)) result (V.room store.old) (V.room store.new) }
     ensures device { IsCounted result (V.failures store.old) (V.failures store.new) }
     ensures honesty { IsHonest result (V.honest store.old) (V.honest store.new) }
 {
-    told.reserve(MOST_LINE)?;
+    told.reserve(MAX_LINE)?;
     match read_line(alloc, text) {
         Ok(change) => perform_change(repo, store, moment, &change, told),
         Err(LineFault::Refused(cause)) => {
@@ -110,14 +117,16 @@ fn perform_change<V: Versions>(
     requires room { vec_len told.old + 32 ≤ vec_capacity told.old }
     requires owns { Owns (V.honest store.old) repo.old (V.lists store.old) }
     ensures ok { OnOk result (IsTrue (V.honest store.old)
-        → IsLineDone repo.old (V.lists store.old) moment (Ok change.now) told.old.items repo.new
+        → IsLineAdded repo.old (V.lists store.old) moment (Ok change.now) told.old.items repo.new
         (V.lists store.new) told.new.items) }
+    ensures written { OnOk result (IsLineWritten repo.old (V.lists store.old) moment (Ok change.now)
+        told.old.items repo.new (V.lists store.new) told.new.items) }
     ensures line { OnOk result (HasMoreLines told.old.items told.new.items) }
     ensures err { OnErr result (repo.new ≡ repo.old) }
     ensures err_lists { OnErr result (V.lists store.new ≡ V.lists store.old) }
     ensures kept { Keeps (V.honest store.old) repo.old (V.lists store.old) repo.new
         (V.lists store.new) }
-    ensures room { IsTrue (V.honest store.old) → NeedsRoom (room_for_line repo.old.config
+    ensures room { NeedsRoom (room_for_line repo.old.config
         (Ok change.now)) result (V.room store.old) (V.room store.new) }
     ensures device { IsCounted result (V.failures store.old) (V.failures store.new) }
     ensures honesty { IsHonest result (V.honest store.old) (V.honest store.new) }
@@ -142,8 +151,10 @@ fn refuse_line<V: Versions>(
 )
     requires room { vec_len told.old + 32 ≤ vec_capacity told.old }
     requires owns { Owns (V.honest store.old) repo.old (V.lists store.old) }
-    ensures done { IsLineDone repo.old (V.lists store.old) moment (Err cause) told.old.items repo.new
+    ensures done { IsLineAdded repo.old (V.lists store.old) moment (Err cause) told.old.items repo.new
         (V.lists store.new) told.new.items }
+    ensures written { IsLineWritten repo.old (V.lists store.old) moment (Err cause) told.old.items
+        repo.new (V.lists store.new) told.new.items }
     ensures line { HasMoreLines told.old.items told.new.items }
     ensures kept { Keeps (V.honest store.old) repo.old (V.lists store.old) repo.new
         (V.lists store.new) }
@@ -182,4 +193,66 @@ fn put(bytes: &[u8], out: &mut Vec<u8>)
     ensures room { vec_capacity out.old ≤ vec_capacity out.new }
 {
     out.extend_from_slice(bytes).unwrap()
+}
+
+/// The lines of a deposit that are still to be taken: its body is cut at each line end, and a line of
+/// nothing but spaces, tabs and CR is passed over.
+#[derive(Drop)]
+pub(crate) struct Lines<'a> {
+    rest: Option<&'a [u8]>,
+}
+
+impl<'a> Model for Lines<'a> {
+    ghost use Rattle.std.specs.Prelude.{ℕ, List};
+    ghost use Rattle.std.specs.Option.{option_copied};
+    ghost use Rattle.oai_host.specs.DepositLines.{lines_left};
+
+    ghost Value = { List (List ℕ) };
+
+    ghost view = { λ l. lines_left (option_copied l.rest) };
+}
+
+impl<'a> Lines<'a> {
+    /// All lines of the body.
+    pub(crate) fn new(body: &'a [u8]) -> Lines<'a>
+        ensures lines { result ≡ lines_in body.now }
+        ensures few { length result ≤ length body.now + 1 }
+    {
+        Lines { rest: Some(body) }
+    }
+
+    /// Takes the next line, if there is one.
+    pub(crate) fn next(&mut self) -> Option<&'a [u8]>
+        ensures { MatchOption result (self.old ≡ []) (λ line. self.old ≡ line.now ∷ self.new) }
+    {
+        while let Some(rest) = self.rest {
+            let (line, behind) = cut(rest);
+            self.rest = behind;
+            if !is_blank(line) {
+                return Some(line);
+            }
+        }
+        None
+    }
+}
+
+/// What stands before the first line end, and what stands behind it, if there is one.
+fn cut(text: &[u8]) -> (&[u8], Option<&[u8]>)
+    ensures lines { lines_in text.now ≡ from_line result.0.now (lines_left (option_copied result.1)) }
+    ensures less { bytes_left (option_copied result.1) < bytes_left (Some text.now) }
+{
+    let end = len_before(b'\n', text);
+    let line = &text[..end];
+    if end < text.len() {
+        (line, Some(&text[end + 1..]))
+    } else {
+        (line, None)
+    }
+}
+
+/// Whether it is a line of nothing but spaces, tabs and CR.
+fn is_blank(text: &[u8]) -> bool
+    ensures { result ≡ spec.is_blank text.now }
+{
+    text.iter().all(|b| matches!(*b, b' ' | b'\t' | b'\r'))
 }

@@ -13,7 +13,7 @@ use Rattle.oai_names.proofs.Covering.{covers-Decides, same_test}
 use Rattle.oai_names.proofs.Parents.{IsBelow, above_parent, above_root, parent_splits_off}
 use Rattle.oai_names.specs.Sets.{covers, parent_of}
 use Rattle.oai_item.specs.Membership.{is_above}
-use Rattle.oai_item.specs.Workings.{holds}
+use Rattle.oai_item.specs.Reductions.{holds}
 
 -- the test decides that t is q, a colon, and something more
 is_above-Decides : (q t : List ℕ) → Decides (is_above q t) (IsBelow q t)

@@ -4,7 +4,7 @@ use Rattle.std.specs.List.{list_all, swap}
 use Rattle.std.proofs.lemmas.Bool.{and_from, and_parts, cases_lt, cond_both}
 use Rattle.std.proofs.lemmas.List.Edits.{length-swap}
 use Rattle.std.proofs.lemmas.List.{take_all, drop-set-lt, drop_more, get_or_default, get_or-drop, length-take-le, take-set, take-set-le, take_more, take_more_set}
-use Rattle.oai_item.specs.Workings.{flagged}
+use Rattle.oai_item.specs.Reductions.{flagged}
 
 after_cond : {X : Type 0} (b : Bool) (x : X) (xs ys : List X) → cond b (x ∷ (xs ++ ys)) (xs ++ ys) ≡ cond b (x ∷ xs) xs ++ ys
 after_cond true x xs ys = refl

@@ -4,7 +4,7 @@ use Rattle.std.proofs.lemmas.Bool.{and_from}
 use Rattle.std.proofs.lemmas.List.Folds.{list_all-append}
 use Rattle.oai_names.specs.Sets.{may_be_set_spec}
 use Rattle.oai_item.specs.Item.{are_set_specs}
-use Rattle.oai_item.specs.Workings.{flagged}
+use Rattle.oai_item.specs.Reductions.{flagged}
 use Rattle.oai_item.proofs.Flagged.{all-flagged}
 
 pub are_set_specs-push : (sets : List (List ℕ)) (set : List ℕ) → are_set_specs sets ≡ true → may_be_set_spec set ≡ true → are_set_specs (sets ++ set ∷ []) ≡ true

@@ -5,7 +5,7 @@ use Rattle.std.proofs.lemmas.List.{take_all, take_more}
 use Rattle.std.proofs.lemmas.List.Concat.{flat_map-append}
 use Rattle.std.proofs.lemmas.List.Folds.{length-flat_map-take}
 use Rattle.oai_item.specs.declared.fields.Field.{Field}
-use Rattle.oai_item.specs.declared.sizes.TheConstants.{MOST_ITEM_BYTES}
+use Rattle.oai_item.specs.declared.sizes.TheConstants.{MAX_ITEM_BYTES}
 use Rattle.oai_item.specs.Encoding.{IsMeasure, encoded, encoded_bool, encoded_count, encoded_field, encoded_list, encoded_record, encoded_stamp, encoded_text}
 use Rattle.oai_item.specs.Item.{ItemState, Metadata}
 
@@ -52,7 +52,7 @@ length-flat_map-more spelled elements i d within =
 
 -- a list is measured from `start` on, and is too long with the element at i
 pub too_long_at : {A : Type 0} (spelled : A → List ℕ) (elements : List A) (i : ℕ) (d : A) (start : ℕ) → i < length elements
-    → MOST_ITEM_BYTES < start + 4 + length (flat_map spelled (take i elements)) + length (spelled (get_or elements i d)) → MOST_ITEM_BYTES < start + length (encoded_list spelled elements)
+    → MAX_ITEM_BYTES < start + 4 + length (flat_map spelled (take i elements)) + length (spelled (get_or elements i d)) → MAX_ITEM_BYTES < start + length (encoded_list spelled elements)
 too_long_at spelled elements i d start within over =
     omega (arith, length-encoded_list spelled elements, length-flat_map-take spelled elements i d within)
 

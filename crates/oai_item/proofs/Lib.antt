@@ -4,9 +4,13 @@ pub mod Declarations
 pub mod Lengths
 pub mod Spellings
 pub mod Numbers
-pub mod Unreduced
 pub mod Wholes
 pub mod Spelled
+pub mod ReadBack
+pub mod Apart
+pub mod Decoded
+pub mod Walking
+pub mod Placed
 pub mod Written
 pub mod Above
 pub mod Flagged

@@ -8,7 +8,7 @@ use Rattle.std.proofs.Math.Facts.{Fits-of_z}
 use Rattle.std.proofs.lemmas.Nat.{be_bytes_4, be_bytes_8, from_be_bytes-to_be_bytes_8}
 use Rattle.oai_item.specs.Encoding.{encoded_count, encoded_stamp}
 use Rattle.oai_item.specs.Item.{IsStamp}
-use Rattle.oai_item.specs.Workings.{Stands}
+use Rattle.oai_item.specs.SpellingParts.{Stands}
 use Rattle.oai_item.proofs.Lengths.{length-encoded_count}
 use Rattle.oai_item.proofs.Spellings.{same_front}
 

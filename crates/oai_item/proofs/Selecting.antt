@@ -15,10 +15,10 @@ pub in_order-selected : (asked : Filter) (items : List ItemState) → are_in_ord
 unfolding selected
 in_order-selected asked items h = in_order-filter (passes asked) items h
 
-le_from : (a b : ℤ) → int_le a b ≡ true → a ≤ℤ b
+pub le_from : (a b : ℤ) → int_le a b ≡ true → a ≤ℤ b
 le_from a b h = grind (arith, ints)
 
-le_test : (a b : ℤ) → a ≤ℤ b → int_le a b ≡ true
+pub le_test : (a b : ℤ) → a ≤ℤ b → int_le a b ≡ true
 le_test a b h = grind (arith, ints)
 
 given_from : (set : Option (List ℕ)) (sets : List (List ℕ)) → is_in_given set sets ≡ true → IfSome set (λ s. is_in s sets ≡ true)

@@ -9,9 +9,10 @@ use Rattle.oai_names.specs.Sets.{may_be_set_spec}
 use Rattle.oai_item.specs.declared.decodings.DecodeFault.{DecodeFault}
 use Rattle.oai_item.specs.declared.decodings.DecodeFault.TheVariants as reading
 use Rattle.oai_item.specs.Encoding.{GivesBack, IsDecoding, IsEncoding, Spells, encoded, encoded_list, encoded_record, is_text_item, is_text_record}
-use Rattle.oai_item.specs.Item.{IsItem, ItemState, Metadata, are_prefixed, are_rising, are_set_specs, have_no_fields}
+use Rattle.oai_item.specs.Item.{IsItem, ItemState, Metadata, are_prefixed, are_rising, are_set_specs, have_no_fields, may_be_records}
 use Rattle.oai_item.specs.Membership.{NoneCovers}
-use Rattle.oai_item.specs.Workings.{HasParts, ReadsParts, SpellsParts, are_fields, are_records, are_sets, is_named, is_record, may_be_records}
+use Rattle.oai_item.specs.SpellingParts.{HasParts, SpellsParts, are_records, are_sets}
+use Rattle.oai_item.specs.Walks.{are_fields, is_name_text, is_record}
 use Rattle.oai_item.proofs.Wholes.{AreRead, behind_identifier, behind_live, behind_stamp, encoded_is, same_item}
 
 -- two tests of each element
@@ -62,23 +63,23 @@ parts_spelled bytes item s = record { spelling = s.spelling; few = s.few; parts 
 
 text_record_from : (format : Metadata) → is_record format ≡ true → is_text_record format ≡ true
 text_record_from format h =
-    let a = and_parts (is_named may_be_prefix format.0) (are_fields format.1) h in
+    let a = and_parts (is_name_text may_be_prefix format.0) (are_fields format.1) h in
     and_from _ _ (and_parts (may_be_prefix format.0) (is_utf8 format.0) a.0).1 a.1
 
 prefixed_from : (formats : List Metadata) → are_records formats ≡ true → are_prefixed formats ≡ true
 unfolding are_prefixed
 prefixed_from formats h =
     all_so is_record (λ format. may_be_prefix format.0) (λ format r.
-    (and_parts (may_be_prefix format.0) (is_utf8 format.0) (and_parts (is_named may_be_prefix format.0) (are_fields format.1) r).0).0) formats h
+    (and_parts (may_be_prefix format.0) (is_utf8 format.0) (and_parts (is_name_text may_be_prefix format.0) (are_fields format.1) r).0).0) formats h
 
 set_specs_from : (sets : List (List ℕ)) → are_sets sets ≡ true → are_set_specs sets ≡ true
 unfolding are_set_specs
-set_specs_from sets h = all_so (is_named may_be_set_spec) may_be_set_spec (λ s r. (and_parts (may_be_set_spec s) (is_utf8 s) r).0) sets h
+set_specs_from sets h = all_so (is_name_text may_be_set_spec) may_be_set_spec (λ s r. (and_parts (may_be_set_spec s) (is_utf8 s) r).0) sets h
 
 pub texts_from : (item : ItemState) → HasParts item → is_text_item item ≡ true
 texts_from item parts =
     and_from _ _ (and_from _ _ (and_parts (may_be_identifier item.identifier) (is_utf8 item.identifier) parts.identified).1
-    (all_so (is_named may_be_set_spec) is_utf8 (λ s r. (and_parts (may_be_set_spec s) (is_utf8 s) r).1) item.sets parts.in_sets))
+    (all_so (is_name_text may_be_set_spec) is_utf8 (λ s r. (and_parts (may_be_set_spec s) (is_utf8 s) r).1) item.sets parts.in_sets))
     (all_so is_record is_text_record text_record_from item.formats parts.of_formats)
 
 some_from : (formats : List Metadata) → not (eqb (length formats) 0) ≡ true → formats ≢ []
@@ -89,19 +90,34 @@ deleted_from : (live none : Bool) → (live || none) ≡ true → live ≡ false
 deleted_from true none h deleted = absurd (false≢true (sym deleted))
 deleted_from false none h deleted = h
 
-pub item_from : (item : ItemState) → HasParts item → NoneCovers item.sets → may_be_records item.live item.formats ≡ true → IsItem item
-item_from item parts apart h =
+-- the rules that an item's records keep together
+pub record KeepRules (item : ItemState) : Type 0 where
+  pub rising : are_rising item.formats ≡ true
+  pub carries : item.formats ≢ []
+  pub deleted : item.live ≡ false → have_no_fields item.formats ≡ true
+
+pub records_rules : (item : ItemState) → may_be_records item.live item.formats ≡ true → KeepRules item
+records_rules item h =
     let a = and_parts (not (eqb (length item.formats) 0) && are_rising item.formats) (item.live || have_no_fields item.formats) h in
     let b = and_parts (not (eqb (length item.formats) 0)) (are_rising item.formats) a.0 in
+    record {
+      rising = b.1;
+      carries = some_from item.formats b.0;
+      deleted = deleted_from item.live (have_no_fields item.formats) a.1;
+    }
+
+pub item_from : (item : ItemState) → HasParts item → NoneCovers item.sets → may_be_records item.live item.formats ≡ true → IsItem item
+item_from item parts apart h =
+    let rules = records_rules item h in
     record {
       identified = (and_parts (may_be_identifier item.identifier) (is_utf8 item.identifier) parts.identified).0;
       stamped = parts.stamped;
       in_sets = set_specs_from item.sets parts.in_sets;
       apart = apart;
       prefixed = prefixed_from item.formats parts.of_formats;
-      rising = b.1;
-      carries = some_from item.formats b.0;
-      deleted = deleted_from item.live (have_no_fields item.formats) a.1;
+      rising = rules.rising;
+      carries = rules.carries;
+      deleted = rules.deleted;
     }
 
 some_test : (formats : List Metadata) → formats ≢ [] → not (eqb (length formats) 0) ≡ true
@@ -129,15 +145,6 @@ all_read bytes item s = record {
 
 pub one_item : (bytes : List ℕ) (item other : ItemState) → SpellsParts bytes item → SpellsParts bytes other → other ≡ item
 one_item bytes item other s t = (same_item bytes _ _ _ _ _ other item (all_read bytes item s) s.few t.parts.stamped t.spelling).0
-
--- what is told where the parts could not be read
-pub decoding_fails : (bytes : List ℕ) (e : DecodeFault) → ReadsParts bytes (Err e) → IsDecoding bytes (Err e)
-decoding_fails bytes reading.Damaged h = λ item s. h item (parts_spelled bytes item s)
-decoding_fails bytes reading.NoMemory h = h
-
--- bytes of an item that does not keep the rules spell none
-pub no_item : (bytes : List ℕ) (made : ItemState) → SpellsParts bytes made → (IsItem made → ⊥) → (item : ItemState) → Spells bytes item → ⊥
-no_item bytes made s breaks item t = breaks (subst IsItem (one_item bytes made item s (parts_spelled bytes item t)) t.valid)
 
 pub item_spelled : (bytes : List ℕ) (item : ItemState) → SpellsParts bytes item → NoneCovers item.sets → may_be_records item.live item.formats ≡ true → Spells bytes item
 item_spelled bytes item s apart h = record {

@@ -1,22 +1,19 @@
 -- What stands in front of bytes determines what was spelled there, and where its spelling ends.
-use Rattle.std.proofs.Common.{◌≡◌, ◌∙◌, ℕ, ◌*◌, ◌^◌, ◌<◌, ◌≤◌, ◌&&◌, leb, Bool, true, false, List, [], ◌∷◌, ◌++◌, length, take, drop, Ok, Err, refl, sym, ap, subst, append_assoc, arith, length-append}
+use Rattle.std.proofs.Common.{◌≡◌, ◌∙◌, ℕ, ◌*◌, ◌^◌, ◌<◌, ◌≤◌, Bool, true, false, List, [], ◌∷◌, ◌++◌, length, take, drop, refl, sym, ap, subst, append_assoc, arith, length-append}
 use Rattle.std.specs.Int.{w32, from_be_bytes}
 use Rattle.std.specs.List.{flat_map, list_all}
 use Rattle.std.specs.Str.{is_utf8}
-use Rattle.std.proofs.lemmas.Bool.{and_from, and_parts, false≢true, lt-leb}
+use Rattle.std.proofs.lemmas.Bool.{and_from, and_parts, false≢true}
 use Rattle.std.proofs.lemmas.List.{append-nil, take_at, drop_at, length-take, take-append-drop}
 use Rattle.std.proofs.lemmas.List.Concat.{flat_map-append}
 use Rattle.std.proofs.lemmas.Nat.{from_be_bytes-to_be_bytes_4}
-use Rattle.oai_item.specs.declared.decodings.DecodeFault.{DecodeFault}
-use Rattle.oai_item.specs.declared.decodings.DecodeFault.TheVariants as reading
-use Rattle.oai_names.specs.Names.{IsReading, is_name_of, may_be_prefix}
-use Rattle.oai_names.specs.declared.readings.NameFault.{NameFault}
-use Rattle.oai_names.specs.declared.readings.NameFault.TheVariants as names
+use Rattle.oai_names.specs.Names.{may_be_prefix}
 use Rattle.oai_item.specs.declared.fields.Field.{Field}
-use Rattle.oai_item.specs.declared.sizes.TheConstants.{MOST_ITEM_BYTES}
+use Rattle.oai_item.specs.declared.sizes.TheConstants.{MAX_ITEM_BYTES}
 use Rattle.oai_item.specs.Encoding.{encoded_count, encoded_field, encoded_list, encoded_record, encoded_text, is_text_field}
 use Rattle.oai_item.specs.Item.{Metadata}
-use Rattle.oai_item.specs.Workings.{Fails, IsCount, IsNamed, IsText, Stands, are_fields, fault_of, is_named, is_record}
+use Rattle.oai_item.specs.SpellingParts.{IsCount, IsNamed, IsText, Stands}
+use Rattle.oai_item.specs.Walks.{are_fields, is_name_text, is_record}
 use Rattle.oai_item.proofs.Lengths.{length-encoded_field, length-encoded_list, length-encoded_record, length-encoded_text}
 
 -- two lists that begin with lists of one length
@@ -28,17 +25,11 @@ same_front a b r s len e = (
 
 -- bytes of which one value stands in front have no other one there
 pub record IsCut {A : Type 0} (spelled : A → List ℕ) : Type 0 where
-  pub cut : (bytes : List ℕ) (x y : A) (r s : List ℕ) → length bytes ≤ MOST_ITEM_BYTES → bytes ≡ spelled x ++ r → bytes ≡ spelled y ++ s → (x ≡ y) × (r ≡ s)
+  pub cut : (bytes : List ℕ) (x y : A) (r s : List ℕ) → length bytes ≤ MAX_ITEM_BYTES → bytes ≡ spelled x ++ r → bytes ≡ spelled y ++ s → (x ≡ y) × (r ≡ s)
 
 -- what is behind a value is no longer than the whole
-pub few_behind : (bytes piece rest : List ℕ) → bytes ≡ piece ++ rest → length bytes ≤ MOST_ITEM_BYTES → length rest ≤ MOST_ITEM_BYTES
+pub few_behind : (bytes piece rest : List ℕ) → bytes ≡ piece ++ rest → length bytes ≤ MAX_ITEM_BYTES → length rest ≤ MAX_ITEM_BYTES
 few_behind bytes piece rest e few = omega (arith, length-append piece rest, ap length e)
-
--- where something would stand if something else did, that this is not there shows that the other is not
-pub fails_as : {B D : Type 0} (spelled : B → List ℕ) (Good : B → Type 0) (bytes : List ℕ) (spelled' : D → List ℕ) (Good' : D → Type 0) (bytes' : List ℕ) (e : DecodeFault)
-    → (Stands spelled' Good' bytes' → Stands spelled Good bytes) → Fails spelled Good bytes e → Fails spelled' Good' bytes' e
-fails_as spelled Good bytes spelled' Good' bytes' reading.Damaged f h = λ s. h (f s)
-fails_as spelled Good bytes spelled' Good' bytes' reading.NoMemory f h = tt
 
 -- ---- one part after another
 
@@ -81,7 +72,7 @@ unfolding encoded_text
 text_splits text r = append_assoc (encoded_count (length text)) text r
 
 -- a text in bytes that are not too many is not too long
-text_fits : (bytes text r : List ℕ) → length bytes ≤ MOST_ITEM_BYTES → bytes ≡ encoded_text text ++ r → length text < 2 ^ 32
+pub text_fits : (bytes text r : List ℕ) → length bytes ≤ MAX_ITEM_BYTES → bytes ≡ encoded_text text ++ r → length text < 2 ^ 32
 text_fits bytes text r few e = omega (arith, ap length e, length-append (encoded_text text) r, length-encoded_text text)
 
 pub text_is_cut : IsCut encoded_text
@@ -126,15 +117,15 @@ pub list_splits : {A : Type 0} (spelled : A → List ℕ) (xs : List A) (r : Lis
 unfolding encoded_list
 list_splits spelled xs r = append_assoc (encoded_count (length xs)) (flat_map spelled xs) r
 
-list_fits : {A : Type 0} (spelled : A → List ℕ) → ((x : A) → 4 ≤ length (spelled x)) → (bytes : List ℕ) (xs : List A) (r : List ℕ) → length bytes ≤ MOST_ITEM_BYTES → bytes ≡ encoded_list spelled xs ++ r → length xs < 2 ^ 32
+pub list_fits : {A : Type 0} (spelled : A → List ℕ) → ((x : A) → 4 ≤ length (spelled x)) → (bytes : List ℕ) (xs : List A) (r : List ℕ) → length bytes ≤ MAX_ITEM_BYTES → bytes ≡ encoded_list spelled xs ++ r → length xs < 2 ^ 32
 list_fits spelled some bytes xs r few e =
     omega (arith, ap length e, length-append (encoded_list spelled xs) r, length-encoded_list spelled xs, fill spelled 4 some xs)
 
-element_splits : {A : Type 0} (spelled : A → List ℕ) (x : A) (xs : List A) (r : List ℕ) → flat_map spelled (x ∷ xs) ++ r ≡ spelled x ++ (flat_map spelled xs ++ r)
+pub element_splits : {A : Type 0} (spelled : A → List ℕ) (x : A) (xs : List A) (r : List ℕ) → flat_map spelled (x ∷ xs) ++ r ≡ spelled x ++ (flat_map spelled xs ++ r)
 element_splits spelled x xs r = append_assoc (spelled x) (flat_map spelled xs) r
 
 -- as many elements are the same
-elements_cut : {A : Type 0} (spelled : A → List ℕ) → IsCut spelled → (xs ys : List A) (bytes r s : List ℕ) → length bytes ≤ MOST_ITEM_BYTES → length xs ≡ length ys
+elements_cut : {A : Type 0} (spelled : A → List ℕ) → IsCut spelled → (xs ys : List A) (bytes r s : List ℕ) → length bytes ≤ MAX_ITEM_BYTES → length xs ≡ length ys
     → bytes ≡ flat_map spelled xs ++ r → bytes ≡ flat_map spelled ys ++ s → (xs ≡ ys) × (r ≡ s)
 elements_cut spelled is_cut [] [] bytes r s few len e f = (refl, sym e ∙ f)
 elements_cut spelled is_cut [] (y ∷ ys) bytes r s few len e f = absurd (omega arith)
@@ -146,7 +137,7 @@ elements_cut spelled is_cut (x ∷ xs) (y ∷ ys) bytes r s few len e f =
     (ap (λ z. z ∷ xs) one.0 ∙ ap (λ zs. y ∷ zs) others.0, others.1)
 
 -- behind fewer elements the next one stands
-next_of : {A : Type 0} (spelled : A → List ℕ) → IsCut spelled → (test : A → Bool) (few_xs xs : List A) (bytes r s : List ℕ) → length bytes ≤ MOST_ITEM_BYTES → length few_xs < length xs
+next_of : {A : Type 0} (spelled : A → List ℕ) → IsCut spelled → (test : A → Bool) (few_xs xs : List A) (bytes r s : List ℕ) → length bytes ≤ MAX_ITEM_BYTES → length few_xs < length xs
     → list_all test xs ≡ true → bytes ≡ flat_map spelled few_xs ++ r → bytes ≡ flat_map spelled xs ++ s → Stands spelled (λ x. test x ≡ true) r
 next_of spelled is_cut test few_xs [] bytes r s few less all e f = absurd (omega arith)
 next_of spelled is_cut test [] (x ∷ xs) bytes r s few less all e f = record {
@@ -154,7 +145,7 @@ next_of spelled is_cut test [] (x ∷ xs) bytes r s few less all e f = record {
   rest = flat_map spelled xs ++ s;
   good = (and_parts (test x) (list_all test xs) all).0;
   parts = sym e ∙ f ∙ element_splits spelled x xs s;
-  few = subst (λ b. length b ≤ MOST_ITEM_BYTES) e few;
+  few = subst (λ b. length b ≤ MAX_ITEM_BYTES) e few;
 }
 next_of spelled is_cut test (y ∷ ys) (x ∷ xs) bytes r s few less all e f =
     let e' = e ∙ element_splits spelled y ys r in
@@ -174,24 +165,10 @@ text_of_name grammar bytes s = record {
 }
 
 -- a text that is not of the grammar is no name
-no_name : (grammar : List ℕ → Bool) (bytes rest text : List ℕ) → bytes ≡ encoded_text text ++ rest → grammar text ≡ false → Stands encoded_text (IsNamed grammar) bytes → ⊥
+pub no_name : (grammar : List ℕ → Bool) (bytes rest text : List ℕ) → bytes ≡ encoded_text text ++ rest → grammar text ≡ false → Stands encoded_text (IsNamed grammar) bytes → ⊥
 no_name grammar bytes rest text e refused s =
     let same = text_is_cut.cut bytes s.value text s.rest rest s.few s.parts e in
     false≢true (sym refused ∙ ap grammar (sym same.0) ∙ (and_parts (grammar s.value) (is_utf8 s.value) s.good).0)
-
--- what is told of a text that was not read as a name
-pub name_fails : (grammar : List ℕ → Bool) (most : ℕ) (bytes rest text : List ℕ) (f : NameFault) → bytes ≡ encoded_text text ++ rest
-    → IsReading grammar most text (Err f) → Fails encoded_text (IsNamed (is_name_of grammar most)) bytes (fault_of f)
-name_fails grammar most bytes rest text names.Syntax e h = no_name (is_name_of grammar most) bytes rest text e (ap (λ b. b && leb (length text) most) h)
-name_fails grammar most bytes rest text names.TooLong e h =
-    no_name (is_name_of grammar most) bytes rest text e (rw h.0 (lt-leb _ _ h.1))
-name_fails grammar most bytes rest text names.NoMemory e h = tt
-
--- and of one that was
-pub name_is : (grammar : List ℕ → Bool) (most : ℕ) (bytes rest text name : List ℕ) → is_utf8 text ≡ true → bytes ≡ encoded_text text ++ rest
-    → IsReading grammar most text (Ok name) → IsNamed (is_name_of grammar most) name × (bytes ≡ encoded_text name ++ rest)
-name_is grammar most bytes rest text name utf8 e h =
-    (rw h.0 (and_from _ _ h.1 utf8), e ∙ ap (λ t. encoded_text t ++ rest) (sym h.0))
 
 -- ---- fields
 
@@ -326,7 +303,7 @@ record_splits format r = append_assoc (encoded_text format.0) (encoded_list enco
 pub prefix_of_record : (bytes : List ℕ) → Stands encoded_record (λ format. is_record format ≡ true) bytes → Stands encoded_text (IsNamed may_be_prefix) bytes
 prefix_of_record bytes s =
     front_of encoded_record (λ format. encoded_list encoded_field format.1) encoded_text (λ format. format.0) (λ format. is_record format ≡ true) (IsNamed may_be_prefix)
-    record_splits (λ format good. (and_parts (is_named may_be_prefix format.0) (are_fields format.1) good).0) bytes s
+    record_splits (λ format good. (and_parts (is_name_text may_be_prefix format.0) (are_fields format.1) good).0) bytes s
 
 -- and behind it its fields
 pub fields_of_record : (bytes rest prefix : List ℕ) → bytes ≡ encoded_text prefix ++ rest → Stands encoded_record (λ format. is_record format ≡ true) bytes → Stands (encoded_list encoded_field) (λ fields. are_fields fields ≡ true) rest
@@ -335,7 +312,7 @@ fields_of_record bytes rest prefix e s =
     record {
       value = t.value.1;
       rest = t.rest;
-      good = (and_parts (is_named may_be_prefix t.value.0) (are_fields t.value.1) t.good.0).1;
+      good = (and_parts (is_name_text may_be_prefix t.value.0) (are_fields t.value.1) t.good.0).1;
       parts = t.parts;
       few = t.few;
     }

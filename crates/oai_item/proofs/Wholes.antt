@@ -1,13 +1,11 @@
 -- The spelling of a whole item, part by part: bytes spell one item at most.
-use Rattle.std.proofs.Common.{◌≡◌, ◌∙◌, ℕ, ℤ, ◌≤◌, Bool, true, false, List, [], ◌++◌, length, Err, refl, sym, ap, append_assoc}
+use Rattle.std.proofs.Common.{◌≡◌, ◌∙◌, ℕ, ℤ, ◌≤◌, Bool, true, false, List, [], ◌++◌, length, refl, sym, ap, append_assoc}
 use Rattle.std.proofs.lemmas.List.{append-nil}
 use Rattle.oai_names.specs.Names.{may_be_identifier}
-use Rattle.oai_item.specs.declared.decodings.DecodeFault.{DecodeFault}
-use Rattle.oai_item.specs.declared.decodings.DecodeFault.TheVariants as reading
-use Rattle.oai_item.specs.declared.sizes.TheConstants.{MOST_ITEM_BYTES}
+use Rattle.oai_item.specs.declared.sizes.TheConstants.{MAX_ITEM_BYTES}
 use Rattle.oai_item.specs.Encoding.{encoded, encoded_bool, encoded_list, encoded_record, encoded_stamp, encoded_text}
 use Rattle.oai_item.specs.Item.{IsStamp, ItemState, Metadata}
-use Rattle.oai_item.specs.Workings.{Fails, IsAny, IsNamed, ReadsParts, SpellsParts, Stands, are_records, are_sets}
+use Rattle.oai_item.specs.SpellingParts.{IsAny, IsNamed, SpellsParts, Stands, are_records, are_sets}
 use Rattle.oai_item.proofs.Numbers.{stamp_cut, stamp_fits}
 use Rattle.oai_item.proofs.Spellings.{IsCut, few_behind, list_is_cut, record_has_four, record_is_cut, text_has_four, text_is_cut}
 
@@ -50,15 +48,15 @@ pub after_stamp : (item : ItemState) (bytes rest : List ℕ) (stamp : ℤ) → I
 after_stamp item bytes rest stamp is_stamp read e f =
     stamp_cut item.stamp stamp (behind_stamp item) rest (stamp_fits item.stamp is_stamp) (stamp_fits stamp read) (e ∙ f)
 
-pub after_identifier : (item : ItemState) (bytes rest identifier : List ℕ) → length bytes ≤ MOST_ITEM_BYTES → behind_stamp item ≡ bytes → bytes ≡ encoded_text identifier ++ rest → (item.identifier ≡ identifier) × (behind_identifier item ≡ rest)
+pub after_identifier : (item : ItemState) (bytes rest identifier : List ℕ) → length bytes ≤ MAX_ITEM_BYTES → behind_stamp item ≡ bytes → bytes ≡ encoded_text identifier ++ rest → (item.identifier ≡ identifier) × (behind_identifier item ≡ rest)
 after_identifier item bytes rest identifier few e f =
     text_is_cut.cut bytes item.identifier identifier (behind_identifier item) rest few (sym e) f
 
-pub after_sets : (item : ItemState) (bytes rest : List ℕ) (sets : List (List ℕ)) → length bytes ≤ MOST_ITEM_BYTES → behind_identifier item ≡ bytes → bytes ≡ encoded_list encoded_text sets ++ rest → (item.sets ≡ sets) × (encoded_list encoded_record item.formats ≡ rest)
+pub after_sets : (item : ItemState) (bytes rest : List ℕ) (sets : List (List ℕ)) → length bytes ≤ MAX_ITEM_BYTES → behind_identifier item ≡ bytes → bytes ≡ encoded_list encoded_text sets ++ rest → (item.sets ≡ sets) × (encoded_list encoded_record item.formats ≡ rest)
 after_sets item bytes rest sets few e f =
     sets_are_cut.cut bytes item.sets sets (encoded_list encoded_record item.formats) rest few (sym e) f
 
-pub after_formats : (item : ItemState) (bytes rest : List ℕ) (formats : List Metadata) → length bytes ≤ MOST_ITEM_BYTES → encoded_list encoded_record item.formats ≡ bytes → bytes ≡ encoded_list encoded_record formats ++ rest → (item.formats ≡ formats) × ([] ≡ rest)
+pub after_formats : (item : ItemState) (bytes rest : List ℕ) (formats : List Metadata) → length bytes ≤ MAX_ITEM_BYTES → encoded_list encoded_record item.formats ≡ bytes → bytes ≡ encoded_list encoded_record formats ++ rest → (item.formats ≡ formats) × ([] ≡ rest)
 after_formats item bytes rest formats few e f =
     records_are_cut.cut bytes item.formats formats [] rest few (sym e ∙ sym (append-nil (encoded_list encoded_record item.formats))) f
 
@@ -71,7 +69,7 @@ pub record AreRead (bytes r1 r2 r3 r4 r5 : List ℕ) (item : ItemState) : Type 0
   pub sets : (are_sets item.sets ≡ true) × (r3 ≡ encoded_list encoded_text item.sets ++ r4)
   pub formats : (are_records item.formats ≡ true) × (r4 ≡ encoded_list encoded_record item.formats ++ r5)
 
-pub whole_read : (bytes r1 r2 r3 r4 r5 : List ℕ) (item : ItemState) → length bytes ≤ MOST_ITEM_BYTES → AreRead bytes r1 r2 r3 r4 r5 item → r5 ≡ [] → SpellsParts bytes item
+pub whole_read : (bytes r1 r2 r3 r4 r5 : List ℕ) (item : ItemState) → length bytes ≤ MAX_ITEM_BYTES → AreRead bytes r1 r2 r3 r4 r5 item → r5 ≡ [] → SpellsParts bytes item
 whole_read bytes r1 r2 r3 r4 r5 item few read none = record {
   spelling =
       read.live ∙ ap (λ r. encoded_bool item.live ++ r) (read.stamp.1
@@ -83,11 +81,6 @@ whole_read bytes r1 r2 r3 r4 r5 item few read none = record {
   few = few;
   parts = record { stamped = read.stamp.0; identified = read.identifier.0; in_sets = read.sets.0; of_formats = read.formats.0 };
 }
-
--- what is told where a part could not be read that each item of these bytes has there
-pub parts_fail : {A : Type 0} (spelled : A → List ℕ) (Good : A → Type 0) (bytes rest : List ℕ) (e : DecodeFault) → length bytes ≤ MOST_ITEM_BYTES → ((item : ItemState) → SpellsParts bytes item → Stands spelled Good rest) → Fails spelled Good rest e → ReadsParts bytes (Err e)
-parts_fail spelled Good bytes rest reading.Damaged few has h = λ item s. h (has item s)
-parts_fail spelled Good bytes rest reading.NoMemory few has h = few
 
 pub live_stands : (bytes : List ℕ) (item : ItemState) → SpellsParts bytes item → Stands encoded_bool IsAny bytes
 live_stands bytes item s = record { value = item.live; rest = behind_live item; good = tt; parts = s.spelling ∙ encoded_is item; few = s.few }
@@ -129,7 +122,7 @@ records_stand bytes r1 r2 r3 r4 live stamp identifier sets e1 e2 e3 e4 item s =
     record { value = item.formats; rest = []; good = s.parts.of_formats; parts = sym f.1 ∙ sym (append-nil (encoded_list encoded_record item.formats)); few = few_behind r3 (encoded_list encoded_text sets) r4 e4 few3 }
 
 -- two items whose parts are the same
-same_parts : (a b : ItemState) → a.live ≡ b.live → a.stamp ≡ b.stamp → a.identifier ≡ b.identifier → a.sets ≡ b.sets → a.formats ≡ b.formats → a ≡ b
+pub same_parts : (a b : ItemState) → a.live ≡ b.live → a.stamp ≡ b.stamp → a.identifier ≡ b.identifier → a.sets ≡ b.sets → a.formats ≡ b.formats → a ≡ b
 same_parts a b live stamp identifier sets formats =
     let with_live : Bool → ItemState = λ x. record { identifier = a.identifier; stamp = a.stamp; live = x; sets = a.sets; formats = a.formats } in
     let with_stamp : ℤ → ItemState = λ x. record { identifier = a.identifier; stamp = x; live = b.live; sets = a.sets; formats = a.formats } in
@@ -139,7 +132,7 @@ same_parts a b live stamp identifier sets formats =
     ap with_live live ∙ ap with_stamp stamp ∙ ap with_identifier identifier ∙ ap with_sets sets ∙ ap with_formats formats
 
 -- bytes of which parts were read spell no other item, and leave nothing
-pub same_item : (bytes r1 r2 r3 r4 r5 : List ℕ) (other item : ItemState) → AreRead bytes r1 r2 r3 r4 r5 item → length bytes ≤ MOST_ITEM_BYTES → IsStamp other.stamp → bytes ≡ encoded other → (other ≡ item) × ([] ≡ r5)
+pub same_item : (bytes r1 r2 r3 r4 r5 : List ℕ) (other item : ItemState) → AreRead bytes r1 r2 r3 r4 r5 item → length bytes ≤ MAX_ITEM_BYTES → IsStamp other.stamp → bytes ≡ encoded other → (other ≡ item) × ([] ≡ r5)
 same_item bytes r1 r2 r3 r4 r5 other item read few is_stamp e =
     let a = after_live other bytes r1 item.live e read.live in
     let b = after_stamp other r1 r2 item.stamp is_stamp read.stamp.0 a.1 read.stamp.1 in

@@ -9,7 +9,7 @@ use borrow.Rule.Slice.PartMut.{put_mid}
 use Rattle.oai_item.specs.Encoding.{encoded, encoded_bool, encoded_count, encoded_field, encoded_list, encoded_record, encoded_stamp, encoded_text}
 use Rattle.oai_item.specs.Item.{Metadata}
 use Rattle.oai_item.specs.declared.fields.Field.{Field}
-use Rattle.oai_item.specs.Workings.{Writes, item_with}
+use Rattle.oai_item.specs.SpellingParts.{Writes, item_with}
 use Rattle.oai_item.proofs.Lengths.{length-encoded_count, length-encoded_list}
 
 -- what is behind the first piece is what was there

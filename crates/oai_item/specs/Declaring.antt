@@ -32,3 +32,9 @@ abbrev pub IsDeclaring : List Format → Format → Result (Unit {0}) FormatFaul
 IsDeclaring old format (Ok _) new = (declare_fault old format ≡ None) × (new ≡ old ++ format ∷ [])
 IsDeclaring old format (Err NoMemory) new = HasGoodTexts old format × (new ≡ old)
 IsDeclaring old format (Err fault) new = (declare_fault old format ≡ Some fault) × (new ≡ old)
+
+-- what a test of a format answers; memory may be refused once its texts are good
+abbrev pub IsCheck : List Format → Format → Result (Unit {0}) FormatFault → Type 0
+IsCheck formats format (Ok _) = declare_fault formats format ≡ None
+IsCheck formats format (Err NoMemory) = HasGoodTexts formats format
+IsCheck formats format (Err fault) = declare_fault formats format ≡ Some fault

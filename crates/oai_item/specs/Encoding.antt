@@ -7,7 +7,7 @@ use Rattle.oai_item.specs.declared.decodings.DecodeFault.{DecodeFault}
 use Rattle.oai_item.specs.declared.decodings.DecodeFault.TheVariants.{Damaged, NoMemory}
 use Rattle.oai_item.specs.declared.fields.Field.{Field}
 use Rattle.oai_item.specs.declared.sizes.TooLarge.{TooLarge}
-use Rattle.oai_item.specs.declared.sizes.TheConstants.{MOST_ITEM_BYTES}
+use Rattle.oai_item.specs.declared.sizes.TheConstants.{MAX_ITEM_BYTES}
 use Rattle.oai_item.specs.Item.{IsItem, ItemState, Metadata}
 
 -- one byte: 1 where the item is live, 0 where it is deleted
@@ -48,10 +48,10 @@ encoded item =
     ++ encoded_list encoded_text item.sets
     ++ encoded_list encoded_record item.formats
 
--- what measuring so many bytes answers: their number where it is at most `MOST_ITEM_BYTES`, or that they are too many
+-- what measuring so many bytes answers: their number where it is at most `MAX_ITEM_BYTES`, or that they are too many
 abbrev pub IsMeasure : ℕ → Result ℕ TooLarge → Type 0
-IsMeasure bytes (Ok n) = (n ≡ bytes) × (bytes ≤ MOST_ITEM_BYTES)
-IsMeasure bytes (Err _) = MOST_ITEM_BYTES < bytes
+IsMeasure bytes (Ok n) = (n ≡ bytes) × (bytes ≤ MAX_ITEM_BYTES)
+IsMeasure bytes (Err _) = MAX_ITEM_BYTES < bytes
 
 -- the name and the text of a field are UTF-8
 abbrev pub is_text_field : Field → Bool
@@ -69,7 +69,7 @@ is_text_item item =
 -- the bytes spell the item: they are just its spelling, and not too many; and it keeps the rules of items
 pub record Spells (bytes : List ℕ) (item : ItemState) : Type 0 where
   pub spelling : bytes ≡ encoded item
-  pub few : length bytes ≤ MOST_ITEM_BYTES
+  pub few : length bytes ≤ MAX_ITEM_BYTES
   pub valid : IsItem item
   pub texts : is_text_item item ≡ true
 
@@ -78,14 +78,14 @@ pub record Spells (bytes : List ℕ) (item : ItemState) : Type 0 where
 abbrev pub IsEncoding : ItemState → List ℕ → Result ℕ TooLarge → List ℕ → Type 0
 IsEncoding item old (Ok n) new =
     Spells (encoded item) item × (n ≡ length (encoded item)) × (new ≡ encoded item ++ drop n old)
-IsEncoding item old (Err _) new = (MOST_ITEM_BYTES < length (encoded item)) × (new ≡ old)
+IsEncoding item old (Err _) new = (MAX_ITEM_BYTES < length (encoded item)) × (new ≡ old)
 
 -- what reading an item from the bytes, all of them, answers: the item that they spell; or that they spell none. Memory may be
 -- refused where they are not too many
 abbrev pub IsDecoding : List ℕ → Result ItemState DecodeFault → Type 0
 IsDecoding bytes (Ok item) = Spells bytes item
 IsDecoding bytes (Err Damaged) = (item : ItemState) → ¬ (Spells bytes item)
-IsDecoding bytes (Err NoMemory) = length bytes ≤ MOST_ITEM_BYTES
+IsDecoding bytes (Err NoMemory) = length bytes ≤ MAX_ITEM_BYTES
 
 -- reading gave that item, unless memory was refused
 abbrev pub GivesBack : ItemState → Result ItemState DecodeFault → Type 0

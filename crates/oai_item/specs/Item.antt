@@ -1,11 +1,12 @@
 -- Items, and the records that they carry. OAI-PMH 2.0, sections 2.3 to 2.6.
-use Rattle.std.specs.Prelude.{◌≡◌, ◌≢◌, ℕ, ℤ, pos, neg_ℤ, ◌≤ℤ◌, Bool, true, false, ◌==◌, ◌&&◌, List, [], ◌∷◌, length, map, find, Option, None, Some, is_some}
+use Rattle.std.specs.Prelude.{◌≡◌, ◌≢◌, ℕ, ℤ, Bool, true, false, ◌==◌, ◌&&◌, ◌||◌, not, List, [], ◌∷◌, length, map, find, Option, None, Some, is_some}
 use Rattle.std.specs.List.{list_all}
 use Rattle.std.specs.Str.{bytes_eq}
 use Rattle.std.specs.Ordering.{nat_cmp, is_lt}
 use Rattle.std.specs.Cmp.Lexicographic.{slice_cmp}
 use Rattle.oai_names.specs.Names.{may_be_identifier, may_be_prefix}
 use Rattle.oai_names.specs.Sets.{may_be_set_spec}
+use Rattle.oai_time.specs.Stamp.{IsWritable}
 use Rattle.oai_item.specs.declared.fields.Field.{Field}
 use Rattle.oai_item.specs.Membership.{NoneCovers}
 
@@ -32,9 +33,9 @@ are_rising [] = true
 are_rising (a ∷ []) = true
 are_rising (a ∷ b ∷ formats) = is_before a.0 b.0 && are_rising (b ∷ formats)
 
--- the seconds of years 0000 to 9999, which a datestamp can name (as `IsWritable` of oai_time)
+-- the seconds of years 0000 to 9999, which a datestamp can name
 abbrev pub IsStamp : ℤ → Type 0
-IsStamp stamp = (neg_ℤ (pos 62_167_219_200) ≤ℤ stamp) × (stamp ≤ℤ pos 253_402_300_799)
+IsStamp stamp = IsWritable stamp
 
 -- a live item of these parts
 abbrev pub live_item : List ℕ → ℤ → List (List ℕ) → List Metadata → ItemState
@@ -83,6 +84,12 @@ are_prefixed formats = list_all (λ format. may_be_prefix format.0) formats
 -- no record has a field
 unfoldable pub have_no_fields : List Metadata → Bool
 have_no_fields formats = list_all (λ format. length format.1 == 0) formats
+
+-- the records may be those of an item that is live or deleted: at least one, in the order of their prefixes, and without fields
+-- where it is deleted
+abbrev pub may_be_records : Bool → List Metadata → Bool
+may_be_records live formats =
+    not (length formats == 0) && are_rising formats && (live || have_no_fields formats)
 
 -- what is true of each item: its names are of their grammars, its datestamp can be written, no setSpec of it covers another,
 -- it has one record a format, in the order of the prefixes, and where it is deleted they have no fields (OAI-PMH 2.0, section

@@ -9,6 +9,10 @@ pub mod Formats
 pub mod Known
 pub mod Declaring
 pub mod Encoding
+pub mod Decoding
+pub mod Walks
+pub mod InPlace
 pub mod Refusals
 pub mod ShortTexts
-pub mod Workings
+pub mod Reductions
+pub mod SpellingParts

@@ -1,6 +1,6 @@
 -- The sets that an item is in, and the setSpecs that say so. OAI-PMH 2.0, sections 2.6 and 2.7.2.
-use Rattle.std.specs.Prelude.{◌≡◌, ◌≢◌, ℕ, Bool, false, ◌&&◌, not, List, [], ◌∷◌, Some, slice_get}
-use Rattle.std.specs.List.{list_any, filter}
+use Rattle.std.specs.Prelude.{◌≡◌, ◌≢◌, ℕ, Bool, true, false, ◌&&◌, not, List, [], ◌∷◌, Some, slice_get}
+use Rattle.std.specs.List.{list_all, list_any, filter}
 use Rattle.std.specs.Str.{bytes_eq}
 use Rattle.oai_names.specs.Sets.{covers}
 
@@ -20,6 +20,15 @@ distinct (s ∷ sets) = s ∷ filter (λ t. not (bytes_eq s t)) (distinct sets)
 -- the setSpecs without repetitions, and without any that covers another of them
 unfoldable pub reduced : List (List ℕ) → List (List ℕ)
 reduced sets = filter (λ s. not (list_any (is_above s) sets)) (distinct sets)
+
+-- neither setSpec covers the other
+abbrev pub neither_covers : List ℕ → List ℕ → Bool
+neither_covers s t = not (covers s t) && not (covers t s)
+
+-- none of the setSpecs covers another, nor stands twice
+abbrev pub none_covers : List (List ℕ) → Bool
+none_covers [] = true
+none_covers (s ∷ sets) = list_all (neither_covers s) sets && none_covers sets
 
 -- of two setSpecs at different places neither covers the other
 abbrev pub NoneCovers : List (List ℕ) → Type 0

@@ -2,7 +2,8 @@ ghost use Rattle.std.specs.Prelude.{◌≡◌, IfOk, map};
 ghost use Rattle.oai_item.specs.Item.{emptied};
 
 use crate::fields::Field;
-use oai_names::{Prefix, Sequence, SetSpec};
+use crate::walks::{SpelledFields, SpelledRecords, SpelledSets};
+use oai_names::{Prefix, Sequence, SetSpec, Text};
 use std::alloc::{AllocError, Global};
 
 /// Copies of the setSpecs.
@@ -53,4 +54,49 @@ pub(crate) fn emptied(
         left.push((prefix.copy(alloc)?, Sequence::new(Vec::new(alloc))))?;
     }
     Ok(Sequence::new(left))
+}
+
+/// The setSpecs of a spelling, in memory.
+pub(crate) fn sets_in_memory(
+    alloc: Global,
+    mut sets: SpelledSets<'_>,
+) -> Result<Sequence<SetSpec>, AllocError>
+    ensures { IfOk result (λ copies. copies ≡ sets.entry) }
+{
+    let mut copies = Vec::with_capacity(alloc, sets.len())?;
+    while let Some(set) = sets.next() {
+        copies.push(SetSpec::new(alloc, set)?)?;
+    }
+    Ok(Sequence::new(copies))
+}
+
+/// The records of a spelling, in memory.
+pub(crate) fn records_in_memory(
+    alloc: Global,
+    mut records: SpelledRecords<'_>,
+) -> Result<Sequence<(Prefix, Sequence<Field>)>, AllocError>
+    ensures { IfOk result (λ copies. copies ≡ records.entry) }
+{
+    let mut copies = Vec::with_capacity(alloc, records.len())?;
+    while let Some(format) = records.next() {
+        let prefix = Prefix::new(alloc, format.prefix)?;
+        copies.push((prefix, fields_in_memory(alloc, format.fields)?))?;
+    }
+    Ok(Sequence::new(copies))
+}
+
+/// The fields of a spelling, in memory.
+fn fields_in_memory(
+    alloc: Global,
+    mut fields: SpelledFields<'_>,
+) -> Result<Sequence<Field>, AllocError>
+    ensures { IfOk result (λ copies. copies ≡ fields.entry) }
+{
+    let mut copies = Vec::with_capacity(alloc, fields.len())?;
+    while let Some(field) = fields.next() {
+        let name = Text::new(alloc, field.name)?;
+        let text = Text::new(alloc, field.text)?;
+        copies.push(Field { name, text })?;
+    }
+    Ok(Sequence::new(copies))
 }

@@ -1,17 +1,19 @@
-//! Items from bytes: what reads the parts of an item's spelling.
+//! Items from bytes: what reads the parts of an item's spelling, in place. No function here takes memory.
 
-ghost use Rattle.std.specs.Prelude.{◌≡◌, ◌↔◌, true, IsTrue};
+ghost use Rattle.std.specs.Prelude.{◌≡◌, ◌↔◌, ◌≤◌, length, true, IsTrue};
 ghost use Rattle.oai_names.specs.Names.{may_be_identifier, may_be_prefix};
 ghost use Rattle.oai_names.specs.Sets.{may_be_set_spec};
 ghost use Rattle.oai_item.specs.Encoding.{is_text_field, encoded_bool, encoded_count, encoded_field, encoded_list, encoded_record, encoded_stamp, encoded_text};
-ghost use Rattle.oai_item.specs.Item.{IsStamp, are_rising, have_no_fields};
-ghost use Rattle.oai_item.specs.Workings.{IsAny, IsCount, IsText, IsNamed, Reads, are_fields, are_records, ReadsParts, are_sets, fault_of, is_record, may_be_records};
+ghost use Rattle.oai_item.specs.Item.{IsStamp};
+ghost use Rattle.oai_item.specs.Walks.{are_fields, is_record};
 ghost use Rattle.oai_item.specs.declared.decodings.DecodeFault.TheVariants as fault;
+ghost use Rattle.oai_item.specs.SpellingParts.{IsAny, IsCount, IsText, IsNamed, Reads, are_records, are_sets};
 
-use crate::fields::Field;
-use crate::sizes::MOST_ITEM_BYTES;
-use oai_names::{Identifier, NameFault, Prefix, Sequence, SetSpec, Text};
-use std::alloc::{AllocError, AllocFailed, Global};
+use crate::sizes::MAX_ITEM_BYTES;
+use crate::walks::{SpelledField, SpelledFields, SpelledRecord, SpelledRecords, SpelledSets};
+use oai_names::{may_be_identifier, may_be_prefix, may_be_set_spec};
+use oai_time::{FIRST_SECOND, LAST_SECOND};
+use std::alloc::AllocError;
 use std::str::from_utf8;
 use thiserror::Error;
 
@@ -20,21 +22,6 @@ const TEXT_BYTES: usize = 4;
 
 /// The least bytes of a field, and of a record: those of two texts, or of a text and a count.
 const PAIR_BYTES: usize = 8;
-
-/// The datestamps that there are, in seconds from 1970 on: of years 0000 to 9999.
-const FIRST_STAMP: i64 = -62_167_219_200;
-
-const LAST_STAMP: i64 = 253_402_300_799;
-
-/// The parts of an item, as its spelling has them.
-#[derive(Drop)]
-pub(crate) struct Parts {
-    pub(crate) live: bool,
-    pub(crate) stamp: i64,
-    pub(crate) identifier: Identifier,
-    pub(crate) sets: Sequence<SetSpec>,
-    pub(crate) formats: Sequence<(Prefix, Sequence<Field>)>,
-}
 
 /// Why bytes were not read as an item.
 #[derive(Clone, Copy, Debug, PartialEq, Eq, Error)]
@@ -55,244 +42,170 @@ impl From<AllocError> for DecodeFault {
     }
 }
 
-impl<T: Drop> From<AllocFailed<T>> for DecodeFault {
-    ghost from_gives = { λ _ e. e ≡ fault.NoMemory };
-
-    fn from(_refused: AllocFailed<T>) -> DecodeFault {
-        DecodeFault::NoMemory
-    }
-}
-
-impl From<NameFault> for DecodeFault {
-    ghost from_gives = { λ f e. e ≡ fault_of f };
-
-    fn from(cause: NameFault) -> DecodeFault {
-        match cause {
-            NameFault::Syntax | NameFault::TooLong => DecodeFault::Damaged,
-            NameFault::NoMemory => DecodeFault::NoMemory,
-        }
-    }
-}
-
-/// The parts of the item that the bytes spell, all of them.
-pub(crate) fn read_parts(alloc: Global, bytes: &[u8]) -> Result<Parts, DecodeFault>
-    ensures { ReadsParts bytes.now result }
-{
-    if bytes.len() > MOST_ITEM_BYTES {
-        return Err(DecodeFault::Damaged);
-    }
-    let (live, rest) = read_live(bytes)?;
-    let (stamp, rest) = read_stamp(rest)?;
-    let (identifier, rest) = read_identifier(alloc, rest)?;
-    let (sets, rest) = read_sets(alloc, rest)?;
-    let (formats, rest) = read_records(alloc, rest)?;
-    if !rest.is_empty() {
-        return Err(DecodeFault::Damaged);
-    }
-    Ok(Parts {
-        live,
-        stamp,
-        identifier,
-        sets,
-        formats,
-    })
-}
-
-/// Whether the records may be those of an item that is live, or deleted: at least one, in the order
-/// of their prefixes, and without fields where it is deleted.
-pub(crate) fn may_be_records(live: bool, records: &[(Prefix, Sequence<Field>)]) -> bool
-    ensures { result ≡ may_be_records live records.now }
-{
-    !records.is_empty() && are_rising(records) && (live || have_no_fields(records))
-}
-
 /// Whether an item is live, from the front, and the bytes after it.
-fn read_live(bytes: &[u8]) -> Result<(bool, &[u8]), DecodeFault>
+pub(crate) fn read_live(bytes: &[u8]) -> Option<(bool, &[u8])>
     ensures { Reads (λ a. (a.0, a.1.now)) encoded_bool IsAny bytes.now result }
 {
     match bytes {
-        [0, rest @ ..] => Ok((false, rest)),
-        [1, rest @ ..] => Ok((true, rest)),
-        _ => Err(DecodeFault::Damaged),
+        [0, rest @ ..] => Some((false, rest)),
+        [1, rest @ ..] => Some((true, rest)),
+        _ => None,
     }
 }
 
 /// A datestamp from the front, in seconds from 1970 on, and the bytes after it.
-fn read_stamp(bytes: &[u8]) -> Result<(i64, &[u8]), DecodeFault>
+pub(crate) fn read_stamp(bytes: &[u8]) -> Option<(i64, &[u8])>
     ensures { Reads (λ a. (a.0, a.1.now)) encoded_stamp IsStamp bytes.now result }
 {
     let [a, b, c, d, e, f, g, h, rest @ ..] = bytes else {
-        return Err(DecodeFault::Damaged);
+        return None;
     };
     let stamp = i64::from_be_bytes([*a, *b, *c, *d, *e, *f, *g, *h]);
     if !is_stamp(stamp) {
-        return Err(DecodeFault::Damaged);
+        return None;
     }
-    Ok((stamp, rest))
+    Some((stamp, rest))
 }
 
 /// Whether the number of seconds is of years 0000 to 9999.
 fn is_stamp(stamp: i64) -> bool
     ensures { IsTrue result ↔ IsStamp stamp }
 {
-    (FIRST_STAMP..=LAST_STAMP).contains(&stamp)
+    (FIRST_SECOND..=LAST_SECOND).contains(&stamp)
 }
 
 /// A number from the front, and the bytes after it.
-fn read_count(bytes: &[u8]) -> Result<(usize, &[u8]), DecodeFault>
+pub(crate) fn read_count(bytes: &[u8]) -> Option<(usize, &[u8])>
     ensures { Reads (λ a. (a.0, a.1.now)) encoded_count IsCount bytes.now result }
 {
     let [a, b, c, d, rest @ ..] = bytes else {
-        return Err(DecodeFault::Damaged);
+        return None;
     };
-    Ok((u32::from_be_bytes([*a, *b, *c, *d]) as usize, rest))
+    Some((u32::from_be_bytes([*a, *b, *c, *d]) as usize, rest))
 }
 
 /// A text from the front, and the bytes after it.
-fn read_text(bytes: &[u8]) -> Result<(&str, &[u8]), DecodeFault>
+pub(crate) fn read_text(bytes: &[u8]) -> Option<(&str, &[u8])>
     ensures { Reads (λ a. (a.0.now, a.1.now)) encoded_text IsText bytes.now result }
 {
     let (len, rest) = read_count(bytes)?;
     if rest.len() < len {
-        return Err(DecodeFault::Damaged);
+        return None;
     }
     let (text, rest) = rest.split_at(len);
     match from_utf8(text) {
-        Ok(text) => Ok((text, rest)),
-        Err(_) => Err(DecodeFault::Damaged),
+        Ok(text) => Some((text, rest)),
+        Err(_) => None,
     }
 }
 
 /// An identifier from the front, and the bytes after it.
-fn read_identifier(alloc: Global, bytes: &[u8]) -> Result<(Identifier, &[u8]), DecodeFault>
-    ensures { Reads (λ a. (a.0, a.1.now)) encoded_text (IsNamed may_be_identifier)
+pub(crate) fn read_identifier(bytes: &[u8]) -> Option<(&str, &[u8])>
+    ensures { Reads (λ a. (a.0.now, a.1.now)) encoded_text (IsNamed may_be_identifier)
         bytes.now result }
 {
     let (text, rest) = read_text(bytes)?;
-    let identifier = Identifier::read(alloc, text)?;
-    Ok((identifier, rest))
+    if !may_be_identifier(text) {
+        return None;
+    }
+    Some((text, rest))
 }
 
 /// A setSpec from the front, and the bytes after it.
-fn read_set(alloc: Global, bytes: &[u8]) -> Result<(SetSpec, &[u8]), DecodeFault>
-    ensures { Reads (λ a. (a.0, a.1.now)) encoded_text (IsNamed may_be_set_spec) bytes.now result }
+pub(crate) fn read_set(bytes: &[u8]) -> Option<(&str, &[u8])>
+    ensures { Reads (λ a. (a.0.now, a.1.now)) encoded_text (IsNamed may_be_set_spec)
+        bytes.now result }
 {
     let (text, rest) = read_text(bytes)?;
-    let set = SetSpec::read(alloc, text)?;
-    Ok((set, rest))
+    if !may_be_set_spec(text) {
+        return None;
+    }
+    Some((text, rest))
 }
 
 /// A prefix from the front, and the bytes after it.
-fn read_prefix(alloc: Global, bytes: &[u8]) -> Result<(Prefix, &[u8]), DecodeFault>
-    ensures { Reads (λ a. (a.0, a.1.now)) encoded_text (IsNamed may_be_prefix) bytes.now result }
+fn read_prefix(bytes: &[u8]) -> Option<(&str, &[u8])>
+    ensures { Reads (λ a. (a.0.now, a.1.now)) encoded_text (IsNamed may_be_prefix)
+        bytes.now result }
 {
     let (text, rest) = read_text(bytes)?;
-    let prefix = Prefix::read(alloc, text)?;
-    Ok((prefix, rest))
+    if !may_be_prefix(text) {
+        return None;
+    }
+    Some((text, rest))
 }
 
 /// A field from the front, and the bytes after it.
-fn read_field(alloc: Global, bytes: &[u8]) -> Result<(Field, &[u8]), DecodeFault>
-    ensures { Reads (λ a. (a.0, a.1.now)) encoded_field (λ field. is_text_field field ≡ true)
-        bytes.now result }
+pub(crate) fn read_field(bytes: &[u8]) -> Option<(SpelledField<'_>, &[u8])>
+    ensures { Reads (λ a. (record { name = a.0.name.now; text = a.0.text.now }, a.1.now))
+        encoded_field (λ field. is_text_field field ≡ true) bytes.now result }
 {
     let (name, rest) = read_text(bytes)?;
     let (text, rest) = read_text(rest)?;
-    let name = Text::new(alloc, name)?;
-    let text = Text::new(alloc, text)?;
-    Ok((Field { name, text }, rest))
+    Some((SpelledField { name, text }, rest))
 }
 
 /// A record from the front, and the bytes after it.
-fn read_record(
-    alloc: Global,
-    bytes: &[u8],
-) -> Result<((Prefix, Sequence<Field>), &[u8]), DecodeFault>
-    ensures { Reads (λ a. (a.0, a.1.now)) encoded_record (λ format. is_record format ≡ true)
-        bytes.now result }
+pub(crate) fn read_record(bytes: &[u8]) -> Option<(SpelledRecord<'_>, &[u8])>
+    requires { length bytes.now ≤ MAX_ITEM_BYTES }
+    ensures { Reads (λ a. ((a.0.prefix.now, a.0.fields), a.1.now))
+        encoded_record (λ format. is_record format ≡ true) bytes.now result }
 {
-    let (prefix, rest) = read_prefix(alloc, bytes)?;
-    let (fields, rest) = read_fields(alloc, rest)?;
-    Ok(((prefix, fields), rest))
+    let (prefix, rest) = read_prefix(bytes)?;
+    let (fields, rest) = read_fields(rest)?;
+    Some((SpelledRecord { prefix, fields }, rest))
 }
 
 /// A list of sets from the front, and the bytes after it.
-fn read_sets(alloc: Global, bytes: &[u8]) -> Result<(Sequence<SetSpec>, &[u8]), DecodeFault>
+pub(crate) fn read_sets(bytes: &[u8]) -> Option<(SpelledSets<'_>, &[u8])>
+    requires { length bytes.now ≤ MAX_ITEM_BYTES }
     ensures { Reads (λ a. (a.0, a.1.now)) (encoded_list encoded_text) (λ sets. are_sets sets ≡ true)
         bytes.now result }
 {
-    let (count, mut rest) = read_count(bytes)?;
-    if rest.len() / TEXT_BYTES < count {
-        return Err(DecodeFault::Damaged);
+    let (count, start) = read_count(bytes)?;
+    if start.len() / TEXT_BYTES < count {
+        return None;
     }
-    let mut sets = Vec::with_capacity(alloc, count)?;
+    let mut rest = start;
     for _ in 0..count {
-        let (set, after) = read_set(alloc, rest)?;
-        sets.push(set)?;
+        let (_, after) = read_set(rest)?;
         rest = after;
     }
-    Ok((Sequence::new(sets), rest))
+    Some((SpelledSets::new(count, start), rest))
 }
 
 /// A list of fields from the front, and the bytes after it.
-fn read_fields(alloc: Global, bytes: &[u8]) -> Result<(Sequence<Field>, &[u8]), DecodeFault>
+fn read_fields(bytes: &[u8]) -> Option<(SpelledFields<'_>, &[u8])>
+    requires { length bytes.now ≤ MAX_ITEM_BYTES }
     ensures { Reads (λ a. (a.0, a.1.now)) (encoded_list encoded_field) (λ fields. are_fields fields ≡ true)
         bytes.now result }
 {
-    let (count, mut rest) = read_count(bytes)?;
-    if rest.len() / PAIR_BYTES < count {
-        return Err(DecodeFault::Damaged);
+    let (count, start) = read_count(bytes)?;
+    if start.len() / PAIR_BYTES < count {
+        return None;
     }
-    let mut fields = Vec::with_capacity(alloc, count)?;
+    let mut rest = start;
     for _ in 0..count {
-        let (field, after) = read_field(alloc, rest)?;
-        fields.push(field)?;
+        let (_, after) = read_field(rest)?;
         rest = after;
     }
-    Ok((Sequence::new(fields), rest))
+    Some((SpelledFields::new(count, start), rest))
 }
 
 /// A list of records from the front, and the bytes after it.
-fn read_records(
-    alloc: Global,
-    bytes: &[u8],
-) -> Result<(Sequence<(Prefix, Sequence<Field>)>, &[u8]), DecodeFault>
+pub(crate) fn read_records(bytes: &[u8]) -> Option<(SpelledRecords<'_>, &[u8])>
+    requires { length bytes.now ≤ MAX_ITEM_BYTES }
     ensures { Reads (λ a. (a.0, a.1.now)) (encoded_list encoded_record) (λ records. are_records records ≡ true)
         bytes.now result }
 {
-    let (count, mut rest) = read_count(bytes)?;
-    if rest.len() / PAIR_BYTES < count {
-        return Err(DecodeFault::Damaged);
+    let (count, start) = read_count(bytes)?;
+    if start.len() / PAIR_BYTES < count {
+        return None;
     }
-    let mut records = Vec::with_capacity(alloc, count)?;
+    let mut rest = start;
     for _ in 0..count {
-        let (format, after) = read_record(alloc, rest)?;
-        records.push(format)?;
+        let (_, after) = read_record(rest)?;
         rest = after;
     }
-    Ok((Sequence::new(records), rest))
-}
-
-/// Whether each prefix stands before the next, byte by byte.
-fn are_rising(records: &[(Prefix, Sequence<Field>)]) -> bool
-    ensures { result ≡ are_rising records.now }
-{
-    let mut rest = records;
-    while let [first, others @ ..] = rest {
-        if let [second, ..] = others {
-            if first.0.as_str() >= second.0.as_str() {
-                return false;
-            }
-        }
-        rest = others;
-    }
-    true
-}
-
-/// Whether no record has a field.
-#[tactic(auto, unfolding(crate::specs::Item::have_no_fields))]
-fn have_no_fields(records: &[(Prefix, Sequence<Field>)]) -> bool
-    ensures { result ≡ have_no_fields records.now }
-{
-    records.iter().all(|record| record.1.as_slice().is_empty())
+    Some((SpelledRecords::new(count, start), rest))
 }

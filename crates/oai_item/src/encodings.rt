@@ -4,7 +4,7 @@ ghost use Rattle.std.specs.Prelude.{◌≡◌, ◌≤◌, true, length};
 ghost use Rattle.std.specs.List.{list_all};
 ghost use Rattle.std.specs.Str.{is_utf8};
 ghost use Rattle.oai_item.specs.Encoding.{encoded_bool, encoded_count, encoded_field, encoded_list, encoded_record, encoded_stamp, encoded_text, encoded, is_text_field, is_text_item, is_text_record};
-ghost use Rattle.oai_item.specs.Workings.{Writes, item_with};
+ghost use Rattle.oai_item.specs.SpellingParts.{Writes, item_with};
 
 use crate::fields::Field;
 use oai_names::{Prefix, Sequence, SetSpec};

@@ -2,14 +2,15 @@ ghost use Rattle.std.specs.Prelude.{◌≡◌, ◌≢◌, ◌≤◌, ℕ, List, 
 ghost use Rattle.std.specs.Option.{option_copied, option_map};
 ghost use Rattle.oai_item.specs.Encoding.{GivesBack, IsDecoding, IsEncoding, IsMeasure, Spells, encoded};
 ghost use Rattle.oai_item.specs.declared.decodings.DecodeFault.{DecodeFault};
-ghost use Rattle.oai_item.specs.declared.sizes.TheConstants.{MOST_ITEM_BYTES};
+ghost use Rattle.oai_item.specs.declared.sizes.TheConstants.{MAX_ITEM_BYTES};
 ghost use Rattle.oai_item.specs.Item.{IsItem, IsStamp, ItemState, are_prefixed, are_rising, has_record, live_item, record_named, tombstone_of};
 ghost use Rattle.oai_item.specs.Membership.{NoneCovers, is_in, reduced};
 
-use crate::copies::{copy_records, copy_sets, emptied};
-use crate::decodings::{DecodeFault, Parts, may_be_records, read_parts};
+use crate::copies::{copy_records, copy_sets, emptied, records_in_memory, sets_in_memory};
+use crate::decodings::DecodeFault;
 use crate::encodings::put_parts;
 use crate::fields::Field;
+use crate::in_place::Spelling;
 use crate::reductions::reduced;
 use crate::sizes::{TooLarge, with_records, with_sets, with_text};
 use oai_names::{Identifier, Prefix, Sequence, SetSpec};
@@ -36,11 +37,11 @@ impl Model for Item {
 
     ghost Value = { ItemState };
 
-    ghost use Rattle.oai_item.specs.Inside.{item_in};
+    ghost use Rattle.oai_item.specs.Inside.{item_of_inside};
 
-    ghost view = { item_in };
+    ghost view = { item_of_inside };
 
-    ghost invariant = { λ item. IsItem (item_in item) };
+    ghost invariant = { λ item. IsItem (item_of_inside item) };
 }
 
 impl Item {
@@ -189,7 +190,7 @@ impl Item {
     /// answer is how many bytes it is, as `encoded_len` tells it; there must be room for so many. The
     /// error: they are more than 16,000, and nothing is written. It takes no memory.
     pub fn encode_into(&self, out: &mut [u8]) -> Result<usize, TooLarge>
-        requires { length (encoded self.now) ≤ MOST_ITEM_BYTES
+        requires { length (encoded self.now) ≤ MAX_ITEM_BYTES
             → length (encoded self.now) ≤ length out.old }
         ensures { IsEncoding self.now out.old result out.new }
     {
@@ -202,32 +203,26 @@ impl Item {
 
     /// The item that the bytes spell, all of them, as `encode_into` writes it; each item has one
     /// spelling. The errors: `Damaged` where they spell none, as with bytes left over, or are more
-    /// than 16,000; `NoMemory`, also before all of at most so many bytes were looked at. A number in the bytes asks for
-    /// no more memory than so many sets, records or fields as the bytes behind it have room for.
+    /// than 16,000; `NoMemory`. Memory is asked for once it is known that the bytes spell an item.
     pub fn decode(alloc: Global, bytes: &[u8]) -> Result<Item, DecodeFault>
         ensures { IsDecoding bytes.now result }
     {
-        let Parts {
-            live,
-            stamp,
-            identifier,
-            sets,
-            formats,
-        } = read_parts(alloc, bytes)?;
-        if !may_be_records(live, formats.as_slice()) {
-            return Err(DecodeFault::Damaged);
+        match Spelling::read(bytes) {
+            Some(spelling) => Ok(Item::spelled(alloc, &spelling)?),
+            None => Err(DecodeFault::Damaged),
         }
-        let many = sets.as_slice().len();
-        let sets = reduced(alloc, sets)?;
-        if sets.as_slice().len() < many {
-            return Err(DecodeFault::Damaged);
-        }
+    }
+
+    /// The item that was read in place, in memory of its own. The error is out of memory.
+    pub fn spelled(alloc: Global, spelling: &Spelling<'_>) -> Result<Item, AllocError>
+        ensures { IfOk result (λ item. item ≡ spelling.now) }
+    {
         Ok(Item {
-            identifier,
-            stamp,
-            live,
-            sets,
-            formats,
+            identifier: Identifier::new(alloc, spelling.identifier())?,
+            stamp: spelling.stamp(),
+            live: spelling.is_live(),
+            sets: sets_in_memory(alloc, spelling.sets())?,
+            formats: records_in_memory(alloc, spelling.records())?,
         })
     }
 }

@@ -2,7 +2,7 @@ ghost use Rattle.std.specs.Prelude.{◌≡◌, ◌||◌, true, List, ℕ, length
 ghost use Rattle.std.specs.List.{list_any};
 ghost use Rattle.oai_item.specs.Item.{are_set_specs};
 ghost use Rattle.oai_item.specs.Membership.{is_above, reduced};
-ghost use Rattle.oai_item.specs.Workings.{flagged, holds};
+ghost use Rattle.oai_item.specs.Reductions.{flagged, holds};
 
 use oai_names::{Sequence, SetSpec, parent_of};
 use std::alloc::{AllocError, Global};

@@ -1,6 +1,10 @@
 ghost use Rattle.std.specs.Prelude.{◌≡◌, ◌≤◌, length};
 ghost use Rattle.oai_item.specs.Refusals.{in_line, in_repository, refusal_line};
+ghost use Rattle.oai_item.specs.declared.faults.Fault.TheVariants as fault;
+ghost use Rattle.oai_item.specs.declared.refusals.Refusal.TheVariants as refusal;
 
+use crate::faults::Fault;
+use std::alloc::AllocError;
 use thiserror::Error;
 
 /// Why a line is refused as it stands, in the order in which the causes are looked for.
@@ -111,5 +115,32 @@ impl ChangeRefusal {
             ChangeRefusal::NoParent => "refused 18 no-parent",
             ChangeRefusal::TooManySets => "refused 19 too-many-sets",
         }
+    }
+}
+
+/// Why a change was not made.
+#[derive(Clone, Copy, Debug, PartialEq, Eq, Error)]
+pub enum Refusal {
+    /// The change is refused. The clock is moved, and nothing else is changed.
+    #[error("the change is refused: {0}")]
+    Refused(ChangeRefusal),
+    /// The change could not be performed. Everything is as it was, the clock included.
+    #[error("{0}")]
+    Fault(Fault),
+}
+
+impl From<Fault> for Refusal {
+    ghost from_gives = { λ f e. e ≡ refusal.Fault f };
+
+    fn from(fault: Fault) -> Refusal {
+        Refusal::Fault(fault)
+    }
+}
+
+impl From<AllocError> for Refusal {
+    ghost from_gives = { λ _ e. e ≡ refusal.Fault fault.NoMemory };
+
+    fn from(_refused: AllocError) -> Refusal {
+        Refusal::Fault(Fault::NoMemory)
     }
 }

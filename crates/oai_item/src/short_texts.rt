@@ -5,7 +5,7 @@ use oai_names::is_xml_text;
 
 /// The most bytes of a short text, as the name, an address or a URL of a repository: this repository's
 /// own limit.
-pub const MOST_SHORT_TEXT_BYTES: usize = 512;
+pub const MAX_SHORT_TEXT_BYTES: usize = 512;
 
 /// Whether the text has 1 to 512 bytes, of characters that an XML document may hold (XML 1.0,
 /// section 2.2). It takes no memory.
@@ -13,5 +13,5 @@ pub const MOST_SHORT_TEXT_BYTES: usize = 512;
 pub fn is_short_text(text: &str) -> bool
     ensures { result ≡ is_short_text text.now }
 {
-    !text.is_empty() && text.len() <= MOST_SHORT_TEXT_BYTES && is_xml_text(text)
+    !text.is_empty() && text.len() <= MAX_SHORT_TEXT_BYTES && is_xml_text(text)
 }

@@ -2,12 +2,12 @@ ghost use Rattle.std.specs.Prelude.{◌≡◌, ◌+◌, length};
 ghost use Rattle.oai_item.specs.Encoding.{IsMeasure, encoded_field, encoded_list, encoded_record, encoded_text};
 
 use crate::fields::Field;
-use crate::short_texts::MOST_SHORT_TEXT_BYTES;
+use crate::short_texts::MAX_SHORT_TEXT_BYTES;
 use oai_names::{Prefix, Sequence, SetSpec};
 use thiserror::Error;
 
 /// The most bytes that the spelling of an item has.
-pub const MOST_ITEM_BYTES: usize = 16_000;
+pub const MAX_ITEM_BYTES: usize = 16_000;
 
 /// The bytes of a count in the spelling of an item.
 const COUNT_BYTES: usize = 4;
@@ -19,8 +19,8 @@ pub struct TooLarge;
 
 /// The limits in numbers, since definitions read them by their names. It does nothing at run time.
 pub fn limit_law()
-    ensures item { MOST_ITEM_BYTES ≡ 16_000 }
-    ensures short_text { MOST_SHORT_TEXT_BYTES ≡ 512 }
+    ensures item { MAX_ITEM_BYTES ≡ 16_000 }
+    ensures short_text { MAX_SHORT_TEXT_BYTES ≡ 512 }
 {}
 
 /// The sum, where it is at most 16,000.
@@ -28,7 +28,7 @@ fn plus(size: usize, more: usize) -> Result<usize, TooLarge>
     ensures { IsMeasure (size + more) result }
 {
     match size.checked_add(more) {
-        Some(sum) if sum <= MOST_ITEM_BYTES => Ok(sum),
+        Some(sum) if sum <= MAX_ITEM_BYTES => Ok(sum),
         _ => Err(TooLarge),
     }
 }

@@ -82,34 +82,34 @@ some_in_part config good =
 -- ---- the first request
 
 -- the list that a first request opens
-record IsFirst (config : Config) (state : RepoState) (command : Command) (wish : ListRequest) : Type 0 where
+record IsFirst (config : Config) (state : RepoState) (command : Command) (list_request : ListRequest) : Type 0 where
   pub list : FrozenList
   pub good : IsGood config list
-  pub verb : list.verb ≡ wish.verb
-  pub items : list.items ≡ selection_in state wish
-  pub known : format_named wish.prefix config.formats ≡ Some good.format
+  pub verb : list.verb ≡ list_request.verb
+  pub items : list.items ≡ selection_in state list_request
+  pub known : format_named list_request.prefix config.formats ≡ Some good.format
   pub told : answer_in (act config state command).0 ≡ Some (answer_by_verb list.verb good.format (part_from config list 0))
   pub stands : Stands config list (act config state command).1
   pub lasting : list.end ≡ state.clock +ℤ pos config.lifetime
 
 -- it is told to wait, or opens the list
-by_wait : (config : Config) (state : RepoState) (command : Command) (wish : ListRequest) (format : Format) (wait : Option ℤ) → wait_at config state.clock state.open_lists ≡ wait
-    → IsConfig config → IsSound config state → is_of_records wish.verb ≡ true → format_named wish.prefix config.formats ≡ Some format → command ≡ first_request wish → is_later (act config state command).0 ≡ false
-    → request_response config state (asks (ask.List wish.verb wish.prefix wish.from wish.until wish.set))
-    ≡ opens_list config state.open_lists format (new_list config state.clock state.open_lists wish.verb format.prefix (selection_in state wish)) wait
-    → IsFirst config state command wish
-by_wait config state command wish format (Some seconds) wait good sound verb known is answered said =
+by_wait : (config : Config) (state : RepoState) (command : Command) (list_request : ListRequest) (format : Format) (wait : Option ℤ) → wait_at config state.clock state.open_lists ≡ wait
+    → IsConfig config → IsSound config state → is_of_records list_request.verb ≡ true → format_named list_request.prefix config.formats ≡ Some format → command ≡ first_request list_request → is_later (act config state command).0 ≡ false
+    → request_response config state (asks (ask.List list_request.verb list_request.prefix list_request.from list_request.until list_request.set))
+    ≡ opens_list config state.open_lists format (new_list config state.clock state.open_lists list_request.verb format.prefix (selection_in state list_request)) wait
+    → IsFirst config state command list_request
+by_wait config state command list_request format (Some seconds) wait good sound verb known is answered said =
     absurd (true≢false (sym (asked_later config state command _ seconds state.open_lists is said) ∙ answered))
-by_wait config state command wish format None wait good sound verb known is answered said =
-    let list : FrozenList = new_list config state.clock state.open_lists wish.verb format.prefix (selection_in state wish) in
+by_wait config state command list_request format None wait good sound verb known is answered said =
+    let list : FrozenList = new_list config state.clock state.open_lists list_request.verb format.prefix (selection_in state list_request) in
     let done = asked_page config state command _ _ _ is said in
     record {
       list = list;
       good = record {
         format = format;
         verb = verb;
-        known = ap (λ (p : List ℕ). format_named p config.formats) (named wish.prefix config.formats format known) ∙ known;
-        small = few_selected config state.holdings (filter_of wish.prefix wish.from wish.until wish.set) good sound.kept;
+        known = ap (λ (p : List ℕ). format_named p config.formats) (named list_request.prefix config.formats format known) ∙ known;
+        small = few_selected config state.holdings (filter_of list_request.prefix list_request.from list_request.until list_request.set) good sound.kept;
         part = some_in_part config good;
       };
       verb = refl;
@@ -128,19 +128,19 @@ told_long config clock open_lists verb format items many =
     cond-false (nat_le (length items) config.chunk) (with_answer (complete_answer config verb format items), open_lists) (opens_list config open_lists format (new_list config clock open_lists verb format.prefix items) (wait_at config clock open_lists))
     (lt-leb (length items) config.chunk many)
 
-first_turn : (config : Config) (state : RepoState) (command : Command) (wish : ListRequest) → IsConfig config → IsSound config state → is_of_records wish.verb ≡ true → command ≡ first_request wish
-    → config.chunk < length (selection_in state wish) → is_later (act config state command).0 ≡ false → IsFirst config state command wish
-first_turn config state command wish good sound verb is many answered =
-    let items : List ItemState = selection_in state wish in
+first_turn : (config : Config) (state : RepoState) (command : Command) (list_request : ListRequest) → IsConfig config → IsSound config state → is_of_records list_request.verb ≡ true → command ≡ first_request list_request
+    → config.chunk < length (selection_in state list_request) → is_later (act config state command).0 ≡ false → IsFirst config state command list_request
+first_turn config state command list_request good sound verb is many answered =
+    let items : List ItemState = selection_in state list_request in
     let some : items ≢ [] = λ none. empty_few items config.chunk many none in
-    let format = format_there config state.holdings wish.prefix wish.from wish.until wish.set (format_named wish.prefix config.formats) refl sound.kept some in
-    by_wait config state command wish format.0 (wait_at config state.clock state.open_lists) refl good sound verb format.1 is answered
+    let format = format_there config state.holdings list_request.prefix list_request.from list_request.until list_request.set (format_named list_request.prefix config.formats) refl sound.kept some in
+    by_wait config state command list_request format.0 (wait_at config state.clock state.open_lists) refl good sound verb format.1 is answered
     (
-    cond-false (is_some wish.set && has_no_sets state.holdings.sets) (with_answer (fails NoSetHierarchy), state.open_lists)
-    (format_response config state.clock state.open_lists wish.verb (format_named wish.prefix config.formats) items)
-    (sets_there config state.holdings wish.prefix wish.from wish.until wish.set state.holdings.sets refl sound.kept some)
-    ∙ ap (λ (f : Option Format). format_response config state.clock state.open_lists wish.verb f items) format.1
-    ∙ told_long config state.clock state.open_lists wish.verb format.0 items many
+    cond-false (is_some list_request.set && has_no_sets state.holdings.sets) (with_answer (fails NoSetHierarchy), state.open_lists)
+    (format_response config state.clock state.open_lists list_request.verb (format_named list_request.prefix config.formats) items)
+    (sets_there config state.holdings list_request.prefix list_request.from list_request.until list_request.set state.holdings.sets refl sound.kept some)
+    ∙ ap (λ (f : Option Format). format_response config state.clock state.open_lists list_request.verb f items) format.1
+    ∙ told_long config state.clock state.open_lists list_request.verb format.0 items many
     )
 
 -- ---- the whole chain
@@ -166,11 +166,11 @@ unfolding selected
 selected_apart asked items h = apart-filter (passes asked) items h
 
 -- what the pages of a list from its first record on are
-whole_list : (config : Config) (state : RepoState) (wish : ListRequest) (format : Format) (exchanges : List Exchange) → AreKept config state.holdings → format_named wish.prefix config.formats ≡ Some format
-    → Followed config wish.verb format (selection_in state wish) 0 exchanges
-    → (pages : List Page) × IsFollowedThrough config wish (selection_in state wish) exchanges pages
-whole_list config state wish format exchanges kept known followed =
-    let asked : Filter = filter_of wish.prefix wish.from wish.until wish.set in
+whole_list : (config : Config) (state : RepoState) (list_request : ListRequest) (format : Format) (exchanges : List Exchange) → AreKept config state.holdings → format_named list_request.prefix config.formats ≡ Some format
+    → Followed config list_request.verb format (selection_in state list_request) 0 exchanges
+    → (pages : List Page) × IsFollowedThrough config list_request (selection_in state list_request) exchanges pages
+whole_list config state list_request format exchanges kept known followed =
+    let asked : Filter = filter_of list_request.prefix list_request.from list_request.until list_request.set in
     let pages : List Page = followed.0 in
     let told = followed.1 in (
       pages,
@@ -188,59 +188,59 @@ whole_list config state wish format exchanges kept known followed =
     )
 
 -- an exchange that begins a chain, and those behind it
-chain_here : (config : Config) (state : RepoState) (timed : Timed) (commands : List Timed) (wish : ListRequest) (others : List Exchange) → IsConfig config → IsSound config state
-    → IsPart others (run config (performed config state timed).left commands) → is_of_records wish.verb ≡ true → timed.command ≡ first_request wish
-    → config.chunk < length (selection_in (moved timed.moment state) wish) → is_later (performed config state timed).outcome ≡ false → AreNext wish.verb (performed config state timed) others
-    → (pages : List Page) × IsFollowedThrough config wish (selection_in (moved timed.moment state) wish) (performed config state timed ∷ others) pages
-chain_here config state timed commands wish others good sound part verb is many answered next =
+chain_here : (config : Config) (state : RepoState) (timed : Timed) (commands : List Timed) (list_request : ListRequest) (others : List Exchange) → IsConfig config → IsSound config state
+    → IsPart others (run config (performed config state timed).left commands) → is_of_records list_request.verb ≡ true → timed.command ≡ first_request list_request
+    → config.chunk < length (selection_in (moved timed.moment state) list_request) → is_later (performed config state timed).outcome ≡ false → AreNext list_request.verb (performed config state timed) others
+    → (pages : List Page) × IsFollowedThrough config list_request (selection_in (moved timed.moment state) list_request) (performed config state timed ∷ others) pages
+chain_here config state timed commands list_request others good sound part verb is many answered next =
     let found : RepoState = moved timed.moment state in
     let exchange : Exchange = performed config state timed in
     let sound_found = sound_moved config timed.moment state sound in
-    let open_lists = first_turn config found timed.command wish good sound_found verb is many answered in
+    let open_lists = first_turn config found timed.command list_request good sound_found verb is many answered in
     let within : 0 < length open_lists.list.items = omega (arith, many, ap length open_lists.items) in
     let followed = follow config commands exchange.left open_lists.list 0 exchange others open_lists.good (sound_act config found timed.command sound_found) open_lists.stands within open_lists.told open_lists.lasting part
     (subst (λ (v : ListVerb). AreNext v exchange others) (sym open_lists.verb) next)
     in
-    whole_list config found wish open_lists.good.format (exchange ∷ others) sound_found.kept open_lists.known
-    (subst (λ (items : List ItemState). Followed config wish.verb open_lists.good.format items 0 (exchange ∷ others)) open_lists.items
+    whole_list config found list_request open_lists.good.format (exchange ∷ others) sound_found.kept open_lists.known
+    (subst (λ (items : List ItemState). Followed config list_request.verb open_lists.good.format items 0 (exchange ∷ others)) open_lists.items
     (subst (λ (v : ListVerb). Followed config v open_lists.good.format open_lists.list.items 0 (exchange ∷ others)) open_lists.verb followed))
 
-chain_at : (config : Config) (state : RepoState) (timed : Timed) (commands : List Timed) (wish : ListRequest) (first : Exchange) (others : List Exchange) → first ≡ performed config state timed
-    → IsConfig config → IsSound config state → IsPart others (run config (performed config state timed).left commands) → is_of_records wish.verb ≡ true → first.command ≡ first_request wish
-    → config.chunk < length (selection_in first.found wish) → is_later first.outcome ≡ false → AreNext wish.verb first others
-    → (pages : List Page) × IsFollowedThrough config wish (selection_in first.found wish) (first ∷ others) pages
-chain_at config state timed commands wish first others is good sound part verb asked many answered next =
-    let shown = chain_here config state timed commands wish others good sound part verb
-    (subst (λ (e : Exchange). e.command ≡ first_request wish) is asked)
-    (subst (λ (e : Exchange). config.chunk < length (selection_in e.found wish)) is many)
+chain_at : (config : Config) (state : RepoState) (timed : Timed) (commands : List Timed) (list_request : ListRequest) (first : Exchange) (others : List Exchange) → first ≡ performed config state timed
+    → IsConfig config → IsSound config state → IsPart others (run config (performed config state timed).left commands) → is_of_records list_request.verb ≡ true → first.command ≡ first_request list_request
+    → config.chunk < length (selection_in first.found list_request) → is_later first.outcome ≡ false → AreNext list_request.verb first others
+    → (pages : List Page) × IsFollowedThrough config list_request (selection_in first.found list_request) (first ∷ others) pages
+chain_at config state timed commands list_request first others is good sound part verb asked many answered next =
+    let shown = chain_here config state timed commands list_request others good sound part verb
+    (subst (λ (e : Exchange). e.command ≡ first_request list_request) is asked)
+    (subst (λ (e : Exchange). config.chunk < length (selection_in e.found list_request)) is many)
     (subst (λ (e : Exchange). is_later e.outcome ≡ false) is answered)
-    (subst (λ (e : Exchange). AreNext wish.verb e others) is next)
+    (subst (λ (e : Exchange). AreNext list_request.verb e others) is next)
     in
-    subst (λ (e : Exchange). (pages : List Page) × IsFollowedThrough config wish (selection_in e.found wish) (e ∷ others) pages) (sym is) shown
+    subst (λ (e : Exchange). (pages : List Page) × IsFollowedThrough config list_request (selection_in e.found list_request) (e ∷ others) pages) (sym is) shown
 
 -- wherever it begins
-chain_from : (config : Config) (commands : List Timed) (state : RepoState) (wish : ListRequest) (first : Exchange) (others : List Exchange) → IsConfig config → IsSound config state
-    → IsPart (first ∷ others) (run config state commands) → is_of_records wish.verb ≡ true → first.command ≡ first_request wish
-    → config.chunk < length (selection_in first.found wish) → is_later first.outcome ≡ false → AreNext wish.verb first others
-    → (pages : List Page) × IsFollowedThrough config wish (selection_in first.found wish) (first ∷ others) pages
-chain_from config [] state wish first others good sound none verb asked many answered next = cc
-chain_from config (timed ∷ commands) state wish first others good sound (inl part) verb asked many answered next =
-    chain_from config commands (act config (moved timed.moment state) timed.command).1 wish first others good
+chain_from : (config : Config) (commands : List Timed) (state : RepoState) (list_request : ListRequest) (first : Exchange) (others : List Exchange) → IsConfig config → IsSound config state
+    → IsPart (first ∷ others) (run config state commands) → is_of_records list_request.verb ≡ true → first.command ≡ first_request list_request
+    → config.chunk < length (selection_in first.found list_request) → is_later first.outcome ≡ false → AreNext list_request.verb first others
+    → (pages : List Page) × IsFollowedThrough config list_request (selection_in first.found list_request) (first ∷ others) pages
+chain_from config [] state list_request first others good sound none verb asked many answered next = cc
+chain_from config (timed ∷ commands) state list_request first others good sound (inl part) verb asked many answered next =
+    chain_from config commands (act config (moved timed.moment state) timed.command).1 list_request first others good
     (sound_act config (moved timed.moment state) timed.command (sound_moved config timed.moment state sound)) part verb asked many answered next
-chain_from config (timed ∷ commands) state wish first others good sound (inr here) verb asked many answered next =
+chain_from config (timed ∷ commands) state list_request first others good sound (inr here) verb asked many answered next =
     let later : RepoState = (performed config state timed).left in
     let is : first ∷ others ≡ performed config state timed ∷ here.0 = here.1 in
     let first_is : first ≡ performed config state timed = cc in
     let others_are : others ≡ here.0 = cc in
     let part : IsPart others (run config later commands) = subst (λ (es : List Exchange). IsPart es (run config later commands)) (sym others_are) here.2 in
-    chain_at config state timed commands wish first others first_is good sound part verb asked many answered next
+    chain_at config state timed commands list_request first others first_is good sound part verb asked many answered next
 
-chain_followed : (config : Config) (commands : List Timed) (state : RepoState) (wish : ListRequest) (first : Exchange) (others : List Exchange) → IsConfig config → IsSound config state
-    → IsChain config (run config state commands) wish first others → (pages : List Page) × IsFollowedThrough config wish (selection_in first.found wish) (first ∷ others) pages
-chain_followed config commands state wish first others good sound chain =
-    chain_from config commands state wish first others good sound chain.among chain.verb chain.asked chain.long chain.answered chain.next
+chain_followed : (config : Config) (commands : List Timed) (state : RepoState) (list_request : ListRequest) (first : Exchange) (others : List Exchange) → IsConfig config → IsSound config state
+    → IsChain config (run config state commands) list_request first others → (pages : List Page) × IsFollowedThrough config list_request (selection_in first.found list_request) (first ∷ others) pages
+chain_followed config commands state list_request first others good sound chain =
+    chain_from config commands state list_request first others good sound chain.among chain.verb chain.asked chain.long chain.answered chain.next
 
 -- and whatever was asked of a repository from its beginning on
-pub following : (config : Config) (commands : List Timed) (wish : ListRequest) (first : Exchange) (others : List Exchange) → IsConfig config
-    → IsChain config (run config (empty_state config) commands) wish first others → (pages : List Page) × IsFollowedThrough config wish (selection_in first.found wish) (first ∷ others) pages
-following config commands wish first others good chain = chain_followed config commands (empty_state config) wish first others good (sound_empty config) chain
+pub following : (config : Config) (commands : List Timed) (list_request : ListRequest) (first : Exchange) (others : List Exchange) → IsConfig config
+    → IsChain config (run config (empty_state config) commands) list_request first others → (pages : List Page) × IsFollowedThrough config list_request (selection_in first.found list_request) (first ∷ others) pages
+following config commands list_request first others good chain = chain_followed config commands (empty_state config) list_request first others good (sound_empty config) chain

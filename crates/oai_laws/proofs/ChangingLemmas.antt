@@ -21,8 +21,8 @@ use Rattle.oai_item.specs.declared.refusals.ChangeRefusal.TheVariants.{AlreadyDe
 use Rattle.oai_item.proofs.Members.{Member-filter, contains_from, member_from}
 use Rattle.oai_item.proofs.Named.{found_name, item_named-new, item_named-without}
 use Rattle.oai_answers.specs.Answers.{Attributes}
-use Rattle.oai_answers.specs.declared.identify.DeletedRecord.{DeletedRecord}
-use Rattle.oai_answers.specs.declared.identify.DeletedRecord.TheVariants.{No, Transient, Persistent}
+use Rattle.oai_item.specs.declared.deleted_record.DeletedRecord.{DeletedRecord}
+use Rattle.oai_item.specs.declared.deleted_record.DeletedRecord.TheVariants.{No, Transient, Persistent}
 use Rattle.oai_settings.specs.Config.{Config}
 use Rattle.oai_repo.specs.Answers.{arguments_of_request}
 use Rattle.oai_repo.specs.Changes.{after_deletion, after_purge, changed, dead_refusal, is_transient, limit_in, limit_of, missing_refusal, purge_refusal, purged, refusal_of, stamp_at, with_new, with_tombstone}

@@ -173,21 +173,21 @@ ended verb format (e ∷ es) (page ∷ pages) ok told =
     ap (λ (p : Option Page). is_last_page p || is_followed_to_its_end es) (ap (option_and_then page_in) first ∙ told_page verb format page ok)
     ∙ ap (λ b. is_none (offer_in page.continuation) || b) (ended verb format es pages ok later')
 
-pub lists_shown : (config other : Config) (wish its : ListRequest) (first its_first : Exchange) (others its_others : List Exchange) → IsFollowedList config wish first others → IsFollowedList other its its_first its_others
+pub lists_shown : (config other : Config) (list_request its : ListRequest) (first its_first : Exchange) (others its_others : List Exchange) → IsFollowedList config list_request first others → IsFollowedList other its its_first its_others
     → is_followed_to_its_end (first ∷ others) ≡ true → bytes_written config (first ∷ others) ≡ bytes_written other (its_first ∷ its_others)
-    → selection_seen config wish (selection_in first.found wish) ≡ selection_seen other its (selection_in its_first.found its)
-lists_shown config other wish its first its_first others its_others is their ends same =
-    let a = following config is.commands wish first others is.rules is.chain in
+    → selection_seen config list_request (selection_in first.found list_request) ≡ selection_seen other its (selection_in its_first.found its)
+lists_shown config other list_request its first its_first others its_others is their ends same =
+    let a = following config is.commands list_request first others is.rules is.chain in
     let b = following other their.commands its its_first its_others their.rules their.chain in
     let regular = regular_part config is.commands (empty_state config) (first ∷ others) is.formats (sound_empty config) is.chain.among in
     let its_regular = regular_part other their.commands (empty_state other) (its_first ∷ its_others) their.formats (sound_empty other) their.chain.among in
-    let alike' = all_pages config other wish.verb its.verb a.1.format b.1.format (length (selection_in first.found wish)) 0 (length (selection_in its_first.found its)) 0 (first ∷ others) (its_first ∷ its_others) a.0 b.0
+    let alike' = all_pages config other list_request.verb its.verb a.1.format b.1.format (length (selection_in first.found list_request)) 0 (length (selection_in its_first.found its)) 0 (first ∷ others) (its_first ∷ its_others) a.0 b.0
     is.chain.verb their.chain.verb a.1.told b.1.told a.1.placed b.1.placed regular its_regular same
     in
-    let complete : are_complete a.0 ≡ true = sym (ended wish.verb a.1.format (first ∷ others) a.0 is.chain.verb a.1.told) ∙ ends in
+    let complete : are_complete a.0 ≡ true = sym (ended list_request.verb a.1.format (first ∷ others) a.0 is.chain.verb a.1.told) ∙ ends in
     let its_complete : are_complete b.0 ≡ true = sym alike'.1 ∙ complete in
-    ap (λ (f : Option Format). map (seen_by wish.verb config.granularity f) (selection_in first.found wish)) a.1.known
-    ∙ ap (map (seen_by wish.verb config.granularity (Some a.1.format))) (sym (a.1.complete complete))
+    ap (λ (f : Option Format). map (seen_by list_request.verb config.granularity f) (selection_in first.found list_request)) a.1.known
+    ∙ ap (map (seen_by list_request.verb config.granularity (Some a.1.format))) (sym (a.1.complete complete))
     ∙ alike'.0
     ∙ ap (map (seen_by its.verb other.granularity (Some b.1.format))) (b.1.complete its_complete)
     ∙ ap (λ (f : Option Format). map (seen_by its.verb other.granularity f) (selection_in its_first.found its)) (sym b.1.known)

@@ -190,36 +190,36 @@ given_set (Some set) specs h = from_in_set set specs h
 
 -- ---- the selection
 
-asked_for : (wish : ListRequest) (items : List ItemState) (item : ItemState) → IsSelected (filter_of wish.prefix wish.from wish.until wish.set) items item → IsAskedFor wish item
-asked_for wish items item h = record {
+asked_for : (list_request : ListRequest) (items : List ItemState) (item : ItemState) → IsSelected (filter_of list_request.prefix list_request.from list_request.until list_request.set) items item → IsAskedFor list_request item
+asked_for list_request items item h = record {
   prefix = h.has_prefix;
-  from = from_given wish.from item.stamp h.from;
-  until = until_given wish.until item.stamp h.until;
-  set = set_given wish.set item.sets h.in_set;
+  from = from_given list_request.from item.stamp h.from;
+  until = until_given list_request.until item.stamp h.until;
+  set = set_given list_request.set item.sets h.in_set;
 }
 
 -- where each datestamp is one that the bounds can name
-selected_for : (config : Config) (clock : ℤ) (wish : ListRequest) (items : List ItemState) (item : ItemState) → is_in_years config.earliest ≡ true → is_in_years clock ≡ true
-    → has_granular_stamp config clock item ≡ true → Contains items item → IsAskedFor wish item → IsSelected (filter_of wish.prefix wish.from wish.until wish.set) items item
-selected_for config clock wish items item earliest years dated stands asked =
+selected_for : (config : Config) (clock : ℤ) (list_request : ListRequest) (items : List ItemState) (item : ItemState) → is_in_years config.earliest ≡ true → is_in_years clock ≡ true
+    → has_granular_stamp config clock item ≡ true → Contains items item → IsAskedFor list_request item → IsSelected (filter_of list_request.prefix list_request.from list_request.until list_request.set) items item
+selected_for config clock list_request items item earliest years dated stands asked =
     let parts = and_parts (int_le config.earliest item.stamp && int_le item.stamp clock) (int_eq (stamp_of config.granularity item.stamp) item.stamp) dated in
     let between = and_parts (int_le config.earliest item.stamp) (int_le item.stamp clock) parts.0 in
     record {
       stands = stands;
       has_prefix = asked.prefix;
-      from = given_from wish.from item.stamp (not_below_all config.earliest item.stamp earliest between.0) asked.from;
-      until = given_until wish.until item.stamp (not_above_all clock item.stamp years between.1) asked.until;
-      in_set = given_set wish.set item.sets asked.set;
+      from = given_from list_request.from item.stamp (not_below_all config.earliest item.stamp earliest between.0) asked.from;
+      until = given_until list_request.until item.stamp (not_above_all clock item.stamp years between.1) asked.until;
+      in_set = given_set list_request.set item.sets asked.set;
     }
 
-selection_is : (config : Config) (state : RepoState) (wish : ListRequest) → IsConfig config → IsSound config state → IsTimed config state → IsSelection wish state.holdings.items (selection_in state wish)
-selection_is config state wish good sound timed =
+selection_is : (config : Config) (state : RepoState) (list_request : ListRequest) → IsConfig config → IsSound config state → IsTimed config state → IsSelection list_request state.holdings.items (selection_in state list_request)
+selection_is config state list_request good sound timed =
     let items : List ItemState = state.holdings.items in
-    let asked : Filter = filter_of wish.prefix wish.from wish.until wish.set in
+    let asked : Filter = filter_of list_request.prefix list_request.from list_request.until list_request.set in
     record {
       members = λ item. (
-        (λ h. let found = (contains_selected asked items item).0 h in (found.stands, asked_for wish items item found)),
-        (λ h. (contains_selected asked items item).1 (selected_for config state.clock wish items item (in_years-config config good) timed.years
+        (λ h. let found = (contains_selected asked items item).0 h in (found.stands, asked_for list_request items item found)),
+        (λ h. (contains_selected asked items item).1 (selected_for config state.clock list_request items item (in_years-config config good) timed.years
             (All-contains (λ (x : ItemState). has_granular_stamp config state.clock x ≡ true) items item (AllPass-from_list_all (has_granular_stamp config state.clock) items timed.dated) h.0) h.0 h.1)),
       );
       ordered = in_order-selected asked items sound.kept.ordered;
@@ -228,19 +228,19 @@ selection_is config state wish good sound timed =
 -- ---- in the course of time
 
 abbrev IsSelectionAt : ListRequest → Exchange → Type 0
-IsSelectionAt wish exchange = IsSelection wish exchange.found.holdings.items (selection_in exchange.found wish)
+IsSelectionAt list_request exchange = IsSelection list_request exchange.found.holdings.items (selection_in exchange.found list_request)
 
 abbrev IsDatedAfter : Config → Exchange → Type 0
 IsDatedAfter config exchange = list_all (has_granular_stamp config exchange.left.clock) exchange.left.holdings.items ≡ true
 
-selected_from : (config : Config) (commands : List Timed) (state : RepoState) (wish : ListRequest) → IsConfig config → IsSound config state → IsTimed config state → Throughout (IsSelectionAt wish) (run config state commands)
-selected_from config [] state wish good sound times = tt
-selected_from config (timed ∷ commands) state wish good sound times =
+selected_from : (config : Config) (commands : List Timed) (state : RepoState) (list_request : ListRequest) → IsConfig config → IsSound config state → IsTimed config state → Throughout (IsSelectionAt list_request) (run config state commands)
+selected_from config [] state list_request good sound times = tt
+selected_from config (timed ∷ commands) state list_request good sound times =
     let found : RepoState = moved timed.moment state in
     let sound_found = sound_moved config timed.moment state sound in
     let timed_found = timed_moved config timed.moment state times in (
-      selection_is config found wish good sound_found timed_found,
-      selected_from config commands (performed config state timed).left wish good (sound_act config found timed.command sound_found) (timed_act config found timed.command good sound_found timed_found),
+      selection_is config found list_request good sound_found timed_found,
+      selected_from config commands (performed config state timed).left list_request good (sound_act config found timed.command sound_found) (timed_act config found timed.command good sound_found timed_found),
     )
 
 dated_from : (config : Config) (commands : List Timed) (state : RepoState) → IsConfig config → IsSound config state → IsTimed config state → Throughout (IsDatedAfter config) (run config state commands)
@@ -253,8 +253,8 @@ dated_from config (timed ∷ commands) state good sound times =
       dated_from config commands (performed config state timed).left good (sound_act config found timed.command sound_found) left,
     )
 
-pub selected_throughout : (config : Config) (commands : List Timed) (wish : ListRequest) → IsConfig config → Throughout (IsSelectionAt wish) (run config (empty_state config) commands)
-selected_throughout config commands wish good = selected_from config commands (empty_state config) wish good (sound_empty config) (timed_empty config good)
+pub selected_throughout : (config : Config) (commands : List Timed) (list_request : ListRequest) → IsConfig config → Throughout (IsSelectionAt list_request) (run config (empty_state config) commands)
+selected_throughout config commands list_request good = selected_from config commands (empty_state config) list_request good (sound_empty config) (timed_empty config good)
 
 pub dated_throughout : (config : Config) (commands : List Timed) → IsConfig config → Throughout (IsDatedAfter config) (run config (empty_state config) commands)
 dated_throughout config commands good = dated_from config commands (empty_state config) good (sound_empty config) (timed_empty config good)

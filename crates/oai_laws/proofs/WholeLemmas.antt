@@ -45,27 +45,27 @@ none_in : (config : Config) (clock : ℤ) (open_lists : OpenLists) (verb : ListV
 none_in config clock open_lists verb None = (CannotDisseminateFormat, refl)
 none_in config clock open_lists verb (Some format) = (NoRecordsMatch, told_short config clock open_lists verb format [] (omega arith))
 
-none_said : (config : Config) (state : RepoState) (wish : ListRequest) → IsError state.open_lists (list_response config state.clock state.open_lists state.holdings.sets wish.verb wish.prefix wish.set [])
-none_said config state wish =
-    cond_both (is_some wish.set && has_no_sets state.holdings.sets) _ _ (IsError state.open_lists)
+none_said : (config : Config) (state : RepoState) (list_request : ListRequest) → IsError state.open_lists (list_response config state.clock state.open_lists state.holdings.sets list_request.verb list_request.prefix list_request.set [])
+none_said config state list_request =
+    cond_both (is_some list_request.set && has_no_sets state.holdings.sets) _ _ (IsError state.open_lists)
     (λ _. (NoSetHierarchy, refl))
-    (λ _. none_in config state.clock state.open_lists wish.verb (format_named wish.prefix config.formats))
+    (λ _. none_in config state.clock state.open_lists list_request.verb (format_named list_request.prefix config.formats))
 
 -- ---- what is answered
 
-pub whole_told : (config : Config) (state : RepoState) (wish : ListRequest) → IsSound config state → is_of_records wish.verb ≡ true → selection_in state wish ≢ [] → length (selection_in state wish) ≤ config.chunk → IsAnsweredWhole config state wish
-whole_told config state wish sound verb some few =
-    let items : List ItemState = selection_in state wish in
-    let format = format_there config state.holdings wish.prefix wish.from wish.until wish.set (format_named wish.prefix config.formats) refl sound.kept some in
-    let said : request_response config state (asks (ask.List wish.verb wish.prefix wish.from wish.until wish.set)) ≡ (with_answer (answer_by_verb wish.verb format.0 (complete_page config items)), state.open_lists) =
-    cond-false (is_some wish.set && has_no_sets state.holdings.sets) (with_answer (fails NoSetHierarchy), state.open_lists)
-    (format_response config state.clock state.open_lists wish.verb (format_named wish.prefix config.formats) items)
-    (sets_there config state.holdings wish.prefix wish.from wish.until wish.set state.holdings.sets refl sound.kept some)
-    ∙ ap (λ (f : Option Format). format_response config state.clock state.open_lists wish.verb f items) format.1
-    ∙ told_short config state.clock state.open_lists wish.verb format.0 items few
-    ∙ ap (λ answer. (with_answer answer, state.open_lists)) (told_some config wish.verb format.0 items some)
+pub whole_told : (config : Config) (state : RepoState) (list_request : ListRequest) → IsSound config state → is_of_records list_request.verb ≡ true → selection_in state list_request ≢ [] → length (selection_in state list_request) ≤ config.chunk → IsAnsweredWhole config state list_request
+whole_told config state list_request sound verb some few =
+    let items : List ItemState = selection_in state list_request in
+    let format = format_there config state.holdings list_request.prefix list_request.from list_request.until list_request.set (format_named list_request.prefix config.formats) refl sound.kept some in
+    let said : request_response config state (asks (ask.List list_request.verb list_request.prefix list_request.from list_request.until list_request.set)) ≡ (with_answer (answer_by_verb list_request.verb format.0 (complete_page config items)), state.open_lists) =
+    cond-false (is_some list_request.set && has_no_sets state.holdings.sets) (with_answer (fails NoSetHierarchy), state.open_lists)
+    (format_response config state.clock state.open_lists list_request.verb (format_named list_request.prefix config.formats) items)
+    (sets_there config state.holdings list_request.prefix list_request.from list_request.until list_request.set state.holdings.sets refl sound.kept some)
+    ∙ ap (λ (f : Option Format). format_response config state.clock state.open_lists list_request.verb f items) format.1
+    ∙ told_short config state.clock state.open_lists list_request.verb format.0 items few
+    ∙ ap (λ answer. (with_answer answer, state.open_lists)) (told_some config list_request.verb format.0 items some)
     in
-    let done = asked_page config state (first_request wish) _ _ _ refl said in
+    let done = asked_page config state (first_request list_request) _ _ _ refl said in
     record {
       format = format.0;
       known = format.1;
@@ -77,10 +77,10 @@ whole_told config state wish sound verb some few =
       left = done.1;
     }
 
-pub none_told : (config : Config) (state : RepoState) (wish : ListRequest) → selection_in state wish ≡ [] → IsAnsweredNone config state wish
-none_told config state wish none =
-    let said = none_said config state wish in
-    let done = asked_page config state (first_request wish) _ _ _ refl
-    (ap (list_response config state.clock state.open_lists state.holdings.sets wish.verb wish.prefix wish.set) none ∙ said.1)
+pub none_told : (config : Config) (state : RepoState) (list_request : ListRequest) → selection_in state list_request ≡ [] → IsAnsweredNone config state list_request
+none_told config state list_request none =
+    let said = none_said config state list_request in
+    let done = asked_page config state (first_request list_request) _ _ _ refl
+    (ap (list_response config state.clock state.open_lists state.holdings.sets list_request.verb list_request.prefix list_request.set) none ∙ said.1)
     in
     record { code = said.0; told = done.0; left = done.1 }

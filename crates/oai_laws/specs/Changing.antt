@@ -9,8 +9,8 @@ use Rattle.oai_item.specs.Items.{item_named}
 use Rattle.oai_item.specs.Membership.{reduced}
 use Rattle.oai_item.specs.declared.changes.Change.{Change}
 use Rattle.oai_item.specs.declared.changes.Change.TheVariants as change
-use Rattle.oai_answers.specs.declared.identify.DeletedRecord.{DeletedRecord}
-use Rattle.oai_answers.specs.declared.identify.DeletedRecord.TheVariants.{No, Transient, Persistent}
+use Rattle.oai_item.specs.declared.deleted_record.DeletedRecord.{DeletedRecord}
+use Rattle.oai_item.specs.declared.deleted_record.DeletedRecord.TheVariants.{No, Transient, Persistent}
 use Rattle.oai_settings.specs.Config.{Config}
 use Rattle.oai_repo.specs.Changes.{stamp_at}
 use Rattle.oai_repo.specs.State.{Holdings, RepoState}

@@ -6,7 +6,7 @@ use Rattle.oai_item.specs.Formats.{format_named}
 use Rattle.oai_item.specs.Item.{ItemState, tombstone_of}
 use Rattle.oai_item.specs.Items.{item_named, without}
 use Rattle.oai_item.specs.Known.{has_format, has_known_fields}
-use Rattle.oai_answers.specs.declared.identify.DeletedRecord.TheVariants.{No, Transient}
+use Rattle.oai_item.specs.declared.deleted_record.DeletedRecord.TheVariants.{No, Transient}
 use Rattle.oai_args.specs.Asks.{AskOrError, asks}
 use Rattle.oai_args.specs.declared.requests.Ask.TheVariants as ask
 use Rattle.oai_repo.specs.Changes.{drops_format, is_one_too_many, set_refusal, stamp_at, with_new}

@@ -86,7 +86,7 @@ pub record ListRequest : Type 0 where
 
 -- the list request
 abbrev pub first_request : ListRequest → Command
-first_request wish = requesting (asks (ask.List wish.verb wish.prefix wish.from wish.until wish.set))
+first_request list_request = requesting (asks (ask.List list_request.verb list_request.prefix list_request.from list_request.until list_request.set))
 
 -- the request of that verb with a token
 abbrev pub next_request : ListVerb → List ℕ → Command
@@ -94,7 +94,7 @@ next_request verb token = requesting (asks (ask.Resume verb token))
 
 -- the records that the list request selects in a state (section 2.7)
 abbrev pub selection_in : RepoState → ListRequest → List ItemState
-selection_in state wish = selected (filter_of wish.prefix wish.from wish.until wish.set) state.holdings.items
+selection_in state list_request = selected (filter_of list_request.prefix list_request.from list_request.until list_request.set) state.holdings.items
 
 -- the second exchange asks, by that verb, with the token that the page of the first offers, and before this expires
 pub record IsNextRequest (verb : ListVerb) (before after : Exchange) : Type 0 where
@@ -112,13 +112,13 @@ AreNext verb before (next ∷ exchanges) = IsNextRequest verb before next × Are
 
 -- a chain among the exchanges of a repository: one that asks for a list which is too long for one page, and which is not told to wait;
 -- and then, whatever else is asked and deposited between, those that follow it by its tokens
-pub record IsChain (config : Config) (exchanges : List Exchange) (wish : ListRequest) (first : Exchange) (others : List Exchange) : Type 0 where
+pub record IsChain (config : Config) (exchanges : List Exchange) (list_request : ListRequest) (first : Exchange) (others : List Exchange) : Type 0 where
   pub among : IsPart (first ∷ others) exchanges
-  pub verb : is_of_records wish.verb ≡ true
-  pub asked : first.command ≡ first_request wish
-  pub long : config.chunk < length (selection_in first.found wish)
+  pub verb : is_of_records list_request.verb ≡ true
+  pub asked : first.command ≡ first_request list_request
+  pub long : config.chunk < length (selection_in first.found list_request)
   pub answered : is_later first.outcome ≡ false
-  pub next : AreNext wish.verb first others
+  pub next : AreNext list_request.verb first others
 
 -- ---- what a chain is answered
 
@@ -161,10 +161,10 @@ BeginsList front all = (others : List ItemState) × (front ++ others ≡ all)
 -- the exchanges are answered with these pages of the selection: each by the verb, and in the format, that was asked for; each page says
 -- where it stands, and its token lasts for the lifetime of a list; their records, joined, begin the selection, and are all of it once a
 -- page has the empty token; each record once, in order
-pub record IsFollowedThrough (config : Config) (wish : ListRequest) (selection : List ItemState) (exchanges : List Exchange) (pages : List Page) : Type 0 where
+pub record IsFollowedThrough (config : Config) (list_request : ListRequest) (selection : List ItemState) (exchanges : List Exchange) (pages : List Page) : Type 0 where
   pub format : Format
-  pub known : format_named wish.prefix config.formats ≡ Some format
-  pub told : map (λ (exchange : Exchange). answer_in exchange.outcome) exchanges ≡ map (λ (page : Page). Some (answer_by_verb wish.verb format page)) pages
+  pub known : format_named list_request.prefix config.formats ≡ Some format
+  pub told : map (λ (exchange : Exchange). answer_in exchange.outcome) exchanges ≡ map (λ (page : Page). Some (answer_by_verb list_request.verb format page)) pages
   pub placed : ArePagesAt config (length selection) 0 pages
   pub lasting : AreLasting config exchanges pages
   pub open_lists : BeginsList (joined pages) selection
@@ -180,18 +180,18 @@ IsContinued outcome = (answer_in outcome ≡ Some (fails BadResumptionToken)) �
 
 -- a list request is answered with its whole selection: by the verb and in the format that was asked for, in one page without a token, and the
 -- state is left as it was
-pub record IsAnsweredWhole (config : Config) (state : RepoState) (wish : ListRequest) : Type 0 where
+pub record IsAnsweredWhole (config : Config) (state : RepoState) (list_request : ListRequest) : Type 0 where
   pub format : Format
-  pub known : format_named wish.prefix config.formats ≡ Some format
+  pub known : format_named list_request.prefix config.formats ≡ Some format
   pub page : Page
-  pub items : page.items ≡ selection_in state wish
+  pub items : page.items ≡ selection_in state list_request
   pub dated : page.granularity ≡ config.granularity
   pub tokenless : page.continuation ≡ whole
-  pub told : answer_in (act config state (first_request wish)).0 ≡ Some (answer_by_verb wish.verb format page)
-  pub left : (act config state (first_request wish)).1 ≡ state
+  pub told : answer_in (act config state (first_request list_request)).0 ≡ Some (answer_by_verb list_request.verb format page)
+  pub left : (act config state (first_request list_request)).1 ≡ state
 
 -- it is answered with an error, and the state is left as it was
-pub record IsAnsweredNone (config : Config) (state : RepoState) (wish : ListRequest) : Type 0 where
+pub record IsAnsweredNone (config : Config) (state : RepoState) (list_request : ListRequest) : Type 0 where
   pub code : ErrorCode
-  pub told : answer_in (act config state (first_request wish)).0 ≡ Some (fails code)
-  pub left : (act config state (first_request wish)).1 ≡ state
+  pub told : answer_in (act config state (first_request list_request)).0 ≡ Some (fails code)
+  pub left : (act config state (first_request list_request)).1 ≡ state

@@ -27,15 +27,15 @@ IsInSet set specs = (spec : List ℕ) × Contains specs spec × Covers set spec
 
 -- the item, live or deleted, is asked for: it has a record in the metadataPrefix; and where `from`, `until` or `set` is given, its
 -- datestamp is not before the one, not after the other, and it is in the set
-pub record IsAskedFor (wish : ListRequest) (item : ItemState) : Type 0 where
-  pub prefix : has_record wish.prefix item.formats ≡ true
-  pub from : IfSome wish.from (λ text. IsFrom text item.stamp)
-  pub until : IfSome wish.until (λ text. IsUntil text item.stamp)
-  pub set : IfSome wish.set (λ spec. IsInSet spec item.sets)
+pub record IsAskedFor (list_request : ListRequest) (item : ItemState) : Type 0 where
+  pub prefix : has_record list_request.prefix item.formats ≡ true
+  pub from : IfSome list_request.from (λ text. IsFrom text item.stamp)
+  pub until : IfSome list_request.until (λ text. IsUntil text item.stamp)
+  pub set : IfSome list_request.set (λ spec. IsInSet spec item.sets)
 
 -- the selection has of the items just those that are asked for, each once, in the order of their datestamps and identifiers
-pub record IsSelection (wish : ListRequest) (items selection : List ItemState) : Type 0 where
-  pub members : (item : ItemState) → Contains selection item ↔ (Contains items item × IsAskedFor wish item)
+pub record IsSelection (list_request : ListRequest) (items selection : List ItemState) : Type 0 where
+  pub members : (item : ItemState) → Contains selection item ↔ (Contains items item × IsAskedFor list_request item)
   pub ordered : are_in_order selection ≡ true
 
 -- ---- datestamps

@@ -31,11 +31,11 @@ pub record IsSomeAnswer (config : Config) (document : Document) : Type 0 where
   pub told : exchange.outcome ≡ documented document
 
 -- a list of a repository of that configuration that is followed, some time after it began
-pub record IsFollowedList (config : Config) (wish : ListRequest) (first : Exchange) (others : List Exchange) : Type 0 where
+pub record IsFollowedList (config : Config) (list_request : ListRequest) (first : Exchange) (others : List Exchange) : Type 0 where
   pub rules : IsConfig config
   pub formats : AreRepositoryFormats config.formats
   pub commands : List Timed
-  pub chain : IsChain config (run config (empty_state config) commands) wish first others
+  pub chain : IsChain config (run config (empty_state config) commands) list_request first others
 
 -- one of the exchanges is answered with a page that has the empty token
 abbrev pub is_last_page : Option Page → Bool
@@ -58,4 +58,4 @@ seen_by list.Sets granularity format item = record { header = header_seen granul
 
 -- and of the items that a list request selects
 abbrev pub selection_seen : Config → ListRequest → List ItemState → List SeenRecord
-selection_seen config wish items = map (seen_by wish.verb config.granularity (format_named wish.prefix config.formats)) items
+selection_seen config list_request items = map (seen_by list_request.verb config.granularity (format_named list_request.prefix config.formats)) items

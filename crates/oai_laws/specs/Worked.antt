@@ -6,7 +6,7 @@ use Rattle.oai_item.specs.Formats.{dublin_core}
 use Rattle.oai_item.specs.Item.{ItemState}
 use Rattle.oai_item.specs.declared.changes.Change.TheVariants as change
 use Rattle.oai_answers.specs.Answers.{Page}
-use Rattle.oai_answers.specs.declared.identify.DeletedRecord.TheVariants.{Persistent}
+use Rattle.oai_item.specs.declared.deleted_record.DeletedRecord.TheVariants.{Persistent}
 use Rattle.oai_settings.specs.Config.{Config}
 use Rattle.oai_laws.specs.Following.{IsChain, ListRequest, first_request, joined, next_request, page_shown}
 use Rattle.oai_repo.specs.Machine.{Command, changing}

@@ -99,9 +99,9 @@ pub fn number_law()
 /// once, in the order of datestamps and identifiers. And every datestamp is one of the repository's
 /// granularity, not before earliestDatestamp and not after the clock.
 pub fn selected_law()
-    ensures selected { (config : Config) (commands : List Timed) (wish : ListRequest) → IsConfig config
-        → Throughout (λ (exchange : Exchange). IsSelection wish exchange.found.holdings.items
-        (selection_in exchange.found wish)) (run config (empty_state config) commands) }
+    ensures selected { (config : Config) (commands : List Timed) (list_request : ListRequest) → IsConfig config
+        → Throughout (λ (exchange : Exchange). IsSelection list_request exchange.found.holdings.items
+        (selection_in exchange.found list_request)) (run config (empty_state config) commands) }
     ensures dated { (config : Config) (commands : List Timed) → IsConfig config
         → Throughout (λ (exchange : Exchange). list_all (has_granular_stamp config exchange.left.clock)
         exchange.left.holdings.items ≡ true) (run config (empty_state config) commands) }
@@ -117,17 +117,17 @@ pub fn selected_law()
 /// selects some records, and no more than a page has, is answered with all of them, and opens no list; one
 /// that selects none, with an error.
 pub fn following_law()
-    ensures followed { (config : Config) (commands : List Timed) (wish : ListRequest)
+    ensures followed { (config : Config) (commands : List Timed) (list_request : ListRequest)
         (first : Exchange) (others : List Exchange) → IsConfig config
-        → IsChain config (run config (empty_state config) commands) wish first others
+        → IsChain config (run config (empty_state config) commands) list_request first others
         → (pages : List Page)
-        × IsFollowedThrough config wish (selection_in first.found wish) (first ∷ others) pages }
-    ensures short { (config : Config) (state : RepoState) (wish : ListRequest) → IsSound config state
-        → is_of_records wish.verb ≡ true → selection_in state wish ≢ []
-        → length (selection_in state wish) ≤ config.chunk
-        → IsAnsweredWhole config state wish }
-    ensures none { (config : Config) (state : RepoState) (wish : ListRequest)
-        → selection_in state wish ≡ [] → IsAnsweredNone config state wish }
+        × IsFollowedThrough config list_request (selection_in first.found list_request) (first ∷ others) pages }
+    ensures short { (config : Config) (state : RepoState) (list_request : ListRequest) → IsSound config state
+        → is_of_records list_request.verb ≡ true → selection_in state list_request ≢ []
+        → length (selection_in state list_request) ≤ config.chunk
+        → IsAnsweredWhole config state list_request }
+    ensures none { (config : Config) (state : RepoState) (list_request : ListRequest)
+        → selection_in state list_request ≡ [] → IsAnsweredNone config state list_request }
 {}
 
 /// What the law of following asks for can be met: a run of fifteen commands, computed, in which a list
@@ -146,11 +146,11 @@ pub fn worked_law()
 pub fn shown_law()
     ensures documents { (config other : Config) (a b : Document) → IsSomeAnswer config a
         → IsSomeAnswer other b → document a ≡ document b → document_seen a ≡ document_seen b }
-    ensures lists { (config other : Config) (wish its : ListRequest) (first its_first : Exchange)
-        (others its_others : List Exchange) → IsFollowedList config wish first others
+    ensures lists { (config other : Config) (list_request its : ListRequest) (first its_first : Exchange)
+        (others its_others : List Exchange) → IsFollowedList config list_request first others
         → IsFollowedList other its its_first its_others
         → is_followed_to_its_end (first ∷ others) ≡ true
         → bytes_written config (first ∷ others) ≡ bytes_written other (its_first ∷ its_others)
-        → selection_seen config wish (selection_in first.found wish)
+        → selection_seen config list_request (selection_in first.found list_request)
         ≡ selection_seen other its (selection_in its_first.found its) }
 {}

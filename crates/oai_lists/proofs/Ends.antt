@@ -9,7 +9,7 @@ use Rattle.std.proofs.lemmas.List.{drop_all, get_or-take, get_or_default, length
 use Rattle.std.proofs.lemmas.List.Folds.{list_all-append}
 use Rattle.std.proofs.lemmas.List.Quantifiers.{position-Some}
 use Rattle.std.proofs.lemmas.List.Sums.{AllPass-from_list_all, list_all-from_AllPass, position_or_len_is}
-use Rattle.oai_lists.specs.Workings.{IsHeldTable, IsListPlace, no_list_numbered}
+use Rattle.oai_lists.specs.HeldTable.{IsHeldTable, IsListPlace, no_list_numbered}
 use Rattle.oai_lists.specs.OpenLists.{IsEarliest, IsListOpening, Table, number_or_fault, are_numbered_lists, has_ended, has_list_number, is_open, list_numbered, list_number, open_fault, open_ones, renewed, renewed_one, with_opened}
 use Rattle.oai_lists.specs.declared.lists.OpenFault.{OpenFault}
 use Rattle.oai_lists.specs.declared.lists.OpenFault.TheVariants.{Full, NumbersSpent}

@@ -1,7 +1,7 @@
 -- The text of a number has no full stop, so that a token is cut in one place.
 use Rattle.std.proofs.Common.{◌≡◌, ◌≢◌, ◌∙◌, ℕ, ◌+◌, ◌<◌, ◌^◌, ◌%◌, Bool, true, not, eqb, decimal, List, [], ◌∷◌, ◌++◌, length, get_or, Option, Some, None, IfSome, refl, ap, arith}
 use Rattle.oai_lists.specs.Tokens.{IsToken, token_text}
-use Rattle.oai_lists.specs.Workings.{AreNumbers}
+use Rattle.oai_lists.specs.HeldTable.{AreNumbers}
 use Rattle.oai_lists.specs.declared.tokens.Token.{Token}
 use Rattle.std.specs.List.{list_all}
 use Rattle.std.proofs.lemmas.Bool.{and_from, both_ways, eq-eqb, ne_eqb, not-true, not_from_false}

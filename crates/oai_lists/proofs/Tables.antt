@@ -5,7 +5,7 @@ use Rattle.std.specs.List.{list_all}
 use Rattle.std.proofs.lemmas.Bool.{not-true, not_from_false}
 use Rattle.oai_names.proofs.Lists.{all-weaker, cut, find_none, find_past}
 use Rattle.oai_names.proofs.Numbered.{found-none, found-placed}
-use Rattle.oai_lists.specs.Workings.{IsListPlace, no_list_numbered}
+use Rattle.oai_lists.specs.HeldTable.{IsListPlace, no_list_numbered}
 use Rattle.oai_lists.specs.OpenLists.{has_list_number, is_open, list_numbered, list_number, open_numbered}
 use Rattle.oai_lists.specs.declared.open_lists.OpenList.{OpenList}
 

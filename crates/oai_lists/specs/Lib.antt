@@ -1,4 +1,4 @@
 pub mod Tokens
 pub mod OpenLists
 pub mod Inside
-pub mod Workings
+pub mod HeldTable

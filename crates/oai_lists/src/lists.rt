@@ -2,7 +2,7 @@ ghost use Rattle.std.specs.Prelude.{◌≡◌, ◌<◌, [], get_or, vec_len, tru
 ghost use Rattle.std.specs.List.{find, remove};
 ghost use Rattle.oai_lists.specs.declared.open_lists.OpenList.{OpenList as Opened};
 ghost use Rattle.std.specs.Option.{option_copied, option_map};
-ghost use Rattle.oai_lists.specs.Workings.{IsListPlace};
+ghost use Rattle.oai_lists.specs.HeldTable.{IsListPlace};
 ghost use Rattle.oai_lists.specs.OpenLists.{IsEarliest, IsListOpening, IsListTable, number_or_fault, are_numbered_lists, has_ended, list_numbered, next_list, open_fault, open_numbered, open_ones, renewed, without_ended};
 
 use crate::open_lists::OpenList;
@@ -44,7 +44,7 @@ impl Model for Lists {
 
     ghost Value = { Table };
 
-    ghost use Rattle.oai_lists.specs.Workings.{IsHeldTable};
+    ghost use Rattle.oai_lists.specs.HeldTable.{IsHeldTable};
     ghost use Rattle.oai_lists.specs.Inside.{table_in};
 
     ghost view = { table_in };

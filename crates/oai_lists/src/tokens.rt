@@ -2,7 +2,7 @@ ghost use Rattle.std.specs.Prelude.{◌≡◌, ◌<◌, ◌^◌, ◌++◌, ℕ, 
 ghost use Rattle.std.specs.Str.{bytes_eq};
 ghost use Rattle.oai_lists.specs.declared.tokens.Token.{Token as TokenData};
 ghost use Rattle.oai_lists.specs.Tokens.{IsToken, token_of, token_text};
-ghost use Rattle.oai_lists.specs.Workings.{AreNumbers};
+ghost use Rattle.oai_lists.specs.HeldTable.{AreNumbers};
 
 use itoa::Buffer;
 use oai_names::Sequence;

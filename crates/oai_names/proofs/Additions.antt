@@ -10,7 +10,7 @@ use Rattle.std.specs.Str.{bytes_eq}
 use Rattle.std.specs.String.{string_bytes, string_cmp}
 use Rattle.std.specs.declared.string.String.{String}
 use Rattle.oai_names.proofs.Covering.{same_test}
-use Rattle.oai_names.specs.declared.limits.TheConstants.{MOST_SETS}
+use Rattle.oai_names.specs.declared.limits.TheConstants.{MAX_SETS}
 use Rattle.oai_names.specs.Sets.{IsSetTree, has_set, has_parent}
 
 -- what each element and those before it have in common still holds after a push
@@ -24,7 +24,7 @@ each_before_push P (z ∷ xs) y before last (suc i) x e =
     each_before_push (λ front w. P (z ∷ front) w) xs y (λ k w. before (suc k) w) last i x e
 
 pub IsSetTree-push : (sets : List (List ℕ × List ℕ)) (spec name : List ℕ)
-    → has_set sets spec ≡ false → has_parent sets spec ≡ true → length sets < MOST_SETS → IsSetTree sets → IsSetTree (sets ++ (spec, name) ∷ [])
+    → has_set sets spec ≡ false → has_parent sets spec ≡ true → length sets < MAX_SETS → IsSetTree sets → IsSetTree (sets ++ (spec, name) ∷ [])
 IsSetTree-push sets spec name apart parent room tree = record {
   distinct = each_before_push (λ front set. has_set front set.0 ≡ false) sets (spec, name) tree.distinct apart;
   parents = each_before_push (λ front set. has_parent front set.0 ≡ true) sets (spec, name) tree.parents parent;

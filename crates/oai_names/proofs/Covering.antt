@@ -6,7 +6,7 @@ use Rattle.std.proofs.lemmas.List.{append_cancel_left}
 use Rattle.std.proofs.lemmas.Slice.Eq.{bytes_eq-Decides, starts_is}
 use Rattle.std.specs.Bool.{Decides}
 use Rattle.std.specs.List.{starts_with}
-use Rattle.oai_names.specs.Workings.{ends_part}
+use Rattle.oai_names.specs.ByteTests.{ends_part}
 use Rattle.oai_names.specs.Sets.{Covers, covers}
 
 -- the test decides the relation

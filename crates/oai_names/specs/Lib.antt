@@ -2,5 +2,6 @@ pub mod Characters
 pub mod Names
 pub mod Escapes
 pub mod Sets
+pub mod Optional
 pub mod Numbered
-pub mod Workings
+pub mod ByteTests

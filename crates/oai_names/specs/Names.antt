@@ -3,7 +3,7 @@ use Rattle.std.specs.Prelude.{◌≡◌, ◌<◌, ℕ, Bool, true, false, ◌==�
 use Rattle.std.specs.List.{list_all, list_any, before_first, after_first}
 use Rattle.std.specs.Char.{is_ascii_alphabetic, is_ascii_alphanumeric}
 use Rattle.std.specs.Str.{bytes_eq}
-use Rattle.oai_names.specs.declared.limits.TheConstants.{MOST_PREFIX_BYTES, MOST_IDENTIFIER_BYTES}
+use Rattle.oai_names.specs.declared.limits.TheConstants.{MAX_PREFIX_BYTES, MAX_IDENTIFIER_BYTES}
 use Rattle.oai_names.specs.declared.readings.NameFault.{NameFault}
 use Rattle.oai_names.specs.declared.readings.NameFault.TheVariants.{Syntax, TooLong, NoMemory}
 
@@ -54,11 +54,11 @@ is_name_of grammar most text = grammar text && nat_le (length text) most
 
 -- a text that a metadataPrefix may be
 abbrev pub may_be_prefix : List ℕ → Bool
-may_be_prefix text = is_name_of is_prefix MOST_PREFIX_BYTES text
+may_be_prefix text = is_name_of is_prefix MAX_PREFIX_BYTES text
 
 -- a text that a unique identifier may be
 abbrev pub may_be_identifier : List ℕ → Bool
-may_be_identifier text = is_name_of is_identifier MOST_IDENTIFIER_BYTES text
+may_be_identifier text = is_name_of is_identifier MAX_IDENTIFIER_BYTES text
 
 -- what reading a name of the grammar, of at most so many bytes, answers: the first cause that applies
 abbrev pub IsReading : (List ℕ → Bool) → ℕ → List ℕ → Result (List ℕ) NameFault → Type 0

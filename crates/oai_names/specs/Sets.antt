@@ -3,7 +3,7 @@ use Rattle.std.specs.Prelude.{◌≡◌, ◌<◌, ◌≤◌, ℕ, Bool, true, fa
 use Rattle.std.specs.List.{list_all, list_any, slice_split, slice_get, starts_with, before_last}
 use Rattle.std.specs.Str.{bytes_eq}
 use Rattle.oai_names.specs.Names.{is_prefix, is_colon, is_name_of}
-use Rattle.oai_names.specs.declared.limits.TheConstants.{MOST_SET_SPEC_BYTES, MOST_SETS}
+use Rattle.oai_names.specs.declared.limits.TheConstants.{MAX_SET_SPEC_BYTES, MAX_SETS}
 use Rattle.oai_names.specs.declared.set_trees.SetFault.{SetFault}
 use Rattle.oai_names.specs.declared.set_trees.SetFault.TheVariants.{Exists, NoParent, TooMany, NoMemory}
 
@@ -14,7 +14,7 @@ is_set_spec text = list_all is_prefix (slice_split is_colon text)
 
 -- a text that a setSpec may be
 abbrev pub may_be_set_spec : List ℕ → Bool
-may_be_set_spec text = is_name_of is_set_spec MOST_SET_SPEC_BYTES text
+may_be_set_spec text = is_name_of is_set_spec MAX_SET_SPEC_BYTES text
 
 -- the setSpec t lies in the set s: it is s, or s, a colon, and the rest of a path (sections 2.6 and 2.7.2)
 abbrev pub Covers : List ℕ → List ℕ → Type 0
@@ -47,7 +47,7 @@ pub record IsSetTree (sets : List (List ℕ × List ℕ)) : Type 0 where
       → slice_get sets i ≡ Some set → has_set (take i sets) set.0 ≡ false
   pub parents : (i : ℕ) (set : List ℕ × List ℕ)
       → slice_get sets i ≡ Some set → has_parent (take i sets) set.0 ≡ true
-  pub few : length sets ≤ MOST_SETS
+  pub few : length sets ≤ MAX_SETS
 
 -- the law of the hierarchy: where a set's last part follows another setSpec and a colon, a set of that setSpec stands before it
 abbrev pub HasParentsBefore : List (List ℕ × List ℕ) → Type 0
@@ -63,14 +63,14 @@ HasSetsAbove sets = (above spec : List ℕ) → has_set sets spec ≡ true → C
 abbrev pub IsAdding : List (List ℕ × List ℕ) → List ℕ → List ℕ
     → Result (Unit {0}) SetFault → List (List ℕ × List ℕ) → Type 0
 IsAdding old spec name (Ok _) new =
-    (has_set old spec ≡ false) × (has_parent old spec ≡ true) × (length old < MOST_SETS)
+    (has_set old spec ≡ false) × (has_parent old spec ≡ true) × (length old < MAX_SETS)
     × (new ≡ old ++ (spec, name) ∷ [])
 IsAdding old spec name (Err Exists) new = (has_set old spec ≡ true) × (new ≡ old)
 IsAdding old spec name (Err NoParent) new =
     (has_set old spec ≡ false) × (has_parent old spec ≡ false) × (new ≡ old)
 IsAdding old spec name (Err TooMany) new =
-    (has_set old spec ≡ false) × (has_parent old spec ≡ true) × (MOST_SETS ≤ length old)
+    (has_set old spec ≡ false) × (has_parent old spec ≡ true) × (MAX_SETS ≤ length old)
     × (new ≡ old)
 IsAdding old spec name (Err NoMemory) new =
-    (has_set old spec ≡ false) × (has_parent old spec ≡ true) × (length old < MOST_SETS)
+    (has_set old spec ≡ false) × (has_parent old spec ≡ true) × (length old < MAX_SETS)
     × (new ≡ old)

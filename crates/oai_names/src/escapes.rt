@@ -10,7 +10,7 @@ use memchr::{memchr, memchr3};
 use std::alloc::AllocError;
 
 /// The most bytes of the text of an element that are passed over at once.
-const MOST_RUN: usize = 256;
+const MAX_RUN: usize = 256;
 
 /// Where a text stands in a document.
 #[derive(Clone, Copy, PartialEq, Eq)]
@@ -112,7 +112,7 @@ fn unmarked_len(bytes: &[u8]) -> usize
     ensures within { result ≤ length bytes.now }
     ensures before { (k : ℕ) → k < result → is_byte3 38 60 62 (slice_index bytes.now k) ≡ false }
 {
-    let near = &bytes[..bytes.len().min(MOST_RUN)];
+    let near = &bytes[..bytes.len().min(MAX_RUN)];
     memchr3(b'&', b'<', b'>', near).unwrap_or(near.len())
 }
 

@@ -2,7 +2,7 @@ ghost use Rattle.std.specs.Prelude.{◌≡◌, true, IfOk};
 ghost use Rattle.std.specs.List.{list_all};
 ghost use Rattle.oai_names.specs.Names.{IsReading, may_be_identifier, is_identifier, is_scheme, is_scheme_byte, is_some_of, is_uri_byte};
 
-use crate::limits::MOST_IDENTIFIER_BYTES;
+use crate::limits::MAX_IDENTIFIER_BYTES;
 use crate::readings::NameFault;
 use std::alloc::{AllocError, Global};
 use std::marker::Model;
@@ -29,19 +29,29 @@ impl Model for Identifier {
 }
 
 impl Identifier {
+    /// The identifier of a text that is known to be one: `may_be_identifier`. The error is out of memory.
+    pub fn new(alloc: Global, text: &str) -> Result<Identifier, AllocError>
+        requires { may_be_identifier text.now ≡ true }
+        ensures { IfOk result (λ identifier. identifier ≡ text.now) }
+    {
+        Ok(Identifier {
+            text: String::from_str(alloc, text)?,
+        })
+    }
+
     /// Reads an identifier. The errors, in this order: `Syntax`, `TooLong` above 512 bytes,
     /// `NoMemory`.
     pub fn read(alloc: Global, text: &str) -> Result<Identifier, NameFault>
-        ensures { IsReading is_identifier MOST_IDENTIFIER_BYTES text.now result }
+        ensures { IsReading is_identifier MAX_IDENTIFIER_BYTES text.now result }
     {
         if !is_identifier(text) {
             return Err(NameFault::Syntax);
         }
-        if text.len() > MOST_IDENTIFIER_BYTES {
+        if text.len() > MAX_IDENTIFIER_BYTES {
             return Err(NameFault::TooLong);
         }
-        match String::from_str(alloc, text) {
-            Ok(text) => Ok(Identifier { text }),
+        match Identifier::new(alloc, text) {
+            Ok(identifier) => Ok(identifier),
             Err(_) => Err(NameFault::NoMemory),
         }
     }
@@ -62,6 +72,13 @@ impl Identifier {
             text: String::from_str(alloc, self.as_str())?,
         })
     }
+}
+
+/// Whether the text may be an identifier: it has the syntax of one, and at most 512 bytes. It takes no memory.
+pub fn may_be_identifier(text: &str) -> bool
+    ensures { result ≡ may_be_identifier text.now }
+{
+    is_identifier(text) && text.len() <= MAX_IDENTIFIER_BYTES
 }
 
 /// Whether the text has the syntax of an identifier, of any length.

@@ -15,14 +15,12 @@ mod set_trees;
 mod texts;
 
 pub use escapes::{escape_attr, escape_law, escape_text};
-pub use identifiers::Identifier;
-pub use limits::{
-    MOST_IDENTIFIER_BYTES, MOST_PREFIX_BYTES, MOST_SET_SPEC_BYTES, MOST_SETS, limit_law,
-};
+pub use identifiers::{Identifier, may_be_identifier};
+pub use limits::{MAX_IDENTIFIER_BYTES, MAX_PREFIX_BYTES, MAX_SET_SPEC_BYTES, MAX_SETS, limit_law};
 pub use list_verbs::ListVerb;
-pub use prefixes::{Prefix, is_prefix};
+pub use prefixes::{Prefix, is_prefix, may_be_prefix};
 pub use readings::NameFault;
 pub use sequences::Sequence;
-pub use set_specs::{SetSpec, is_set_spec};
+pub use set_specs::{SetSpec, covers, is_set_spec, may_be_set_spec};
 pub use set_trees::{SetFault, SetTree, parent_of};
 pub use texts::{Text, is_xml_text};

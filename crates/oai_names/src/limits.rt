@@ -3,21 +3,21 @@
 ghost use Rattle.std.specs.Prelude.{◌≡◌};
 
 /// The most bytes of a metadataPrefix.
-pub const MOST_PREFIX_BYTES: usize = 64;
+pub const MAX_PREFIX_BYTES: usize = 64;
 
 /// The most bytes of a setSpec.
-pub const MOST_SET_SPEC_BYTES: usize = 256;
+pub const MAX_SET_SPEC_BYTES: usize = 256;
 
 /// The most bytes of an identifier.
-pub const MOST_IDENTIFIER_BYTES: usize = 512;
+pub const MAX_IDENTIFIER_BYTES: usize = 512;
 
 /// The most sets of a repository.
-pub const MOST_SETS: usize = 10_000;
+pub const MAX_SETS: usize = 10_000;
 
 /// The limits in numbers, since definitions read them by their names. It does nothing at run time.
 pub fn limit_law()
-    ensures prefix { MOST_PREFIX_BYTES ≡ 64 }
-    ensures set_spec { MOST_SET_SPEC_BYTES ≡ 256 }
-    ensures identifier { MOST_IDENTIFIER_BYTES ≡ 512 }
-    ensures sets { MOST_SETS ≡ 10_000 }
+    ensures prefix { MAX_PREFIX_BYTES ≡ 64 }
+    ensures set_spec { MAX_SET_SPEC_BYTES ≡ 256 }
+    ensures identifier { MAX_IDENTIFIER_BYTES ≡ 512 }
+    ensures sets { MAX_SETS ≡ 10_000 }
 {}

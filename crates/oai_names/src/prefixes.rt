@@ -2,7 +2,7 @@ ghost use Rattle.std.specs.Prelude.{◌≡◌, true, IfOk};
 ghost use Rattle.std.specs.List.{list_all};
 ghost use Rattle.oai_names.specs.Names.{IsReading, is_prefix, is_prefix_byte, may_be_prefix};
 
-use crate::limits::MOST_PREFIX_BYTES;
+use crate::limits::MAX_PREFIX_BYTES;
 use crate::readings::NameFault;
 use std::alloc::{AllocError, Global};
 use std::marker::Model;
@@ -28,18 +28,28 @@ impl Model for Prefix {
 }
 
 impl Prefix {
+    /// The prefix of a text that is known to be one: `may_be_prefix`. The error is out of memory.
+    pub fn new(alloc: Global, text: &str) -> Result<Prefix, AllocError>
+        requires { may_be_prefix text.now ≡ true }
+        ensures { IfOk result (λ prefix. prefix ≡ text.now) }
+    {
+        Ok(Prefix {
+            text: String::from_str(alloc, text)?,
+        })
+    }
+
     /// Reads a prefix. The errors, in this order: `Syntax`, `TooLong` above 64 bytes, `NoMemory`.
     pub fn read(alloc: Global, text: &str) -> Result<Prefix, NameFault>
-        ensures { IsReading is_prefix MOST_PREFIX_BYTES text.now result }
+        ensures { IsReading is_prefix MAX_PREFIX_BYTES text.now result }
     {
         if !is_prefix(text) {
             return Err(NameFault::Syntax);
         }
-        if text.len() > MOST_PREFIX_BYTES {
+        if text.len() > MAX_PREFIX_BYTES {
             return Err(NameFault::TooLong);
         }
-        match String::from_str(alloc, text) {
-            Ok(text) => Ok(Prefix { text }),
+        match Prefix::new(alloc, text) {
+            Ok(prefix) => Ok(prefix),
             Err(_) => Err(NameFault::NoMemory),
         }
     }
@@ -60,6 +70,13 @@ impl Prefix {
             text: String::from_str(alloc, self.as_str())?,
         })
     }
+}
+
+/// Whether the text may be a prefix: it has the syntax of one, and at most 64 bytes. It takes no memory.
+pub fn may_be_prefix(text: &str) -> bool
+    ensures { result ≡ may_be_prefix text.now }
+{
+    is_prefix(text) && text.len() <= MAX_PREFIX_BYTES
 }
 
 /// Whether the text has the syntax of a metadata prefix, of any length.

@@ -1,9 +1,9 @@
 ghost use Rattle.std.specs.Prelude.{◌≡◌, ◌↔◌, true, IfOk, IsTrue};
 ghost use Rattle.oai_names.specs.Names.{IsReading};
-ghost use Rattle.oai_names.specs.Workings.{ends_part};
+ghost use Rattle.oai_names.specs.ByteTests.{ends_part};
 ghost use Rattle.oai_names.specs.Sets.{Covers, covers, is_set_spec, may_be_set_spec};
 
-use crate::limits::MOST_SET_SPEC_BYTES;
+use crate::limits::MAX_SET_SPEC_BYTES;
 use crate::prefixes::is_prefix;
 use crate::readings::NameFault;
 use std::alloc::{AllocError, Global};
@@ -31,18 +31,28 @@ impl Model for SetSpec {
 }
 
 impl SetSpec {
+    /// The setSpec of a text that is known to be one: `may_be_set_spec`. The error is out of memory.
+    pub fn new(alloc: Global, text: &str) -> Result<SetSpec, AllocError>
+        requires { may_be_set_spec text.now ≡ true }
+        ensures { IfOk result (λ spec. spec ≡ text.now) }
+    {
+        Ok(SetSpec {
+            text: String::from_str(alloc, text)?,
+        })
+    }
+
     /// Reads a setSpec. The errors, in this order: `Syntax`, `TooLong` above 256 bytes, `NoMemory`.
     pub fn read(alloc: Global, text: &str) -> Result<SetSpec, NameFault>
-        ensures { IsReading is_set_spec MOST_SET_SPEC_BYTES text.now result }
+        ensures { IsReading is_set_spec MAX_SET_SPEC_BYTES text.now result }
     {
         if !is_set_spec(text) {
             return Err(NameFault::Syntax);
         }
-        if text.len() > MOST_SET_SPEC_BYTES {
+        if text.len() > MAX_SET_SPEC_BYTES {
             return Err(NameFault::TooLong);
         }
-        match String::from_str(alloc, text) {
-            Ok(text) => Ok(SetSpec { text }),
+        match SetSpec::new(alloc, text) {
+            Ok(spec) => Ok(spec),
             Err(_) => Err(NameFault::NoMemory),
         }
     }
@@ -80,12 +90,28 @@ impl SetSpec {
         ensures test { result ≡ covers set.now self.now }
         ensures relation { IsTrue result ↔ Covers set.now self.now }
     {
-        let own = set.as_bytes();
-        match self.as_str().as_bytes().strip_prefix(own) {
-            Some(rest) => ends_part(rest),
-            None => false,
-        }
+        covers(set, self.as_str())
     }
+}
+
+/// Whether the other text is this one, or begins with this one followed by a colon: of setSpecs, that
+/// the other set is this one or lies below it, as `SetSpec::covers` says it. It takes no memory.
+pub fn covers(set: &str, other: &str) -> bool
+    ensures test { result ≡ covers set.now other.now }
+    ensures relation { IsTrue result ↔ Covers set.now other.now }
+{
+    let own = set.as_bytes();
+    match other.as_bytes().strip_prefix(own) {
+        Some(rest) => ends_part(rest),
+        None => false,
+    }
+}
+
+/// Whether the text may be a setSpec: it has the syntax of one, and at most 256 bytes. It takes no memory.
+pub fn may_be_set_spec(text: &str) -> bool
+    ensures { result ≡ may_be_set_spec text.now }
+{
+    is_set_spec(text) && text.len() <= MAX_SET_SPEC_BYTES
 }
 
 /// Whether the text has the syntax of a setSpec, of any length.

@@ -4,7 +4,7 @@ ghost use Rattle.std.specs.Option.{option_copied, option_map};
 ghost use Rattle.std.specs.Str.{bytes_eq};
 ghost use Rattle.oai_names.specs.Sets.{HasParentsBefore, HasSetsAbove, IsAdding, IsSetTree, has_parent, has_set, parent_of};
 
-use crate::limits::MOST_SETS;
+use crate::limits::MAX_SETS;
 use crate::set_specs::SetSpec;
 use crate::texts::Text;
 use std::alloc::{AllocError, Global};
@@ -80,7 +80,7 @@ impl SetTree {
         if !self.has_parent(spec) {
             return Err(SetFault::NoParent);
         }
-        if self.len() >= MOST_SETS {
+        if self.len() >= MAX_SETS {
             return Err(SetFault::TooMany);
         }
         match self.push(spec, name) {
@@ -160,7 +160,7 @@ impl SetTree {
     fn push(&mut self, spec: &SetSpec, name: &str) -> Result<(), AllocError>
         requires apart { has_set self.old spec.now ≡ false }
         requires parent { has_parent self.old spec.now ≡ true }
-        requires room { length self.old < MOST_SETS }
+        requires room { length self.old < MAX_SETS }
         ensures { MatchResult result
             (λ _. self.new ≡ self.old ++ (spec.now, name.now) ∷ []) (λ _. self.new ≡ self.old) }
     {

@@ -2,7 +2,7 @@ ghost use Rattle.std.specs.Prelude.{◌≡◌, IfOk};
 ghost use Rattle.std.specs.List.{list_all};
 ghost use Rattle.std.specs.String.{string_bytes};
 ghost use Rattle.oai_names.specs.Characters as spec;
-ghost use Rattle.oai_names.specs.Workings.{is_plain_byte};
+ghost use Rattle.oai_names.specs.ByteTests.{is_plain_byte};
 
 use std::alloc::{AllocError, Global};
 use std::marker::Model;

@@ -6,7 +6,7 @@ use Rattle.std.proofs.lemmas.List.{get_or_past, get_or_default, get_or-set_same,
 use Rattle.std.specs.Cmp.{nat_eq_equiv}
 use Rattle.std.proofs.lemmas.List.Sums.{sum_by_push, sum_by-set}
 use Rattle.oai_pool.specs.Counts.{AddsName, count_of, used_of}
-use Rattle.oai_pool.specs.Names.{is_free, next_of, times}
+use Rattle.oai_pool.specs.Names.{is_free, number_to_give, times}
 
 -- the free numbers are those that were given and are named no more, each once
 abbrev pub AreListed : List ℕ → List ℕ → Type 0
@@ -143,27 +143,27 @@ listed_added counts new free rest is same listed n =
 
 -- ---- the next number
 
-pub next_of-taken : (counts old free : List ℕ) (k : ℕ) → old ≡ free ++ k ∷ [] → next_of counts old ≡ k
-unfolding next_of
-next_of-taken counts old free k is =
+pub number_to_give-taken : (counts old free : List ℕ) (k : ℕ) → old ≡ free ++ k ∷ [] → number_to_give counts old ≡ k
+unfolding number_to_give
+number_to_give-taken counts old free k is =
     let last : length old - 1 ≡ length free = omega (arith, ap length is, length-append free (k ∷ [])) in
     ap (λ numbers. get_or numbers (length old - 1) (length counts)) is ∙ get_or_push free k (length counts) (length old - 1) (sym last)
 
-pub next_of-added : (counts free : List ℕ) → length free ≡ 0 → next_of counts free ≡ length counts
-unfolding next_of
-next_of-added counts free none = get_or_past free (length free - 1) (length counts) (omega arith)
+pub number_to_give-added : (counts free : List ℕ) → length free ≡ 0 → number_to_give counts free ≡ length counts
+unfolding number_to_give
+number_to_give-added counts free none = get_or_past free (length free - 1) (length counts) (omega arith)
 
-pub names_taken : (counts old free : List ℕ) (k : ℕ) → old ≡ free ++ k ∷ [] → AreListed counts old → AddsName (next_of counts old) counts (set counts k 1)
+pub names_taken : (counts old free : List ℕ) (k : ℕ) → old ≡ free ++ k ∷ [] → AreListed counts old → AddsName (number_to_give counts old) counts (set counts k 1)
 names_taken counts old free k is listed n =
     let given = last_is_given counts old free k is listed in
-    rw (next_of-taken counts old free k is) (elim (eqb_tells n k) [
+    rw (number_to_give-taken counts old free k is) (elim (eqb_tells n k) [
       | inl same ↦ rw (same.0, same.1, get_or-set_same counts k 1 0 given.0, given.1)
       | inr other ↦ rw (other.0, get_or-set_other counts k n 1 0 other.1) (omega arith)
     ])
 
-pub names_added : (counts new free : List ℕ) → new ≡ counts ++ 1 ∷ [] → length free ≡ 0 → AddsName (next_of counts free) counts new
+pub names_added : (counts new free : List ℕ) → new ≡ counts ++ 1 ∷ [] → length free ≡ 0 → AddsName (number_to_give counts free) counts new
 names_added counts new free is none n =
-    rw (is, next_of-added counts free none) (elim (eqb_tells n (length counts)) [
+    rw (is, number_to_give-added counts free none) (elim (eqb_tells n (length counts)) [
       | inl same ↦ rw (same.0, get_or_push counts 1 0 n (sym same.1), get_or_past counts n 0 (omega arith))
       | inr other ↦ rw other.0 (elim (cases_lt n (length counts)) [
         | inl below ↦ get_or_append_left counts (1 ∷ []) 0 n below ∙ sym (omega arith)
@@ -173,8 +173,8 @@ names_added counts new free is none n =
     ])
 
 -- the last of the free numbers, read at its place
-pub last_read : (counts free : List ℕ) (k : ℕ) → 0 < length free → k ≡ get_or free (length free - 1) k → k ≡ next_of counts free
-unfolding next_of
+pub last_read : (counts free : List ℕ) (k : ℕ) → 0 < length free → k ≡ get_or free (length free - 1) k → k ≡ number_to_give counts free
+unfolding number_to_give
 last_read counts free k some read = get_or_read free (length free - 1) k (omega arith) read (length counts)
 
 -- the free numbers, cut before the last

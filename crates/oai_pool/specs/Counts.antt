@@ -1,6 +1,6 @@
 -- How often the pages of a pool are named: a list with a count for each number, 0 behind its end.
 use Rattle.std.specs.Prelude.{◌≡◌, ◌+◌, ◌-◌, ◌<◌, ◌==◌, if◌then◌else◌, ℕ, List, Option, min, sum_by, slice_index}
-use Rattle.oai_pool.specs.declared.pools.TheConstants.{MOST_PAGES}
+use Rattle.oai_pool.specs.declared.pools.TheConstants.{MAX_PAGES}
 
 -- how often the number is named
 abbrev pub count_of : List ℕ → ℕ → ℕ
@@ -12,7 +12,7 @@ used_of counts = sum_by (λ count. min count 1) counts
 
 -- how many more numbers can be named
 abbrev pub room_of : List ℕ → ℕ
-room_of counts = MOST_PAGES - used_of counts
+room_of counts = MAX_PAGES - used_of counts
 
 -- the number is named once more, and each other as often as before
 abbrev pub AddsName : ℕ → List ℕ → List ℕ → Type 0

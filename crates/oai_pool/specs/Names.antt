@@ -10,5 +10,5 @@ unfoldable pub is_free : List ℕ → ℕ → Bool
 is_free counts n = slice_index_or counts n 1 == 0
 
 -- the number that is given next: the last one that is free, or one that was never given
-unfoldable pub next_of : List ℕ → List ℕ → ℕ
-next_of counts free = slice_index_or free (length free - 1) (length counts)
+unfoldable pub number_to_give : List ℕ → List ℕ → ℕ
+number_to_give counts free = slice_index_or free (length free - 1) (length counts)

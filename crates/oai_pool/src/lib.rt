@@ -10,4 +10,4 @@ mod transfers;
 
 pub use oai_device::Page;
 pub use pool::Pool;
-pub use pools::{MOST_PAGES, PageNo, PagePool, PoolFault};
+pub use pools::{MAX_PAGES, PageNo, PagePool, PoolFault};

@@ -1,10 +1,10 @@
 ghost use Rattle.std.specs.Prelude.{◌≡◌, ◌≢◌, ◌+◌, ◌<◌, ◌≤◌, ◌==◌, if◌then◌else◌, ℕ, [], IfErr, IfOk, IsErrOf, OnErr, OnOk, length, max, vec_len, vec_capacity};
 ghost use Rattle.oai_pool.specs.Counts.{AddsName, count_of, used_of};
-ghost use Rattle.oai_pool.specs.Names.{is_free, next_of, times};
+ghost use Rattle.oai_pool.specs.Names.{is_free, number_to_give, times};
 ghost use Rattle.oai_pool.specs.declared.pools.PoolFault.TheVariants as fault;
-ghost use Rattle.oai_pool.specs.declared.pools.TheConstants.{MOST_PAGES};
+ghost use Rattle.oai_pool.specs.declared.pools.TheConstants.{MAX_PAGES};
 
-use crate::pools::{MOST_PAGES, PoolFault};
+use crate::pools::{MAX_PAGES, PoolFault};
 use std::alloc::Global;
 
 /// How often each number is named, and the numbers that are free to be given again. A number that was never
@@ -13,7 +13,7 @@ use std::alloc::Global;
 pub struct Names {
     counts: Vec<u32>,
     free: Vec<u32>,
-    ghost few: { vec_len counts ≤ MOST_PAGES },
+    ghost few: { vec_len counts ≤ MAX_PAGES },
     ghost free_has_room: { vec_len counts ≤ vec_capacity free },
     ghost parted: { vec_len free + used_of counts.items ≡ vec_len counts },
     ghost listed: { (n : ℕ) → times n free.items ≡ (if is_free counts.items n then 1 else 0) },
@@ -34,22 +34,22 @@ impl Names {
     /// on that number. NoMemory, or TooManyPages where each number is named.
     pub fn next(&mut self) -> Result<u32, PoolFault>
         ensures counts { self.new.counts.items ≡ self.old.counts.items }
-        ensures number { IfOk result (λ no. no ≡ next_of self.new.counts.items self.new.free.items) }
+        ensures number { IfOk result (λ no. no ≡ number_to_give self.new.counts.items self.new.free.items) }
         ensures free { IfOk result (λ no. count_of self.new.counts.items no ≡ 0) }
         ensures room { OnOk result (vec_len self.new.free ≡ 0
             → vec_len self.new.counts < vec_capacity self.new.counts) }
         ensures free_room { OnOk result (vec_len self.new.free ≡ 0
             → vec_len self.new.counts < vec_capacity self.new.free) }
-        ensures few { OnOk result (vec_len self.new.free ≡ 0 → vec_len self.new.counts < MOST_PAGES) }
+        ensures few { OnOk result (vec_len self.new.free ≡ 0 → vec_len self.new.counts < MAX_PAGES) }
         ensures fault { IfErr result (λ cause. cause ≢ fault.Device) }
-        ensures full { IsErrOf result PoolFault.TooManyPages → MOST_PAGES ≤ used_of self.old.counts.items }
+        ensures full { IsErrOf result PoolFault.TooManyPages → MAX_PAGES ≤ used_of self.old.counts.items }
     {
         let free = self.free.len();
         if free > 0 {
             return Ok(self.free[free - 1]);
         }
         let no = self.counts.len();
-        if no >= MOST_PAGES as usize {
+        if no >= MAX_PAGES as usize {
             return Err(PoolFault::TooManyPages);
         }
         self.counts.reserve(1)?;
@@ -63,8 +63,8 @@ impl Names {
             → vec_len self.old.counts < vec_capacity self.old.counts }
         requires free_room { vec_len self.old.free ≡ 0
             → vec_len self.old.counts < vec_capacity self.old.free }
-        requires few { vec_len self.old.free ≡ 0 → vec_len self.old.counts < MOST_PAGES }
-        ensures counts { let no = next_of self.old.counts.items self.old.free.items in
+        requires few { vec_len self.old.free ≡ 0 → vec_len self.old.counts < MAX_PAGES }
+        ensures counts { let no = number_to_give self.old.counts.items self.old.free.items in
             AddsName no self.old.counts.items self.new.counts.items }
         ensures dense { length self.new.counts.items
             ≡ max (length self.old.counts.items) (used_of self.old.counts.items + 1) }
@@ -85,10 +85,10 @@ impl Names {
         ensures used { used_of self.new.counts.items ≡ used_of self.old.counts.items }
         ensures err { OnErr result (self.new.counts.items ≡ self.old.counts.items) }
         ensures fault { IfErr result (λ cause. cause ≡ fault.TooManyPages) }
-        ensures full { OnErr result (MOST_PAGES ≤ count_of self.old.counts.items no) }
+        ensures full { OnErr result (MAX_PAGES ≤ count_of self.old.counts.items no) }
     {
         let count = self.counts[no as usize];
-        if count == MOST_PAGES {
+        if count == MAX_PAGES {
             return Err(PoolFault::TooManyPages);
         }
         self.counts[no as usize] = count + 1;

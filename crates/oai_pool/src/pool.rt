@@ -4,7 +4,7 @@ ghost use Rattle.oai_pool.specs.Held.{held};
 
 use crate::cache::PageCache;
 use crate::names::Names;
-use crate::pools::{MOST_PAGES, PageNo, PagePool, PoolFault};
+use crate::pools::{MAX_PAGES, PageNo, PagePool, PoolFault};
 use crate::transfers::{copied, load, store};
 use oai_device::{Page, PageDevice};
 use std::alloc::Global;
@@ -100,7 +100,7 @@ impl<D: PageDevice> Pool<D> {
     pub fn new(alloc: Global, device: D, cache_pages: usize) -> Result<Pool<D>, PoolFault>
         requires { 0 < cache_pages }
         ensures counts { IfOk result (λ pool. ⟦<Pool<D> as PagePool>⟧.counts pool ≡ []) }
-        ensures room { IfOk result (λ pool. ⟦<Pool<D> as PagePool>⟧.room pool ≡ MOST_PAGES) }
+        ensures room { IfOk result (λ pool. ⟦<Pool<D> as PagePool>⟧.room pool ≡ MAX_PAGES) }
         ensures cache { IfOk result (λ pool. ⟦<Pool<D> as PagePool>⟧.cache_size pool ≡ cache_pages) }
         ensures device { IfOk result (λ pool. device_of pool ≡ device) }
         ensures fault { IfErr result (λ cause. cause ≡ PoolFault.NoMemory) }

@@ -1,8 +1,8 @@
 ghost use Rattle.std.specs.Prelude.{◌≡◌, ◌+◌, ◌<◌, ◌≤◌, ℕ, Bool, List, Option, Some, max, length, IfErr, IfOk, IsSome, IsTrue, OnErr, OnOk};
 ghost use Rattle.oai_pool.specs.Counts.{AddsName, KeepsNamed, StaysNamed, count_of, used_of};
-ghost use Rattle.oai_pool.specs.Calls.{Spares, Spends};
+ghost use Rattle.oai_pool.specs.Calls.{SparesPool, SpendsPool};
 ghost use Rattle.oai_pool.specs.declared.pools.PoolFault.TheVariants as fault;
-ghost use Rattle.oai_pool.specs.declared.pools.TheConstants.{MOST_PAGES};
+ghost use Rattle.oai_pool.specs.declared.pools.TheConstants.{MAX_PAGES};
 
 use oai_device::Page;
 use std::alloc::{AllocError, AllocFailed};
@@ -10,7 +10,7 @@ use std::rc::Rc;
 use thiserror::Error;
 
 /// How many pages a pool can have, and how often one of them can be named.
-pub const MOST_PAGES: u32 = 4_294_967_295;
+pub const MAX_PAGES: u32 = 4_294_967_295;
 
 /// The number of a page, from 0 to 4,294,967,294.
 pub type PageNo = u32;
@@ -83,7 +83,7 @@ pub trait PagePool {
 
         ensures kept { KeepsNamed (counts self.old) (pages self.old) (pages self.new) }
         ensures named { StaysNamed (counts self.old) (counts self.new) }
-        ensures pool { Spends room failures cache_size honest 1 result self.old self.new };
+        ensures pool { SpendsPool room failures cache_size honest 1 result self.old self.new };
 
     /// Names a page that is named once more. TooManyPages, where it is named 4,294,967,295 times. It takes
     /// no memory, and calls no device.
@@ -92,11 +92,11 @@ pub trait PagePool {
         ensures counts { OnOk result (AddsName no (counts self.old) (counts self.new)) }
         ensures err { OnErr result (counts self.new ≡ counts self.old) }
         ensures fault { IfErr result (λ cause. cause ≡ fault.TooManyPages) }
-        ensures full { OnErr result (MOST_PAGES ≤ count_of (counts self.old) no) }
+        ensures full { OnErr result (MAX_PAGES ≤ count_of (counts self.old) no) }
 
         ensures same { pages self.new ≡ pages self.old }
         ensures named { StaysNamed (counts self.old) (counts self.new) }
-        ensures pool { Spares room failures cache_size honest self.old self.new };
+        ensures pool { SparesPool room failures cache_size honest self.old self.new };
 
     /// Names a page that is named once less. Where it is then named no more, its number is free to be given
     /// again, and it leaves the cache. It takes no memory, calls no device, and cannot fail.
@@ -105,7 +105,7 @@ pub trait PagePool {
         ensures counts { AddsName no (counts self.new) (counts self.old) }
 
         ensures kept { KeepsNamed (counts self.new) (pages self.old) (pages self.new) }
-        ensures pool { Spares room failures cache_size honest self.old self.new };
+        ensures pool { SparesPool room failures cache_size honest self.old self.new };
 
     /// The page of a number that is named: over an honest device the one that was added under it. Device or
     /// NoMemory.
@@ -115,7 +115,7 @@ pub trait PagePool {
             (λ page. IsTrue (honest self.old) → pages self.old no ≡ Some page.value) }
         ensures counts { counts self.new ≡ counts self.old }
         ensures same { pages self.new ≡ pages self.old }
-        ensures pool { Spends room failures cache_size honest 0 result self.old self.new };
+        ensures pool { SpendsPool room failures cache_size honest 0 result self.old self.new };
 
     /// How many pages are named.
     fn used(&self) -> usize
@@ -130,5 +130,5 @@ pub trait PagePool {
     ghost stored: { (p : Self) (n : ℕ) → 0 < count_of (counts p) n → IsSome (pages p n) };
 
     /// No number at the limit or above it is named.
-    ghost limited: { (p : Self) (n : ℕ) → MOST_PAGES ≤ n → count_of (counts p) n ≡ 0 };
+    ghost limited: { (p : Self) (n : ℕ) → MAX_PAGES ≤ n → count_of (counts p) n ≡ 0 };
 }

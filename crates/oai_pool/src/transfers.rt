@@ -1,6 +1,6 @@
 //! Pages between a device and memory.
 ghost use Rattle.std.specs.Prelude.{◌≡◌, ◌≢◌, ℕ, Some, IfErr, IfOk, IsSome, IsTrue, OnOk};
-ghost use Rattle.oai_pool.specs.Calls.{IsCounted};
+ghost use Rattle.oai_pool.specs.Calls.{IsPoolCounted};
 ghost use Rattle.oai_pool.specs.declared.pools.PoolFault.TheVariants as fault;
 
 use crate::pools::PoolFault;
@@ -13,7 +13,7 @@ pub(crate) fn store<D: PageDevice>(device: &mut D, no: u32, page: &Page) -> Resu
     ensures written { OnOk result (D.pages device.new no ≡ Some page.now) }
     ensures others { (n : ℕ) → n ≢ no → D.pages device.new n ≡ D.pages device.old n }
     ensures fault { IfErr result (λ cause. cause ≢ fault.TooManyPages) }
-    ensures device { IsCounted result (D.failures device.old) (D.failures device.new) }
+    ensures device { IsPoolCounted result (D.failures device.old) (D.failures device.new) }
     ensures honesty { D.honest device.new ≡ D.honest device.old }
 {
     match device.write(no, page) {
@@ -36,7 +36,7 @@ pub(crate) fn load<D: PageDevice>(
         (λ page. IsTrue (D.honest device.old) → D.pages device.old no ≡ Some page.value) }
     ensures same { D.pages device.new ≡ D.pages device.old }
     ensures fault { IfErr result (λ cause. cause ≢ fault.TooManyPages) }
-    ensures device { IsCounted result (D.failures device.old) (D.failures device.new) }
+    ensures device { IsPoolCounted result (D.failures device.old) (D.failures device.new) }
     ensures honesty { D.honest device.new ≡ D.honest device.old }
 {
     let mut page = room_for_a_page(alloc, spare)?;
@@ -74,7 +74,7 @@ fn load_anew<D: PageDevice>(alloc: Global, device: &mut D, no: u32) -> Result<Rc
         (λ page. IsTrue (D.honest device.old) → D.pages device.old no ≡ Some page.value) }
     ensures same { D.pages device.new ≡ D.pages device.old }
     ensures fault { IfErr result (λ cause. cause ≢ fault.TooManyPages) }
-    ensures device { IsCounted result (D.failures device.old) (D.failures device.new) }
+    ensures device { IsPoolCounted result (D.failures device.old) (D.failures device.new) }
     ensures honesty { D.honest device.new ≡ D.honest device.old }
 {
     let mut bytes = [0; PAGE_BYTES];
@@ -90,7 +90,7 @@ fn fetch<D: PageDevice>(device: &mut D, no: u32, page: &mut Page) -> Result<(), 
     ensures value { OnOk result (IsTrue (D.honest device.old) → D.pages device.old no ≡ Some page.new) }
     ensures same { D.pages device.new ≡ D.pages device.old }
     ensures fault { IfErr result (λ cause. cause ≢ fault.TooManyPages) }
-    ensures device { IsCounted result (D.failures device.old) (D.failures device.new) }
+    ensures device { IsPoolCounted result (D.failures device.old) (D.failures device.new) }
     ensures honesty { D.honest device.new ≡ D.honest device.old }
 {
     match device.read(no, page) {

@@ -4,8 +4,8 @@ use Rattle.std.proofs.lemmas.Int.{ints}
 use Rattle.std.specs.Prelude.{int_le}
 use Rattle.std.specs.List.{list_all}
 use Rattle.std.specs.Option.{option_or}
-use Rattle.oai_answers.specs.declared.identify.DeletedRecord.{DeletedRecord}
-use Rattle.oai_answers.specs.declared.identify.DeletedRecord.TheVariants.{No, Transient, Persistent}
+use Rattle.oai_item.specs.declared.deleted_record.DeletedRecord.{DeletedRecord}
+use Rattle.oai_item.specs.declared.deleted_record.DeletedRecord.TheVariants.{No, Transient, Persistent}
 use Rattle.oai_item.specs.Item.{IsStamp, ItemState, Metadata, has_record, record_named, live_item, tombstone_of}
 use Rattle.oai_item.specs.Items.{item_named, without}
 use Rattle.oai_names.proofs.Lists.{all-filter}
@@ -22,8 +22,8 @@ use Rattle.oai_repo.specs.Kept.{AreKept}
 use Rattle.oai_repo.specs.Machine.{act, act_on_change, accepted, changing, refused_with}
 use Rattle.oai_repo.specs.State.{Holdings, NamedSet, OpenLists}
 use Rattle.oai_repo.specs.Indexing.{IsDone, MakesChange}
-use Rattle.oai_repo.specs.declared.changes.Refusal.{Refusal}
-use Rattle.oai_repo.specs.declared.changes.Refusal.TheVariants as refusal
+use Rattle.oai_item.specs.declared.refusals.Refusal.{Refusal}
+use Rattle.oai_item.specs.declared.refusals.Refusal.TheVariants as refusal
 use Rattle.oai_repo.proofs.KeptLemmas.{kept-changed, well-without}
 
 -- where there is a record of some prefix, there is a record

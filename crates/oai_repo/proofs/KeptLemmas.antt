@@ -22,7 +22,7 @@ use Rattle.oai_item.specs.declared.changes.Change.TheVariants as change
 use Rattle.oai_item.specs.declared.fields.Field.{Field}
 use Rattle.oai_item.specs.declared.formats.Format.{Format}
 use Rattle.oai_item.specs.declared.refusals.ChangeRefusal.{ChangeRefusal}
-use Rattle.oai_item.specs.declared.sizes.TheConstants.{MOST_ITEM_BYTES}
+use Rattle.oai_item.specs.declared.sizes.TheConstants.{MAX_ITEM_BYTES}
 use Rattle.oai_item.specs.declared.sizes.TooLarge.{TooLarge as LengthFault}
 use Rattle.oai_item.specs.declared.refusals.ChangeRefusal.TheVariants.{UnknownSet, UnknownFormat, NoDc, UnknownField, DropsFormat, TooLarge, TooManyItems}
 use Rattle.oai_item.proofs.Lengths.{length-encoded, length-encoded_list, length-encoded_record}
@@ -30,9 +30,10 @@ use Rattle.oai_item.proofs.Named.{found_name, of_found}
 use Rattle.oai_names.proofs.Lists.{all-filter, all-weaker}
 use Rattle.oai_item.proofs.OrderLemmas.{all-placed, placed-cons, placed-nil, in_order-changed, apart-changed, in_order-filter, apart-filter}
 use Rattle.oai_repo.specs.Changes.{after_deletion, after_purge, with_tombstone, deposit_refusal, item_refusal, is_past, limit_of, purged, refusal_of, changed, drops_format, is_one_too_many, with_new}
-use Rattle.oai_answers.specs.declared.identify.DeletedRecord.{DeletedRecord}
-use Rattle.oai_answers.specs.declared.identify.DeletedRecord.TheVariants.{No, Transient, Persistent}
+use Rattle.oai_item.specs.declared.deleted_record.DeletedRecord.{DeletedRecord}
+use Rattle.oai_item.specs.declared.deleted_record.DeletedRecord.TheVariants.{No, Transient, Persistent}
 use Rattle.oai_settings.specs.Config.{Config}
+use Rattle.oai_repo.specs.Entries.{count_with}
 use Rattle.oai_repo.specs.Kept.{AreKept, is_too_large, is_well_kept}
 use Rattle.oai_repo.specs.State.{Holdings, NamedSet, no_holdings}
 
@@ -54,6 +55,16 @@ no_cause (Some cause) late h = cc
 
 all_five : (a b c d e : Bool) → a ≡ true → b ≡ true → c ≡ true → d ≡ true → e ≡ true → (a && b && c && d && e) ≡ true
 all_five a b c d e one two three four five = rw (one, two, three, four, five) refl
+
+-- ---- the limit of items
+
+-- an item that is not one too many, by the datestamp that its identifier has and by the item of it that was found
+pub few_put : (config : Config) (replaced : Option ItemState) (stamp : Option ℤ) (old new : ℕ) → (is_some replaced ≡ true → is_some stamp ≡ true) → is_one_too_many config replaced old ≡ false
+    → new ≡ count_with stamp old → old ≤ config.items → new ≤ config.items
+unfolding is_one_too_many
+few_put config replaced (Some stamp) old new there one many few = omega (arith, many, few)
+few_put config (Some item) None old new there one many few = let some = there refl in cc
+few_put config None None old new there one many few = let more : old < config.items = grind (arith, nat_tests, one) in omega (arith, many, more)
 
 -- ---- a deposit that is not refused
 
@@ -233,7 +244,7 @@ smaller stamp item =
       length-encoded_list encoded_record (map emptied item.formats),
     )
 
-too_long : (n : ℕ) (r : Result ℕ LengthFault) → IsMeasure n r → is_err r ≡ true → MOST_ITEM_BYTES < n
+too_long : (n : ℕ) (r : Result ℕ LengthFault) → IsMeasure n r → is_err r ≡ true → MAX_ITEM_BYTES < n
 too_long n (Ok m) h e = cc
 too_long n (Err m) h e = h
 
@@ -245,7 +256,7 @@ pub tombstone_fits : (stamp : ℤ) (item left : ItemState) (r : Result ℕ Lengt
     → IsMeasure (length (encoded left)) r → is_err r ≡ true → ⊥
 tombstone_fits stamp item left r is small measure err =
     let size : length (encoded left) ≡ length (encoded (tombstone_of stamp item)) = ap (λ (i : ItemState). length (encoded i)) is in
-    omega (arith, too_long (length (encoded left)) r measure err, is_small (length (encoded item)) MOST_ITEM_BYTES small, smaller stamp item, size)
+    omega (arith, too_long (length (encoded left)) r measure err, is_small (length (encoded item)) MAX_ITEM_BYTES small, smaller stamp item, size)
 
 still_small : (a b most : ℕ) → a ≤ b → not (nat_lt most b) ≡ true → not (nat_lt most a) ≡ true
 still_small a b most h small = grind (arith, nat_tests)
@@ -259,7 +270,7 @@ well-tombstone config sets stamp item h =
     let core = and_parts (has_record (codes "oai_dc") item.formats) (list_all (has_format config.formats) item.formats) fields.0 in
     all_five _ _ _ _ _ (emptied-record (codes "oai_dc") item.formats ∙ core.0) (list_all-map (has_format config.formats) emptied item.formats ∙ core.1)
     (emptied-known config.formats item.formats) in_sets.1
-    (still_small (length (encoded (tombstone_of stamp item))) (length (encoded item)) MOST_ITEM_BYTES (smaller stamp item) size.1)
+    (still_small (length (encoded (tombstone_of stamp item))) (length (encoded item)) MAX_ITEM_BYTES (smaller stamp item) size.1)
 
 -- one of the items in a new state
 replaced : (config : Config) (holdings : Holdings) (item : ItemState) → is_none (item_named item.identifier holdings.items) ≡ false

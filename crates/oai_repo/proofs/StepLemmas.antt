@@ -15,7 +15,7 @@ use Rattle.oai_repo.specs.Listing.{Response, request_response, with_answer, retr
 use Rattle.oai_repo.specs.Machine.{Output, act, outcome_output, accepted, requesting, changing, outcome_of, refused_with}
 use Rattle.oai_repo.specs.State.{Holdings, OpenLists, RepoState, still_open}
 use Rattle.oai_repo.specs.Indexing.{MakesChange}
-use Rattle.oai_repo.specs.declared.changes.Refusal.TheVariants as refusal
+use Rattle.oai_item.specs.declared.refusals.Refusal.TheVariants as refusal
 use Rattle.oai_repo.specs.declared.responses.Reply.{Reply}
 use Rattle.oai_repo.proofs.ChangeLemmas.{act-made, act-refused}
 

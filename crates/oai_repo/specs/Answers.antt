@@ -1,7 +1,8 @@
 -- What a request is answered. OAI-PMH 2.0, sections 3.2, 3.6 and 4.
-use Rattle.std.specs.Prelude.{ℕ, ℤ, pos, neg_ℤ, List, [], ◌∷◌, codes, Option, Some, None, if◌then◌else◌}
+use Rattle.std.specs.Prelude.{ℕ, ℤ, List, [], ◌∷◌, codes, Option, Some, None, if◌then◌else◌}
 use Rattle.oai_time.specs.Bound.{lower_of, upper_of}
 use Rattle.oai_time.specs.declared.bound.Bound.{Bound}
+use Rattle.oai_time.specs.declared.text.TheConstants.{FIRST_SECOND, LAST_SECOND}
 use Rattle.oai_item.specs.Formats.{format_named}
 use Rattle.oai_item.specs.Item.{ItemState, has_record}
 use Rattle.oai_item.specs.Items.{item_named}
@@ -57,11 +58,11 @@ formats_answer config items (Some identifier) = item_formats_answer config (item
 
 -- the first second that a list request can ask for, and the last: those of its bounds, or of all datestamps (section 2.7.1)
 abbrev pub lower_given : Option Bound → ℤ
-lower_given None = neg_ℤ (pos 62_167_219_200)
+lower_given None = FIRST_SECOND
 lower_given (Some bound) = lower_of bound
 
 abbrev pub upper_given : Option Bound → ℤ
-upper_given None = pos 253_402_300_799
+upper_given None = LAST_SECOND
 upper_given (Some bound) = upper_of bound
 
 -- what a list request asks for

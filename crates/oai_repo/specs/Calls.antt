@@ -18,8 +18,8 @@ use Rattle.oai_repo.specs.Fields.{HoldsOpenLists, RepoFields, holdings_of, state
 use Rattle.oai_repo.specs.Machine.{Output, act_at, accepted, bytes, changing, query, refused_with, step, wait}
 use Rattle.oai_repo.specs.State.{Holdings, moved}
 use Rattle.oai_repo.specs.Tables.{dropped_at}
-use Rattle.oai_repo.specs.declared.changes.Refusal.{Refusal}
-use Rattle.oai_repo.specs.declared.changes.Refusal.TheVariants as refusal
+use Rattle.oai_item.specs.declared.refusals.Refusal.{Refusal}
+use Rattle.oai_item.specs.declared.refusals.Refusal.TheVariants as refusal
 use Rattle.oai_repo.specs.declared.responses.Reply.{Reply}
 use Rattle.oai_repo.specs.declared.responses.Reply.TheVariants.{Later, Page}
 
@@ -93,9 +93,10 @@ pub record IsRefusedAt (moment : ℤ) (old : RepoFields) (before : Lists) (new :
   pub state : state_of new after ≡ moved moment (state_of old before)
   pub index : new.index ≡ old.index
 
--- a change was accepted with that datestamp: it is that of the clock, of the years 0000 to 9999, the index has the entries of the change, and
--- a new set stands behind the others
-pub record IsAccepted (stamp : ℤ) (change : Change) (old new : RepoFields) : Type 0 where
+-- a change was accepted with that datestamp: it is that of the clock, of the years 0000 to 9999, the index has the entries of the change, a
+-- new set stands behind the others, and the open lists are those at the moment
+pub record IsAccepted (moment stamp : ℤ) (change : Change) (old : RepoFields) (before : Lists) (new : RepoFields) (after : Lists) : Type 0 where
   pub writable : IsWritable stamp
   pub stamped : stamp ≡ stamp_at new.config new.clock
   pub kept : KeepsChange old.config.deleted stamp change old.index.entries new.index.entries old.sets new.sets
+  pub open_lists : (state_of new after).open_lists ≡ (moved moment (state_of old before)).open_lists

@@ -4,7 +4,7 @@ use Rattle.std.specs.Prelude.{ℕ, ℤ, Bool, true, false, ◌&&◌, not, nat_le
 use Rattle.std.specs.List.{list_all}
 use Rattle.std.specs.Option.{option_or}
 use Rattle.oai_names.specs.Sets.{has_set, has_parent}
-use Rattle.oai_names.specs.declared.limits.TheConstants.{MOST_SETS}
+use Rattle.oai_names.specs.declared.limits.TheConstants.{MAX_SETS}
 use Rattle.oai_time.specs.Bound.{bound_of, is_no_finer_than, lower_of}
 use Rattle.oai_time.specs.Stamp.{stamp_of}
 use Rattle.oai_time.specs.declared.bound.Bound.{Bound}
@@ -17,8 +17,8 @@ use Rattle.oai_item.specs.declared.changes.Change.{Change}
 use Rattle.oai_item.specs.declared.changes.Change.TheVariants as change
 use Rattle.oai_item.specs.declared.refusals.ChangeRefusal.{ChangeRefusal}
 use Rattle.oai_item.specs.declared.refusals.ChangeRefusal.TheVariants.{UnknownSet, UnknownFormat, NoDc, UnknownField, DropsFormat, TooLarge, TooManyItems, NoSuchItem, AlreadyDeleted, NotTransient, BadDate, SetExists, NoParent, TooManySets}
-use Rattle.oai_answers.specs.declared.identify.DeletedRecord.{DeletedRecord}
-use Rattle.oai_answers.specs.declared.identify.DeletedRecord.TheVariants.{No, Transient, Persistent}
+use Rattle.oai_item.specs.declared.deleted_record.DeletedRecord.{DeletedRecord}
+use Rattle.oai_item.specs.declared.deleted_record.DeletedRecord.TheVariants.{No, Transient, Persistent}
 use Rattle.oai_settings.specs.Config.{Config}
 use Rattle.oai_repo.specs.Kept.{is_too_large}
 use Rattle.oai_repo.specs.State.{Holdings, NamedSet}
@@ -121,7 +121,7 @@ unfoldable pub set_refusal : List NamedSet → List ℕ → Option ChangeRefusal
 set_refusal sets spec =
     if has_set sets spec then Some SetExists
     else (if not (has_parent sets spec) then Some NoParent
-    else (if nat_le MOST_SETS (length sets) then Some TooManySets
+    else (if nat_le MAX_SETS (length sets) then Some TooManySets
     else None))
 
 -- ---- a change

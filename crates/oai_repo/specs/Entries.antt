@@ -1,5 +1,5 @@
 -- The index of a repository's items: under which datestamp each stands in its store. This repository's own.
-use Rattle.std.specs.Prelude.{◌≡◌, ℕ, ℤ, List, if◌then◌else◌, Option, IsSome, find, map}
+use Rattle.std.specs.Prelude.{◌≡◌, ◌+◌, ℕ, ℤ, List, if◌then◌else◌, Option, None, Some, IsSome, find, map}
 use Rattle.std.specs.BTreeMap.{BTreeMap}
 use Rattle.std.specs.Option.{option_map}
 use Rattle.std.specs.Str.{bytes_eq}
@@ -21,6 +21,11 @@ entries_in stamps = map (λ e. (string_bytes e.0, e.1)) stamps.entries
 -- the entries where another datestamp, or none, stands for an identifier, and for all others what stood there
 abbrev pub SetsStamp : List ℕ → Option ℤ → Entries → Entries → Type 0
 SetsStamp identifier stamp old new = (q : List ℕ) → stamp_in q new ≡ (if bytes_eq identifier q then stamp else stamp_in q old)
+
+-- how many entries there are where an identifier is given a datestamp: one more, where it had none
+abbrev pub count_with : Option ℤ → ℕ → ℕ
+count_with None many = many + 1
+count_with (Some stamp) many = many
 
 -- the entries where some may be gone, and none is another
 abbrev pub ForgetsSome : Entries → Entries → Type 0

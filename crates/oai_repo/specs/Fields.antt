@@ -1,6 +1,7 @@
 -- What a `Repo` keeps, and the state that it stands for with the lists of its store. This repository's own view of OAI-PMH 2.0,
 -- sections 2.3 to 2.7.
-use Rattle.std.specs.Prelude.{◌≡◌, ℕ, ℤ, pos, neg_ℤ, int_le, Bool, true, false, not, ◌==◌, ◌&&◌, List, [], ◌∷◌, length, map, None, is_some, IsTrue}
+use Rattle.std.specs.Prelude.{◌≡◌, ℕ, ℤ, int_le, Bool, true, false, not, ◌==◌, ◌&&◌, List, [], ◌∷◌, length, map, None, is_some, IsTrue}
+use Rattle.oai_time.specs.declared.text.TheConstants.{FIRST_SECOND, LAST_SECOND}
 use Rattle.std.specs.List.{list_all, list_any}
 use Rattle.std.specs.Option.{option_map}
 use Rattle.oai_item.specs.Item.{ItemState}
@@ -70,7 +71,7 @@ pub record IndexAgrees (entries : Entries) (items : List ItemState) : Type 0 whe
 
 -- the datestamp of the item is of the years 0000 to 9999
 abbrev pub has_writable_stamp : ItemState → Bool
-has_writable_stamp item = int_le (neg_ℤ (pos 62_167_219_200)) item.stamp && int_le item.stamp (pos 253_402_300_799)
+has_writable_stamp item = int_le FIRST_SECOND item.stamp && int_le item.stamp LAST_SECOND
 
 -- the items are those of the entries, as the repository keeps them, and each has a datestamp that can be written
 pub record IsIndexed (config : Config) (index : ItemIndex) (sets : List NamedSet) (lists : Lists) : Type 0 where

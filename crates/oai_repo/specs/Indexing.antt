@@ -11,8 +11,8 @@ use Rattle.oai_repo.specs.Changes.{changed, refusal_of}
 use Rattle.oai_settings.specs.Config.{Config}
 use Rattle.oai_repo.specs.Fields.{IndexAgrees, IsIndexed, ItemIndex, holdings_of, stored_items}
 use Rattle.oai_repo.specs.State.{Holdings, NamedSet}
-use Rattle.oai_repo.specs.declared.changes.Refusal.{Refusal}
-use Rattle.oai_repo.specs.declared.changes.Refusal.TheVariants as refusal
+use Rattle.oai_item.specs.declared.refusals.Refusal.{Refusal}
+use Rattle.oai_item.specs.declared.refusals.Refusal.TheVariants as refusal
 
 -- a change with that datestamp: it is made, or refused by the first cause, or it fails; the last two leave what is held as it was
 abbrev pub MakesChange : Config → ℤ → Holdings → Change → Result (Unit {0}) Refusal → Holdings → Type 0

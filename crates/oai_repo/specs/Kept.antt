@@ -8,13 +8,13 @@ use Rattle.oai_item.specs.Item.{ItemState, has_record}
 use Rattle.oai_item.specs.Items.{are_apart}
 use Rattle.oai_item.specs.Known.{has_format, has_known_fields}
 use Rattle.oai_item.specs.Order.{are_in_order}
-use Rattle.oai_item.specs.declared.sizes.TheConstants.{MOST_ITEM_BYTES}
+use Rattle.oai_item.specs.declared.sizes.TheConstants.{MAX_ITEM_BYTES}
 use Rattle.oai_settings.specs.Config.{Config}
 use Rattle.oai_repo.specs.State.{Holdings, NamedSet}
 
 -- its spelling has more than 16,000 bytes
 abbrev pub is_too_large : ItemState → Bool
-is_too_large item = nat_lt MOST_ITEM_BYTES (length (encoded item))
+is_too_large item = nat_lt MAX_ITEM_BYTES (length (encoded item))
 
 -- an item as the repository keeps it: it has a record in unqualified Dublin Core (section 2.5), each of its records is in a format
 -- of the repository and has no field but that format's, each of its setSpecs is that of a set, and it can be stored

@@ -1,12 +1,13 @@
 -- What a purge reads and takes out, for the calls behind those of a repository: this repository's own.
-use Rattle.std.specs.Prelude.{◌≡◌, ℤ, ◌-ℤ◌, pos, neg_ℤ, not, Bool, List, [], ◌∷◌, codes, Some, None}
+use Rattle.std.specs.Prelude.{◌≡◌, ℤ, ◌-ℤ◌, pos, not, Bool, List, [], ◌∷◌, codes, Some, None}
+use Rattle.oai_time.specs.declared.text.TheConstants.{FIRST_SECOND}
 use Rattle.oai_item.specs.Item.{ItemState, has_record}
 use Rattle.oai_item.specs.Items.{item_named, without_at}
 use Rattle.oai_item.specs.Selection.{Filter}
 
 -- what asks for the items of datestamps below the limit: each has a record in unqualified Dublin Core (OAI-PMH 2.0, section 2.5)
 abbrev pub below : ℤ → Filter
-below limit = record { prefix = codes "oai_dc"; lower = neg_ℤ (pos 62_167_219_200); upper = limit -ℤ pos 1; set = None }
+below limit = record { prefix = codes "oai_dc"; lower = FIRST_SECOND; upper = limit -ℤ pos 1; set = None }
 
 -- the item has such a record
 abbrev pub is_in_core : ItemState → Bool

@@ -1,5 +1,6 @@
 -- What becomes of the open lists of a repository behind its calls: this repository's own.
-use Rattle.std.specs.Prelude.{◌≡◌, ◌⊎◌, ◌+◌, ℕ, ℤ, pos, int_le, nat_lt, Bool, true, ◌&&◌, List, ◌∷◌, filter, map, Option, None, Some, if◌then◌else◌}
+use Rattle.std.specs.Prelude.{◌≡◌, ◌⊎◌, ◌+◌, ◌≤◌, ℕ, ℤ, int_le, nat_lt, Bool, true, ◌&&◌, List, ◌∷◌, filter, length, map, Option, None, Some, if◌then◌else◌}
+use Rattle.oai_time.specs.declared.text.TheConstants.{LAST_SECOND}
 use Rattle.std.specs.List.{list_all}
 use Rattle.oai_catalogue.specs.Store.{Lists, list_at}
 use Rattle.oai_names.specs.declared.list_verbs.ListVerb.{ListVerb}
@@ -7,6 +8,7 @@ use Rattle.oai_lists.specs.OpenLists.{Table, has_ended, open_numbered, open_ones
 use Rattle.oai_lists.specs.declared.tokens.Token.{Token}
 use Rattle.oai_lists.specs.declared.open_lists.OpenList.{OpenList}
 use Rattle.oai_settings.specs.Config.{Config, is_in_years}
+use Rattle.oai_repo.specs.Entries.{Entries}
 use Rattle.oai_repo.specs.Fields.{AreInUse, KeepsOthers, has, versions_in}
 use Rattle.oai_repo.specs.Listing.{is_continued}
 
@@ -24,16 +26,17 @@ without_lists numbers lists n = if has numbers n then None else lists n
 
 -- the list's end can be written as a date
 abbrev pub has_end : OpenList → Bool
-has_end list = int_le list.end (pos 253_402_300_799)
+has_end list = int_le list.end LAST_SECOND
 
 -- as many lists may be open as the configuration says, and each end can be written
 pub record IsKeptTable (config : Config) (table : Table) : Type 0 where
   pub limit : table.limit ≡ config.lists
   pub ends : list_all has_end table.lists ≡ true
 
--- the clock is in its years, and the table is kept
-pub record IsRepo (config : Config) (clock : ℤ) (table : Table) : Type 0 where
+-- the clock is in its years, there are no more entries than items may be, and the table is kept
+pub record IsRepo (config : Config) (clock : ℤ) (entries : Entries) (table : Table) : Type 0 where
   pub dated : is_in_years clock ≡ true
+  pub few : length entries ≤ config.items
   pub open_lists : IsKeptTable config table
 
 -- ---- what a request leaves

@@ -1,5 +1,5 @@
 //! Changes of a repository: deposits, deletions, purges and new sets.
-ghost use Rattle.std.specs.Prelude.{◌≡◌, ◌++◌, [], ◌∷◌, None, length, IfErr, IsSome, IsTrue, OnErr, OnOk};
+ghost use Rattle.std.specs.Prelude.{◌≡◌, ◌≤◌, ◌++◌, [], ◌∷◌, None, length, IfErr, IsSome, IsTrue, OnErr, OnOk};
 ghost use Rattle.oai_item.specs.Item.{IsStamp};
 ghost use Rattle.oai_item.specs.declared.faults.Fault.TheVariants as fault;
 ghost use Rattle.oai_catalogue.specs.Calls.{Uses};
@@ -8,7 +8,6 @@ ghost use Rattle.oai_repo.specs.Calls.{fault_in, room_to_change};
 ghost use Rattle.oai_repo.specs.Changes.{set_refusal};
 ghost use Rattle.oai_repo.specs.Fields.{IsIndexed};
 ghost use Rattle.oai_repo.specs.Indexing.{IsDone, IsMadeIn, Moves};
-ghost use Rattle.oai_repo.specs.declared.changes.Refusal.TheVariants as refusal;
 
 mod deletions;
 mod deposits;
@@ -18,40 +17,12 @@ use crate::item_index::ItemIndex;
 use deletions::delete;
 use deposits::{Deposit, put_deposit};
 use oai_catalogue::Versions;
-use oai_item::{Change, ChangeRefusal, Fault};
+use oai_item::{Change, ChangeRefusal, Fault, Refusal};
 use oai_names::{SetFault, SetSpec, SetTree};
 use oai_settings::RepoConfig;
 pub(crate) use purges::deleted_below;
 use purges::purge;
-use std::alloc::{AllocError, Global};
-use thiserror::Error;
-
-/// Why a change was not made.
-#[derive(Clone, Copy, Debug, PartialEq, Eq, Error)]
-pub enum Refusal {
-    /// The change is refused. The clock is moved, and nothing else is changed.
-    #[error("the change is refused: {0}")]
-    Refused(ChangeRefusal),
-    /// The change could not be performed. Everything is as it was, the clock included.
-    #[error("{0}")]
-    Fault(Fault),
-}
-
-impl From<Fault> for Refusal {
-    ghost from_gives = { λ f e. e ≡ refusal.Fault f };
-
-    fn from(fault: Fault) -> Refusal {
-        Refusal::Fault(fault)
-    }
-}
-
-impl From<AllocError> for Refusal {
-    ghost from_gives = { λ _ e. e ≡ refusal.Fault fault.NoMemory };
-
-    fn from(_refused: AllocError) -> Refusal {
-        Refusal::Fault(Fault::NoMemory)
-    }
-}
+use std::alloc::Global;
 
 /// With what a change is made.
 #[derive(Clone, Copy)]
@@ -81,6 +52,8 @@ pub(crate) fn make_change<V: Versions>(
         result index.old sets.old (V.lists store.old) index.new sets.new (V.lists store.new) }
     ensures kept { OnOk result (KeepsChange context.now.config.now.deleted context.now.stamp
         change.now index.old.entries index.new.entries sets.old sets.new) }
+    ensures few { OnOk result (length index.old.entries ≤ context.now.config.now.items
+        → length index.new.entries ≤ context.now.config.now.items) }
     ensures err_sets { OnErr result (sets.new ≡ sets.old) }
     ensures moves { Moves V.Versions result index.old store.old index.new store.new }
     ensures store { Uses V.Versions (room_to_change (length index.old.entries) change.now)

@@ -8,7 +8,7 @@ ghost use Rattle.oai_names.specs.Names.{may_be_identifier};
 ghost use Rattle.oai_item.specs.Encoding.{encoded};
 ghost use Rattle.oai_item.specs.Items.{item_named, without};
 ghost use Rattle.oai_item.specs.declared.faults.Fault.TheVariants as fault;
-ghost use Rattle.oai_item.specs.declared.sizes.TheConstants.{MOST_ITEM_BYTES};
+ghost use Rattle.oai_item.specs.declared.sizes.TheConstants.{MAX_ITEM_BYTES};
 ghost use Rattle.oai_catalogue.specs.Calls.{OnlyReads, Uses};
 ghost use Rattle.oai_catalogue.specs.Store.{without_each};
 ghost use Rattle.oai_repo.specs.Changes.{purged, with_new};
@@ -17,7 +17,7 @@ ghost use Rattle.oai_repo.specs.Purges.{AreTaken, is_in_core};
 ghost use Rattle.oai_time.specs.Stamp.{IsWritable};
 ghost use Rattle.oai_item.specs.Item.{ItemState};
 ghost use Rattle.std.specs.List.{list_all};
-ghost use Rattle.oai_repo.specs.Entries.{ForgetsSome, SetsStamp, stamp_in};
+ghost use Rattle.oai_repo.specs.Entries.{ForgetsSome, SetsStamp, count_with, stamp_in};
 ghost use Rattle.oai_repo.specs.Indexing.{IsMadeOn, Moves, StandsOn};
 
 use crate::changes::deleted_below;
@@ -142,11 +142,13 @@ impl ItemIndex {
         item: &Item,
     ) -> Result<(), Fault>
         requires stands { StandsOn V.Versions self.old store.old }
-        requires fits { length (encoded item.now) ≤ MOST_ITEM_BYTES }
+        requires fits { length (encoded item.now) ≤ MAX_ITEM_BYTES }
         ensures made { OnOk result
             (IsMadeOn V.Versions (with_new item.now) self.old store.old self.new store.new) }
         ensures stamped { OnOk result (SetsStamp item.now.identifier (Some item.now.stamp)
             self.old.entries self.new.entries) }
+        ensures many { OnOk result (length self.new.entries
+            ≡ count_with (stamp_in item.now.identifier self.old.entries) (length self.old.entries)) }
         ensures moves { Moves V.Versions result self.old store.old self.new store.new }
         ensures store { Uses V.Versions 1 result store.old store.new }
     {
@@ -165,12 +167,13 @@ impl ItemIndex {
         item: &Item,
     ) -> Result<(), Fault>
         requires stands { StandsOn V.Versions self.old store.old }
-        requires fits { length (encoded item.now) ≤ MOST_ITEM_BYTES }
+        requires fits { length (encoded item.now) ≤ MAX_ITEM_BYTES }
         requires first { stamp_in item.now.identifier self.old.entries ≡ None }
         ensures made { OnOk result
             (IsMadeOn V.Versions (with_new item.now) self.old store.old self.new store.new) }
         ensures stamped { OnOk result (SetsStamp item.now.identifier (Some item.now.stamp)
             self.old.entries self.new.entries) }
+        ensures many { OnOk result (length self.new.entries ≡ length self.old.entries + 1) }
         ensures moves { Moves V.Versions result self.old store.old self.new store.new }
         ensures store { Uses V.Versions 1 result store.old store.new }
     {
@@ -189,7 +192,7 @@ impl ItemIndex {
     /// Puts in an item in place of the one of its identifier, which has the same datestamp.
     fn overwrite<V: Versions>(&self, store: &mut V, item: &Item) -> Result<(), Fault>
         requires stands { StandsOn V.Versions self.now store.old }
-        requires fits { length (encoded item.now) ≤ MOST_ITEM_BYTES }
+        requires fits { length (encoded item.now) ≤ MAX_ITEM_BYTES }
         requires again { stamp_in item.now.identifier self.now.entries ≡ Some item.now.stamp }
         ensures made { OnOk result
             (IsMadeOn V.Versions (with_new item.now) self.now store.old self.now store.new) }
@@ -209,12 +212,13 @@ impl ItemIndex {
         item: &Item,
     ) -> Result<(), Fault>
         requires stands { StandsOn V.Versions self.old store.old }
-        requires fits { length (encoded item.now) ≤ MOST_ITEM_BYTES }
+        requires fits { length (encoded item.now) ≤ MAX_ITEM_BYTES }
         requires there { stamp_in item.now.identifier self.old.entries ≡ Some old }
         ensures made { OnOk result
             (IsMadeOn V.Versions (with_new item.now) self.old store.old self.new store.new) }
         ensures stamped { OnOk result (SetsStamp item.now.identifier (Some item.now.stamp)
             self.old.entries self.new.entries) }
+        ensures many { OnOk result (length self.new.entries ≡ length self.old.entries) }
         ensures moves { Moves V.Versions result self.old store.old self.new store.new }
         ensures store { Uses V.Versions 1 result store.old store.new }
     {
@@ -243,6 +247,7 @@ impl ItemIndex {
             store.old self.new store.new) }
         ensures stamped { OnOk result (SetsStamp item.now.identifier None self.old.entries
             self.new.entries) }
+        ensures fewer { OnOk result (length self.new.entries ≤ length self.old.entries) }
         ensures moves { Moves V.Versions result self.old store.old self.new store.new }
         ensures store { Uses V.Versions 1 result store.old store.new }
     {
@@ -269,6 +274,7 @@ impl ItemIndex {
         ensures made { OnOk result
             (IsMadeOn V.Versions (purged limit) self.old store.old self.new store.new) }
         ensures forgotten { OnOk result (ForgetsSome self.old.entries self.new.entries) }
+        ensures fewer { OnOk result (length self.new.entries ≤ length self.old.entries) }
         ensures moves { Moves V.Versions result self.old store.old self.new store.new }
         ensures store { Uses V.Versions (length self.old.entries + 1) result store.old store.new }
     {
@@ -287,6 +293,7 @@ impl ItemIndex {
         ensures agrees { (items : List ItemState) → IndexAgrees self.old.entries items
             → AreTaken gone.now items → IndexAgrees self.new.entries (without_each gone.now items) }
         ensures forgotten { ForgetsSome self.old.entries self.new.entries }
+        ensures fewer { length self.new.entries ≤ length self.old.entries }
     {
         for deleted in gone {
             self.forget(deleted.identifier().as_str());
@@ -299,6 +306,7 @@ impl ItemIndex {
         ensures entries { SetsStamp identifier.now None self.old.entries self.new.entries }
         ensures many { IsSome (stamp_in identifier.now self.old.entries) → length self.new.entries + 1
             ≡ length self.old.entries }
+        ensures fewer { length self.new.entries ≤ length self.old.entries }
     {
         self.stamps.remove(identifier);
     }

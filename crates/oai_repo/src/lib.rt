@@ -11,6 +11,7 @@ mod responses;
 mod tokens;
 mod view;
 
-pub use changes::Refusal;
+pub use oai_item::Refusal;
+pub use oai_settings::RepoConfig;
 pub use repo::Repo;
 pub use responses::Reply;

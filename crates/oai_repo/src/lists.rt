@@ -1,10 +1,11 @@
 //! ListIdentifiers and ListRecords (OAI-PMH 2.0, sections 4.3 and 4.5): what is selected is answered
 //! whole, or with the first part of a list that begins.
-ghost use Rattle.std.specs.Prelude.{◌≡◌, ◌+◌, ◌<◌, ◌-ℤ◌, ◌&&◌, pos, int_le, int_lt, is_some, length, true, None, Ok, IfOk, IsSome, IsTrue};
+ghost use Rattle.std.specs.Prelude.{◌≡◌, ◌+◌, ◌<◌, ◌-ℤ◌, ◌&&◌, int_le, int_lt, is_some, length, true, None, Ok, IfOk, IsSome, IsTrue};
+ghost use Rattle.oai_time.specs.declared.text.TheConstants.{LAST_SECOND};
 ghost use Rattle.std.specs.List.{list_all};
 ghost use Rattle.oai_args.specs.Bounds.{given_bound};
 ghost use Rattle.oai_answers.specs.Answers.{HasWritableEnd, HasWritableTimes};
-ghost use Rattle.oai_answers.specs.Borrowed.{answer_of, continuation_of, page_of};
+ghost use Rattle.oai_answers.specs.Borrowed.{body_answer, continuation_of, page_of};
 ghost use Rattle.oai_catalogue.specs.Calls.{Frees, OnlyReads, Uses};
 ghost use Rattle.oai_catalogue.specs.Store.{Lists as Versioned};
 ghost use Rattle.oai_lists.specs.OpenLists.{number_or_fault, open_fault, open_ones};
@@ -24,14 +25,8 @@ use oai_catalogue::{Filter, Versions};
 use oai_item::{Fault, Format, Item};
 use oai_lists::{Lists, OpenFault};
 use oai_names::{ListVerb, Prefix, Sequence, SetTree, Text};
-use oai_time::{lower, upper};
+use oai_time::{FIRST_SECOND, LAST_SECOND, lower, upper};
 use std::alloc::{AllocError, Global};
-
-/// The first second of the years 0000 to 9999.
-pub(crate) const FIRST_SECOND: i64 = -62_167_219_200;
-
-/// The last second of these years.
-const LAST_SECOND: i64 = 253_402_300_799;
 
 /// A list request.
 #[derive(Clone, Copy)]
@@ -244,8 +239,8 @@ fn count_beyond<V: Versions>(
 /// The answer with the items in the format, as the verb lists them.
 pub(crate) fn answer_by_verb<'a>(verb: ListVerb, format: &'a Format, list: Listed<'a>) -> Body<'a>
     requires { HasWritableEnd (continuation_of list.resumption) }
-    ensures answer { answer_of result ≡ listing.answer_by_verb verb format.now (page_of list.entry) }
-    ensures writable { HasWritableTimes (answer_of result) }
+    ensures answer { body_answer result ≡ listing.answer_by_verb verb format.now (page_of list.entry) }
+    ensures writable { HasWritableTimes (body_answer result) }
 {
     match verb {
         ListVerb::Identifiers => Body::ListIdentifiers(list),
@@ -340,7 +335,7 @@ pub(crate) fn seconds_to_end<V: Versions>(lists: &mut Lists, store: &mut V, now:
 fn seconds_until(now: i64, end: i64) -> i64
     requires dated { is_in_years now ≡ true }
     requires later { int_lt now end ≡ true }
-    requires ends { int_le end (pos 253_402_300_799) ≡ true }
+    requires ends { int_le end LAST_SECOND ≡ true }
     ensures { result ≡ end -ℤ now }
 {
     end - now

@@ -3,7 +3,7 @@ ghost use Rattle.std.specs.Prelude.{◌≡◌, IfOk, IsTrue};
 ghost use Rattle.std.specs.Option.{option_copied};
 ghost use Rattle.oai_time.specs.Stamp.{IsWritable};
 ghost use Rattle.oai_answers.specs.Answers.{HasWritableTimes, lists_formats, offered};
-ghost use Rattle.oai_answers.specs.Borrowed.{answer_of, description_of};
+ghost use Rattle.oai_answers.specs.Borrowed.{body_answer, description_of};
 ghost use Rattle.oai_catalogue.specs.Calls.{OnlyReads};
 ghost use Rattle.oai_repo.specs.Answers as spec;
 ghost use Rattle.oai_repo.specs.Views.{IsReadable, document_reply, view_item};
@@ -51,8 +51,8 @@ pub(crate) fn reply_with_record<V: Versions>(
 
 /// The answer to ListSets.
 pub(crate) fn sets_answer(sets: &[(SetSpec, Text)]) -> Body<'_>
-    ensures answer { answer_of result ≡ spec.sets_answer sets.now }
-    ensures writable { HasWritableTimes (answer_of result) }
+    ensures answer { body_answer result ≡ spec.sets_answer sets.now }
+    ensures writable { HasWritableTimes (body_answer result) }
 {
     if sets.is_empty() {
         Body::Error(ErrorCode::NoSetHierarchy)
@@ -63,9 +63,9 @@ pub(crate) fn sets_answer(sets: &[(SetSpec, Text)]) -> Body<'_>
 
 /// The answer to ListMetadataFormats of the item, if there is one.
 fn item_formats_answer<'a>(config: &'a RepoConfig, item: Option<&'a Item>) -> Body<'a>
-    ensures answer { answer_of result ≡ spec.item_formats_answer config.now
+    ensures answer { body_answer result ≡ spec.item_formats_answer config.now
         (option_copied item.entry) }
-    ensures writable { HasWritableTimes (answer_of result) }
+    ensures writable { HasWritableTimes (body_answer result) }
 {
     match item {
         Some(item) if item.is_live() => formats_of(config, Some(item)),
@@ -76,9 +76,9 @@ fn item_formats_answer<'a>(config: &'a RepoConfig, item: Option<&'a Item>) -> Bo
 
 /// The formats of the repository, or those of them that the item has.
 pub(crate) fn formats_of<'a>(config: &'a RepoConfig, item: Option<&'a Item>) -> Body<'a>
-    ensures answer { answer_of result ≡ lists_formats
+    ensures answer { body_answer result ≡ lists_formats
         (offered config.now.formats (option_copied item.entry)) }
-    ensures writable { HasWritableTimes (answer_of result) }
+    ensures writable { HasWritableTimes (body_answer result) }
 {
     Body::ListMetadataFormats(Offered {
         formats: config.formats().as_slice(),
@@ -88,9 +88,9 @@ pub(crate) fn formats_of<'a>(config: &'a RepoConfig, item: Option<&'a Item>) -> 
 
 /// The answer to GetRecord of the item, if there is one, in the format of that prefix.
 fn record_answer<'a>(config: &'a RepoConfig, item: Option<&'a Item>, prefix: &str) -> Body<'a>
-    ensures answer { answer_of result ≡ spec.record_answer config.now (option_copied item.entry)
+    ensures answer { body_answer result ≡ spec.record_answer config.now (option_copied item.entry)
         prefix.now }
-    ensures writable { HasWritableTimes (answer_of result) }
+    ensures writable { HasWritableTimes (body_answer result) }
 {
     let Some(item) = item else {
         return Body::Error(ErrorCode::IdDoesNotExist);

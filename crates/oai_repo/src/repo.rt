@@ -1,4 +1,4 @@
-ghost use Rattle.std.specs.Prelude.{◌≡◌, ◌≤ℤ◌, true, length, IfOk, IsTrue, OnErr, OnOk};
+ghost use Rattle.std.specs.Prelude.{◌≡◌, ◌≤◌, ◌≤ℤ◌, true, length, IfOk, IsTrue, OnErr, OnOk};
 ghost use Rattle.oai_args.specs.Pairs.{decoded_pairs};
 ghost use Rattle.oai_args.specs.Requests.{request_of};
 ghost use Rattle.oai_catalogue.specs.Calls.{Frees, Uses};
@@ -8,7 +8,7 @@ ghost use Rattle.oai_repo.specs.Fields.{HoldsOpenLists, IsNew, Keeps, Owns, hold
 ghost use Rattle.oai_repo.specs.State.{at_clock, moved};
 ghost use Rattle.oai_repo.specs.Tables.{IsAskedOf};
 
-use crate::changes::{ChangeContext, Refusal, make_change};
+use crate::changes::{ChangeContext, make_change};
 use crate::item_index::ItemIndex;
 use crate::lists::drop_ended;
 use crate::requests::reply_to_query;
@@ -16,7 +16,7 @@ use crate::responses::Reply;
 use crate::view::RepoView;
 use oai_answers::Asked;
 use oai_catalogue::Versions;
-use oai_item::{Change, Fault};
+use oai_item::{Change, Fault, Refusal};
 use oai_lists::Lists;
 use oai_names::SetTree;
 use oai_settings::RepoConfig;
@@ -55,7 +55,7 @@ impl Model for Repo {
 
     ghost use Rattle.oai_repo.specs.Tables.{IsRepo};
 
-    ghost invariant = { λ repo. IsRepo repo.config repo.clock repo.lists };
+    ghost invariant = { λ repo. IsRepo repo.config repo.clock repo.index.entries repo.lists };
 }
 
 impl Repo {
@@ -148,7 +148,8 @@ impl Repo {
         ensures changed { IsTrue (V.honest store.old)
             → IsChanged self.old (V.lists store.old) moment change.now result self.new
             (V.lists store.new) }
-        ensures accepted { IfOk result (λ stamp. IsAccepted stamp change.now self.old self.new) }
+        ensures accepted { IfOk result (λ stamp. IsAccepted moment stamp change.now self.old
+            (V.lists store.old) self.new (V.lists store.new)) }
         ensures refused { OnRefused result (IsRefusedAt moment self.old (V.lists store.old) self.new
             (V.lists store.new)) }
         ensures clock { IsClockAt (fault_in result) moment self.old (V.lists store.old) self.new
@@ -156,6 +157,7 @@ impl Repo {
         ensures dropped { OnOk (fault_in result) (DropsEnded self.old self.new) }
         ensures keeps { Keeps (V.honest store.old) self.old (V.lists store.old) self.new
             (V.lists store.new) }
+        ensures few { length self.old.index.entries ≤ self.old.config.items }
         ensures store { Uses V.Versions (room_to_change (length self.old.index.entries) change.now)
             (fault_in result) store.old store.new }
     {

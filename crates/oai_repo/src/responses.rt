@@ -1,7 +1,7 @@
 //! What a request is replied: a document, or how long to wait.
 ghost use Rattle.std.specs.Prelude.{◌≡◌, true, IfOk};
 ghost use Rattle.oai_answers.specs.Answers.{HasWritableTimes, IsWritableDocument, fails};
-ghost use Rattle.oai_answers.specs.Borrowed.{answer_of, document_of};
+ghost use Rattle.oai_answers.specs.Borrowed.{body_answer, document_of};
 ghost use Rattle.oai_answers.specs.Documents.{document};
 ghost use Rattle.oai_settings.specs.Config.{is_in_years};
 ghost use Rattle.oai_repo.specs.Views.{document_reply};
@@ -25,8 +25,8 @@ pub enum Reply {
 #[tactic(auto, using(crate::proofs::ClockLemmas::writable))]
 pub(crate) fn make_reply(repo: &RepoView<'_>, body: Body<'_>) -> Result<Reply, AllocError>
     requires dated { is_in_years repo.now.clock ≡ true }
-    requires times { HasWritableTimes (answer_of body) }
-    ensures { IfOk result (λ reply. reply ≡ document_reply repo.now (answer_of body.entry)) }
+    requires times { HasWritableTimes (body_answer body) }
+    ensures { IfOk result (λ reply. reply ≡ document_reply repo.now (body_answer body.entry)) }
 {
     let doc = Doc {
         date: repo.clock,

@@ -1,5 +1,6 @@
 //! A repository as a request sees it.
 ghost use Rattle.std.specs.Prelude.{◌≡◌, ◌+ℤ◌, pos, int_le, int_lt, true};
+ghost use Rattle.oai_time.specs.declared.text.TheConstants.{LAST_SECOND};
 ghost use Rattle.std.specs.Option.{option_copied};
 ghost use Rattle.oai_time.specs.Stamp.{IsWritable};
 ghost use Rattle.oai_args.specs.Verbs.{name_of, verb_of_list};
@@ -48,7 +49,7 @@ impl RepoView<'_> {
         ensures end { result ≡ self.now.clock +ℤ pos self.now.config.now.lifetime }
         ensures writable { IsWritable result }
         ensures later { int_lt self.now.clock result ≡ true }
-        ensures last { int_le result (pos 253_402_300_799) ≡ true }
+        ensures last { int_le result LAST_SECOND ≡ true }
     {
         self.clock + self.config.lifetime() as i64
     }

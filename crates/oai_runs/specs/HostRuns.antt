@@ -2,12 +2,12 @@
 use Rattle.std.specs.Prelude.{◌≡◌, ◌≤◌, true, List, map}
 use Rattle.oai_host.specs.Answers.{AreCounted, AreHonest}
 use Rattle.oai_host.specs.Exchanged.{IsHandled}
-use Rattle.oai_host.specs.Hosts.{AreAnswered, AreAsAlone, Hosting, none_failed}
+use Rattle.oai_host.specs.Hosts.{AreAnswered, AreAsAlone, HostState, none_failed}
 use Rattle.oai_http.specs.declared.exchanges.Answer.{Answer}
 use Rattle.oai_http.specs.declared.exchanges.Call.{Call}
 use Rattle.oai_front.specs.Fronts.{State}
 use Rattle.oai_http.specs.Exchanges.{call_at}
-use Rattle.oai_front.specs.Runs.{AreServed, Coming, Served, all_served}
+use Rattle.oai_front.specs.Runs.{AreServed, FrontCall, Served, all_served}
 
 -- the messages that were performed, as calls of the host, and their answers
 abbrev pub call_in : Served → Call
@@ -22,9 +22,9 @@ answers_in served = map (λ s. s.done.answer) served
 -- calls came, and messages were performed as `AreServed` says. At each repository what is answered is a run of its own exchanges, whatever came
 -- between them, on the same connection or on others; where none failed, it is what that repository alone answers. A fault is told only where it
 -- has its cause
-pub record AreServedByHost (old new : State Hosting) (calls : List Coming) : Type 0 where
+pub record AreServedByHost (old new : State HostState) (calls : List FrontCall) : Type 0 where
   pub served : AreServed IsHandled old new calls
-  pub answered : AreAnswered (calls_in (all_served served.each)) (answers_in (all_served served.each)) old.handler.repositories new.handler.repositories
+  pub answered : AreAnswered (calls_in (all_served served.each)) (answers_in (all_served served.each)) old.handler new.handler
   pub alone : none_failed (answers_in (all_served served.each)) ≡ true
       → AreAsAlone (calls_in (all_served served.each)) (answers_in (all_served served.each)) old.handler.repositories
   pub device : AreCounted (answers_in (all_served served.each)) old.handler.failures new.handler.failures

@@ -1,7 +1,7 @@
 ghost use Rattle.std.specs.Prelude.{List, IsTrue};
 ghost use Rattle.oai_front.specs.Fronts.{State};
-ghost use Rattle.oai_front.specs.Runs.{Comes, Coming};
-ghost use Rattle.oai_host.specs.Hosts.{Hosting};
+ghost use Rattle.oai_front.specs.Runs.{Comes, FrontCall};
+ghost use Rattle.oai_host.specs.Hosts.{HostState};
 ghost use Rattle.oai_runs.specs.HostRuns.{AreServedByHost};
 
 use oai_catalogue::Versions;
@@ -12,7 +12,7 @@ use oai_http::Handler;
 /// messages over a store that gives back what was written to it. At each of its repositories the answers are a
 /// run of its own exchanges, and where none failed, those that it alone gives. It does nothing.
 pub fn host_law<V: Versions + Drop>()
-    ensures hosted { (old new : State Hosting) (calls : List Coming)
+    ensures hosted { (old new : State HostState) (calls : List FrontCall)
         → Comes ⟦<Host<V> as Handler>⟧.step old calls new → IsTrue old.handler.honest
         → AreServedByHost old new calls }
 {}

@@ -16,7 +16,7 @@ use Rattle.oai_item.specs.declared.formats.Format.{Format}
 use Rattle.oai_item.specs.declared.formats.FormatFault.TheVariants.{Duplicate, BadName, BadUri, FieldTwice, TooMany}
 use Rattle.oai_item.proofs.Repeats.{has_repeat-push}
 use Rattle.oai_settings.specs.Settings.{are_formats, format_of, is_good_format, prefixes_of}
-use Rattle.oai_settings.specs.SettingsWork.{IsRefused}
+use Rattle.oai_settings.specs.SettingsWork.{IsSettingsRefused}
 use Rattle.oai_settings.specs.declared.settings.ConfigFault.{ConfigFault}
 use Rattle.oai_settings.specs.declared.settings.ConfigFault.TheVariants as fault
 use Rattle.oai_settings.specs.declared.settings.FormatSettings.{FormatSettings}
@@ -178,10 +178,10 @@ formats_of-more formats new s left rest is made =
     ap (λ (all : List Format). all ++ map format_of rest) made ∙ append_assoc formats (format_of s ∷ []) (map format_of rest) ∙ ap (λ (those : List FormatSettings). formats ++ map format_of those) (sym is)
 
 -- what a fault says of one format, it says of all
-pub IsRefused-of_all : (fault : ConfigFault) (good bad all_bad : Type 0) → (bad → all_bad) → IsRefused fault good bad → IsRefused fault (Unit {0}) all_bad
-IsRefused-of_all fault.NoMemory good bad all_bad so refused = tt
-IsRefused-of_all fault.BadShape good bad all_bad so refused = (refused.0, so refused.1)
-IsRefused-of_all fault.BadName good bad all_bad so refused = (refused.0, so refused.1)
-IsRefused-of_all fault.BadFormat good bad all_bad so refused = (refused.0, so refused.1)
-IsRefused-of_all fault.BadDate good bad all_bad so refused = (refused.0, so refused.1)
-IsRefused-of_all fault.BadNumber good bad all_bad so refused = (refused.0, so refused.1)
+pub IsSettingsRefused-of_all : (fault : ConfigFault) (good bad all_bad : Type 0) → (bad → all_bad) → IsSettingsRefused fault good bad → IsSettingsRefused fault (Unit {0}) all_bad
+IsSettingsRefused-of_all fault.NoMemory good bad all_bad so refused = tt
+IsSettingsRefused-of_all fault.BadShape good bad all_bad so refused = (refused.0, so refused.1)
+IsSettingsRefused-of_all fault.BadName good bad all_bad so refused = (refused.0, so refused.1)
+IsSettingsRefused-of_all fault.BadFormat good bad all_bad so refused = (refused.0, so refused.1)
+IsSettingsRefused-of_all fault.BadDate good bad all_bad so refused = (refused.0, so refused.1)
+IsSettingsRefused-of_all fault.BadNumber good bad all_bad so refused = (refused.0, so refused.1)

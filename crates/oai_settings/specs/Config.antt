@@ -7,9 +7,10 @@ use Rattle.std.specs.Ordering.{int_eq}
 use Rattle.oai_names.specs.Characters.{is_xml_text}
 use Rattle.oai_time.specs.Stamp.{stamp_of}
 use Rattle.oai_time.specs.declared.granularity.Granularity.{Granularity}
+use Rattle.oai_time.specs.declared.clock.TheConstants.{LAST_TICK}
 use Rattle.oai_item.specs.ShortTexts.{is_short_text}
 use Rattle.oai_item.specs.declared.formats.Format.{Format}
-use Rattle.oai_answers.specs.declared.identify.DeletedRecord.{DeletedRecord}
+use Rattle.oai_item.specs.declared.deleted_record.DeletedRecord.{DeletedRecord}
 
 -- what Identify tells of a repository (OAI-PMH 2.0, section 4.2), the most that it holds, and its metadata formats
 pub record Config : Type 0 where
@@ -41,7 +42,7 @@ is_described name addresses =
 -- a second of the years 0001 to 9998, this repository's own rule
 abbrev pub is_in_years : ℤ → Bool
 is_in_years seconds =
-    not (int_lt seconds (neg_ℤ (pos 62_135_596_800))) && not (int_lt (pos 253_370_764_799) seconds)
+    not (int_lt seconds (neg_ℤ (pos 62_135_596_800))) && not (int_lt LAST_TICK seconds)
 
 -- a datestamp of the granularity (OAI-PMH 2.0, section 2.7.1), of these years
 unfoldable pub is_date : Granularity → ℤ → Bool

@@ -69,14 +69,14 @@ earliest_of granularity text = option_and_then (seconds_of granularity) (bound_o
 -- ---- the limits
 
 -- there is a number, and it passes
-abbrev pub has_number : (ℕ → Bool) → Option ℕ → Bool
-has_number passes (Some n) = passes n
-has_number passes None = false
+abbrev pub passes_number : (ℕ → Bool) → Option ℕ → Bool
+passes_number passes (Some n) = passes n
+passes_number passes None = false
 
 -- each limit is a number in its range
 unfoldable pub are_numbers : Option ℕ → Option ℕ → Option ℕ → Option ℕ → Bool
 are_numbers chunk lifetime lists items =
-    has_number is_chunk chunk && has_number is_lifetime lifetime && has_number is_lists lists && has_number is_items items
+    passes_number is_chunk chunk && passes_number is_lifetime lifetime && passes_number is_lists lists && passes_number is_items items
 
 -- ---- the configuration
 

@@ -9,37 +9,37 @@ use Rattle.oai_settings.specs.declared.settings.FormatSettings.{FormatSettings}
 use Rattle.oai_settings.specs.declared.settings.ConfigFault.{ConfigFault}
 use Rattle.oai_settings.specs.declared.settings.ConfigFault.TheVariants.{BadFormat, NoMemory}
 use Rattle.oai_settings.specs.Config.{are_limits}
-use Rattle.oai_settings.specs.Settings.{are_formats, are_numbers, format_of, formats_of, has_number}
+use Rattle.oai_settings.specs.Settings.{are_formats, are_numbers, format_of, formats_of, passes_number}
 
 -- memory was refused, and so much was found good before it; or the format is a bad one
-abbrev pub IsRefused : ConfigFault → Type 0 → Type 0 → Type 0
-IsRefused NoMemory good bad = good
-IsRefused fault good bad = (fault ≡ BadFormat) × bad
+abbrev pub IsSettingsRefused : ConfigFault → Type 0 → Type 0 → Type 0
+IsSettingsRefused NoMemory good bad = good
+IsSettingsRefused fault good bad = (fault ≡ BadFormat) × bad
 
 -- the prefix of a format
 abbrev pub IsPrefixOf : List ℕ → Result (List ℕ) ConfigFault → Type 0
 IsPrefixOf text (Ok prefix) = (prefix ≡ text) × (may_be_prefix text ≡ true)
-IsPrefixOf text (Err fault) = IsRefused fault (may_be_prefix text ≡ true) (may_be_prefix text ≡ false)
+IsPrefixOf text (Err fault) = IsSettingsRefused fault (may_be_prefix text ≡ true) (may_be_prefix text ≡ false)
 
 -- the format that is described, where it has a prefix
 abbrev pub IsFormatOf : FormatSettings → Result Format ConfigFault → Type 0
 IsFormatOf settings (Ok format) = (format ≡ format_of settings) × (may_be_prefix settings.prefix ≡ true)
-IsFormatOf settings (Err fault) = IsRefused fault (may_be_prefix settings.prefix ≡ true) (may_be_prefix settings.prefix ≡ false)
+IsFormatOf settings (Err fault) = IsSettingsRefused fault (may_be_prefix settings.prefix ≡ true) (may_be_prefix settings.prefix ≡ false)
 
 -- the formats with one more
 abbrev pub IsDeclared : List Format → Format → Result (Unit {0}) ConfigFault → List Format → Type 0
 IsDeclared old format (Ok _) new = (is_none (declare_fault old format) ≡ true) × (new ≡ old ++ format ∷ [])
-IsDeclared old format (Err fault) new = IsRefused fault (HasGoodTexts old format) (is_none (declare_fault old format) ≡ false)
+IsDeclared old format (Err fault) new = IsSettingsRefused fault (HasGoodTexts old format) (is_none (declare_fault old format) ≡ false)
 
 -- the formats of a repository
 abbrev pub AreDeclared : List FormatSettings → Result (List Format) ConfigFault → Type 0
 AreDeclared settings (Ok formats) = (are_formats settings ≡ true) × (formats ≡ formats_of settings)
-AreDeclared settings (Err fault) = IsRefused fault (Unit {0}) (are_formats settings ≡ false)
+AreDeclared settings (Err fault) = IsSettingsRefused fault (Unit {0}) (are_formats settings ≡ false)
 
 -- the number, where it is one from 1 to the most
 abbrev pub IsLimit : ℕ → Option ℕ → Option ℕ → Type 0
 IsLimit most number (Some n) = (number ≡ Some n) × (is_in_range 1 most n ≡ true)
-IsLimit most number None = has_number (is_in_range 1 most) number ≡ false
+IsLimit most number None = passes_number (is_in_range 1 most) number ≡ false
 
 -- the limits that are told, where each is a number in its range
 abbrev pub AreLimits : Option ℕ → Option ℕ → Option ℕ → Option ℕ → Option Limits → Type 0

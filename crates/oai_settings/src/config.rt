@@ -6,8 +6,7 @@ ghost use Rattle.oai_settings.specs.Config.{IsConfig};
 ghost use Rattle.oai_settings.specs.Settings.{IsConfigured};
 
 use crate::settings::{ConfigFault, Settings, has_shape, is_repository_name};
-use oai_answers::DeletedRecord;
-use oai_item::Formats;
+use oai_item::{DeletedRecord, Formats};
 use oai_names::{Sequence, Text};
 use oai_time::Granularity;
 use parts::{Limits, base_url, declared_formats, limits_of, read_earliest};

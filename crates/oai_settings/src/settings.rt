@@ -5,8 +5,7 @@ ghost use Rattle.oai_item.specs.ShortTexts as short;
 ghost use Rattle.oai_settings.specs.Config as rule;
 ghost use Rattle.oai_settings.specs.Settings as spec;
 
-use oai_answers::DeletedRecord;
-use oai_item::is_short_text;
+use oai_item::{DeletedRecord, is_short_text};
 use oai_names::{Sequence, Text};
 use oai_time::Granularity;
 use std::alloc::AllocError;
@@ -14,10 +13,10 @@ use std::error::Error;
 use std::fmt;
 
 /// The most bytes of a repository's name in its base URL.
-const MOST_NAME_BYTES: usize = 32;
+const MAX_NAME_BYTES: usize = 32;
 
 /// The most addresses of administrators.
-const MOST_ADDRESSES: usize = 16;
+const MAX_ADDRESSES: usize = 16;
 
 /// What is told of a metadata format (OAI-PMH 2.0, section 3.4), before it is looked at.
 #[derive(Debug, Drop)]
@@ -147,7 +146,7 @@ fn is_described(name: &str, addresses: &[Text]) -> bool
 {
     is_short_text(name)
         && 1 <= addresses.len()
-        && addresses.len() <= MOST_ADDRESSES
+        && addresses.len() <= MAX_ADDRESSES
         && are_short_texts(addresses)
 }
 
@@ -162,7 +161,7 @@ fn are_short_texts(texts: &[Text]) -> bool
 pub(crate) fn is_repository_name(name: &str) -> bool
     ensures { result ≡ rule.is_repository_name name.now }
 {
-    1 <= name.len() && name.len() <= MOST_NAME_BYTES && are_repository_bytes(name)
+    1 <= name.len() && name.len() <= MAX_NAME_BYTES && are_repository_bytes(name)
 }
 
 fn are_repository_bytes(name: &str) -> bool

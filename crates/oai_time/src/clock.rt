@@ -4,8 +4,8 @@ ghost use Rattle.oai_time.specs.Stamp.{IsWritable};
 
 use std::marker::Model;
 
-/// The last second of the year 9998.
-const LAST_TICK: i64 = 253_370_764_799;
+/// The last second that a clock is moved to: 9998-12-31T23:59:59Z, in seconds from 1970 on.
+pub const LAST_TICK: i64 = 253_370_764_799;
 
 /// A clock of whole seconds that never goes back and, where it starts no later than
 /// 9998-12-31T23:59:59Z, never passes that second, whatever moments it is told. What is added to it

@@ -13,7 +13,7 @@ mod granularity;
 mod text;
 
 pub use bound::{BadDate, Bound, calendar_law, is_no_finer_than, lower, read_bound, upper};
-pub use clock::Clock;
+pub use clock::{Clock, LAST_TICK};
 pub use datestamp::{Datestamp, write_datestamp};
 pub use granularity::{Granularity, stamp};
-pub use text::{write_day, write_second};
+pub use text::{FIRST_SECOND, LAST_SECOND, write_day, write_second};

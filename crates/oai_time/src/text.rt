@@ -9,8 +9,11 @@ use crate::granularity::Granularity;
 use jiff::ToSpan;
 use jiff::civil::Date;
 
-/// 0000-01-01T00:00:00Z.
-pub(crate) const FIRST_SECOND: i64 = -62_167_219_200;
+/// The first second that has a datestamp: 0000-01-01T00:00:00Z, in seconds from 1970 on.
+pub const FIRST_SECOND: i64 = -62_167_219_200;
+
+/// The last second that has a datestamp: 9999-12-31T23:59:59Z, in seconds from 1970 on.
+pub const LAST_SECOND: i64 = 253_402_300_799;
 
 /// The text `YYYY-MM-DD` of the day in which `seconds` lie (OAI-PMH 2.0, 3.3 "UTCdatetime"). The
 /// seconds are of the years 0000 to 9999.

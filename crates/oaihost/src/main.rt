@@ -3,10 +3,12 @@
 
 ghost use Rattle.std.specs.Prelude.{◌≡◌, IfOk};
 ghost use Rattle.std.specs.Process.{exit_status};
-ghost use Rattle.oai_edge.specs.Stops as spec;
+ghost use Rattle.oai_cli.specs.Stops as spec;
 
-use oai_edge::{
-    MOST_CONNECTIONS, Stop, ask_lines, host_of, read_config, read_number, serve, trace_lines,
+use oai_catalogue::PlainVersions;
+use oai_cli::{
+    MAX_CONNECTIONS, Stop, ask_lines, check_config, host_over, read_config, read_file, read_number,
+    serve_port, trace_lines,
 };
 use oai_front::Front;
 use std::env;
@@ -87,20 +89,17 @@ fn command_named(word: &str, path: String) -> Result<Command, Stop> {
     }
 }
 
-/// Says how many repositories the configuration has.
+/// Writes how many repositories the configuration has.
 fn run_check(rt: &(impl Files + Print + AllocGlobal), path: &str) -> Result<(), Stop> {
-    let config = read_config(rt, path)?;
-    match println!(rt; "ok {}", config.len()) {
-        Ok(()) => Ok(()),
-        Err(_) => Err(Stop::OutputFault),
-    }
+    let text = read_file(rt, path)?;
+    check_config(rt.alloc(), &text, &mut io::writer(rt))
 }
 
 /// Performs the exchanges of standard input on the repositories of the configuration.
 fn run_ask(rt: &(impl Files + Input + Print + AllocGlobal), path: &str) -> Result<(), Stop> {
     let alloc = rt.alloc();
     let config = read_config(rt, path)?;
-    let mut host = host_of(alloc, config)?;
+    let mut host = host_over(alloc, config, PlainVersions::new(alloc))?;
     let Ok(mut writer) = BufWriter::new(alloc, io::writer(rt)) else {
         return Err(Stop::NoMemory);
     };
@@ -112,7 +111,8 @@ fn run_ask(rt: &(impl Files + Input + Print + AllocGlobal), path: &str) -> Resul
 fn run_trace(rt: &(impl Files + Input + Print + AllocGlobal), path: &str) -> Result<(), Stop> {
     let alloc = rt.alloc();
     let config = read_config(rt, path)?;
-    let mut front = Front::new(alloc, host_of(alloc, config)?, MOST_CONNECTIONS);
+    let host = host_over(alloc, config, PlainVersions::new(alloc))?;
+    let mut front = Front::new(alloc, host, MAX_CONNECTIONS);
     let Ok(mut writer) = BufWriter::new(alloc, io::writer(rt)) else {
         return Err(Stop::NoMemory);
     };
@@ -128,8 +128,9 @@ fn run_serve(
 ) -> Result<(), Stop> {
     let alloc = rt.alloc();
     let config = read_config(rt, path)?;
-    let mut front = Front::new(alloc, host_of(alloc, config)?, 1);
-    serve(rt, &mut front, port, connections)
+    let host = host_over(alloc, config, PlainVersions::new(alloc))?;
+    let mut front = Front::new(alloc, host, 1);
+    serve_port(rt, &mut front, port, connections)
 }
 
 /// Says on standard error why the program stopped.

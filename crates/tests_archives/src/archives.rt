@@ -1,5 +1,5 @@
 //! The repositories that tests speak of, by what is told of each.
-use oai_answers::DeletedRecord;
+use oai_item::DeletedRecord;
 use oai_names::{Sequence, Text};
 use oai_settings::{FormatSettings, Settings};
 use oai_time::Granularity;

@@ -2,7 +2,7 @@
 use crate::answers::answer_to;
 use crate::assertions::{assert_same, assert_same_at};
 use crate::worked::{assert_table, worked_with};
-use oai_host::{Config, fault_law, shape_law};
+use oai_config::{Config, fault_law, shape_law};
 use oai_http::path_law;
 use std::alloc::Global;
 use std::panic::Expect;
@@ -26,10 +26,10 @@ fn what_is_read(rt: HostRuntime) {
 fn bases_of(rt: &impl Abort, alloc: Global, text: &str) -> String {
     let config = Config::read(alloc, text.as_bytes()).expect(rt, "Config::read");
     let mut bases = String::new(alloc);
-    for hosted in config.into_repositories().as_slice() {
-        bases.push_str(hosted.name.as_str()).expect(rt, "memory");
+    for named in config.into_repositories().as_slice() {
+        bases.push_str(named.name.as_str()).expect(rt, "memory");
         bases.push(' ').expect(rt, "memory");
-        bases.push_str(hosted.config.base()).expect(rt, "memory");
+        bases.push_str(named.config.base()).expect(rt, "memory");
         bases.push('\n').expect(rt, "memory");
     }
     bases

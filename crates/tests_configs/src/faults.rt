@@ -2,7 +2,7 @@
 use crate::answers::answer_to;
 use crate::assertions::{assert_same, assert_same_at, assert_shown};
 use crate::worked::{assert_table, repeated, worked_with};
-use oai_host::ReadFault;
+use oai_config::ReadFault;
 use std::alloc::Global;
 use std::panic::Expect;
 use std::process::Abort;

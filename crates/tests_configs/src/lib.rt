@@ -1,5 +1,5 @@
 //! Tests of what settings make the configuration of a repository (`oai_settings`), of what texts are
-//! configurations of a host (`oai_host`), and why others are none. It holds nothing else.
+//! configurations of a host (`oai_config`), and why others are none. It holds nothing else.
 #![tactic(auto)]
 
 mod answers;

@@ -3,7 +3,7 @@ use crate::assertions::{assert_same, assert_shown, page_of};
 use crate::steps::{assert_read_fails, assert_written, write};
 use crate::worn::WornDevice;
 use oai_device::{
-    DeviceFault, FaultyDevice, FlippingDevice, MOST_FAILURES, MemoryDevice, PageDevice,
+    DeviceFault, FaultyDevice, FlippingDevice, MAX_FAILURES, MemoryDevice, PageDevice,
 };
 
 /// What was written is read, also where it was written over.
@@ -50,9 +50,9 @@ fn last_count_of_failures(rt: HostRuntime) {
     };
     let mut device = FaultyDevice::new(inner, 1);
     assert_same(&rt, device.write(0, &page_of(1)), Err(DeviceFault::Failed));
-    assert_same(&rt, device.faults(), MOST_FAILURES);
+    assert_same(&rt, device.faults(), MAX_FAILURES);
     write(&rt, &mut device, 0, 1);
-    assert_same(&rt, device.faults(), MOST_FAILURES);
+    assert_same(&rt, device.faults(), MAX_FAILURES);
 }
 
 /// The second read that succeeds has its first byte inverted, and no other.

@@ -1,6 +1,6 @@
 //! A device that has failed as often as can be counted.
 
-use oai_device::{DeviceFault, MOST_FAILURES, Page, PageDevice};
+use oai_device::{DeviceFault, MAX_FAILURES, Page, PageDevice};
 
 /// A device over another one whose count of failures stands at its last value.
 #[derive(Drop)]
@@ -9,11 +9,11 @@ pub(crate) struct WornDevice<D: PageDevice> {
 }
 
 impl<D: PageDevice> PageDevice for WornDevice<D> {
-    ghost use Rattle.oai_device.specs.declared.devices.TheConstants.{MOST_FAILURES};
+    ghost use Rattle.oai_device.specs.declared.devices.TheConstants.{MAX_FAILURES};
 
     ghost pages = { λ d. D.pages d.inner };
 
-    ghost failures = { λ _. MOST_FAILURES };
+    ghost failures = { λ _. MAX_FAILURES };
 
     ghost honest = { λ d. D.honest d.inner };
 
@@ -30,6 +30,6 @@ impl<D: PageDevice> PageDevice for WornDevice<D> {
     }
 
     fn faults(&self) -> u64 {
-        MOST_FAILURES
+        MAX_FAILURES
     }
 }

@@ -2,7 +2,7 @@
 ghost use Rattle.std.specs.Prelude.{◌≡◌, ◌≢◌, [], true};
 ghost use Rattle.oai_item.specs.Item.{IsStamp, are_rising};
 ghost use Rattle.oai_answers.specs.Answers.{HasWritableEnd, HasWritableTimes, IsWritableDocument};
-ghost use Rattle.oai_answers.specs.Borrowed.{answer_of, continuation_of, document_of};
+ghost use Rattle.oai_answers.specs.Borrowed.{body_answer, continuation_of, document_of};
 
 mod expected;
 
@@ -39,7 +39,7 @@ fn assert_document(rt: &impl Abort, alloc: Global, doc: &Doc<'_>, wanted: &str)
 
 /// The answer to the arguments, at the date and the base URL, is spelled so.
 fn assert_answer(rt: &impl Abort, alloc: Global, asked: Asked<'_>, body: Body<'_>, wanted: &str)
-    requires { HasWritableTimes (answer_of body) }
+    requires { HasWritableTimes (body_answer body) }
 {
     let doc = Doc {
         date: DATE,
@@ -52,7 +52,7 @@ fn assert_answer(rt: &impl Abort, alloc: Global, asked: Asked<'_>, body: Body<'_
 
 /// The answer, where markup stands in the base URL and in each argument, is spelled so.
 fn assert_escaped(rt: &impl Abort, alloc: Global, body: Body<'_>, wanted: &str)
-    requires { HasWritableTimes (answer_of body) }
+    requires { HasWritableTimes (body_answer body) }
 {
     let doc = Doc {
         date: DATE,

@@ -1,7 +1,7 @@
 //! Bytes that come in pieces.
 use crate::assertions::assert_same;
 use crate::teller::{Teller, answered, assert_waits, front, hand_on, take_all};
-use oai_front::{ConnId, Front, PieceFault};
+use oai_front::{ConnId, Front};
 use std::alloc::Global;
 use std::panic::Expect;
 use std::process::Abort;
@@ -30,20 +30,10 @@ fn every_cut_gives_the_same_answers(rt: HostRuntime) {
 fn assert_cut(rt: &impl Abort, alloc: Global, first: &[u8], second: &[u8]) {
     let mut front = front(alloc, 1);
     let conn = front.open().expect(rt, "open");
-    hand_both(&mut front, conn, first, second).expect(rt, "hand_both");
+    hand_on(rt, &mut front, conn, 7, first);
+    hand_on(rt, &mut front, conn, 7, second);
     assert_waits(rt, alloc, &mut front, conn, answers());
     assert_same(rt, front.closing(conn), Some(true));
-}
-
-/// Hands two pieces on.
-fn hand_both(
-    front: &mut Front<Teller>,
-    conn: ConnId,
-    first: &[u8],
-    second: &[u8],
-) -> Result<(), PieceFault> {
-    hand_on(front, conn, 7, first)?;
-    hand_on(front, conn, 7, second)
 }
 
 #[test]
@@ -63,7 +53,7 @@ fn slowly_answered(
 ) -> Vec<u8> {
     let mut all = Vec::new(alloc);
     for byte in stream() {
-        hand_on(front, conn, 7, &[*byte]).expect(rt, "hand_on");
+        hand_on(rt, front, conn, 7, &[*byte]);
         take_all(rt, front, conn, true, &mut all);
     }
     all

@@ -2,7 +2,7 @@
 ghost use Rattle.std.specs.Prelude.{⊤};
 
 use crate::assertions::{assert_same, assert_same_at};
-use oai_front::{ConnId, Front, OpenFault, PieceFault};
+use oai_front::{ConnId, Front, OpenFault};
 use oai_http::{Answer, Exchange, Handler, Status};
 use oai_names::Sequence;
 use std::alloc::{AllocError, Global};
@@ -93,20 +93,15 @@ pub(crate) fn front(alloc: Global, limit: usize) -> Front<Teller> {
     Front::new(alloc, Teller { alloc, asked: 0 }, limit)
 }
 
-/// Hands a piece on. Where memory is refused once, nothing is lost: a piece that was not taken is handed on
-/// again, and the messages that wait are performed by an empty one.
+/// Hands the piece on, which is taken with all that it completes.
 pub(crate) fn hand_on(
+    rt: &impl Abort,
     front: &mut Front<Teller>,
     conn: ConnId,
     moment: i64,
     piece: &[u8],
-) -> Result<(), PieceFault> {
-    match front.piece(conn, moment, piece) {
-        Ok(()) => Ok(()),
-        Err(PieceFault::NoMemory) => front.piece(conn, moment, piece),
-        Err(PieceFault::Unfinished) => front.piece(conn, moment, b""),
-        Err(PieceFault::NoSuchConnection) => Err(PieceFault::NoSuchConnection),
-    }
+) {
+    front.piece(conn, moment, piece).expect(rt, "piece");
 }
 
 /// Opens two connections.
@@ -152,13 +147,12 @@ pub(crate) fn assert_waits(
 }
 
 /// Hands the pieces on, each at the moment of its number.
-fn hand_each(front: &mut Front<Teller>, conn: ConnId, pieces: &[&[u8]]) -> Result<(), PieceFault> {
+fn hand_each(rt: &impl Abort, front: &mut Front<Teller>, conn: ConnId, pieces: &[&[u8]]) {
     let mut moment: i64 = 0;
     for piece in pieces {
-        hand_on(front, conn, moment, piece)?;
+        hand_on(rt, front, conn, moment, piece);
         moment = moment.wrapping_add(1);
     }
-    Ok(())
 }
 
 /// What is answered to these pieces on one connection, each at the moment of its number, and whether the
@@ -166,7 +160,7 @@ fn hand_each(front: &mut Front<Teller>, conn: ConnId, pieces: &[&[u8]]) -> Resul
 pub(crate) fn answered(rt: &impl Abort, alloc: Global, pieces: &[&[u8]]) -> (Vec<u8>, bool) {
     let mut front = front(alloc, 1);
     let conn = front.open().expect(rt, "open");
-    hand_each(&mut front, conn, pieces).expect(rt, "hand_each");
+    hand_each(rt, &mut front, conn, pieces);
     let mut all = Vec::new(alloc);
     take_all(rt, &mut front, conn, false, &mut all);
     (all, front.closing(conn) == Some(true))

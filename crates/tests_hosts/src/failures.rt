@@ -134,6 +134,35 @@ fn damage_at_once(rt: HostRuntime) {
     assert_transcript_over(&rt, alloc, store, damaged_first_line());
 }
 
+/// The store finds no item. What is refused moves the clock all the same, also a third item of two; what is
+/// damaged does not.
+fn nothing_is_found() -> &'static str {
+    r#"> 1704067200 POST /deposit/c | - | {"deposit":"oai:c:1","sets":[],"records":{"oai_dc":[]}}¶{"deposit":"oai:c:2","sets":[],"records":{"oai_dc":[]}}
+200
+ok 2024-01-01T00:00:00Z
+ok 2024-01-01T00:00:00Z
+> 1704067205 POST /deposit/c | - | {"deposit":"oai:c:3","sets":[],"records":{"oai_dc":[]}}
+200
+refused 12 too-many-items
+> 1704067250 POST /deposit/c | - | {"delete":"oai:c:1"}
+500 done 0 for Damaged
+> 1704067200 GET /oai/c?verb=ListSets
+200
+DOC <responseDate>2024-01-01T00:00:05Z</responseDate><request verb="ListSets">http://host.example/oai/c</request><error code="noSetHierarchy">The repository has no sets.</error></OAI-PMH>
+> 1704067210 POST /deposit/c | - | {"purge":"2024-01-01T00:00:11Z"}¶{"deposit":"oai:c:3","sets":[],"records":{"oai_dc":[]}}¶{"delete":"oai:c:1"}¶{"set":"x","name":"X"}
+500 done 2 for Damaged
+> 1704067200 GET /oai/c?verb=ListSets
+200
+DOC <responseDate>2024-01-01T00:00:10Z</responseDate><request verb="ListSets">http://host.example/oai/c</request><error code="noSetHierarchy">The repository has no sets.</error></OAI-PMH>"#
+}
+
+#[test]
+fn store_that_finds_nothing(rt: HostRuntime) {
+    let alloc = rt.alloc();
+    let store = lying(PlainVersions::new(alloc), 0, 1_000);
+    assert_transcript_over(&rt, alloc, store, nothing_is_found());
+}
+
 // ---- requests
 
 /// A request that fails has no number of lines, and moves no clock.

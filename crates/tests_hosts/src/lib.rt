@@ -4,6 +4,8 @@
 #[cfg(test)]
 mod assertions;
 #[cfg(test)]
+mod counts;
+#[cfg(test)]
 mod deposits;
 #[cfg(test)]
 mod failures;

@@ -3,13 +3,13 @@
 use crate::assertions::assert_same;
 use crate::samples::item;
 use crate::told::{assert_title, assert_told};
-use oai_item::{DecodeFault, Item, MOST_ITEM_BYTES, encoding_law};
+use oai_item::{DecodeFault, Item, MAX_ITEM_BYTES, encoding_law};
 use std::alloc::Global;
 use std::panic::Expect;
 use std::process::Abort;
 
 /// The live item `oai:a:1` of 2024-01-01T00:00:00Z, without sets, with the title `T` in oai_dc.
-fn spelling() -> [u8; 56] {
+pub(crate) fn spelling() -> [u8; 56] {
     [
         0x01, 0x00, 0x00, 0x00, 0x00, 0x65, 0x92, 0x00, 0x80, 0x00, 0x00, 0x00, 0x07, 0x6f, 0x61,
         0x69, 0x3a, 0x61, 0x3a, 0x31, 0x00, 0x00, 0x00, 0x00, 0x00, 0x00, 0x00, 0x01, 0x00, 0x00,
@@ -19,13 +19,13 @@ fn spelling() -> [u8; 56] {
 }
 
 /// The deleted item `a:b` of 0000-01-01T00:00:00Z, in the sets `z` and `x:y`, in `jnl` and oai_dc.
-fn deleted_spelling() -> &'static [u8] {
+pub(crate) fn deleted_spelling() -> &'static [u8] {
     b"\x00\xff\xff\xff\xf1\x86\x8b\x84\x00\x00\x00\x00\x03a:b\x00\x00\x00\x02\x00\x00\x00\x01z\x00\x00\x00\x03x:y\x00\x00\x00\x02\x00\x00\x00\x03jnl\x00\x00\x00\x00\x00\x00\x00\x06oai_dc\x00\x00\x00\x00"
 }
 
 /// The spelling of the item, as it is written over other bytes.
 fn encoded(rt: &impl Abort, alloc: Global, item: &Item) -> Vec<u8> {
-    let mut bytes = vec![in alloc; 0xaa; MOST_ITEM_BYTES].expect(rt, "memory");
+    let mut bytes = vec![in alloc; 0xaa; MAX_ITEM_BYTES].expect(rt, "memory");
     let size = item
         .encode_into(bytes.as_mut_slice())
         .expect(rt, "encode_into");
@@ -36,7 +36,7 @@ fn encoded(rt: &impl Abort, alloc: Global, item: &Item) -> Vec<u8> {
 }
 
 /// The item is spelled so.
-fn assert_spelled(rt: &impl Abort, alloc: Global, item: &Item, spelling: &[u8]) {
+pub(crate) fn assert_spelled(rt: &impl Abort, alloc: Global, item: &Item, spelling: &[u8]) {
     let bytes = encoded(rt, alloc, item);
     assert_same(rt, bytes.as_slice(), spelling);
 }
@@ -127,7 +127,7 @@ fn fronts_and_bytes_left_over(rt: HostRuntime) {
 
 #[test]
 fn too_many_bytes(rt: HostRuntime) {
-    let bytes = vec![in rt.alloc(); 0xaa; MOST_ITEM_BYTES + 1].expect(&rt, "memory");
+    let bytes = vec![in rt.alloc(); 0xaa; MAX_ITEM_BYTES + 1].expect(&rt, "memory");
     assert_same(
         &rt,
         Item::decode(rt.alloc(), bytes.as_slice()).err(),

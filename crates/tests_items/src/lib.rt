@@ -11,6 +11,8 @@ mod encodings;
 #[cfg(test)]
 mod formats;
 #[cfg(test)]
+mod in_place;
+#[cfg(test)]
 mod items;
 #[cfg(test)]
 mod open_lists;

@@ -7,6 +7,8 @@ mod assertions;
 #[cfg(test)]
 mod chains;
 #[cfg(test)]
+mod first_deposit;
+#[cfg(test)]
 mod lies;
 #[cfg(test)]
 mod neighbours;

@@ -1,7 +1,7 @@
 //! Repositories that forget deleted items, as transcripts.
 use crate::transcripts::{assert_transcript, assert_transcript_over};
-use oai_answers::DeletedRecord;
 use oai_catalogue::PlainVersions;
+use oai_item::DeletedRecord;
 use tests_archives::{Told, archive_a, archive_b, archive_c};
 use tests_stores::failing;
 

@@ -1,9 +1,8 @@
 //! A repository of days: its clock, the most items that it holds, and what it keeps of deleted ones.
 use crate::assertions::{assert_same, assert_same_at, assert_shown};
-use oai_answers::DeletedRecord;
 use oai_catalogue::PlainVersions;
 use oai_deposit::{LineFault, read_line};
-use oai_item::{ChangeRefusal, Fault};
+use oai_item::{ChangeRefusal, DeletedRecord, Fault};
 use oai_repo::{Refusal, Reply};
 use oai_settings::RepoConfig;
 use std::alloc::Global;

@@ -1,7 +1,7 @@
 //! A store of whose calls one fails.
 ghost use Rattle.std.specs.Prelude.{◌≡◌, ◌==◌, ◌+◌, ◌-◌, true, false, min, is_err, IfErr, OnErr, OnOk};
 ghost use Rattle.oai_catalogue.specs.Store.{IsCounted};
-ghost use Rattle.oai_catalogue.specs.declared.versions.TheConstants.{MOST_FAILURES};
+ghost use Rattle.oai_catalogue.specs.declared.versions.TheConstants.{MAX_FAILURES};
 ghost use Rattle.oai_item.specs.declared.faults.Fault.TheVariants as fault;
 
 use crate::countdown::Countdown;
@@ -39,7 +39,7 @@ impl FailingHook {
         ensures left { self.new.countdown ≡ self.old.countdown - 1 }
         ensures fault { IfErr result (λ f. f ≡ fault.Device) }
         ensures ok { OnOk result (self.new.failed ≡ self.old.failed) }
-        ensures err { OnErr result (self.new.failed ≡ min (self.old.failed + 1) MOST_FAILURES) }
+        ensures err { OnErr result (self.new.failed ≡ min (self.old.failed + 1) MAX_FAILURES) }
         ensures counted { IsCounted result self.old.failed self.new.failed }
     {
         if self.countdown.is_due() {
@@ -55,7 +55,7 @@ impl FailingHook {
 pub fn failing<V: Versions + Drop>(inner: V, k: u64) -> HookedVersions<V, FailingHook>
     ensures lists { ⟦<HookedVersions<V, FailingHook> as Versions>⟧.lists result ≡ V.lists inner }
     ensures failures { ⟦<HookedVersions<V, FailingHook> as Versions>⟧.failures result
-        ≡ min (V.failures inner) MOST_FAILURES }
+        ≡ min (V.failures inner) MAX_FAILURES }
     ensures honest { ⟦<HookedVersions<V, FailingHook> as Versions>⟧.honest result ≡ V.honest inner }
     ensures room { ⟦<HookedVersions<V, FailingHook> as Versions>⟧.room result ≡ V.room inner }
 {

@@ -1,7 +1,7 @@
 //! A store over another one, with a hook at each call.
 ghost use Rattle.std.specs.Prelude.{◌≡◌, ◌+◌, ◌&&◌, if◌then◌else◌, ℕ, Bool, true, false, [], min, IfErr, OnOk};
 ghost use Rattle.oai_catalogue.specs.Store.{IsCounted};
-ghost use Rattle.oai_catalogue.specs.declared.versions.TheConstants.{MOST_FAILURES};
+ghost use Rattle.oai_catalogue.specs.declared.versions.TheConstants.{MAX_FAILURES};
 ghost use Rattle.oai_item.specs.declared.faults.Fault.TheVariants as fault;
 ghost use Rattle.tests_stores.specs.declared.hooked.CallKind.TheVariants as call;
 
@@ -55,7 +55,7 @@ pub struct HookedVersions<V: Versions + Drop, H: Hook + Drop> {
 impl<V: Versions + Drop, H: Hook + Drop> Versions for HookedVersions<V, H> {
     ghost lists = { λ s. V.lists s.inner };
 
-    ghost failures = { λ s. min (V.failures s.inner + H.failures s.hook) MOST_FAILURES };
+    ghost failures = { λ s. min (V.failures s.inner + H.failures s.hook) MAX_FAILURES };
 
     ghost honest = { λ s. H.is_truthful && V.honest s.inner };
 
@@ -141,13 +141,20 @@ impl<V: Versions + Drop, H: Hook + Drop> HookedVersions<V, H> {
     pub fn new(inner: V, hook: H) -> HookedVersions<V, H>
         ensures lists { ⟦<HookedVersions<V, H> as Versions>⟧.lists result ≡ V.lists inner }
         ensures failures { ⟦<HookedVersions<V, H> as Versions>⟧.failures result
-            ≡ min (V.failures inner + H.failures hook) MOST_FAILURES }
+            ≡ min (V.failures inner + H.failures hook) MAX_FAILURES }
         ensures honest { ⟦<HookedVersions<V, H> as Versions>⟧.honest result
             ≡ (H.is_truthful && V.honest inner) }
         ensures room { ⟦<HookedVersions<V, H> as Versions>⟧.room result
             ≡ (if H.takes_room then 0 else V.room inner) }
     {
         HookedVersions { inner, hook }
+    }
+
+    /// The hook.
+    pub fn hook(&self) -> &H
+        ensures { result.now ≡ self.now.hook }
+    {
+        &self.hook
     }
 }
 

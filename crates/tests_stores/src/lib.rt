@@ -1,13 +1,15 @@
 //! Stores over other stores, for tests of what stands on stores: one that fails a call, one without room,
-//! and one that lies. It holds no tests.
+//! one that lies, and one that counts its calls. It holds no tests.
 #![tactic(auto)]
 
 mod countdown;
+mod counts;
 mod failures;
 mod hooked;
 mod lies;
 mod shortages;
 
+pub use counts::{CountingHook, counting};
 pub use failures::{FailingHook, failing};
 pub use hooked::{CallKind, Hook, HookedVersions};
 pub use lies::{LyingHook, lying};

@@ -1,7 +1,6 @@
 ghost use Rattle.std.specs.Prelude.{◌≡◌, IfOk};
 ghost use Rattle.std.specs.List.{list_all, list_any};
-ghost use Rattle.oai_item.specs.Declaring.{has_room};
-ghost use Rattle.oai_item.specs.Workings.{IsCheck};
+ghost use Rattle.oai_item.specs.Declaring.{IsCheck, has_room};
 ghost use Rattle.oai_item.specs.Rules.{are_names, are_uris, has_repeat, is_element_name, is_first_byte, is_name, is_name_byte, is_space, is_uri};
 
 use super::{Format, FormatFault, format_named};
@@ -11,13 +10,13 @@ use std::alloc::{AllocError, Global};
 use std::collections::BTreeSet;
 
 /// The most formats that a repository has, oai_dc counted.
-const MOST_FORMATS: usize = 64;
+const MAX_FORMATS: usize = 64;
 
 /// The most fields that a format has.
-const MOST_FIELDS: usize = 256;
+const MAX_FIELDS: usize = 256;
 
 /// The most bytes that the name of an element has.
-const MOST_NAME_BYTES: usize = 64;
+const MAX_NAME_BYTES: usize = 64;
 
 /// Whether the format may stand beside these: the first cause against it.
 #[tactic(auto, unfolding(crate::specs::Declaring::declare_fault))]
@@ -61,7 +60,7 @@ fn all_names(names: &[Text]) -> bool
 fn is_name(text: &str) -> bool
     ensures { result ≡ is_name text.now }
 {
-    is_element_name(text) && text.len() <= MOST_NAME_BYTES
+    is_element_name(text) && text.len() <= MAX_NAME_BYTES
 }
 
 /// Whether the text is the name of an element, of any length: an ASCII letter or `_`, followed by
@@ -140,5 +139,5 @@ fn has_room(formats: &[Format], format: &Format) -> bool
     ensures { result ≡ has_room formats.now format.now }
 {
     let fields = format.fields.as_slice().len();
-    formats.len() < MOST_FORMATS && 0 < fields && fields <= MOST_FIELDS
+    formats.len() < MAX_FORMATS && 0 < fields && fields <= MAX_FIELDS
 }

@@ -1,5 +1,5 @@
 //! What a deletion makes of a repository's items, or why it is refused.
-ghost use Rattle.std.specs.Prelude.{◌≡◌, true, not, Some, IsSome, IsTrue, OnOk};
+ghost use Rattle.std.specs.Prelude.{◌≡◌, ◌≤◌, true, length, not, Some, IsSome, IsTrue, OnOk};
 ghost use Rattle.std.specs.List.{list_all};
 ghost use Rattle.oai_item.specs.Item.{IsStamp, tombstone_of};
 ghost use Rattle.oai_item.specs.Items.{item_named};
@@ -12,11 +12,10 @@ ghost use Rattle.oai_repo.specs.Fields.{stored_items};
 ghost use Rattle.oai_repo.specs.Indexing.{IsDoneOn, IsMadeOn, Moves, StandsOn};
 ghost use Rattle.oai_repo.specs.Kept.{is_too_large};
 
-use crate::changes::{ChangeContext, Refusal};
+use crate::changes::ChangeContext;
 use crate::item_index::ItemIndex;
-use oai_answers::DeletedRecord;
 use oai_catalogue::Versions;
-use oai_item::{ChangeRefusal, Fault, Item};
+use oai_item::{ChangeRefusal, DeletedRecord, Fault, Item, Refusal};
 use oai_names::Identifier;
 
 /// Deletes the item of that identifier: it goes where nothing is kept of deleted records, and stays
@@ -40,6 +39,7 @@ pub(crate) fn delete<V: Versions>(
     ensures there { OnOk result (IsSome (stamp_in identifier.now index.old.entries)) }
     ensures stamped { OnOk result (SetsStamp identifier.now (stamp_after_deletion context.now.config.now.deleted context.now.stamp)
         index.old.entries index.new.entries) }
+    ensures fewer { OnOk result (length index.new.entries ≤ length index.old.entries) }
     ensures moves { Moves V.Versions result index.old store.old index.new store.new }
     ensures store { Uses V.Versions 1 (fault_in result) store.old store.new }
 {
@@ -58,6 +58,7 @@ fn delete_item<V: Versions>(
 ) -> Result<(), Refusal>
     requires stamped { IsStamp context.now.stamp }
     requires stands { StandsOn V.Versions index.old store.old }
+    requires indexed { IsSome (stamp_in item.now.identifier index.old.entries) }
     requires small { IsTrue (V.honest store.old) → not (is_too_large item.now) ≡ true }
     requires there { IsTrue (V.honest store.old) → item_named item.now.identifier
         (stored_items index.old (V.lists store.old)) ≡ Some item.now }
@@ -67,6 +68,7 @@ fn delete_item<V: Versions>(
         result index.old store.old index.new store.new }
     ensures stamped { OnOk result (SetsStamp item.now.identifier (stamp_after_deletion context.now.config.now.deleted context.now.stamp)
         index.old.entries index.new.entries) }
+    ensures fewer { OnOk result (length index.new.entries ≤ length index.old.entries) }
     ensures moves { Moves V.Versions result index.old store.old index.new store.new }
     ensures store { Uses V.Versions 1 (fault_in result) store.old store.new }
 {
@@ -86,6 +88,7 @@ fn take_out<V: Versions>(
 ) -> Result<(), Fault>
     requires stamped { IsStamp context.now.stamp }
     requires stands { StandsOn V.Versions index.old store.old }
+    requires indexed { IsSome (stamp_in item.now.identifier index.old.entries) }
     requires small { IsTrue (V.honest store.old) → not (is_too_large item.now) ≡ true }
     requires there { IsTrue (V.honest store.old) → item_named item.now.identifier
         (stored_items index.old (V.lists store.old)) ≡ Some item.now }
@@ -93,6 +96,7 @@ fn take_out<V: Versions>(
         (after_deletion context.now.config.now.deleted context.now.stamp item.now.identifier) index.old store.old index.new store.new) }
     ensures stamped { OnOk result (SetsStamp item.now.identifier (stamp_after_deletion context.now.config.now.deleted context.now.stamp)
         index.old.entries index.new.entries) }
+    ensures fewer { OnOk result (length index.new.entries ≤ length index.old.entries) }
     ensures moves { Moves V.Versions result index.old store.old index.new store.new }
     ensures store { Uses V.Versions 1 result store.old store.new }
 {
@@ -112,6 +116,7 @@ fn replace_with_tombstone<V: Versions>(
 ) -> Result<(), Fault>
     requires stamped { IsStamp context.now.stamp }
     requires stands { StandsOn V.Versions index.old store.old }
+    requires indexed { IsSome (stamp_in item.now.identifier index.old.entries) }
     requires small { IsTrue (V.honest store.old) → not (is_too_large item.now) ≡ true }
     requires there { IsTrue (V.honest store.old) → item_named item.now.identifier
         (stored_items index.old (V.lists store.old)) ≡ Some item.now }
@@ -119,6 +124,7 @@ fn replace_with_tombstone<V: Versions>(
         (with_new (tombstone_of context.now.stamp item.now)) index.old store.old index.new store.new) }
     ensures stamped { OnOk result (SetsStamp item.now.identifier (Some context.now.stamp) index.old.entries
         index.new.entries) }
+    ensures fewer { OnOk result (length index.new.entries ≤ length index.old.entries) }
     ensures moves { Moves V.Versions result index.old store.old index.new store.new }
     ensures store { Uses V.Versions 1 result store.old store.new }
 {

@@ -1,12 +1,12 @@
 //! What is deposited: why it is refused, and the item that it makes.
-ghost use Rattle.std.specs.Prelude.{◌≡◌, ◌≤◌, None, Some, codes, length, OnOk};
+ghost use Rattle.std.specs.Prelude.{◌≡◌, ◌≤◌, None, Some, codes, false, length, OnOk};
 ghost use Rattle.std.specs.List.{list_all};
 ghost use Rattle.std.specs.Option.{option_copied};
 ghost use Rattle.oai_names.specs.Names.{is_among};
 ghost use Rattle.oai_names.specs.Sets.{has_set};
 ghost use Rattle.oai_item.specs.Encoding.{encoded};
 ghost use Rattle.oai_item.specs.Items.{item_named};
-ghost use Rattle.oai_item.specs.declared.sizes.TheConstants.{MOST_ITEM_BYTES};
+ghost use Rattle.oai_item.specs.declared.sizes.TheConstants.{MAX_ITEM_BYTES};
 ghost use Rattle.oai_catalogue.specs.Calls.{Uses};
 ghost use Rattle.oai_item.specs.Item.{IsStamp, Metadata, has_record, live_item, record_named};
 ghost use Rattle.oai_item.specs.Known.{are_fields_of, has_format, has_known_fields};
@@ -17,10 +17,10 @@ ghost use Rattle.oai_repo.specs.Entries.{SetsStamp};
 ghost use Rattle.oai_repo.specs.Fields.{stored_items};
 ghost use Rattle.oai_repo.specs.Indexing.{IsDoneOn, Moves, StandsOn};
 
-use crate::changes::{ChangeContext, Refusal};
+use crate::changes::ChangeContext;
 use crate::item_index::ItemIndex;
 use oai_catalogue::Versions;
-use oai_item::{ChangeRefusal, Field, Format, Formats, Item, Records};
+use oai_item::{ChangeRefusal, Field, Format, Formats, Item, Records, Refusal};
 use oai_names::{Identifier, Sequence, SetSpec, SetTree, Text};
 use oai_settings::RepoConfig;
 
@@ -55,6 +55,8 @@ pub(crate) fn put_deposit<V: Versions>(
         (spec.with_new item items) result index.old store.old index.new store.new }
     ensures stamped { OnOk result (SetsStamp deposit.now.identifier.now (Some context.now.stamp) index.old.entries
         index.new.entries) }
+    ensures few { OnOk result (length index.old.entries ≤ context.now.config.now.items
+        → length index.new.entries ≤ context.now.config.now.items) }
     ensures moves { Moves V.Versions result index.old store.old index.new store.new }
     ensures store { Uses V.Versions 1 (fault_in result) store.old store.new }
 {
@@ -92,6 +94,8 @@ fn put_item<V: Versions>(
         (spec.with_new item.now items) result index.old store.old index.new store.new }
     ensures stamped { OnOk result (SetsStamp item.now.identifier (Some item.now.stamp) index.old.entries
         index.new.entries) }
+    ensures few { OnOk result (length index.old.entries ≤ context.now.config.now.items
+        → length index.new.entries ≤ context.now.config.now.items) }
     ensures moves { Moves V.Versions result index.old store.old index.new store.new }
     ensures store { Uses V.Versions 1 (fault_in result) store.old store.new }
 {
@@ -137,7 +141,9 @@ fn item_refusal(
 ) -> Option<ChangeRefusal>
     ensures cause { result ≡ spec.item_refusal config.now (option_copied replaced.entry) count
         item.now }
-    ensures fits { result ≡ None → length (encoded item.now) ≤ MOST_ITEM_BYTES }
+    ensures fits { result ≡ None → length (encoded item.now) ≤ MAX_ITEM_BYTES }
+    ensures room { result ≡ None
+        → spec.is_one_too_many config.now (option_copied replaced.entry) count ≡ false }
 {
     if drops_format(replaced, item) {
         return Some(ChangeRefusal::DropsFormat);

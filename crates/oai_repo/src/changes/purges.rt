@@ -6,7 +6,7 @@ ghost use Rattle.oai_time.specs.Bound.{IsWritableBound};
 ghost use Rattle.oai_time.specs.Stamp.{IsWritable};
 ghost use Rattle.oai_item.specs.declared.faults.Fault.TheVariants as fault;
 ghost use Rattle.oai_item.specs.Selection.{selected};
-ghost use Rattle.oai_answers.specs.declared.identify.DeletedRecord.TheVariants as policy;
+ghost use Rattle.oai_item.specs.declared.deleted_record.DeletedRecord.TheVariants as policy;
 ghost use Rattle.oai_catalogue.specs.Calls.{OnlyReads, Uses};
 ghost use Rattle.oai_catalogue.specs.Store.{list_at};
 ghost use Rattle.oai_repo.specs.Calls.{fault_in};
@@ -16,14 +16,12 @@ ghost use Rattle.oai_repo.specs.Entries.{ForgetsSome};
 ghost use Rattle.oai_repo.specs.Purges.{below, is_deleted, is_in_core};
 ghost use Rattle.oai_repo.specs.Indexing.{IsDoneOn, Moves, StandsOn};
 
-use crate::changes::{ChangeContext, Refusal};
+use crate::changes::ChangeContext;
 use crate::item_index::ItemIndex;
-use crate::lists::FIRST_SECOND;
-use oai_answers::DeletedRecord;
 use oai_catalogue::{Filter, Versions};
-use oai_item::{ChangeRefusal, Fault, Item};
+use oai_item::{ChangeRefusal, DeletedRecord, Fault, Item, Refusal};
 use oai_names::{NameFault, Prefix, Sequence};
-use oai_time::{Bound, Granularity, is_no_finer_than, lower, read_bound};
+use oai_time::{Bound, FIRST_SECOND, Granularity, is_no_finer_than, lower, read_bound};
 use std::alloc::{AllocError, Global};
 
 /// How many items are read at once.
@@ -48,6 +46,7 @@ pub(crate) fn purge<V: Versions>(
         (spec.after_purge (spec.limit_of context.now.config.now.granularity before.now) items)
         result index.old store.old index.new store.new }
     ensures forgotten { OnOk result (ForgetsSome index.old.entries index.new.entries) }
+    ensures fewer { OnOk result (length index.new.entries ≤ length index.old.entries) }
     ensures moves { Moves V.Versions result index.old store.old index.new store.new }
     ensures store { Uses V.Versions (length index.old.entries + 1) (fault_in result) store.old store.new }
 {

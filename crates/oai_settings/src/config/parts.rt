@@ -11,26 +11,23 @@ ghost use Rattle.oai_settings.specs.SettingsWork.{IsDeclared, IsFormatOf, IsPref
 use crate::settings::{ConfigFault, FormatSettings};
 use oai_item::{Format, FormatFault, Formats};
 use oai_names::{NameFault, Prefix, Sequence, Text};
-use oai_time::{Bound, Granularity, read_bound};
+use oai_time::{Bound, Granularity, LAST_TICK, read_bound};
 use std::alloc::{AllocError, Global};
 
 /// The first second of the year 0001.
 const FIRST_DATE: i64 = -62_135_596_800;
 
-/// The last second of the year 9998.
-const LAST_DATE: i64 = 253_370_764_799;
-
 /// The most records a page.
-const MOST_CHUNK: u64 = 1_000;
+const MAX_CHUNK: u64 = 1_000;
 
 /// The most seconds that a list stays open: a year of 365 days.
-const MOST_LIFETIME: u64 = 31_536_000;
+const MAX_LIFETIME: u64 = 31_536_000;
 
 /// The most lists that are open at once.
-const MOST_LISTS: u64 = 10_000;
+const MAX_LISTS: u64 = 10_000;
 
 /// The most items, deleted ones counted.
-const MOST_ITEMS: u64 = 1_000_000;
+const MAX_ITEMS: u64 = 1_000_000;
 
 /// The most that a repository holds and shows at once.
 #[derive(Clone, Copy, Debug)]
@@ -136,7 +133,7 @@ fn seconds_of(granularity: Granularity, bound: Bound) -> Option<i64>
 fn is_in_years(seconds: i64) -> bool
     ensures { result ≡ rule.is_in_years seconds }
 {
-    FIRST_DATE <= seconds && seconds <= LAST_DATE
+    FIRST_DATE <= seconds && seconds <= LAST_TICK
 }
 
 /// The limits, where each is a number and in its range.
@@ -150,10 +147,10 @@ pub(super) fn limits_of(
     ensures { AreLimits chunk lifetime lists items result }
 {
     Some(Limits {
-        chunk: limit(MOST_CHUNK, chunk)?,
-        lifetime: limit(MOST_LIFETIME, lifetime)?,
-        lists: limit(MOST_LISTS, lists)?,
-        items: limit(MOST_ITEMS, items)?,
+        chunk: limit(MAX_CHUNK, chunk)?,
+        lifetime: limit(MAX_LIFETIME, lifetime)?,
+        lists: limit(MAX_LISTS, lists)?,
+        items: limit(MAX_ITEMS, items)?,
     })
 }
 

@@ -1,5 +1,5 @@
 use Rattle.std.proofs.Common.{◌≡◌, map}
-use Rattle.oai_deposit.specs.Readings.{each_of}
+use Rattle.oai_names.specs.Optional.{each_of}
 use Rattle.oai_deposit.specs.Lines.{record_of}
 use Rattle.oai_deposit.proofs.JsonLemmas.{seen}
 use Rattle.oai_deposit.proofs.ReadingLemmas.{with_front}

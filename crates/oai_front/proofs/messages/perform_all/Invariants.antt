@@ -1,7 +1,7 @@
 use Rattle.std.proofs.Common.{ℕ, length}
 use Rattle.std.specs.List.{concat}
 use Rattle.oai_front.specs.Queues.{AreFilled, IsTaken}
-use Rattle.oai_front.specs.Workings.{IsSoFar}
+use Rattle.oai_front.specs.Pipelining.{IsSoFar}
 use Rattle.oai_front.proofs.messages.perform_all.Given as goal
 
 abbrev pub invariant-messages : goal.invariant-messages

@@ -1,5 +1,5 @@
 use Rattle.std.proofs.Common.{arith}
-use Rattle.oai_item.specs.Workings.{IsCount}
+use Rattle.oai_item.specs.SpellingParts.{IsCount}
 use Rattle.oai_item.proofs.Numbers.{count_read, no_count}
 use Rattle.oai_item.proofs.decodings.read_count.Goals as goal
 

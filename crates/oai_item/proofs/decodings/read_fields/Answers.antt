@@ -1,35 +1,45 @@
-use Rattle.std.proofs.Common.{◌≡◌, ◌∙◌, ◌++◌, true, ap, sym, arith}
-use Rattle.std.proofs.lemmas.Result.{err_from_is_err_and}
+use Rattle.std.proofs.Common.{◌≡◌, subst, arith, true}
 use Rattle.std.specs.List.{list_all}
-use Rattle.oai_item.specs.Encoding.{encoded_field, encoded_list, is_text_field}
-use Rattle.oai_item.proofs.Spellings.{count_of_list, fails_as, field_has_eight, field_has_four, field_is_cut, list_of_parts, next_in_list, no_room}
+use Rattle.oai_item.specs.Decoding.{first_field}
+use Rattle.oai_item.specs.Encoding.{encoded_count, encoded_field}
+use Rattle.oai_item.specs.Encoding.{is_text_field}
+use Rattle.oai_item.specs.SpellingParts.{HasRead}
+use Rattle.oai_item.proofs.ReadBack.{field_back}
+use Rattle.oai_item.proofs.Spellings.{count_of_list, few_behind, next_in_list, no_room, field_has_eight, field_has_four, field_is_cut}
+use Rattle.oai_item.proofs.Walking.{all_spelled, list_found, none_read, one_more}
 use Rattle.oai_item.proofs.decodings.read_fields.Goals as goal
 
 pub returns-in_err-count : goal.returns-in_err-count
-returns-in_err-count c =
-    let p = err_from_is_err_and c.from_residual.result c.from_residual.ensures.1 in
-    rw (p.1, p.2) (fails_as _ _ _ _ _ _ c.in_err-count.field-0.0 (count_of_list encoded_field field_has_four _ c.args.bytes.now) c.in_err-count.ensures)
+returns-in_err-count c = rw c.from_residual.ensures (λ s. c.in_err-count.ensures (count_of_list encoded_field field_has_four _ c.args.bytes.now s))
 
-pub returns-then-rest-count : goal.returns-then-rest-count
-returns-then-rest-count c =
+pub returns-then-start-count : goal.returns-then-start-count
+returns-then-start-count c =
     let read = c.in_ok-count.ensures in
-    no_room encoded_field 8 field_has_eight field_has_four (λ xs. list_all is_text_field xs ≡ true) c.args.bytes.now c.in_ok-count.rest.now c.in_ok-count.count read.0 read.1 (omega (arith, c.if-rest-count.true))
+    no_room encoded_field 8 field_has_eight field_has_four (λ xs. list_all is_text_field xs ≡ true) c.args.bytes.now c.in_ok-count.start.now c.in_ok-count.count read.0 read.1 (omega (arith, c.if-start-count.true))
 
-pub returns-in_err-field : goal.returns-in_err-field
-returns-in_err-field c =
+pub loop-init : goal.loop-init
+loop-init c = none_read encoded_field is_text_field c.in_ok-count.start.now
+
+pub loop-preserved : goal.loop-preserved
+loop-preserved c = one_more encoded_field is_text_field c.in_ok-count.start.now c.loop.rest.now c.in_ok-after.after.now c.loop.counter _ c.loop.invariant c.in_ok-after.ensures
+
+pub returns-in_err-after : goal.returns-in_err-after
+returns-in_err-after c =
     let read = c.in_ok-count.ensures in
     let so_far = c.loop.invariant in
-    let p = err_from_is_err_and c.from_residual-in_err-field.result c.from_residual-in_err-field.ensures.1 in
-    rw (p.1, p.2) (fails_as _ _ _ _ _ _ c.in_err-field.field-0.0
-    (next_in_list encoded_field field_is_cut field_has_four is_text_field c.args.bytes.now c.in_ok-count.rest.now c.loop.rest.now c.loop.fields.items c.in_ok-count.count read.0 read.1 so_far.parts (omega (arith, so_far.many, c.loop-test.true)))
-    c.in_err-field.ensures)
+    rw c.from_residual-in_err-after.ensures (λ s.
+    c.in_err-after.ensures (next_in_list encoded_field field_is_cut field_has_four is_text_field c.args.bytes.now c.in_ok-count.start.now c.loop.rest.now so_far.elements c.in_ok-count.count read.0 read.1 so_far.parts (omega (arith, so_far.many, c.loop-test.true)) s))
+
+pub new-requires : goal.new-requires
+new-requires c =
+    let few = few_behind c.args.bytes.now (encoded_count c.in_ok-count.count) c.in_ok-count.start.now c.in_ok-count.ensures.1 c.requires in
+    let whole : HasRead encoded_field is_text_field c.in_ok-count.start.now c.in_ok-count.count c.loop.rest.now =
+    subst (λ n. HasRead encoded_field is_text_field c.in_ok-count.start.now n c.loop.rest.now) (omega (arith, c.loop.auto.counter-end, c.loop-test.false)) c.loop.invariant in
+    all_spelled first_field encoded_field is_text_field field_back c.in_ok-count.start.now c.loop.rest.now c.in_ok-count.count few whole
 
 pub returns : goal.returns
 returns c =
-    let read = c.in_ok-count.ensures in
-    let so_far = c.loop.invariant in
-    let is : c.new.result ≡ c.loop.fields.items = c.new.ensures in (
-      ap (list_all is_text_field) is ∙ so_far.good,
-      list_of_parts encoded_field c.args.bytes.now c.in_ok-count.rest.now c.loop.rest.now c.loop.fields.items c.in_ok-count.count read.1 so_far.parts (omega (arith, so_far.many, c.loop.auto.counter-end, c.loop-test.false))
-          ∙ ap (λ xs. encoded_list encoded_field xs ++ c.loop.rest.now) (sym is),
-    )
+    let few = few_behind c.args.bytes.now (encoded_count c.in_ok-count.count) c.in_ok-count.start.now c.in_ok-count.ensures.1 c.requires in
+    let whole : HasRead encoded_field is_text_field c.in_ok-count.start.now c.in_ok-count.count c.loop.rest.now =
+    subst (λ n. HasRead encoded_field is_text_field c.in_ok-count.start.now n c.loop.rest.now) (omega (arith, c.loop.auto.counter-end, c.loop-test.false)) c.loop.invariant in
+    list_found first_field encoded_field is_text_field field_back c.args.bytes.now c.in_ok-count.start.now c.loop.rest.now c.in_ok-count.count _ few c.in_ok-count.ensures.1 whole c.new.ensures

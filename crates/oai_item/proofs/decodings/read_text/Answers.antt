@@ -2,15 +2,12 @@ use Rattle.std.proofs.Common.{◌≡◌, ◌∙◌, length, take, ap, sym, subst
 use Rattle.std.specs.Str.{IsUtf8}
 use Rattle.std.proofs.lemmas.List.{take_at}
 use Rattle.std.proofs.lemmas.Str.{IsUtf8-from_is_utf8, is_utf8-from_IsUtf8}
-use Rattle.std.proofs.lemmas.Result.{err_from_is_err_and}
-use Rattle.oai_item.specs.Workings.{IsText}
-use Rattle.oai_item.proofs.Spellings.{count_of_text, fails_as, text_behind, text_of_parts}
+use Rattle.oai_item.specs.SpellingParts.{IsText}
+use Rattle.oai_item.proofs.Spellings.{count_of_text, text_behind, text_of_parts}
 use Rattle.oai_item.proofs.decodings.read_text.Goals as goal
 
 pub returns-in_err-len : goal.returns-in_err-len
-returns-in_err-len c =
-    let p = err_from_is_err_and c.from_residual.result c.from_residual.ensures.1 in
-    rw (p.1, p.2) (fails_as _ _ _ _ _ _ c.in_err-len.field-0.0 (count_of_text IsText c.args.bytes.now) c.in_err-len.ensures)
+returns-in_err-len c = rw c.from_residual.ensures (λ s. c.in_err-len.ensures (count_of_text IsText c.args.bytes.now s))
 
 pub returns-then-rest-len : goal.returns-then-rest-len
 returns-then-rest-len c = λ s.

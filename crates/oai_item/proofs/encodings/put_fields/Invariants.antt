@@ -1,7 +1,7 @@
 use Rattle.std.proofs.Common.{◌≡◌, true, take}
 use Rattle.std.specs.List.{list_all}
 use Rattle.oai_item.specs.Encoding.{encoded_field, is_text_field}
-use Rattle.oai_item.specs.Workings.{Writes}
+use Rattle.oai_item.specs.SpellingParts.{Writes}
 use Rattle.oai_item.proofs.Written.{so_far}
 use Rattle.oai_item.proofs.encodings.put_fields.Given as goal
 

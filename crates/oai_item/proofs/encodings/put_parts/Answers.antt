@@ -2,7 +2,7 @@ use Rattle.std.proofs.Common.{◌+◌, ◌-◌, arith, length, FitsSigned, w64}
 use Rattle.std.proofs.lemmas.Int.{to_z-of_z}
 use borrow.Rule.Slice.PartMut.{put_mid}
 use Rattle.oai_item.specs.Encoding.{encoded, encoded_bool, encoded_list, encoded_record, encoded_stamp, encoded_text}
-use Rattle.oai_item.specs.Workings.{Writes}
+use Rattle.oai_item.specs.SpellingParts.{Writes}
 use Rattle.oai_item.proofs.Lengths.{length-encoded_bool}
 use Rattle.oai_item.proofs.Written.{has_room, length-stamp, parts2, parts3, parts4, room_behind, writes_behind}
 use Rattle.oai_item.proofs.encodings.put_parts.Goals as goal

@@ -1,7 +1,7 @@
 use Rattle.std.proofs.Common.{◌≡◌, true, take}
 use Rattle.std.specs.List.{list_all}
 use Rattle.oai_item.specs.Encoding.{encoded_record, is_text_record}
-use Rattle.oai_item.specs.Workings.{Writes}
+use Rattle.oai_item.specs.SpellingParts.{Writes}
 use Rattle.oai_item.proofs.Written.{so_far}
 use Rattle.oai_item.proofs.encodings.put_records.Given as goal
 

@@ -2,7 +2,7 @@ use Rattle.std.proofs.Common.{◌≡◌, true, take}
 use Rattle.std.specs.List.{list_all}
 use Rattle.std.specs.Str.{is_utf8}
 use Rattle.oai_item.specs.Encoding.{encoded_text}
-use Rattle.oai_item.specs.Workings.{Writes}
+use Rattle.oai_item.specs.SpellingParts.{Writes}
 use Rattle.oai_item.proofs.Written.{so_far}
 use Rattle.oai_item.proofs.encodings.put_sets.Given as goal
 

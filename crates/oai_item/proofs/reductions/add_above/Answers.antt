@@ -1,7 +1,7 @@
 use Rattle.std.proofs.Common.{◌∙◌, ℕ, ◌||◌, List, ap, sym, rules}
 use Rattle.std.specs.Str.{bytes_eq}
 use Rattle.oai_item.specs.Membership.{is_above}
-use Rattle.oai_item.specs.Workings.{holds}
+use Rattle.oai_item.specs.Reductions.{holds}
 use Rattle.oai_item.proofs.Above.{holds_more, is_above-parent, is_above-root, or_between, or_false, parent_shorter}
 use Rattle.oai_item.proofs.reductions.add_above.Goals as goal
 

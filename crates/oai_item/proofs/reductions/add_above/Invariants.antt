@@ -2,7 +2,7 @@ use Rattle.std.proofs.Common.{◌≡◌, ◌||◌, ℕ, List, length}
 use denote.Shadow.{shadow}
 use denote.Text.{Utf8}
 use Rattle.oai_item.specs.Membership.{is_above}
-use Rattle.oai_item.specs.Workings.{holds}
+use Rattle.oai_item.specs.Reductions.{holds}
 use Rattle.oai_item.proofs.reductions.add_above.Given as goal
 
 -- what is above the path is still to come

@@ -1,7 +1,7 @@
 use Rattle.std.proofs.Common.{◌≡◌, ℕ, List, take}
 use Rattle.std.specs.List.{list_any}
 use Rattle.oai_item.specs.Membership.{is_above}
-use Rattle.oai_item.specs.Workings.{holds}
+use Rattle.oai_item.specs.Reductions.{holds}
 use Rattle.oai_item.proofs.reductions.names_above.Given as goal
 
 -- the names above the sets so far

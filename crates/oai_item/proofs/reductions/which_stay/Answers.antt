@@ -5,7 +5,7 @@ use Rattle.std.proofs.lemmas.List.{length-take-le, length_push, take_all, take_m
 use Rattle.std.proofs.lemmas.List.Folds.{list_any_more}
 use Rattle.oai_item.specs.Item.{are_set_specs}
 use Rattle.oai_item.specs.Membership.{distinct, is_above, reduced}
-use Rattle.oai_item.specs.Workings.{flagged}
+use Rattle.oai_item.specs.Reductions.{flagged}
 use Rattle.oai_item.proofs.Above.{holds_more, or_false, or_last, or_turn}
 use Rattle.oai_item.proofs.Flagged.{flagged-push}
 use Rattle.oai_item.proofs.Kept.{kept_more}

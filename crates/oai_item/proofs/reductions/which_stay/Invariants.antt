@@ -3,7 +3,7 @@ use Rattle.std.specs.List.{filter, list_any}
 use Rattle.std.specs.Str.{bytes_eq}
 use Rattle.oai_item.specs.Item.{are_set_specs}
 use Rattle.oai_item.specs.Membership.{distinct, is_above}
-use Rattle.oai_item.specs.Workings.{flagged, holds}
+use Rattle.oai_item.specs.Reductions.{flagged, holds}
 use Rattle.oai_item.proofs.reductions.which_stay.Given as goal
 
 -- of the setSpecs so far those stay that are to stay, all of the grammar; no other of these, and none above one of all, is to stay

@@ -1,6 +1,6 @@
 use Rattle.std.proofs.Common.{◌≡◌, take}
 use Rattle.std.specs.List.{list_all}
-use Rattle.oai_names.specs.Workings.{is_plain_byte}
+use Rattle.oai_names.specs.ByteTests.{is_plain_byte}
 use Rattle.oai_names.proofs.texts.are_plain.Given as goal
 
 -- whether the bytes so far are plain

@@ -4,7 +4,7 @@ use Rattle.std.proofs.lemmas.Str.{chars-IsAscii}
 use Rattle.std.specs.List.{list_all}
 use Rattle.std.specs.Str.{IsAscii}
 use Rattle.oai_names.specs.Characters.{is_xml_char, is_xml_text}
-use Rattle.oai_names.specs.Workings.{is_plain_byte}
+use Rattle.oai_names.specs.ByteTests.{is_plain_byte}
 use Rattle.oai_names.proofs.texts.is_xml_text.Goals as goal
 
 -- plain bytes are those of ASCII, each a character of its own, and one of XML's

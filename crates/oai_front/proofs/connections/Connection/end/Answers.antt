@@ -1,7 +1,7 @@
 use Rattle.std.proofs.Common.{refl, inl, inr}
 use Rattle.oai_front.specs.Messages.{HasWhole}
 use Rattle.oai_front.proofs.MessageLemmas.{message_at, message_reads}
-use Rattle.oai_front.specs.Workings.{behind}
+use Rattle.oai_front.specs.Pipelining.{behind}
 use Rattle.oai_front.proofs.connections.Connection.end.Goals as goal
 
 -- a message stands there

@@ -1,8 +1,8 @@
 -- What is known of the head stays known where bytes come behind it.
 use Rattle.std.proofs.Common.{◌≡◌, List, ℕ, ◌++◌, Option, None, Some, Result, Ok, Err, subst, sym}
 use Rattle.std.specs.Prelude.{IfSome, is_ok, if◌then◌else◌}
-use Rattle.oai_front.specs.Workings.{IsHead}
-use Rattle.oai_front.specs.declared.beginnings.Head.{Head}
+use Rattle.oai_front.specs.RequestHeads.{IsHead}
+use Rattle.oai_front.specs.declared.request_heads.Head.{Head}
 use Rattle.oai_front.proofs.HeadLemmas.{head_more}
 use Rattle.oai_front.proofs.connections.Connection.read.Goals as goal
 

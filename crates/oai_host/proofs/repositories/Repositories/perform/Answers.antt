@@ -3,7 +3,10 @@ use Rattle.std.proofs.Common.{◌≡◌, ◌∙◌, FitsSigned, w64}
 use Rattle.std.proofs.lemmas.Int.{to_z-of_z}
 use Rattle.std.proofs.lemmas.Option.{get_or_from_slice_get}
 use Rattle.oai_http.specs.Exchanges.{call_of}
-use Rattle.oai_host.proofs.HousedLemmas.{held_at, housed_set, left_set, others_set, stands_at, steps_set}
+use Rattle.oai_host.specs.Tasks.{task_in}
+use Rattle.oai_host.proofs.BrokenLemmas.{broken_cause, task_not_broken}
+use Rattle.oai_host.proofs.NamedRepoLemmas.{held_at, repos_set, left_set, others_set, stands_at, steps_set}
+use Rattle.oai_host.proofs.PerformedLemmas.{performed_set}
 use Rattle.oai_host.proofs.PlaceLemmas.{names_set}
 use Rattle.oai_host.proofs.RoomLemmas.{room_set}
 use Rattle.oai_host.proofs.repositories.Repositories.perform.Goals as goal
@@ -12,12 +15,12 @@ pub perform-requires : goal.perform-requires
 perform-requires g c =
     let p = c.requires.place in
     let there = rw (← c.self.view_is) at p.there in
-    let one : c.index_mut.result.now ≡ p.one = c.index_mut.ensures.value ∙ get_or_from_slice_get c.self.inside.housed.items c.args.place p.one c.index_mut.result.now there in
+    let one : c.index_mut.result.now ≡ p.one = c.index_mut.ensures.value ∙ get_or_from_slice_get c.self.inside.repos.items c.args.place p.one c.index_mut.result.now there in
     let all = g.V.Versions.lists c.args.store.now in
     rw one (record {
       owns = record {
-        stands = stands_at c.args.self.now c.args.place p.one all p.there c.requires.housed.stand;
-        held = λ honest. held_at c.args.self.now c.args.place p.one all p.there (c.requires.housed.held honest);
+        stands = stands_at c.args.self.now c.args.place p.one all p.there c.requires.repos.stand;
+        held = λ honest. held_at c.args.self.now c.args.place p.one all p.there (c.requires.repos.held honest);
       };
     })
 
@@ -25,66 +28,82 @@ pub invariant_of-self : goal.invariant_of-self
 invariant_of-self g c =
     let p = c.requires.place in
     let there = rw (← c.self.view_is) at p.there in
-    let one : c.index_mut.result.now ≡ p.one = c.index_mut.ensures.value ∙ get_or_from_slice_get c.self.inside.housed.items c.args.place p.one c.index_mut.result.now there in
-    rw (one, names_set c.self.inside.housed.items c.args.place p.one c.perform.new.repo there) c.self.invariant
+    let one : c.index_mut.result.now ≡ p.one = c.index_mut.ensures.value ∙ get_or_from_slice_get c.self.inside.repos.items c.args.place p.one c.index_mut.result.now there in
+    rw (one, names_set c.self.inside.repos.items c.args.place p.one c.perform.new.repo there) c.self.invariant
 
 pub returns-clause-steps : goal.returns-clause-steps
 returns-clause-steps g c = λ honest.
     let V = g.V.Versions in
     let fits : FitsSigned w64 c.args.moment = c.ranges.moment in
     let p = c.requires.place in
-    let inside = c.self.inside.housed.items in
+    let inside = c.self.inside.repos.items in
     let there = rw (← c.self.view_is) at p.there in
     let one : c.index_mut.result.now ≡ p.one = c.index_mut.ensures.value ∙ get_or_from_slice_get inside c.args.place p.one c.index_mut.result.now there in
-    let housed = rw (← c.self.view_is) at c.requires.housed in
+    let repos = rw (← c.self.view_is) at c.requires.repos in
     let kept = rw one at c.perform.ensures.kept in
+    let call = call_of c.args.moment c.args.exchange.now in
     let tried = rw one at (simp to_z-of_z at (c.perform.ensures.tried honest)) in
+    let broken = broken_cause (V.failures c.args.store.now) (V.failures c.perform.new.store) (V.honest c.args.store.now) (V.honest c.perform.new.store) honest _ _ call.moment (task_in c.args.endpoint call) c.perform.result _
+    (task_not_broken c.args.endpoint call) tried c.perform.ensures.device c.perform.ensures.honesty in
     rw (← c.self.view_is, one)
-    (steps_set (V.honest c.args.store.now) (call_of c.args.moment c.args.exchange.now) c.perform.result c.args.endpoint inside c.args.place p.one c.perform.new.repo (V.lists c.args.store.now) (V.lists c.perform.new.store) there housed kept
-    housed.named.distinct p.path tried)
+    (steps_set (V.honest c.args.store.now) call c.perform.result (V.failures c.args.store.now) (V.failures c.perform.new.store) c.args.endpoint inside c.args.place p.one c.perform.new.repo (V.lists c.args.store.now) (V.lists c.perform.new.store) there repos kept
+    repos.named.distinct p.path tried broken)
 
-pub returns-clause-housed : goal.returns-clause-housed
-returns-clause-housed g c =
+pub returns-clause-repos : goal.returns-clause-repos
+returns-clause-repos g c =
     let V = g.V.Versions in
     let p = c.requires.place in
-    let inside = c.self.inside.housed.items in
+    let inside = c.self.inside.repos.items in
     let there = rw (← c.self.view_is) at p.there in
     let one : c.index_mut.result.now ≡ p.one = c.index_mut.ensures.value ∙ get_or_from_slice_get inside c.args.place p.one c.index_mut.result.now there in
-    let housed = rw (← c.self.view_is) at c.requires.housed in
+    let repos = rw (← c.self.view_is) at c.requires.repos in
     let kept = rw one at c.perform.ensures.kept in
-    rw one (housed_set (V.honest c.args.store.now) (V.honest c.perform.new.store) inside c.args.place p.one c.perform.new.repo (V.lists c.args.store.now) (V.lists c.perform.new.store) c.perform.ensures.honesty.same there housed kept)
+    rw one (repos_set (V.honest c.args.store.now) (V.honest c.perform.new.store) inside c.args.place p.one c.perform.new.repo (V.lists c.args.store.now) (V.lists c.perform.new.store) c.perform.ensures.honesty.same there repos kept)
 
 pub returns-clause-others : goal.returns-clause-others
 returns-clause-others g c =
     let V = g.V.Versions in
     let p = c.requires.place in
-    let inside = c.self.inside.housed.items in
+    let inside = c.self.inside.repos.items in
     let there = rw (← c.self.view_is) at p.there in
     let one : c.index_mut.result.now ≡ p.one = c.index_mut.ensures.value ∙ get_or_from_slice_get inside c.args.place p.one c.index_mut.result.now there in
-    let housed = rw (← c.self.view_is) at c.requires.housed in
+    let repos = rw (← c.self.view_is) at c.requires.repos in
     let kept = rw one at c.perform.ensures.kept in
     rw (← c.self.view_is, one)
-    (others_set (V.honest c.args.store.now) c.args.exchange.now.target.now c.args.endpoint inside c.args.place p.one c.perform.new.repo (V.lists c.args.store.now) (V.lists c.perform.new.store) there housed kept p.path)
+    (others_set (V.honest c.args.store.now) c.args.exchange.now.target.now c.args.endpoint inside c.args.place p.one c.perform.new.repo (V.lists c.args.store.now) (V.lists c.perform.new.store) there repos kept p.path)
+
+pub returns-clause-performed : goal.returns-clause-performed
+returns-clause-performed g c =
+    let V = g.V.Versions in
+    let fits : FitsSigned w64 c.args.moment = c.ranges.moment in
+    let p = c.requires.place in
+    let inside = c.self.inside.repos.items in
+    let there = rw (← c.self.view_is) at p.there in
+    let one : c.index_mut.result.now ≡ p.one = c.index_mut.ensures.value ∙ get_or_from_slice_get inside c.args.place p.one c.index_mut.result.now there in
+    let repos = rw (← c.self.view_is) at c.requires.repos in
+    let done = rw one at (simp to_z-of_z at c.perform.ensures.performed) in
+    rw (← c.self.view_is, one)
+    (performed_set (call_of c.args.moment c.args.exchange.now) c.perform.result (V.lists c.args.store.now) (V.lists c.perform.new.store) c.args.endpoint inside c.args.place p.one c.perform.new.repo there repos.named.distinct p.path done)
 
 pub returns-clause-left : goal.returns-clause-left
 returns-clause-left g c =
     let V = g.V.Versions in
     let p = c.requires.place in
-    let inside = c.self.inside.housed.items in
+    let inside = c.self.inside.repos.items in
     let there = rw (← c.self.view_is) at p.there in
     let one : c.index_mut.result.now ≡ p.one = c.index_mut.ensures.value ∙ get_or_from_slice_get inside c.args.place p.one c.index_mut.result.now there in
     let left = rw one at c.perform.ensures.left in
     rw (← c.self.view_is, one) (left_set c.perform.result inside c.args.place p.one c.perform.new.repo (V.lists c.args.store.now) (V.lists c.perform.new.store) there left)
 
 pub returns-clause-room : goal.returns-clause-room
-returns-clause-room g c = λ honest.
+returns-clause-room g c =
     let V = g.V.Versions in
     let fits : FitsSigned w64 c.args.moment = c.ranges.moment in
     let p = c.requires.place in
-    let inside = c.self.inside.housed.items in
+    let inside = c.self.inside.repos.items in
     let there = rw (← c.self.view_is) at p.there in
     let one : c.index_mut.result.now ≡ p.one = c.index_mut.ensures.value ∙ get_or_from_slice_get inside c.args.place p.one c.index_mut.result.now there in
-    let housed = rw (← c.self.view_is) at c.requires.housed in
-    let need = rw one at (simp to_z-of_z at (c.perform.ensures.room honest)) in
+    let repos = rw (← c.self.view_is) at c.requires.repos in
+    let need = rw one at (simp to_z-of_z at c.perform.ensures.room) in
     rw (← c.self.view_is)
-    (room_set (call_of c.args.moment c.args.exchange.now) c.perform.result (V.lists c.args.store.now) (V.room c.args.store.now) (V.room c.perform.new.store) c.args.endpoint inside c.args.place p.one there housed.named.distinct p.path need)
+    (room_set (call_of c.args.moment c.args.exchange.now) c.perform.result (V.lists c.args.store.now) (V.room c.args.store.now) (V.room c.perform.new.store) c.args.endpoint inside c.args.place p.one there repos.named.distinct p.path need)

@@ -1,7 +1,7 @@
 use Rattle.std.proofs.Common.{rules, ◌≡◌, ◌∙◌, ◌<ℤ◌, ◌≤ℤ◌, FitsSigned, List, None, Some, ap, arith, cond, get_or, is_some, sym, w64}
 use Rattle.std.proofs.lemmas.Bool.{cond-true, cond-false}
 use Rattle.std.proofs.lemmas.Int.{ints}
-use Rattle.oai_lists.specs.Workings.{IsListPlace, no_list_numbered}
+use Rattle.oai_lists.specs.HeldTable.{IsListPlace, no_list_numbered}
 use Rattle.oai_lists.specs.OpenLists.{Table, is_open, list_numbered, open_numbered}
 use Rattle.oai_lists.specs.declared.open_lists.OpenList.{OpenList}
 use Rattle.oai_lists.proofs.Tables.{list_numbered-placed, open_numbered-none, open_numbered-placed}

@@ -1,7 +1,7 @@
 use Rattle.std.proofs.Common.{rules, ◌≡◌, ◌≢◌, ◌∙◌, ◌+◌, ◌++◌, ◌∷◌, [], ℕ, ℤ, FitsSigned, Fits, List, ap, arith, subst, sym, w64}
 use Rattle.std.specs.Int.{int_min}
 use Rattle.std.proofs.lemmas.Int.{to_z-of_z}
-use Rattle.oai_lists.specs.Workings.{IsHeldTable}
+use Rattle.oai_lists.specs.HeldTable.{IsHeldTable}
 use Rattle.oai_lists.specs.OpenLists.{Table, with_opened}
 use Rattle.oai_lists.specs.declared.open_lists.OpenList.{OpenList}
 use Rattle.oai_lists.specs.declared.lists.TheConstants.{LAST_NUMBER}

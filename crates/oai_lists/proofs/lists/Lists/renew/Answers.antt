@@ -1,7 +1,7 @@
 use Rattle.std.proofs.Common.{rules, ◌≡◌, ◌∙◌, ℤ, FitsSigned, List, Some, ap, set, subst, sym, w64}
 use Rattle.std.specs.Int.{int_min}
 use Rattle.std.proofs.lemmas.Int.{to_z-of_z}
-use Rattle.oai_lists.specs.Workings.{IsHeldTable, IsListPlace, no_list_numbered}
+use Rattle.oai_lists.specs.HeldTable.{IsHeldTable, IsListPlace, no_list_numbered}
 use Rattle.oai_lists.specs.OpenLists.{Table, list_numbered, renewed}
 use Rattle.oai_lists.specs.declared.open_lists.OpenList.{OpenList}
 use Rattle.oai_lists.proofs.Tables.{list_numbered-none}

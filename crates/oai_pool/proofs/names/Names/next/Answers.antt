@@ -1,6 +1,6 @@
 -- The last of the free numbers is named by nobody, nor is the one behind all counts.
 use Rattle.std.proofs.Common.{◌≡◌, ◌-◌, arith, length, take, sym, ap, ◌∙◌}
-use Rattle.oai_pool.proofs.NamesLemmas.{cut_at_last, last_is_given, last_read, next_of-added}
+use Rattle.oai_pool.proofs.NamesLemmas.{cut_at_last, last_is_given, last_read, number_to_give-added}
 use Rattle.oai_pool.proofs.names.Names.next.Goals as goal
 
 pub returns-then-free-gt0-clause-number : goal.returns-then-free-gt0-clause-number
@@ -21,4 +21,4 @@ returns-clause-number c =
     let names = c.args.self.now in
     let none : length c.reserve-2.new.self.items ≡ 0 = ap length c.in_ok-reserve-2.ensures.items ∙ omega (arith, names.free.ok.0) in
     let same : length c.reserve.new.self.items ≡ c.len-no.result = ap length c.in_ok-reserve.ensures.items ∙ omega (arith, names.counts.ok.0) in
-    sym (next_of-added c.reserve.new.self.items c.reserve-2.new.self.items none ∙ same)
+    sym (number_to_give-added c.reserve.new.self.items c.reserve-2.new.self.items none ∙ same)

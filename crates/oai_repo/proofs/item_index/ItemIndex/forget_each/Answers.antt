@@ -1,5 +1,5 @@
 -- Each turn forgets one of them.
-use Rattle.std.proofs.Common.{◌≡◌, ◌∙◌, ◌+◌, List, None, IsSome, length, refl, subst}
+use Rattle.std.proofs.Common.{◌≡◌, ◌∙◌, ◌+◌, arith, List, None, IsSome, length, refl, subst}
 use Rattle.oai_item.specs.Item.{ItemState}
 use Rattle.oai_repo.specs.Entries.{SetsStamp, stamp_in}
 use Rattle.oai_repo.proofs.PurgeLemmas.{forgotten_next, forgotten_none}
@@ -7,7 +7,7 @@ use Rattle.oai_repo.proofs.IndexLemmas.{forgotten_too}
 use Rattle.oai_repo.proofs.item_index.ItemIndex.forget_each.Goals as goal
 
 pub loop-deleted-init : goal.loop-deleted-init
-loop-deleted-init c = record { version = refl; agrees = forgotten_none c.args.self.now.entries c.args.gone.now; forgotten = λ q some. refl }
+loop-deleted-init c = record { version = refl; agrees = forgotten_none c.args.self.now.entries c.args.gone.now; forgotten = λ q some. refl; fewer = omega arith }
 
 pub loop-deleted-preserved : goal.loop-deleted-preserved
 loop-deleted-preserved c =
@@ -24,4 +24,5 @@ loop-deleted-preserved c =
           (subst (λ (x : ItemState). SetsStamp x.identifier None now new) c.deleted-item.is noting)
           (subst (λ (x : ItemState). IsSome (stamp_in x.identifier now) → length new + 1 ≡ length now) c.deleted-item.is many);
       forgotten = forgotten_too c.args.self.now.entries now new one.identifier c.loop-deleted.invariant.forgotten noting;
+      fewer = omega (arith, c.forget.ensures.fewer, c.loop-deleted.invariant.fewer);
     }

@@ -1,4 +1,4 @@
-use Rattle.std.proofs.Common.{◌≡◌}
+use Rattle.std.proofs.Common.{◌≡◌, ◌≤◌, length}
 use Rattle.oai_repo.specs.Entries.{ForgetsSome}
 use Rattle.oai_repo.proofs.PurgeLemmas.{AreForgotten}
 use Rattle.oai_repo.proofs.item_index.ItemIndex.forget_each.Given as goal
@@ -9,4 +9,5 @@ invariant-loop-deleted l = record {
   version : l.self.version ≡ l.initial.self.version;
   agrees : AreForgotten l.initial.self.entries l.self.entries l.gone l.deleted-index;
   forgotten : ForgetsSome l.initial.self.entries l.self.entries;
+  fewer : length l.self.entries ≤ length l.initial.self.entries;
 }

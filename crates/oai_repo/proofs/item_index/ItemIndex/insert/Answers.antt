@@ -61,6 +61,17 @@ returns-in-Ok-clause-made g c =
     in
     record { list = λ honest. (both honest).0; agrees = λ honest. (both honest).1 }
 
+pub returns-in-Ok-clause-many : goal.returns-in-Ok-clause-many
+returns-in-Ok-clause-many g c =
+    let old = c.self.inside.stamps in
+    let key : string_bytes c.in_ok-key.key ≡ c.args.item.now.identifier = c.in_ok-key.ensures.ok ∙ c.as_str-identifier.ensures.text ∙ c.identifier.ensures in
+    let olds : entries_in old ≡ c.args.self.now.entries = ap (λ (s : ItemIndex). s.entries) c.self.view_is in
+    let none : get_by_text old (string_bytes c.in_ok-key.key) ≡ None =
+    sym (noted_view old (string_bytes c.in_ok-key.key)) ∙ ap (λ (t : List ℕ). stamp_in t (entries_in old)) key ∙ ap (λ (xs : Entries). stamp_in c.args.item.now.identifier xs) olds ∙ c.requires.first in
+    let first : c.in_ok-insert.field-0 ≡ None = c.in_ok-insert.ensures.old ∙ none in
+    let len = rw first at c.in_ok-insert.ensures.len in
+    many_view c.insert.new.self ∙ len ∙ ap (λ (n : ℕ). n + 1) (sym (many_view old) ∙ ap (λ (xs : Entries). length xs) olds)
+
 pub returns-in-Ok-clause-stamped : goal.returns-in-Ok-clause-stamped
 returns-in-Ok-clause-stamped g c =
     let fits : FitsSigned w64 c.stamp.result = record { sfits = c.stamp.type_inv } in

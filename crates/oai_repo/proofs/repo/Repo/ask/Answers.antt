@@ -18,7 +18,7 @@ use Rattle.oai_repo.proofs.StepLemmas.{at, step-asked, reply_output}
 use Rattle.oai_repo.proofs.repo.Repo.ask.Goals as goal
 
 pub invariant_of-self-2 : goal.invariant_of-self-2
-invariant_of-self-2 g c = record { dated = c.self.invariant.dated; open_lists = c.in_ok-reply.ensures.left.left.kept }
+invariant_of-self-2 g c = record { dated = c.self.invariant.dated; few = c.self.invariant.few; open_lists = c.in_ok-reply.ensures.left.left.kept }
 
 pub move_to-requires-clause-dated : goal.move_to-requires-clause-dated
 move_to-requires-clause-dated g c =

@@ -6,9 +6,9 @@ use Rattle.oai_time.specs.Clock.{tick}
 use Rattle.oai_repo.specs.Changes.{stamp_at}
 use Rattle.oai_repo.specs.Fields.{ItemIndex, open_lists_of, holdings_of, numbers_of, versions_in}
 use Rattle.oai_repo.specs.Machine.{Outcome, accepted, refused_with}
-use Rattle.oai_repo.specs.State.{OpenLists, RepoState}
+use Rattle.oai_repo.specs.State.{OpenLists, RepoState, still_open}
 use Rattle.oai_repo.specs.Indexing.{MakesChange}
-use Rattle.oai_repo.specs.declared.changes.Refusal.TheVariants as refusal
+use Rattle.oai_item.specs.declared.refusals.Refusal.TheVariants as refusal
 use Rattle.oai_repo.proofs.OpenListLemmas.{all_counted, open_lists_same}
 use Rattle.oai_repo.proofs.ClockLemmas.{in_years-tick}
 use Rattle.oai_repo.proofs.MoveLemmas.{state_moved}
@@ -201,9 +201,18 @@ returns-in-Ok-clause-accepted g c =
     let inside = c.self.inside in
     let stamped : c.stamp-stamp.result ≡ stamp_at inside.config c.tick.new.self = rw (← c.now.ensures, ← c.granularity.ensures) (simp to_z-of_z at c.stamp-stamp.ensures.value) in
     let kept = simp to_z-of_z at c.in-Ok.ensures.kept in
+    let fits : FitsSigned w64 c.args.moment = c.ranges.moment in
+    let after = c.make_change-made.new in
+    let before = g.V.Versions.lists c.args.store.now in
+    let between = g.V.Versions.lists after.store in
+    let moved : c.tick.new.self ≡ tick inside.clock c.args.moment = simp to_z-of_z at c.tick.ensures.moved in
+    let owns = rw (← c.self.view_is) at c.requires in
+    let same_open : open_lists_of inside.clock inside.lists between ≡ open_lists_of inside.clock inside.lists before =
+    open_lists_same inside.clock inside.lists before between (moved_others inside.index.version after.index.version (versions_in inside.lists) before between owns.stands c.make_change-made.ensures.moves.moved) in
     let clock = ap (λ (s : RepoState). s.clock) c.move_to.ensures.moved in
     simp to_z-of_z (rw (← c.self.view_is) (record {
       writable = search rules;
       stamped = rw (c.move_to.ensures.keeps.config, clock) stamped;
       kept = record { entries = rw (← ap (λ (s : ItemIndex). s.entries) c.move_to.ensures.index) at kept.entries; sets = ap (λ (s : RepoState). s.holdings.sets) c.move_to.ensures.moved ∙ kept.sets };
+      open_lists = ap (λ (s : RepoState). s.open_lists) c.move_to.ensures.moved ∙ ap (still_open c.tick.new.self) same_open ∙ ap (λ (clock : ℤ). still_open clock (open_lists_of inside.clock inside.lists before)) moved;
     }))

@@ -9,7 +9,7 @@ pub invariant_of-self : goal.invariant_of-self
 invariant_of-self g c =
     let fits : FitsSigned w64 c.now.result = record { sfits = c.now.type_inv } in
     let table = rw c.now.ensures at (simp to_z-of_z at c.drop_ended.ensures.table) in
-    rw table (record { dated = c.requires.dated; open_lists = table_dropped c.self.inside.config c.args.clock c.self.inside.lists c.self.invariant.open_lists })
+    rw table (record { dated = c.requires.dated; few = c.self.invariant.few; open_lists = table_dropped c.self.inside.config c.args.clock c.self.inside.lists c.self.invariant.open_lists })
 
 pub returns-clause-moved : goal.returns-clause-moved
 returns-clause-moved g c =

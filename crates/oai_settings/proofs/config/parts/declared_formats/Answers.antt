@@ -7,7 +7,7 @@ use Rattle.oai_item.specs.Declaring.{declare_fault}
 use Rattle.oai_item.specs.declared.formats.Format.{Format}
 use Rattle.oai_settings.specs.Settings.{are_formats, format_of}
 use Rattle.oai_settings.specs.declared.settings.FormatSettings.{FormatSettings}
-use Rattle.oai_settings.proofs.FoldLemmas.{may_all_stand, may_all_stand-all, may_all_stand-more, may_all_stand-not, may_all_stand-none, formats_of-more, IsRefused-of_all}
+use Rattle.oai_settings.proofs.FoldLemmas.{may_all_stand, may_all_stand-all, may_all_stand-more, may_all_stand-not, may_all_stand-none, formats_of-more, IsSettingsRefused-of_all}
 use Rattle.oai_settings.proofs.config.parts.declared_formats.Goals as goal
 
 nothing_left : {X : Type 0} (l : List X) → length l ≡ 0 → l ≡ []
@@ -20,7 +20,7 @@ returns-in-Err c =
     let one = c.in-Some.one in
     let refused : may_be_prefix one.prefix ≡ false → are_formats c.args.settings ≡ false =
     λ bad. sym (may_all_stand-all c.args.settings) ∙ sym at.invariant.1 ∙ may_all_stand-not at.formats one _ _ c.in-Some.ensures.steps.0 (and_left _ _ bad) in
-    IsRefused-of_all c.in-Err.fault _ _ _ refused c.in-Err.ensures
+    IsSettingsRefused-of_all c.in-Err.fault _ _ _ refused c.in-Err.ensures
 
 pub loop-one-preserved : goal.loop-one-preserved
 loop-one-preserved c =
@@ -45,7 +45,7 @@ returns-in-Err-declare c =
     λ bad.
     sym (may_all_stand-all c.args.settings) ∙ sym at.invariant.1
     ∙ may_all_stand-not at.formats one _ _ c.in-Some.ensures.steps.0 (and_right _ _ (ap (λ (f : Format). is_none (declare_fault at.formats f)) (sym c.in-Ok.ensures.0) ∙ bad)) in
-    IsRefused-of_all c.in-Err-declare.fault _ _ _ refused c.in-Err-declare.ensures
+    IsSettingsRefused-of_all c.in-Err-declare.fault _ _ _ refused c.in-Err-declare.ensures
 
 pub returns : goal.returns
 returns c =

@@ -1,0 +1,12 @@
+pub mod Apart
+mod AskedLemmas
+mod InputLemmas
+mod KnownLemmas
+mod LineLemmas
+mod NumeralLemmas
+mod ReadLemmas
+mod TraceLemmas
+mod Traced
+mod PieceLemmas
+pub mod UsedLemmas
+mod WrittenLines

@@ -1,0 +1,42 @@
+//! What a line of the input spells.
+ghost use Rattle.std.specs.Prelude.{◌≡◌};
+ghost use Rattle.std.specs.Option.{option_copied, option_map};
+ghost use Rattle.oai_cli.specs.ExchangeLines as spec;
+
+use crate::input::parts::{cut, read_moment, spaces};
+use oai_http::{Exchange, FORM};
+
+/// Reads a line: three or four parts between single spaces, of which the last goes to the end. It is a
+/// moment in seconds from 1970 on, a method, a target and a body; the body of a POST is a form.
+#[tactic(auto, unfolding(crate::specs::ExchangeLines::parse_exchange))]
+pub(crate) fn parse_exchange(line: &[u8]) -> Option<(i64, Exchange<'_>)>
+    ensures { option_map spec.call_by result ≡ spec.parse_exchange line.now }
+{
+    if spaces(line) < 2 {
+        return None;
+    }
+    let (moment, rest) = cut(line);
+    let (method, rest) = cut(rest);
+    let (target, body) = cut(rest);
+    let moment = read_moment(moment)?;
+    Some((
+        moment,
+        Exchange {
+            method,
+            target,
+            content_type: type_of(method),
+            body,
+        },
+    ))
+}
+
+/// The type of the body, where the method takes one.
+fn type_of(method: &[u8]) -> Option<&'static [u8]>
+    ensures { option_copied result ≡ spec.type_of method.now }
+{
+    if method == b"POST".as_slice() {
+        Some(FORM)
+    } else {
+        None
+    }
+}

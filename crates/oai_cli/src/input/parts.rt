@@ -1,0 +1,72 @@
+//! The parts of a line, between single spaces, and the numbers that they spell.
+ghost use Rattle.std.specs.Prelude.{◌≡◌, ◌≤◌, length};
+ghost use Rattle.std.specs.List.{count_by, position, position_or_len};
+ghost use Rattle.oai_cli.specs.ExchangeLines as spec;
+ghost use Rattle.oai_cli.specs.Numbers.{moment_of, number_in};
+
+/// What begins no number here, though `parse` takes it.
+const PLUS: &[u8] = b"+";
+
+/// How many spaces the text has.
+pub(crate) fn spaces(text: &[u8]) -> usize
+    ensures { result ≡ count_by spec.is_separator text.now }
+{
+    text.iter().filter(|b| **b == b' ').count()
+}
+
+/// What stands before the first space, and what stands after it; all and nothing where none does.
+pub(crate) fn cut(text: &[u8]) -> (&[u8], &[u8])
+    ensures front { result.0.now ≡ spec.part text.now }
+    ensures back { result.1.now ≡ spec.rest text.now }
+{
+    let front = front_len(text);
+    if front < text.len() {
+        (&text[..front], &text[front + 1..])
+    } else {
+        (text, &[])
+    }
+}
+
+/// How many bytes stand before the first space.
+fn front_len(text: &[u8]) -> usize
+    ensures length { result ≡ position_or_len spec.is_separator text.now }
+    ensures within { result ≤ length text.now }
+{
+    match first_space(text) {
+        Some(at) => at,
+        None => text.len(),
+    }
+}
+
+/// The place of the first space.
+fn first_space(text: &[u8]) -> Option<usize>
+    ensures { result ≡ position spec.is_separator text.now }
+{
+    text.iter().position(|b| *b == b' ')
+}
+
+/// Reads a moment: decimal digits, after a minus where it is negative.
+pub(crate) fn read_moment(text: &[u8]) -> Option<i64>
+    ensures { result ≡ moment_of text.now }
+{
+    if text.starts_with(PLUS) {
+        return None;
+    }
+    let Ok(text) = std::str::from_utf8(text) else {
+        return None;
+    };
+    text.parse().ok()
+}
+
+/// Reads a number: decimal digits alone, below 2^64.
+pub fn read_number(text: &[u8]) -> Option<u64>
+    ensures { result ≡ number_in text.now }
+{
+    if text.starts_with(PLUS) {
+        return None;
+    }
+    let Ok(text) = std::str::from_utf8(text) else {
+        return None;
+    };
+    text.parse().ok()
+}

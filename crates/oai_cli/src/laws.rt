@@ -1,0 +1,32 @@
+//! What is true of the definitions: functions that do nothing.
+ghost use Rattle.std.specs.Prelude.{◌≡◌, ◌≢◌, ◌^◌, ◌<◌, ℕ, ℤ, List, [], Some, decimal, FitsSigned};
+ghost use Rattle.std.specs.Fmt.{signed_decimal};
+ghost use Rattle.std.specs.Int.{w64};
+ghost use Rattle.hex.specs.Hex.{IsBytes};
+ghost use Rattle.oai_http.specs.declared.exchanges.Call.{Call};
+ghost use Rattle.oai_cli.specs.EventLines.{IsTraceable, IsWritableEvent, event_line, parse_event};
+ghost use Rattle.oai_cli.specs.ExchangeLines.{IsSpellable, call_line, parse_exchange};
+ghost use Rattle.oai_cli.specs.Numbers.{moment_of, number_in};
+ghost use Rattle.oai_cli.specs.declared.trace.events.Event.{Event};
+
+use crate::input::limits::{MAX_READS, READ_BYTES};
+use crate::trace::MAX_CONNECTIONS;
+
+/// What is written of a moment, a number, a call and an event is read as that again, and what a trace writes
+/// of a connection can stand in a trace. It does nothing.
+pub fn line_law()
+    ensures moments { (moment : ℤ) → FitsSigned w64 moment
+        → moment_of (signed_decimal moment) ≡ Some moment }
+    ensures numbers { (number : ℕ) → number < 2 ^ 64 → number_in (decimal number) ≡ Some number }
+    ensures calls { (call : Call) → IsSpellable call → parse_exchange (call_line call) ≡ Some call }
+    ensures events { (event : Event) → IsWritableEvent event → parse_event (event_line event) ≡ Some event }
+    ensures outputs { (moment : ℤ) (label : ℕ) (bytes : List ℕ) → FitsSigned w64 moment
+        → label < 2 ^ 64 → IsBytes bytes → bytes ≢ [] → IsTraceable moment label bytes }
+{}
+
+/// The limits in numbers, since no other clause tells them. It does nothing.
+pub fn limit_law()
+    ensures reads { MAX_READS ≡ 1_000_000 }
+    ensures bytes { READ_BYTES ≡ 65_536 }
+    ensures connections { MAX_CONNECTIONS ≡ 1_024 }
+{}

@@ -1,0 +1,82 @@
+//! Why the program stops, what it says then, and its exit status.
+ghost use Rattle.std.specs.Prelude.{◌≡◌};
+ghost use Rattle.oai_cli.specs.Stops as spec;
+
+use oai_host::ReadFault;
+use std::error::Error;
+use std::fmt;
+
+/// Why the program stopped before the end of its work.
+#[derive(Clone, Copy, Debug, PartialEq, Eq)]
+pub enum Stop {
+    /// It was called with other arguments than it takes.
+    Usage,
+    /// The configuration could not be read, or did not end.
+    CannotRead,
+    /// The configuration has this fault, which is none of memory.
+    BadConfig(ReadFault),
+    /// The line of that number, counted from 1 over all lines, is no exchange.
+    BadExchange(u64),
+    /// The line of that number, counted from 1 over all lines, tells no piece and no end.
+    BadPiece(u64),
+    /// For the label of the line of that number, counted from 1 over all lines, no connection can be opened.
+    TooManyConnections(u64),
+    /// The input could not be read, or did not end.
+    InputFault,
+    /// The output could not be written.
+    OutputFault,
+    /// The program could not listen, or could not accept a connection.
+    SocketFault,
+    /// Memory was refused.
+    NoMemory,
+}
+
+impl Stop {
+    /// The program's exit status: 2 where the arguments are wrong, or the configuration cannot be read or
+    /// has a fault, and 1 for each other cause, also where memory runs out before the work, and for a port that
+    /// cannot be listened on.
+    pub fn status(self) -> u8
+        ensures { result ≡ spec.status_of self }
+    {
+        match self {
+            Stop::Usage => 2,
+            Stop::CannotRead => 2,
+            Stop::BadConfig(_) => 2,
+            Stop::BadExchange(_) => 1,
+            Stop::BadPiece(_) => 1,
+            Stop::TooManyConnections(_) => 1,
+            Stop::InputFault => 1,
+            Stop::OutputFault => 1,
+            Stop::SocketFault => 1,
+            Stop::NoMemory => 1,
+        }
+    }
+}
+
+/// What the program says of it on standard error.
+impl fmt::Display for Stop {
+    ghost use Rattle.std.specs.Prelude.{Some};
+    ghost use Rattle.oai_cli.specs.Stops.{stop_text};
+
+    ghost output = { λ stop. Some (stop_text stop) };
+
+    fn fmt<W: fmt::Write>(&self, f: &mut fmt::Formatter<W>) -> fmt::Result {
+        match self {
+            Stop::Usage => write!(
+                f,
+                "usage: oaihost check CONFIG | ask CONFIG | trace CONFIG | serve CONFIG PORT SPILL CONNECTIONS"
+            ),
+            Stop::CannotRead => write!(f, "config: cannot read"),
+            Stop::BadConfig(fault) => write!(f, "config: {fault}"),
+            Stop::BadExchange(number) => write!(f, "line {number}: bad exchange"),
+            Stop::BadPiece(number) => write!(f, "line {number}: bad piece"),
+            Stop::TooManyConnections(number) => write!(f, "line {number}: too many connections"),
+            Stop::InputFault => write!(f, "input fault"),
+            Stop::OutputFault => write!(f, "output fault"),
+            Stop::SocketFault => write!(f, "socket fault"),
+            Stop::NoMemory => write!(f, "out of memory"),
+        }
+    }
+}
+
+impl Error for Stop {}

@@ -1,0 +1,71 @@
+//! What a line of a trace tells.
+ghost use Rattle.std.specs.Prelude.{◌≡◌};
+ghost use Rattle.oai_cli.specs.EventLines as spec;
+
+use crate::input::parts::{cut, read_moment, read_number, spaces};
+use crate::stop::Stop;
+use hex::FromHexError;
+use oai_names::Sequence;
+use std::alloc::Global;
+
+/// What a line of a trace tells: at a moment a piece comes on a connection, or its end.
+#[derive(Drop)]
+pub(crate) struct Event {
+    /// The moment, in seconds from 1970 on.
+    pub(crate) moment: i64,
+    /// The label of the connection.
+    pub(crate) label: u64,
+    /// The bytes that come; None is the end.
+    pub(crate) piece: Option<Sequence<u8>>,
+}
+
+/// Reads the line of that number: three parts between single spaces, which are a moment in seconds from
+/// 1970 on, a label, and bytes as hexadecimal digits or the word `end`. The errors are `BadPiece` and
+/// `NoMemory`.
+#[tactic(auto, unfolding(crate::specs::EventLines::parse_event))]
+pub(crate) fn parse_event(alloc: Global, line: &[u8], number: u64) -> Result<Event, Stop>
+    ensures { spec.IsParsedEvent line.now number result }
+{
+    if spaces(line) != 2 {
+        return Err(Stop::BadPiece(number));
+    }
+    let (moment, rest) = cut(line);
+    let (label, piece) = cut(rest);
+    match (read_moment(moment), read_number(label)) {
+        (Some(moment), Some(label)) => match read_piece(alloc, piece) {
+            Ok(piece) => Ok(Event {
+                moment,
+                label,
+                piece,
+            }),
+            Err(error) => Err(stop_at(number, error)),
+        },
+        _ => Err(Stop::BadPiece(number)),
+    }
+}
+
+/// Reads what comes: bytes as hexadecimal digits, or the word `end`.
+#[tactic(auto, unfolding(crate::specs::EventLines::coming))]
+fn read_piece(alloc: Global, text: &[u8]) -> Result<Option<Sequence<u8>>, FromHexError>
+    ensures { spec.IsComing text.now result }
+{
+    if text == b"end".as_slice() {
+        return Ok(None);
+    }
+    match hex::decode(alloc, text) {
+        Ok(bytes) => Ok(Some(Sequence::new(bytes))),
+        Err(error) => Err(error),
+    }
+}
+
+/// Why the line of that number tells nothing.
+fn stop_at(number: u64, error: FromHexError) -> Stop
+    ensures { result ≡ spec.stop_at number error }
+{
+    match error {
+        FromHexError::OutOfMemory => Stop::NoMemory,
+        FromHexError::OddLength => Stop::BadPiece(number),
+        FromHexError::InvalidStringLength => Stop::BadPiece(number),
+        FromHexError::InvalidHexCharacter { .. } => Stop::BadPiece(number),
+    }
+}

@@ -1,0 +1,58 @@
+-- What may be wrong with what a text tells. The causes and their numbers are this repository's own.
+use Rattle.std.specs.Prelude.{ℕ, Bool, true, false, ◌==◌, ◌||◌, not, nat_lt, List, map, length, Option, is_none}
+use Rattle.std.specs.List.{list_any}
+use Rattle.std.specs.Option.{option_map_or}
+use Rattle.oai_item.specs.Rules.{has_repeat}
+use Rattle.oai_deposit.specs.Json.{json_in}
+use Rattle.oai_settings.specs.declared.settings.Settings.{Settings}
+use Rattle.oai_settings.specs.Config.{is_repository_name}
+use Rattle.oai_settings.specs.Settings.{has_shape, are_formats, earliest_of, passes_number, are_numbers}
+use Rattle.oai_config.specs.declared.faults.ReadFault.{ReadFault}
+use Rattle.oai_config.specs.declared.faults.ReadFault.TheVariants.{BadJson, BadShape, BadName, DuplicateName, BadFormat, BadDate, BadNumber, TooMany, NoMemory}
+use Rattle.oai_config.specs.declared.host_settings.HostSettings.{HostSettings}
+use Rattle.oai_config.specs.Configs.{is_cache}
+use Rattle.oai_config.specs.Shapes.{told_in}
+
+-- a cause that lies in one repository
+abbrev pub is_wrong_alone : ReadFault → Settings → Bool
+is_wrong_alone BadShape s = not (has_shape s)
+is_wrong_alone BadName s = not (is_repository_name s.name)
+is_wrong_alone BadFormat s = not (are_formats s.formats)
+is_wrong_alone BadDate s = is_none (earliest_of s.granularity s.earliest)
+is_wrong_alone BadNumber s = not (are_numbers s.chunk s.lifetime s.lists s.items)
+is_wrong_alone fault s = false
+
+-- the names that are told
+abbrev pub names_told : List Settings → List (List ℕ)
+names_told repositories = map (λ s. s.name) repositories
+
+-- a cause that lies in the whole: no repository, two of one name, a cache out of its range, more than 1,000 repositories
+abbrev pub is_wrong_together : ReadFault → Option ℕ → List Settings → Bool
+is_wrong_together BadShape cache repositories = length repositories == 0
+is_wrong_together DuplicateName cache repositories = has_repeat (names_told repositories)
+is_wrong_together BadNumber cache repositories = not (passes_number is_cache cache)
+is_wrong_together TooMany cache repositories = nat_lt 1_000 (length repositories)
+is_wrong_together fault cache repositories = false
+
+-- a cause that lies anywhere in what is told: in the whole, or in any repository
+abbrev pub is_wrong : ReadFault → HostSettings → Bool
+is_wrong fault told =
+    is_wrong_together fault told.cache told.repositories || list_any (is_wrong_alone fault) told.repositories
+
+-- a cause that applies to a text; one that is no JSON, or not of the shape, tells nothing: then 1 or 2 applies, and of the others none
+abbrev pub applies : ReadFault → List ℕ → Bool
+applies BadJson text = is_none (json_in text)
+applies BadShape text = option_map_or (is_wrong BadShape) (told_in text) true
+applies fault text = option_map_or (is_wrong fault) (told_in text) false
+
+-- the number of each fault
+abbrev pub fault_number : ReadFault → ℕ
+fault_number BadJson = 1
+fault_number BadShape = 2
+fault_number BadName = 3
+fault_number DuplicateName = 4
+fault_number BadFormat = 5
+fault_number BadDate = 6
+fault_number BadNumber = 7
+fault_number TooMany = 8
+fault_number NoMemory = 9

@@ -1,0 +1,35 @@
+-- The configuration of a host of many repositories, and the rules that it keeps: all of it this repository's own.
+use Rattle.std.specs.Prelude.{◌≡◌, ℕ, Bool, true, false, List, map, length}
+use Rattle.std.specs.Int.{is_in_range}
+use Rattle.std.specs.List.{list_all}
+use Rattle.oai_item.specs.Rules.{has_repeat}
+use Rattle.oai_settings.specs.Config.{Config, is_repository_name}
+
+-- a repository: its name in the paths of requests, and its configuration
+pub record NamedConfig : Type 0 where
+  pub name : List ℕ
+  pub config : Config
+
+-- the most pages that the cache holds, and the repositories in the order of the text
+pub record HostConfig : Type 0 where
+  pub cache : ℕ
+  pub repositories : List NamedConfig
+
+-- the pages of a cache
+abbrev pub is_cache : ℕ → Bool
+is_cache n = is_in_range 1 65_536 n
+
+-- the names of the repositories
+abbrev pub names_of : List NamedConfig → List (List ℕ)
+names_of repositories = map (λ entry. entry.name) repositories
+
+-- each name is one that a repository may have, and none stands twice
+pub record AreNamed (names : List (List ℕ)) : Type 0 where
+  pub named : list_all is_repository_name names ≡ true
+  pub distinct : has_repeat names ≡ false
+
+-- the rules that a configuration keeps: the pages of a cache, and 1 to 1,000 repositories of such names
+pub record IsHostConfig (config : HostConfig) : Type 0 where
+  pub cached : is_cache config.cache ≡ true
+  pub counted : is_in_range 1 1_000 (length config.repositories) ≡ true
+  pub named : AreNamed (names_of config.repositories)

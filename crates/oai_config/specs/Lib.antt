@@ -1,0 +1,7 @@
+pub mod Configs
+pub mod ConfigInside
+pub mod Shapes
+pub mod Written
+pub mod Causes
+pub mod Reading
+pub mod ReadingWork

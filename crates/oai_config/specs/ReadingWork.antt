@@ -1,0 +1,97 @@
+-- What the calls give that the reading of a text is made of, step by step. Words that tie the code to the definitions; the contract of the whole
+-- (`Reading`) needs none of them.
+use Rattle.std.specs.Prelude.{◌≡◌, ◌||◌, ℕ, Bool, false, nat_le, if◌then◌else◌, List, Option, Some, None, is_none, Result, Ok, Err}
+use Rattle.std.specs.List.{list_any}
+use Rattle.oai_deposit.specs.Json.{TakesMemory, json_in}
+use Rattle.oai_settings.specs.declared.settings.ConfigFault.{ConfigFault}
+use Rattle.oai_settings.specs.declared.settings.ConfigFault.TheVariants as alone
+use Rattle.oai_settings.specs.declared.settings.Settings.{Settings}
+use Rattle.oai_config.specs.declared.faults.ReadFault.{ReadFault}
+use Rattle.oai_config.specs.declared.faults.ReadFault.TheVariants.{BadJson, BadShape, BadName, DuplicateName, BadFormat, BadDate, BadNumber, TooMany, NoMemory}
+use Rattle.oai_config.specs.declared.host_settings.HostSettings.{HostSettings}
+use Rattle.oai_config.specs.Configs.{NamedConfig, HostConfig}
+use Rattle.oai_config.specs.Shapes.{told_in}
+use Rattle.oai_config.specs.Causes.{is_wrong_alone, is_wrong_together, is_wrong, fault_number}
+use Rattle.oai_config.specs.Reading.{HasSettings, HaveSettings, IsLowest}
+
+-- ---- the shape
+
+-- a call that takes no memory gave what the reading gives, seen by the view
+abbrev pub GivesView : {A B : Type 0} → (A → B) → Result A ReadFault → Option B → Type 0
+GivesView view (Ok x) reading = reading ≡ Some (view x)
+GivesView view (Err BadShape) reading = reading ≡ None
+GivesView view (Err fault) reading = ⊥
+
+-- a call gave what the reading gives, or memory was refused
+abbrev pub GivesRead : {A : Type 0} → Result A ReadFault → Option A → Type 0
+GivesRead (Ok x) reading = reading ≡ Some x
+GivesRead (Err BadShape) reading = reading ≡ None
+GivesRead (Err NoMemory) reading = Unit {0}
+GivesRead (Err fault) reading = ⊥
+
+-- what the text tells
+abbrev pub IsJsonText : List ℕ → Result HostSettings ReadFault → Type 0
+IsJsonText text (Ok told) = told_in text ≡ Some told
+IsJsonText text (Err BadJson) = json_in text ≡ None
+IsJsonText text (Err BadShape) = (is_none (json_in text) ≡ false) × (told_in text ≡ None)
+IsJsonText text (Err NoMemory) = TakesMemory text
+IsJsonText text (Err fault) = ⊥
+
+-- ---- the causes
+
+-- a fault of a repository alone is one of the text
+abbrev pub read_fault_of : ConfigFault → ReadFault
+read_fault_of alone.BadShape = BadShape
+read_fault_of alone.BadName = BadName
+read_fault_of alone.BadFormat = BadFormat
+read_fault_of alone.BadDate = BadDate
+read_fault_of alone.BadNumber = BadNumber
+read_fault_of alone.NoMemory = NoMemory
+
+-- the first cause that lies in the whole, in the order of the numbers
+unfoldable pub first_together : Option ℕ → List Settings → Option ReadFault
+first_together cache repositories =
+    if is_wrong_together BadShape cache repositories then Some BadShape
+    else (if is_wrong_together DuplicateName cache repositories then Some DuplicateName
+    else (if is_wrong_together BadNumber cache repositories then Some BadNumber
+    else (if is_wrong_together TooMany cache repositories then Some TooMany
+    else None)))
+
+-- what looking at the whole finds: the pages of the cache, or the first cause
+abbrev pub IsWhole : Option ℕ → List Settings → Result ℕ ReadFault → Type 0
+IsWhole cache repositories (Ok pages) = (first_together cache repositories ≡ None) × (cache ≡ Some pages)
+IsWhole cache repositories (Err fault) = first_together cache repositories ≡ Some fault
+
+-- of the causes this is the lowest that applies; none does, where there is none
+abbrev pub IsLowestOf : (ReadFault → Bool) → Option ReadFault → Type 0
+IsLowestOf causes (Some fault) = IsLowest causes fault
+IsLowestOf causes None = (fault : ReadFault) → causes fault ≡ false
+
+-- the fault, or the one before it where that is not higher
+abbrev pub lower : Option ReadFault → ReadFault → ReadFault
+lower None fault = fault
+lower (Some lowest) fault = if nat_le (fault_number lowest) (fault_number fault) then lowest else fault
+
+-- the repository that is told, or the lowest fault in it
+abbrev pub HasSettingsOr : Settings → Result NamedConfig ReadFault → Type 0
+HasSettingsOr settings (Ok entry) = HasSettings settings entry
+HasSettingsOr settings (Err NoMemory) = Unit {0}
+HasSettingsOr settings (Err fault) = IsLowest (λ cause. is_wrong_alone cause settings) fault
+
+-- causes, and those that lie in any repository
+abbrev pub or_alone : (ReadFault → Bool) → List Settings → ReadFault → Bool
+or_alone causes settings cause = causes cause || list_any (is_wrong_alone cause) settings
+
+-- the repositories that are told, where there are no causes; or the lowest of those and of the faults in any repository
+abbrev pub AreMade : (ReadFault → Bool) → List Settings → Result (List NamedConfig) ReadFault → Type 0
+AreMade causes settings (Ok entries) = ((fault : ReadFault) → or_alone causes settings fault ≡ false) × HaveSettings settings entries
+AreMade causes settings (Err NoMemory) = Unit {0}
+AreMade causes settings (Err fault) = IsLowest (or_alone causes settings) fault
+
+-- the configuration that is told, or the lowest fault
+abbrev pub IsMade : HostSettings → Result HostConfig ReadFault → Type 0
+IsMade told (Ok config) =
+    ((fault : ReadFault) → is_wrong fault told ≡ false)
+    × (told.cache ≡ Some config.cache) × HaveSettings told.repositories config.repositories
+IsMade told (Err NoMemory) = Unit {0}
+IsMade told (Err fault) = IsLowest (λ cause. is_wrong cause told) fault

@@ -1,0 +1,135 @@
+-- What the JSON object of a configuration tells, where its members are of their kinds (RFC 8259, sections 3 to 7). The members are this
+-- repository's own.
+use Rattle.std.specs.Prelude.{ℕ, List, [], ◌∷◌, codes, Option, Some}
+use Rattle.std.specs.List.{find}
+use Rattle.std.specs.Str.{bytes_eq}
+use Rattle.serde_json.specs.Data.{Data}
+use Rattle.oai_time.specs.declared.granularity.Granularity.{Granularity}
+use Rattle.oai_time.specs.declared.granularity.Granularity.TheVariants.{Day, Second}
+use Rattle.oai_item.specs.ShortTexts.{is_short_text}
+use Rattle.oai_item.specs.declared.deleted_record.DeletedRecord.{DeletedRecord}
+use Rattle.oai_item.specs.declared.deleted_record.DeletedRecord.TheVariants.{No, Transient, Persistent}
+use Rattle.oai_answers.specs.Documents.{deleted_text}
+use Rattle.oai_deposit.specs.Json.{elements_at, has_members, json_in, number_at, text_at, texts_at}
+use Rattle.oai_settings.specs.declared.settings.FormatSettings.{FormatSettings}
+use Rattle.oai_settings.specs.declared.settings.Settings.{Settings}
+use Rattle.oai_config.specs.declared.host_settings.HostSettings.{HostSettings}
+use Rattle.oai_names.specs.Optional.{◌>>=◌, each_of, tested}
+
+-- ---- a format
+
+-- the members of a format
+abbrev pub format_members : List (List ℕ)
+format_members = codes "prefix" ∷ codes "schema" ∷ codes "namespace" ∷ codes "root" ∷ codes "fields" ∷ []
+
+-- what they tell
+abbrev pub format_from : Data → Option FormatSettings
+format_from d = do
+  prefix ← text_at (codes "prefix") d
+  schema ← text_at (codes "schema") d
+  namespace ← text_at (codes "namespace") d
+  root ← text_at (codes "root") d
+  fields ← texts_at (codes "fields") d
+  Some (record { prefix = prefix; schema = schema; namespace = namespace; root = root; fields = fields })
+
+-- {"prefix":TEXT,"schema":TEXT,"namespace":TEXT,"root":TEXT,"fields":[TEXT,..]}, and no other member
+unfoldable pub format_in : Data → Option FormatSettings
+format_in d = tested (has_members format_members) d >>= format_from
+
+-- ---- a repository
+
+-- what is kept of deleted records, by its word in an answer to Identify (OAI-PMH 2.0, sections 2.5.1 and 4.2)
+unfoldable pub deleted_of : List ℕ → Option DeletedRecord
+deleted_of text = find (λ (deleted : DeletedRecord). bytes_eq text (deleted_text deleted)) (No ∷ Transient ∷ Persistent ∷ [])
+
+-- .. as the member of it tells
+unfoldable pub deleted_at : Data → Option DeletedRecord
+deleted_at d = text_at (codes "deletedRecord") d >>= deleted_of
+
+-- the word for how fine the datestamps are: this repository's own, and not what OAI-PMH 2.0, section 2.7.1, writes
+abbrev pub granularity_word : Granularity → List ℕ
+granularity_word Day = codes "days"
+granularity_word Second = codes "seconds"
+
+-- how fine they are, by that word
+unfoldable pub granularity_of : List ℕ → Option Granularity
+granularity_of text = find (λ (granularity : Granularity). bytes_eq text (granularity_word granularity)) (Day ∷ Second ∷ [])
+
+-- .. as the member of it tells
+unfoldable pub granularity_at : Data → Option Granularity
+granularity_at d = text_at (codes "granularity") d >>= granularity_of
+
+-- the formats, as the member of them tells
+unfoldable pub formats_at : Data → Option (List FormatSettings)
+formats_at d = elements_at (codes "formats") d >>= each_of format_in
+
+-- the members of a repository
+abbrev pub repository_members : List (List ℕ)
+repository_members =
+    codes "name" ∷ codes "repositoryName" ∷ codes "adminEmail" ∷ codes "earliestDatestamp" ∷ codes "deletedRecord"
+    ∷ codes "granularity" ∷ codes "chunk" ∷ codes "lifetime" ∷ codes "lists" ∷ codes "items" ∷ codes "formats" ∷ []
+
+-- what they tell of a repository below the base
+abbrev pub settings_from : List ℕ → Data → Option Settings
+settings_from base d = do
+  name ← text_at (codes "name") d
+  repository_name ← text_at (codes "repositoryName") d
+  addresses ← texts_at (codes "adminEmail") d
+  earliest ← text_at (codes "earliestDatestamp") d
+  deleted ← deleted_at d
+  granularity ← granularity_at d
+  chunk ← number_at (codes "chunk") d
+  lifetime ← number_at (codes "lifetime") d
+  lists ← number_at (codes "lists") d
+  items ← number_at (codes "items") d
+  formats ← formats_at d
+  Some (record {
+    base = base;
+    name = name;
+    repository_name = repository_name;
+    addresses = addresses;
+    earliest = earliest;
+    deleted = deleted;
+    granularity = granularity;
+    chunk = chunk;
+    lifetime = lifetime;
+    lists = lists;
+    items = items;
+    formats = formats;
+  })
+
+-- the object of these members, and no other
+unfoldable pub settings_of : List ℕ → Data → Option Settings
+settings_of base d = tested (has_members repository_members) d >>= settings_from base
+
+-- ---- the host
+
+-- the base of all base URLs: 1 to 512 bytes, of characters that a document may hold (XML 1.0, section 2.2)
+unfoldable pub base_at : Data → Option (List ℕ)
+base_at d = text_at (codes "base") d >>= tested is_short_text
+
+-- the repositories below the base
+unfoldable pub repositories_at : List ℕ → Data → Option (List Settings)
+repositories_at base d = elements_at (codes "repositories") d >>= each_of (settings_of base)
+
+-- the members of a configuration
+abbrev pub host_members : List (List ℕ)
+host_members = codes "base" ∷ codes "cache" ∷ codes "repositories" ∷ []
+
+-- what they tell
+abbrev pub told_from : Data → Option HostSettings
+told_from d = do
+  base ← base_at d
+  cache ← number_at (codes "cache") d
+  repositories ← repositories_at base d
+  Some (record { cache = cache; repositories = repositories })
+
+-- {"base":TEXT,"cache":NUMBER,"repositories":[REPOSITORY,..]}, and no other member
+unfoldable pub told_of : Data → Option HostSettings
+told_of d = tested (has_members host_members) d >>= told_from
+
+-- ---- the text
+
+-- what the text tells, where it is JSON of the shape
+unfoldable pub told_in : List ℕ → Option HostSettings
+told_in text = json_in text >>= told_of

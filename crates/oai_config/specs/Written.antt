@@ -1,0 +1,67 @@
+-- The JSON object that a configuration is written as. RFC 8259, sections 4 to 7.
+use Rattle.std.specs.Prelude.{◌≡◌, ◌↔◌, ℕ, true, List, map, codes, Option, Some}
+use Rattle.std.specs.List.{AllZip}
+use Rattle.serde_json.specs.Data.{Data, Num, string, number}
+use Rattle.serde_json.specs.Find.{get, as_u64}
+use Rattle.oai_item.specs.ShortTexts.{is_short_text}
+use Rattle.oai_answers.specs.Documents.{deleted_text}
+use Rattle.oai_deposit.specs.Json.{size, array_of}
+use Rattle.oai_settings.specs.declared.settings.FormatSettings.{FormatSettings}
+use Rattle.oai_settings.specs.declared.settings.Settings.{Settings}
+use Rattle.oai_config.specs.declared.host_settings.HostSettings.{HostSettings}
+use Rattle.oai_config.specs.Shapes.{granularity_word, told_of}
+
+-- ---- a member of an object
+
+-- a string
+abbrev pub HasText : List ℕ → List ℕ → Data → Type 0
+HasText name text d = get name d ≡ Some (string text)
+
+-- a number: that one, or where there is none any other than those of 64 bits, whole and not negative
+abbrev pub HasNumber : List ℕ → Option ℕ → Data → Type 0
+HasNumber name n d = (m : Num) × (get name d ≡ Some (number m)) × (as_u64 m ≡ n)
+
+-- a list of strings
+abbrev pub HasTexts : List ℕ → List (List ℕ) → Data → Type 0
+HasTexts name texts d = get name d ≡ Some (array_of (map string texts))
+
+-- a list of values, as each of which one is written, in order
+abbrev pub HasList : {A : Type 0} → List ℕ → (A → Data → Type 0) → List A → Data → Type 0
+HasList name IsWritten xs d = (ds : List Data) × (get name d ≡ Some (array_of ds)) × AllZip IsWritten xs ds
+
+-- ---- the objects, their members in any order
+
+pub record IsFormat (format : FormatSettings) (d : Data) : Type 0 where
+  pub prefix : HasText (codes "prefix") format.prefix d
+  pub schema : HasText (codes "schema") format.schema d
+  pub namespace : HasText (codes "namespace") format.namespace d
+  pub root : HasText (codes "root") format.root d
+  pub fields : HasTexts (codes "fields") format.fields d
+  pub no_other : size d ≡ 5
+
+pub record IsRepository (base : List ℕ) (s : Settings) (d : Data) : Type 0 where
+  pub below : s.base ≡ base
+  pub name : HasText (codes "name") s.name d
+  pub repository_name : HasText (codes "repositoryName") s.repository_name d
+  pub addresses : HasTexts (codes "adminEmail") s.addresses d
+  pub earliest : HasText (codes "earliestDatestamp") s.earliest d
+  pub deleted : HasText (codes "deletedRecord") (deleted_text s.deleted) d
+  pub granularity : HasText (codes "granularity") (granularity_word s.granularity) d
+  pub chunk : HasNumber (codes "chunk") s.chunk d
+  pub lifetime : HasNumber (codes "lifetime") s.lifetime d
+  pub lists : HasNumber (codes "lists") s.lists d
+  pub items : HasNumber (codes "items") s.items d
+  pub formats : HasList (codes "formats") IsFormat s.formats d
+  pub no_other : size d ≡ 11
+
+-- the base of all base URLs has 1 to 512 bytes, of characters that a document may hold (XML 1.0, section 2.2)
+pub record IsHost (base : List ℕ) (told : HostSettings) (d : Data) : Type 0 where
+  pub based : HasText (codes "base") base d
+  pub short : is_short_text base ≡ true
+  pub cache : HasNumber (codes "cache") told.cache d
+  pub repositories : HasList (codes "repositories") (IsRepository base) told.repositories d
+  pub no_other : size d ≡ 3
+
+-- the law of the shape: a value tells this exactly where it is the object that this is written as, on some base
+abbrev pub ConfigShapeLaw : Type 0
+ConfigShapeLaw = (d : Data) (told : HostSettings) → (told_of d ≡ Some told) ↔ ((base : List ℕ) × IsHost base told d)

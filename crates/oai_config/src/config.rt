@@ -1,0 +1,105 @@
+ghost use Rattle.std.specs.Prelude.{◌≡◌, length};
+ghost use Rattle.oai_config.specs.Configs.{AreNamed, IsHostConfig, names_of};
+ghost use Rattle.oai_config.specs.Reading.{IsRead};
+ghost use Rattle.oai_config.specs.ReadingWork.{IsMade};
+
+use crate::causes::{check_together, each_named};
+use crate::faults::ReadFault;
+use crate::host_settings::{HostSettings, told_in};
+use oai_names::{Sequence, Text};
+use oai_settings::RepoConfig;
+use std::alloc::Global;
+use std::marker::Model;
+
+/// The configuration of one of the repositories of a host.
+#[derive(Debug, Drop)]
+pub struct NamedConfig {
+    /// The repository's name in its base URL, and in the paths of requests and deposits.
+    pub name: Text,
+    /// Its configuration.
+    pub config: RepoConfig,
+}
+
+impl Model for NamedConfig {
+    ghost use Rattle.oai_config.specs.Configs.{NamedConfig};
+
+    ghost Value = { NamedConfig };
+
+    ghost view = { λ h. record { name = h.name; config = h.config } };
+}
+
+/// The configuration of a host: the pages that its cache holds, 1 to 65,536, and 1 to 1,000
+/// repositories, no two of which have one name.
+#[derive(Debug, Drop)]
+pub struct Config {
+    cache: u64,
+    repositories: Sequence<NamedConfig>,
+}
+
+impl Model for Config {
+    ghost use Rattle.oai_config.specs.Configs.{HostConfig, IsHostConfig};
+
+    ghost Value = { HostConfig };
+
+    ghost use Rattle.oai_config.specs.ConfigInside.{host_config_in};
+
+    ghost view = { host_config_in };
+
+    ghost invariant = { λ c. IsHostConfig (host_config_in c) };
+}
+
+impl Config {
+    /// The configuration that the text tells, a JSON object (RFC 8259) of just its members. Of the
+    /// faults 1 to 8 that apply anywhere in the text the lowest is the error; or it is `NoMemory`,
+    /// which may come in place of any other, but not for a text that is empty or not in UTF-8. Of
+    /// two members of one name the last counts.
+    #[tactic(auto, unfolding(crate::specs::Shapes::told_in))]
+    pub fn read(alloc: Global, text: &[u8]) -> Result<Config, ReadFault>
+        ensures { IsRead text.now result }
+    {
+        let told = told_in(alloc, text)?;
+        Config::of(alloc, told)
+    }
+
+    /// The configuration of what is told.
+    fn of(alloc: Global, told: HostSettings) -> Result<Config, ReadFault>
+        ensures { IsMade told result }
+    {
+        let HostSettings {
+            cache,
+            repositories,
+        } = told;
+        let cache = check_together(alloc, cache, repositories.as_slice())?;
+        let repositories = each_named(alloc, cache.err(), repositories)?;
+        Ok(Config {
+            cache: cache?,
+            repositories,
+        })
+    }
+
+    /// How many repositories there are: 1 to 1,000.
+    pub fn len(&self) -> usize
+        ensures number { result ≡ length self.now.repositories }
+        ensures valid { IsHostConfig self.now }
+    {
+        self.repositories.as_slice().len()
+    }
+
+    /// How many pages the cache holds: 1 to 65,536.
+    pub fn cache(&self) -> u64
+        ensures number { result ≡ self.now.cache }
+        ensures valid { IsHostConfig self.now }
+    {
+        self.cache
+    }
+
+    /// The repositories, in the order of the text. It takes no memory.
+    pub fn into_repositories(self) -> Sequence<NamedConfig>
+        ensures repositories { result ≡ self.repositories }
+        ensures named { AreNamed (names_of self.repositories) }
+        ensures valid { IsHostConfig self }
+    {
+        let Config { repositories, .. } = self;
+        repositories
+    }
+}

@@ -1,0 +1,14 @@
+//! The configuration of a host: what a text tells of it, and why a text is none.
+#![tactic(auto)]
+
+mod causes;
+mod config;
+mod faults;
+mod formats;
+mod host_settings;
+mod members;
+mod repositories;
+
+pub use config::{Config, NamedConfig};
+pub use faults::{ReadFault, fault_law};
+pub use host_settings::shape_law;

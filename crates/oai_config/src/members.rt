@@ -1,0 +1,63 @@
+ghost use Rattle.std.specs.Prelude.{map};
+ghost use Rattle.serde_json.specs.Find.{as_str};
+ghost use Rattle.serde_json.specs.View.{view};
+ghost use Rattle.oai_names.specs.Optional.{each_of};
+ghost use Rattle.oai_deposit.specs.Json as json;
+ghost use Rattle.oai_config.specs.ReadingWork.{GivesRead, GivesView};
+
+use crate::faults::ReadFault;
+use oai_deposit::{elements_at, number_at, text_at};
+use oai_names::{Sequence, Text};
+use serde_json::Value;
+use std::alloc::Global;
+
+/// A copy of the text of the member of that name; `BadShape` where there is no such string.
+pub(crate) fn read_text(alloc: Global, value: &Value, name: &str) -> Result<Text, ReadFault>
+    ensures { GivesRead result (json.text_at name.now (view value.now)) }
+{
+    match text_at(value, name) {
+        Some(text) => Ok(Text::new(alloc, text)?),
+        None => Err(ReadFault::BadShape),
+    }
+}
+
+/// The number of the member of that name, None where it is none of 64 bits that is whole and not
+/// negative; `BadShape` where there is no such number.
+pub(crate) fn read_number(value: &Value, name: &str) -> Result<Option<u64>, ReadFault>
+    ensures { GivesView (λ number. number) result (json.number_at name.now (view value.now)) }
+{
+    match number_at(value, name) {
+        Some(number) => Ok(number),
+        None => Err(ReadFault::BadShape),
+    }
+}
+
+/// A copy of the texts of the member of that name; `BadShape` where there is no such list of strings.
+#[tactic(auto, unfolding(oai_deposit::specs::Json::texts_at))]
+pub(crate) fn read_texts(
+    alloc: Global,
+    value: &Value,
+    name: &str,
+) -> Result<Sequence<Text>, ReadFault>
+    ensures { GivesRead result (json.texts_at name.now (view value.now)) }
+{
+    match elements_at(value, name) {
+        Some(values) => texts_in(alloc, values),
+        None => Err(ReadFault::BadShape),
+    }
+}
+
+/// A copy of the text of each string; `BadShape` at the first value that is none.
+#[tactic(auto, using(oai_deposit::proofs::ReadingLemmas::starts))]
+fn texts_in(alloc: Global, values: &[Value]) -> Result<Sequence<Text>, ReadFault>
+    ensures { GivesRead result (each_of as_str (map view values.now)) }
+{
+    let mut texts = Vec::new(alloc);
+    for value in values {
+        let Some(text) = value.as_str() else {
+            return Err(ReadFault::BadShape);
+        };
+        texts.push(Text::new(alloc, text)?)?;
+    }
+    Ok(Sequence::new(texts))
+}

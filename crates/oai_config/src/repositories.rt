@@ -1,0 +1,158 @@
+ghost use Rattle.std.specs.Prelude.{◌≡◌, map};
+ghost use Rattle.oai_deposit.specs.Json.{has_members};
+ghost use Rattle.serde_json.specs.View.{view};
+ghost use Rattle.oai_names.specs.Optional.{each_of};
+ghost use Rattle.oai_config.specs.Shapes as shape;
+ghost use Rattle.oai_config.specs.ReadingWork.{GivesView, GivesRead};
+
+use crate::faults::ReadFault;
+use crate::formats::each_format;
+use crate::members::{read_number, read_text, read_texts};
+use oai_deposit::{elements_at, has_members, text_at};
+use oai_item::DeletedRecord;
+use oai_names::{Sequence, Text};
+use oai_settings::{FormatSettings, Settings};
+use oai_time::Granularity;
+use serde_json::Value;
+use std::alloc::Global;
+
+/// The settings of the repositories below the base, as the member of them tells.
+#[tactic(auto, unfolding(crate::specs::Shapes::repositories_at))]
+pub(crate) fn repositories_at(
+    alloc: Global,
+    base: &str,
+    value: &Value,
+) -> Result<Sequence<Settings>, ReadFault>
+    ensures { GivesRead result (shape.repositories_at base.now (view value.now)) }
+{
+    match elements_at(value, "repositories") {
+        Some(values) => each_repository(alloc, base, values),
+        None => Err(ReadFault::BadShape),
+    }
+}
+
+/// The settings that each value tells of a repository below the base, in order; `BadShape` at the
+/// first that tells none.
+#[tactic(auto, using(oai_deposit::proofs::ReadingLemmas::starts))]
+fn each_repository(
+    alloc: Global,
+    base: &str,
+    values: &[Value],
+) -> Result<Sequence<Settings>, ReadFault>
+    ensures { GivesRead result (each_of (shape.settings_of base.now) (map view values.now)) }
+{
+    let mut repositories = Vec::new(alloc);
+    for value in values {
+        repositories.push(settings_of(alloc, base, value)?)?;
+    }
+    Ok(Sequence::new(repositories))
+}
+
+/// The settings that an object of exactly the members of a repository tells; `BadShape` at any
+/// other value.
+#[tactic(auto, unfolding(crate::specs::Shapes::settings_of))]
+fn settings_of(alloc: Global, base: &str, value: &Value) -> Result<Settings, ReadFault>
+    ensures { GivesRead result (shape.settings_of base.now (view value.now)) }
+{
+    if !is_repository(value) {
+        return Err(ReadFault::BadShape);
+    }
+    let deleted = deleted_at(value)?;
+    let granularity = granularity_at(value)?;
+    let chunk = read_number(value, "chunk")?;
+    let lifetime = read_number(value, "lifetime")?;
+    let lists = read_number(value, "lists")?;
+    let items = read_number(value, "items")?;
+    Ok(Settings {
+        base: Text::new(alloc, base)?,
+        name: read_text(alloc, value, "name")?,
+        repository_name: read_text(alloc, value, "repositoryName")?,
+        addresses: read_texts(alloc, value, "adminEmail")?,
+        earliest: read_text(alloc, value, "earliestDatestamp")?,
+        deleted,
+        granularity,
+        chunk,
+        lifetime,
+        lists,
+        items,
+        formats: formats_at(alloc, value)?,
+    })
+}
+
+/// Whether the value is an object of exactly the members of a repository.
+fn is_repository(value: &Value) -> bool
+    ensures { result ≡ has_members shape.repository_members (view value.now) }
+{
+    has_members(
+        value,
+        &[
+            "name",
+            "repositoryName",
+            "adminEmail",
+            "earliestDatestamp",
+            "deletedRecord",
+            "granularity",
+            "chunk",
+            "lifetime",
+            "lists",
+            "items",
+            "formats",
+        ],
+    )
+}
+
+/// What is kept of deleted records, as the member of it tells.
+#[tactic(auto, unfolding(crate::specs::Shapes::deleted_at))]
+fn deleted_at(value: &Value) -> Result<DeletedRecord, ReadFault>
+    ensures { GivesView (λ deleted. deleted) result (shape.deleted_at (view value.now)) }
+{
+    match text_at(value, "deletedRecord") {
+        Some(text) => deleted_of(text),
+        None => Err(ReadFault::BadShape),
+    }
+}
+
+#[tactic(auto, unfolding(crate::specs::Shapes::deleted_of))]
+fn deleted_of(text: &str) -> Result<DeletedRecord, ReadFault>
+    ensures { GivesView (λ deleted. deleted) result (shape.deleted_of text.now) }
+{
+    match text {
+        "no" => Ok(DeletedRecord::No),
+        "transient" => Ok(DeletedRecord::Transient),
+        "persistent" => Ok(DeletedRecord::Persistent),
+        _ => Err(ReadFault::BadShape),
+    }
+}
+
+/// How fine the datestamps are, as the member of it tells.
+#[tactic(auto, unfolding(crate::specs::Shapes::granularity_at))]
+fn granularity_at(value: &Value) -> Result<Granularity, ReadFault>
+    ensures { GivesView (λ granularity. granularity) result (shape.granularity_at (view value.now)) }
+{
+    match text_at(value, "granularity") {
+        Some(text) => granularity_of(text),
+        None => Err(ReadFault::BadShape),
+    }
+}
+
+#[tactic(auto, unfolding(crate::specs::Shapes::granularity_of))]
+fn granularity_of(text: &str) -> Result<Granularity, ReadFault>
+    ensures { GivesView (λ granularity. granularity) result (shape.granularity_of text.now) }
+{
+    match text {
+        "days" => Ok(Granularity::Day),
+        "seconds" => Ok(Granularity::Second),
+        _ => Err(ReadFault::BadShape),
+    }
+}
+
+/// The formats, as the member of them tells.
+#[tactic(auto, unfolding(crate::specs::Shapes::formats_at))]
+fn formats_at(alloc: Global, value: &Value) -> Result<Sequence<FormatSettings>, ReadFault>
+    ensures { GivesRead result (shape.formats_at (view value.now)) }
+{
+    match elements_at(value, "formats") {
+        Some(values) => each_format(alloc, values),
+        None => Err(ReadFault::BadShape),
+    }
+}

@@ -1,0 +1,10 @@
+use Rattle.std.proofs.Common.{◌≡◌, map, drop}
+use Rattle.serde_json.specs.Find.{as_str}
+use Rattle.serde_json.specs.View.{view}
+use Rattle.oai_names.specs.Optional.{each_of}
+use Rattle.oai_deposit.proofs.ReadingLemmas.{with_front}
+use Rattle.oai_deposit.proofs.members.texts_in.Given as goal
+
+abbrev pub invariant-loop-value : goal.invariant-loop-value
+invariant-loop-value l =
+    with_front (map (λ text. text.now) l.texts.items) (each_of as_str (map view (drop l.value-index l.values))) ≡ each_of as_str (map view l.values)

@@ -1,0 +1,112 @@
+ghost use Rattle.std.specs.Prelude.{◌≡◌, ◌≤◌, length, take};
+ghost use Rattle.httparse.specs.Spans.{IsRequestOf, IsRequestWithin};
+ghost use Rattle.oai_front.specs.RequestHeads.{IsHeadParse, IsKept, parse_unless_full};
+
+use crate::fields::first_named;
+use crate::framings::{Framing, framing_of};
+use httparse::spans::{EMPTY_HEADER_SPAN, HeaderSpan, RequestSpans, Span, parse_request};
+use httparse::{Error, Status as Parsed};
+use oai_http::Status;
+
+/// The longest head, in bytes. Empty lines before it count.
+pub const MAX_HEAD_BYTES: usize = 16_384;
+
+/// The most fields of a head.
+pub const MAX_HEAD_FIELDS: usize = 64;
+
+/// A head that is whole: where its parts are among the bytes that begin with it, and what comes behind
+/// it.
+#[derive(Clone, Copy)]
+pub struct Head {
+    /// The method.
+    pub method: Span,
+    /// The target.
+    pub target: Span,
+    /// The value of the first field Content-Type, where there is one.
+    pub content_type: Option<Span>,
+    /// How many bytes the head has; the body begins behind them.
+    pub start: usize,
+    /// How many bytes the body has.
+    pub size: usize,
+    /// Whether the connection is closed after the message.
+    pub last: bool,
+}
+
+/// What stands at the front of bytes that came.
+#[derive(Clone, Copy)]
+pub enum HeadParse {
+    /// No head that is whole; one may come.
+    Unknown,
+    /// What is answered with that status, since no message can come of it.
+    Fault(Status),
+    /// A head.
+    Whole(Head),
+}
+
+/// What stands at the front of the bytes (RFC 9112, sections 2 and 3). Of a head that is not whole at most
+/// the first 16,384 bytes are read.
+pub(crate) fn read_head(bytes: &[u8]) -> HeadParse
+    ensures { IsHeadParse bytes.now result }
+{
+    read_within(bytes, MAX_HEAD_BYTES)
+}
+
+/// What stands at the front of the bytes, where the longest head has `most` bytes.
+fn read_within(bytes: &[u8], most: usize) -> HeadParse
+    requires { most ≡ MAX_HEAD_BYTES }
+    ensures { IsHeadParse bytes.now result }
+{
+    let mut headers = [EMPTY_HEADER_SPAN; MAX_HEAD_FIELDS];
+    let front = front_of(bytes, most);
+    match parse_request(front, &mut headers) {
+        Ok(Parsed::Complete(spans)) => kept_of(front, &spans, &headers),
+        Ok(Parsed::Partial) => unless_full(bytes, most),
+        Err(error) => match error {
+            Error::TooManyHeaders => unless_full(bytes, most),
+            _ => HeadParse::Fault(Status::BadRequest),
+        },
+    }
+}
+
+/// The first `most` bytes, or all where there are fewer.
+fn front_of(bytes: &[u8], most: usize) -> &[u8]
+    ensures { result.now ≡ take most bytes.now }
+{
+    if bytes.len() <= most {
+        return bytes;
+    }
+    &bytes[..most]
+}
+
+/// What is said of bytes that do not begin with a head: a fault, once they are as many as one may have.
+fn unless_full(bytes: &[u8], most: usize) -> HeadParse
+    ensures { result ≡ parse_unless_full most bytes.now }
+{
+    if bytes.len() < most {
+        HeadParse::Unknown
+    } else {
+        HeadParse::Fault(Status::BadRequest)
+    }
+}
+
+/// What is kept of a head that was read, or why it is refused.
+fn kept_of(bytes: &[u8], spans: &RequestSpans, headers: &[HeaderSpan]) -> HeadParse
+    requires short { length bytes.now ≤ MAX_HEAD_BYTES }
+    requires few { length headers.now ≤ MAX_HEAD_FIELDS }
+    requires within { IsRequestWithin bytes.now headers.now spans.now }
+    requires read { IsRequestOf bytes.now headers.now spans.now }
+    ensures { IsKept bytes.now result }
+{
+    let fields = &headers[..spans.headers];
+    match framing_of(bytes, spans.version, fields) {
+        Framing::Refused(status) => HeadParse::Fault(status),
+        Framing::Body(size, last) => HeadParse::Whole(Head {
+            method: spans.method,
+            target: spans.path,
+            content_type: first_named(bytes, fields, b"Content-Type"),
+            start: spans.len,
+            size,
+            last,
+        }),
+    }
+}

@@ -1,5 +1,0 @@
-use Rattle.oai_host.proofs.TextLemmas.{made_of_told}
-use Rattle.oai_host.proofs.config.Config.read.Goals as goal
-
-pub returns : goal.returns
-returns c = made_of_told c.args.text.now c.in_ok-told.told c.of.result c.in_ok-told.ensures c.of.ensures

@@ -1,0 +1,55 @@
+-- What a host keeps of its repositories, and what the lists of its store have of them: this repository's own.
+use Rattle.std.specs.Prelude.{◌≡◌, ℕ, Bool, true, false, List, [], ◌∷◌, map, Option, IsTrue}
+use Rattle.std.specs.List.{AllByRecursion, position}
+use Rattle.std.specs.Str.{bytes_eq}
+use Rattle.oai_catalogue.specs.Store.{Lists}
+use Rattle.oai_repo.specs.Fields.{RepoFields, IsStored, StandsIn, has, numbers_of, state_of}
+use Rattle.oai_config.specs.Configs.{AreNamed}
+use Rattle.oai_host.specs.Hosts.{Repository}
+use Rattle.oai_host.specs.declared.repositories.NamedRepo.{NamedRepo}
+
+-- the repository that it stands for
+abbrev pub repository_of : Lists → NamedRepo → Repository
+repository_of lists repos = record { name = repos.name; config = repos.repo.config; state = state_of repos.repo lists }
+
+abbrev pub repositories_of : List NamedRepo → Lists → List Repository
+repositories_of repos lists = map (repository_of lists) repos
+
+abbrev pub repo_names : List NamedRepo → List (List ℕ)
+repo_names repos = map (λ (one : NamedRepo). one.name) repos
+
+-- the place of a name among these, if it is there
+abbrev pub place_in : List (List ℕ) → List ℕ → Option ℕ
+place_in names name = position (λ (one : List ℕ). bytes_eq one name) names
+
+-- no number is one of both
+abbrev pub AreApart : RepoFields → RepoFields → Type 0
+AreApart one other = (n : ℕ) → has (numbers_of one) n ≡ true → has (numbers_of other) n ≡ false
+
+-- no number is one of this and of another
+abbrev pub IsApart : RepoFields → List NamedRepo → Type 0
+IsApart one others = AllByRecursion (λ (other : NamedRepo). AreApart one other.repo) others
+
+abbrev pub AllApart : List NamedRepo → Type 0
+AllApart [] = Unit {0}
+AllApart (one ∷ others) = IsApart one.repo others × AllApart others
+
+-- the lists have of each what they have to have of a repository
+abbrev pub AllStand : List NamedRepo → Lists → Type 0
+AllStand repos lists = AllByRecursion (λ (one : NamedRepo). StandsIn one.repo lists) repos
+
+abbrev pub AllHeld : List NamedRepo → Lists → Type 0
+AllHeld repos lists = AllByRecursion (λ (one : NamedRepo). IsStored one.repo lists) repos
+
+-- each has a name of its own, and no number is one of two repositories
+pub record AreNamedRepos (honest : Bool) (repos : List NamedRepo) (lists : Lists) : Type 0 where
+  pub named : AreNamed (repo_names repos)
+  pub stand : AllStand repos lists
+  pub held : IsTrue honest → AllHeld repos lists
+  pub apart : AllApart repos
+
+-- the lists of a store are what a host keeps of these repositories
+pub record StandFor (honest : Bool) (lists : Lists) (repositories : List Repository) : Type 0 where
+  pub repos : List NamedRepo
+  pub kept : AreNamedRepos honest repos lists
+  pub whole : repositories ≡ repositories_of repos lists

@@ -1,0 +1,199 @@
+//! A host of repositories.
+ghost use Rattle.oai_catalogue.specs.Store.{IsCounted, IsHonest};
+ghost use Rattle.oai_host.specs.Answers.{AreCounted, AreHonest, OnFailed, Tells, failure_in};
+ghost use Rattle.oai_host.specs.Exchanged.{AreExchanged, IsExchanged};
+ghost use Rattle.oai_host.specs.Faults.{HasCause};
+ghost use Rattle.oai_host.specs.Hosts.{AreAnswered, AreAsAlone, IsAnswered, LeavesOthers, begun, is_of_none, none_failed, refused};
+ghost use Rattle.oai_host.specs.NamedRepos.{AreNamedRepos, StandFor, repo_names};
+ghost use Rattle.oai_host.specs.Performed.{PerformsOwn};
+ghost use Rattle.oai_host.specs.Places.{IsRepoPlace, LeadsNowhere};
+ghost use Rattle.oai_host.specs.Props.{named_repo_props};
+ghost use Rattle.oai_host.specs.Room.{FindsRoom};
+ghost use Rattle.oai_host.specs.Tasks.{task_of};
+ghost use Rattle.oai_http.specs.Exchanges.{call_of};
+ghost use Rattle.oai_http.specs.Targets as spec;
+ghost use Rattle.oai_http.specs.declared.statuses.Status.TheVariants as status;
+ghost use Rattle.oai_item.specs.declared.faults.Fault.TheVariants.{TooManyPages};
+ghost use Rattle.oai_settings.specs.Config.{is_repository_name};
+ghost use Rattle.std.specs.List.{list_all};
+ghost use Rattle.std.specs.Option.{IfNone};
+ghost use Rattle.std.specs.Prelude.{IfErr, IfOk, IfSome, IsTrue, OnErr, false, if◌then◌else◌, length, map, true, ◌+◌, ◌<◌, ◌≡◌, ◌≤◌};
+
+use crate::repositories::Repositories;
+use crate::routes::Routes;
+use oai_catalogue::Versions;
+use oai_config::Config;
+use oai_http::{Answer, Call, Endpoint, Exchange, Handler, Status, is_rooted, path_of};
+use oai_item::Fault;
+use oai_names::Sequence;
+use std::alloc::{AllocError, Global};
+use std::marker::Model;
+
+/// A host: repositories, each reached by its name, and the store that has the items of all of them.
+///
+/// What happens at one repository cannot be seen at another: where no exchange failed, and the store gives
+/// back what was written to it, what is answered at each is what it alone would answer to its own
+/// exchanges, whatever comes between them. The numbers under which two repositories keep their items in the
+/// store are never the same.
+#[derive(Drop)]
+pub struct Host<V: Versions + Drop> {
+    alloc: Global,
+    routes: Routes,
+    repositories: Repositories,
+    store: V,
+    ghost repos: { AreNamedRepos (V.honest store) repositories (V.lists store) } by { Prim.hlevel named_repo_props },
+}
+
+impl<V: Versions + Drop> Model for Host<V> {
+    ghost use Rattle.oai_host.specs.Hosts.{HostState};
+    ghost use Rattle.oai_host.specs.NamedRepos.{repositories_of};
+
+    ghost Value = { HostState };
+
+    ghost view = { λ h. record {
+      repositories = repositories_of h.repositories (V.lists h.store);
+      honest = V.honest h.store;
+      failures = V.failures h.store;
+      room = V.room h.store;
+    } };
+}
+
+impl<V: Versions + Drop> Host<V> {
+    /// The repositories of the configuration, each without items and sets, in the store. What grows in
+    /// them takes its memory from `alloc`. Any fault but `Damaged` may come over an honest store, and
+    /// `TooManyPages` only where the store may lack room for one call for each repository.
+    pub fn new(alloc: Global, config: Config, mut store: V) -> Result<Host<V>, Fault>
+        ensures begun { IfOk result (λ host. host.repositories ≡ map begun config.repositories) }
+        ensures honesty { IfOk result (λ host. host.honest ≡ V.honest store) }
+        ensures count { IfOk result (λ host. V.failures store ≤ host.failures) }
+        ensures cause { HasCause V.failures V.honest store result }
+        ensures room { IfErr result (λ fault. fault ≡ TooManyPages
+            → V.room store < length config.repositories) }
+        ensures used { IfOk result (λ host. V.room store ≤ host.room + length config.repositories) }
+    {
+        let routes = Routes::new(alloc)?;
+        let mut repositories = Repositories::new(alloc);
+        for entry in config.into_repositories().into_vec() {
+            repositories.begin(entry, &mut store)?;
+        }
+        Ok(Host {
+            alloc,
+            routes,
+            repositories,
+            store,
+        })
+    }
+
+    /// Performs an exchange at the moment, in seconds from 1970 on, and answers it. Each fault, out of
+    /// memory too, is told inside the answer.
+    ///
+    /// Over a store that does not give back what was written to it as well, an exchange leaves all
+    /// repositories but its own as they were, and one that is no repository's is refused and leaves the host
+    /// as it was. At its own repository a request moves the clock and leaves what is held. A line of a deposit
+    /// that is refused moves the clock and changes nothing else; of one that is accepted the datestamp, the
+    /// clock, the sets and the open lists are those of the change, and nothing is said of the items. What
+    /// fails leaves all as it was before that request or line, the clock included: the first `done` lines of a
+    /// deposit were performed, and no other. A fault is told as what it is.
+    pub fn exchange(&mut self, moment: i64, exchange: &Exchange<'_>) -> Answer
+        ensures answered { IsTrue self.old.honest → IsAnswered (call_of moment exchange.now) result
+            self.old self.new }
+        ensures others { LeavesOthers exchange.now.target.now self.old.repositories
+            self.new.repositories }
+        ensures performed { PerformsOwn (call_of moment exchange.now) result self.old.repositories
+            self.new.repositories }
+        ensures none { is_of_none self.old.repositories (call_of moment exchange.now) ≡ true
+            → result ≡ refused (call_of moment exchange.now) }
+        ensures still { is_of_none self.old.repositories (call_of moment exchange.now) ≡ true
+            → self.new ≡ self.old }
+        ensures told { is_of_none self.old.repositories (call_of moment exchange.now) ≡ false
+            → Tells (task_of (call_of moment exchange.now)) result }
+        ensures left { OnFailed result (self.new.repositories ≡ self.old.repositories) }
+        ensures room { FindsRoom (call_of moment exchange.now) result
+            self.old.repositories self.old.room self.new.room }
+        ensures device { IsCounted (failure_in result) self.old.failures self.new.failures }
+        ensures honesty { IsHonest (failure_in result) self.old.honest self.new.honest }
+    {
+        match find(&self.routes, &self.repositories, exchange.target) {
+            Some((endpoint, place)) => {
+                self.repositories
+                    .perform(&mut self.store, place, endpoint, moment, exchange)
+            }
+            None => Answer::of_status(self.alloc, status_of(exchange.target)),
+        }
+    }
+
+    /// The store. The host's repositories are what its lists stand for, and its honesty, its failures and
+    /// its room are those that are said of the host.
+    pub fn versions(&self) -> &V
+        ensures lists { StandFor (V.honest result.now) (V.lists result.now) self.now.repositories }
+        ensures honesty { V.honest result.now ≡ self.now.honest }
+        ensures count { V.failures result.now ≡ self.now.failures }
+        ensures room { V.room result.now ≡ self.now.room }
+    {
+        &self.store
+    }
+
+    /// The same of a call.
+    fn perform(&mut self, call: &Call) -> Answer
+        ensures { IsExchanged call.now result self.old self.new }
+    {
+        self.exchange(call.moment, &call.exchange())
+    }
+
+    /// Performs exchanges, one after the other, and answers them in their order. The error is out of
+    /// memory for the list of the answers; nothing was performed then. Over every store each of them is what
+    /// `exchange` says.
+    pub fn run(&mut self, calls: &[Call]) -> Result<Sequence<Answer>, AllocError>
+        ensures answered { IfOk result (λ answers. IsTrue self.old.honest
+            → AreAnswered calls.now answers self.old self.new) }
+        ensures alone { IfOk result (λ answers. IsTrue self.old.honest → none_failed answers ≡ true
+            → AreAsAlone calls.now answers self.old.repositories) }
+        ensures exchanged { IfOk result (λ answers. AreExchanged calls.now answers self.old self.new) }
+        ensures err { OnErr result (self.new ≡ self.old) }
+        ensures device { IfOk result (λ answers. AreCounted answers self.old.failures
+            self.new.failures) }
+        ensures damaged { IfOk result (λ answers. AreHonest answers self.old.honest
+            self.new.honest) }
+        ensures count { self.old.failures ≤ self.new.failures }
+        ensures honesty { self.new.honest ≡ self.old.honest }
+    {
+        let mut answers = Vec::with_capacity(self.alloc, calls.len())?;
+        for call in calls {
+            let answer = self.perform(call);
+            answers.push(answer).unwrap();
+        }
+        Ok(Sequence::new(answers))
+    }
+}
+
+/// What the path of the target is for, and the place of the repository whose it is.
+fn find(routes: &Routes, repositories: &Repositories, target: &[u8]) -> Option<(Endpoint, usize)>
+    requires { list_all is_repository_name (repo_names repositories.now) ≡ true }
+    ensures place { IfSome result (λ found. IsRepoPlace repositories.now found.1 found.0 target.now) }
+    ensures nowhere { IfNone result (LeadsNowhere repositories.now target.now) }
+{
+    let (endpoint, name) = routes.find(path_of(target))?;
+    let place = repositories.place_of(name)?;
+    Some((endpoint, place))
+}
+
+/// The status for a target that is no repository's.
+fn status_of(target: &[u8]) -> Status
+    ensures { result ≡ (if spec.is_rooted target.now then status.NotFound else status.BadRequest) }
+{
+    if is_rooted(target) {
+        Status::NotFound
+    } else {
+        Status::BadRequest
+    }
+}
+
+impl<V: Versions + Drop> Handler for Host<V> {
+    ghost use Rattle.oai_host.specs.Exchanged.{IsHandled};
+
+    ghost step = { IsHandled };
+
+    fn exchange(&mut self, moment: i64, exchange: &Exchange<'_>) -> Answer {
+        self.exchange(moment, exchange)
+    }
+}

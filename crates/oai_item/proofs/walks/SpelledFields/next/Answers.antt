@@ -1,0 +1,29 @@
+use Rattle.std.proofs.Common.{◌≢◌, arith}
+use Rattle.oai_item.specs.Decoding.{first_field}
+use Rattle.oai_item.specs.Encoding.{encoded_field}
+use Rattle.oai_item.specs.declared.fields.Field.{Field}
+use Rattle.oai_item.specs.Encoding.{is_text_field}
+use Rattle.oai_item.proofs.ReadBack.{field_back}
+use Rattle.oai_item.proofs.Walking.{next_is, next_stands, none_left}
+use Rattle.oai_item.proofs.walks.SpelledFields.next.Goals as goal
+
+pub returns-then-self-eq0 : goal.returns-then-self-eq0
+returns-then-self-eq0 c = rw (← c.self.view_is) (none_left first_field c.self.inside.left c.self.inside.rest.now (omega (arith, c.if-self-eq0.true)))
+
+-- the next one stands there, so it is read
+pub returns-in_err-field : goal.returns-in_err-field
+returns-in_err-field c =
+    let some : c.self.inside.left ≢ 0 = λ e. omega (arith, e, c.if-self-eq0.false) in
+    absurd (c.in_err-field.ensures (next_stands first_field encoded_field is_text_field c.self.inside.rest.now c.self.inside.left some c.self.invariant))
+
+pub invariant_of-self : goal.invariant_of-self
+invariant_of-self c =
+    let x : Field = record { name = c.in_ok-field.field.name.now; text = c.in_ok-field.field.text.now } in
+    let some : c.self.inside.left ≢ 0 = λ e. omega (arith, e, c.if-self-eq0.false) in
+    (next_is first_field encoded_field is_text_field field_back c.self.inside.rest.now c.in_ok-field.rest.now c.self.inside.left x some c.self.invariant c.in_ok-field.ensures.1).spelled_behind
+
+pub returns : goal.returns
+returns c =
+    let x : Field = record { name = c.in_ok-field.field.name.now; text = c.in_ok-field.field.text.now } in
+    let some : c.self.inside.left ≢ 0 = λ e. omega (arith, e, c.if-self-eq0.false) in
+    rw (← c.self.view_is) (next_is first_field encoded_field is_text_field field_back c.self.inside.rest.now c.in_ok-field.rest.now c.self.inside.left x some c.self.invariant c.in_ok-field.ensures.1).is

@@ -1,0 +1,38 @@
+use Rattle.std.proofs.Common.{◌≢◌, ℕ, List, arith}
+use Rattle.oai_names.specs.Names.{may_be_prefix}
+use Rattle.std.specs.Str.{is_utf8}
+use Rattle.std.proofs.lemmas.Bool.{and_parts}
+use Rattle.oai_item.specs.Decoding.{first_record}
+use Rattle.oai_item.specs.Encoding.{encoded_record}
+use Rattle.oai_item.specs.Item.{Metadata}
+use Rattle.oai_item.specs.Walks.{are_fields, is_name_text, is_record}
+use Rattle.oai_item.proofs.ReadBack.{record_back}
+use Rattle.oai_item.proofs.Walking.{next_is, next_stands, none_left}
+use Rattle.oai_item.proofs.walks.SpelledRecords.next.Goals as goal
+
+pub returns-then-self-eq0-clause-next : goal.returns-then-self-eq0-clause-next
+returns-then-self-eq0-clause-next c = rw (← c.self.view_is) (none_left first_record c.self.inside.left c.self.inside.rest.now (omega (arith, c.if-self-eq0.true)))
+
+-- the next one stands there, so it is read
+pub returns-in_err-format-clause-next : goal.returns-in_err-format-clause-next
+returns-in_err-format-clause-next c =
+    let some : c.self.inside.left ≢ 0 = λ e. omega (arith, e, c.if-self-eq0.false) in
+    absurd (c.in_err-format.ensures (next_stands first_record encoded_record is_record c.self.inside.rest.now c.self.inside.left some c.self.invariant))
+
+pub invariant_of-self : goal.invariant_of-self
+invariant_of-self c =
+    let x : Metadata = (c.in_ok-format.format.prefix.now, c.in_ok-format.format.fields) in
+    let some : c.self.inside.left ≢ 0 = λ e. omega (arith, e, c.if-self-eq0.false) in
+    (next_is first_record encoded_record is_record record_back c.self.inside.rest.now c.in_ok-format.rest.now c.self.inside.left x some c.self.invariant c.in_ok-format.ensures.1).spelled_behind
+
+pub returns-clause-next : goal.returns-clause-next
+returns-clause-next c =
+    let x : Metadata = (c.in_ok-format.format.prefix.now, c.in_ok-format.format.fields) in
+    let some : c.self.inside.left ≢ 0 = λ e. omega (arith, e, c.if-self-eq0.false) in
+    rw (← c.self.view_is) (next_is first_record encoded_record is_record record_back c.self.inside.rest.now c.in_ok-format.rest.now c.self.inside.left x some c.self.invariant c.in_ok-format.ensures.1).is
+
+pub returns-clause-name : goal.returns-clause-name
+returns-clause-name c =
+    let prefix : List ℕ = c.in_ok-format.format.prefix.now in
+    let named = and_parts (is_name_text may_be_prefix prefix) (are_fields c.in_ok-format.format.fields) c.in_ok-format.ensures.0 in
+    (and_parts (may_be_prefix prefix) (is_utf8 prefix) named.0).0

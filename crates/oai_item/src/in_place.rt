@@ -1,0 +1,328 @@
+//! Items that are read in place: the bytes of an item's spelling answer for the item, without memory.
+
+ghost use Rattle.std.specs.Prelude.{◌≡◌, ◌≤◌, ◌&&◌, ℕ, List, Some, IsSome, is_some, length};
+ghost use Rattle.oai_item.specs.Decoding.{item_in};
+ghost use Rattle.std.specs.List.{list_all};
+ghost use Rattle.oai_item.specs.Encoding.{Spells, encoded};
+ghost use Rattle.oai_item.specs.Item.{IsItem, ItemState, are_rising, has_record, have_no_fields, may_be_records};
+ghost use Rattle.oai_item.specs.Membership.{is_in, neither_covers, none_covers};
+ghost use Rattle.oai_item.specs.Order.{item_cmp, place_cmp};
+ghost use Rattle.oai_item.specs.Selection.{is_in_given, passes};
+ghost use Rattle.oai_item.specs.SpellingParts.{ReadsParts};
+
+use crate::decodings::{read_identifier, read_live, read_records, read_sets, read_stamp};
+use crate::sizes::MAX_ITEM_BYTES;
+use crate::walks::{SpelledRecords, SpelledSets};
+use oai_names::{SetSpec, covers};
+use std::cmp::Ordering;
+use std::marker::Model;
+
+/// An item as the bytes of its spelling, which are lent. It answers as the item would, which `Item::decode`
+/// gives of these bytes, and takes no memory.
+#[derive(Drop)]
+pub struct Spelling<'a> {
+    bytes: &'a [u8],
+    live: bool,
+    stamp: i64,
+    identifier: &'a str,
+    rest: &'a [u8],
+}
+
+impl<'a> Model for Spelling<'a> {
+    ghost use Rattle.oai_item.specs.Item.{ItemState};
+    ghost use Rattle.oai_item.specs.InPlace.{IsSpelling, spelled_item};
+
+    ghost Value = { ItemState };
+
+    ghost view = { spelled_item };
+
+    ghost invariant = { IsSpelling };
+}
+
+impl<'a> Spelling<'a> {
+    /// The item that the bytes spell, all of them; None where they spell none, just where `Item::decode`
+    /// answers `Damaged`. It looks at all bytes.
+    pub fn read(bytes: &'a [u8]) -> Option<Spelling<'a>>
+        ensures { result ≡ item_in bytes.now }
+    {
+        if is_spelling(bytes) {
+            Some(Spelling::new(bytes))
+        } else {
+            None
+        }
+    }
+
+    /// The item that bytes spell of which this is known: `is_spelling` answered so. It looks at the
+    /// front of them, up to the identifier.
+    pub fn new(bytes: &'a [u8]) -> Spelling<'a>
+        requires { IsSome (item_in bytes.now) }
+        ensures { item_in bytes.now ≡ Some result }
+    {
+        let (live, rest) = read_live(bytes).unwrap();
+        let (stamp, rest) = read_stamp(rest).unwrap();
+        let (identifier, rest) = read_identifier(rest).unwrap();
+        Spelling {
+            bytes,
+            live,
+            stamp,
+            identifier,
+            rest,
+        }
+    }
+
+    /// The bytes, all of the spelling: 1 to 16,000.
+    pub fn bytes(&self) -> &'a [u8]
+        ensures spells { Spells result.now self.now }
+        ensures read { item_in result.now ≡ Some self.now }
+    {
+        self.bytes
+    }
+
+    /// The unique identifier.
+    pub fn identifier(&self) -> &'a str
+        ensures identifier { result.now ≡ self.now.identifier }
+        ensures valid { IsItem self.now }
+    {
+        self.identifier
+    }
+
+    /// The datestamp, in seconds from 1970 on, of years 0000 to 9999.
+    pub fn stamp(&self) -> i64
+        ensures { result ≡ self.now.stamp }
+    {
+        self.stamp
+    }
+
+    /// Whether the item is live; otherwise it is deleted.
+    pub fn is_live(&self) -> bool
+        ensures { result ≡ self.now.live }
+    {
+        self.live
+    }
+
+    /// The setSpecs that say which sets the item is in, one after the other.
+    pub fn sets(&self) -> SpelledSets<'a>
+        ensures { result ≡ self.now.sets }
+    {
+        let (sets, _) = read_sets(self.rest).unwrap();
+        sets
+    }
+
+    /// The record in each format, in the order of the prefixes, one after the other.
+    pub fn records(&self) -> SpelledRecords<'a>
+        ensures { result ≡ self.now.formats }
+    {
+        let (_, rest) = read_sets(self.rest).unwrap();
+        let (records, _) = read_records(rest).unwrap();
+        records
+    }
+
+    /// How the item stands to another in the order of items.
+    pub fn order(&self, other: &Spelling<'_>) -> Ordering
+        ensures { result ≡ item_cmp self.now other.now }
+    {
+        self.order_to(other.stamp(), other.identifier())
+    }
+
+    /// How the item stands in that order to this datestamp, in seconds from 1970 on, and identifier.
+    pub fn order_to(&self, stamp: i64, identifier: &str) -> Ordering
+        ensures { result ≡ place_cmp self.now stamp identifier.now }
+    {
+        match self.stamp().cmp(&stamp) {
+            Ordering::Equal => self.identifier().cmp(identifier),
+            unequal => unequal,
+        }
+    }
+
+    /// Whether the item has a record of that prefix.
+    pub fn has_record(&self, prefix: &str) -> bool
+        ensures { result ≡ has_record prefix.now self.now.formats }
+    {
+        has_record(self.records(), prefix)
+    }
+
+    /// Whether the item is in the set: one of its setSpecs is that of the set, or lies below it.
+    pub fn is_in(&self, set: &SetSpec) -> bool
+        ensures { result ≡ is_in set.now self.now.sets }
+    {
+        is_in(self.sets(), set.as_str())
+    }
+
+    /// Whether the item, live or deleted, is asked for: it has a record of the prefix, a datestamp
+    /// from `lower` to `upper`, in seconds from 1970 on and both included, and is in the set where
+    /// one is given.
+    pub fn passes(&self, prefix: &str, lower: i64, upper: i64, set: &Option<SetSpec>) -> bool
+        ensures { result
+            ≡ passes (record { prefix = prefix.now; lower = lower; upper = upper; set = set.now })
+            self.now }
+    {
+        self.has_record(prefix)
+            && lower <= self.stamp()
+            && self.stamp() <= upper
+            && self.is_in_given(set)
+    }
+
+    /// Whether the item is in the set, where one is given.
+    fn is_in_given(&self, set: &Option<SetSpec>) -> bool
+        ensures { result ≡ is_in_given set.now self.now.sets }
+    {
+        match set {
+            Some(set) => self.is_in(set),
+            None => true,
+        }
+    }
+}
+
+/// Whether the bytes, all of them, spell an item: just where `Item::decode` does not answer `Damaged`.
+/// It takes no memory.
+pub fn is_spelling(bytes: &[u8]) -> bool
+    ensures { result ≡ is_some (item_in bytes.now) }
+{
+    match read_parts(bytes) {
+        Some(parts) => parts_agree(&parts),
+        None => false,
+    }
+}
+
+/// The parts of an item, as its spelling has them.
+#[derive(Drop)]
+struct Parts<'a> {
+    live: bool,
+    stamp: i64,
+    identifier: &'a str,
+    sets: SpelledSets<'a>,
+    records: SpelledRecords<'a>,
+}
+
+/// The parts of the item that the bytes spell, all of them, where each is good by itself.
+fn read_parts(bytes: &[u8]) -> Option<Parts<'_>>
+    ensures { ReadsParts bytes.now result }
+{
+    if bytes.len() > MAX_ITEM_BYTES {
+        return None;
+    }
+    let (live, rest) = read_live(bytes)?;
+    let (stamp, rest) = read_stamp(rest)?;
+    let (identifier, rest) = read_identifier(rest)?;
+    let (sets, rest) = read_sets(rest)?;
+    let (records, rest) = read_records(rest)?;
+    if !rest.is_empty() {
+        return None;
+    }
+    Some(Parts {
+        live,
+        stamp,
+        identifier,
+        sets,
+        records,
+    })
+}
+
+/// Whether the parts may be those of one item.
+fn parts_agree(parts: &Parts<'_>) -> bool
+    ensures { result
+        ≡ (none_covers parts.now.sets && may_be_records parts.now.live parts.now.records) }
+{
+    none_covers(&parts.sets) && may_be_records(parts.live, &parts.records)
+}
+
+/// Whether no setSpec covers another at a different place.
+fn none_covers(sets: &SpelledSets<'_>) -> bool
+    ensures { result ≡ none_covers sets.now }
+{
+    let mut rest = sets.copy();
+    while let Some(set) = rest.next() {
+        if !covers_none(set, &rest) {
+            return false;
+        }
+    }
+    true
+}
+
+/// Whether of that setSpec and each of these neither covers the other.
+fn covers_none(set: &str, others: &SpelledSets<'_>) -> bool
+    ensures { result ≡ list_all (neither_covers set.now) others.now }
+{
+    let mut rest = others.copy();
+    while let Some(other) = rest.next() {
+        if covers(set, other) || covers(other, set) {
+            return false;
+        }
+    }
+    true
+}
+
+/// Whether the records may be those of an item that is live, or deleted: at least one, in the order
+/// of their prefixes, and without fields where it is deleted.
+fn may_be_records(live: bool, records: &SpelledRecords<'_>) -> bool
+    ensures { result ≡ may_be_records live records.now }
+{
+    !records.is_empty() && are_rising(records) && (live || have_no_fields(records))
+}
+
+/// Whether each prefix stands before the next, byte by byte.
+fn are_rising(records: &SpelledRecords<'_>) -> bool
+    ensures { result ≡ are_rising records.now }
+{
+    let mut rest = records.copy();
+    let Some(mut before) = rest.next() else {
+        return true;
+    };
+    while let Some(format) = rest.next() {
+        if before.prefix >= format.prefix {
+            return false;
+        }
+        before = format;
+    }
+    true
+}
+
+/// Whether no record has a field.
+#[tactic(auto, unfolding(crate::specs::Item::have_no_fields))]
+fn have_no_fields(records: &SpelledRecords<'_>) -> bool
+    ensures { result ≡ have_no_fields records.now }
+{
+    let mut rest = records.copy();
+    while let Some(format) = rest.next() {
+        if !format.fields.is_empty() {
+            return false;
+        }
+    }
+    true
+}
+
+/// Whether one of the records is of that prefix.
+#[tactic(auto, unfolding(crate::specs::Item::record_named))]
+fn has_record(mut records: SpelledRecords<'_>, prefix: &str) -> bool
+    ensures { result ≡ has_record prefix.now records.entry }
+{
+    while let Some(format) = records.next() {
+        if format.prefix == prefix {
+            return true;
+        }
+    }
+    false
+}
+
+/// Whether an item of these setSpecs is in the set.
+#[tactic(auto, unfolding(crate::specs::Membership::is_in))]
+fn is_in(mut sets: SpelledSets<'_>, set: &str) -> bool
+    ensures { result ≡ is_in set.now sets.entry }
+{
+    while let Some(other) = sets.next() {
+        if covers(set, other) {
+            return true;
+        }
+    }
+    false
+}
+
+/// What `item_in` answers, which reads an item from bytes as a function: the item that they spell, where
+/// they spell one.
+pub fn spelling_law()
+    ensures spelled { (bytes : List ℕ) (item : ItemState)
+        → Spells bytes item → item_in bytes ≡ Some item }
+    ensures only { (bytes : List ℕ) (item : ItemState)
+        → item_in bytes ≡ Some item → Spells bytes item }
+    ensures some { (item : ItemState) → 1 ≤ length (encoded item) }
+{}

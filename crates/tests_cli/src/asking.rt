@@ -1,0 +1,63 @@
+//! Lines that are performed on a new host, and what is written for them.
+use crate::assertions::assert_same_at;
+use oai_catalogue::PlainVersions;
+use oai_cli::{Stop, ask_lines, config_in, host_over};
+use std::alloc::Global;
+use std::io::{Read, Write};
+use std::panic::Expect;
+use std::process::Abort;
+use tests_worked::{wanted_in, worked_configuration};
+
+/// Performs the lines that the reader gives on a new host; why that stopped, if it did.
+pub(crate) fn performed<R: Read, W: Write>(
+    rt: &impl Abort,
+    alloc: Global,
+    reader: &mut R,
+    writer: &mut W,
+) -> Result<(), Stop> {
+    let config = config_in(alloc, worked_configuration().as_bytes()).expect(rt, "config_in");
+    let mut host = host_over(alloc, config, PlainVersions::new(alloc)).expect(rt, "host_over");
+    ask_lines(alloc, &mut host, reader, writer)
+}
+
+/// What is written for the lines that the reader gives.
+pub(crate) fn written<R: Read>(rt: &impl Abort, alloc: Global, reader: &mut R) -> Vec<u8> {
+    let mut output = Vec::new(alloc);
+    performed(rt, alloc, reader, &mut output).expect(rt, "memory");
+    output
+}
+
+/// Why the program stops at what the reader gives.
+pub(crate) fn stop_of<R: Read>(rt: &impl Abort, alloc: Global, reader: &mut R) -> Stop {
+    let mut output = Vec::new(alloc);
+    match performed(rt, alloc, reader, &mut output) {
+        Ok(()) => panic!(rt; "nothing stopped"),
+        Err(stop) => stop,
+    }
+}
+
+/// The lines are answered so.
+pub(crate) fn assert_asked(rt: &impl Abort, alloc: Global, input: &str, wanted: &str) {
+    let mut reader = input.as_bytes();
+    let output = written(rt, alloc, &mut reader);
+    assert_same_at(rt, output.as_slice(), wanted.as_bytes(), input);
+}
+
+/// The lines that the transcript asks: those that begin with `> `.
+pub(crate) fn asked_in(rt: &impl Abort, alloc: Global, transcript: &str) -> String {
+    let mut input = String::new(alloc);
+    for line in transcript.lines() {
+        if let Some(asked) = line.strip_prefix("> ") {
+            input.push_str(asked).expect(rt, "memory");
+            input.push('\n').expect(rt, "memory");
+        }
+    }
+    input
+}
+
+/// The lines that the transcript asks are answered as it wants.
+pub(crate) fn assert_transcript(rt: &impl Abort, alloc: Global, transcript: &str) {
+    let input = asked_in(rt, alloc, transcript);
+    let wanted = wanted_in(alloc, transcript).expect(rt, "wanted_in");
+    assert_asked(rt, alloc, input.as_str(), wanted.as_str());
+}

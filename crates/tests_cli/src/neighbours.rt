@@ -1,0 +1,126 @@
+//! One repository while much is deposited at another: what it is asked, and what it is answered, are the same.
+use crate::asking::{asked_in, assert_transcript};
+use crate::assertions::assert_same;
+use oai_catalogue::PlainVersions;
+use oai_cli::{ask_lines, config_in, host_over};
+use oai_host::Host;
+use std::alloc::Global;
+use std::panic::Expect;
+use std::process::Abort;
+use tests_worked::{wanted_in, worked_configuration};
+
+/// Lists of one repository, one of them in two parts.
+fn lists_asked() -> &'static str {
+    r#"> 1704067200 POST /deposit/a {"deposit":"oai:a:1","sets":[],"records":{"oai_dc":[]}}
+200
+ok 2024-01-01T00:00:00Z
+> 1704067200 POST /deposit/a {"deposit":"oai:a:2","sets":[],"records":{"oai_dc":[]}}
+200
+ok 2024-01-01T00:00:00Z
+> 1704067200 GET /oai/a?verb=ListIdentifiers&metadataPrefix=oai_dc
+200
+DOC <responseDate>2024-01-01T00:00:00Z</responseDate><request verb="ListIdentifiers" metadataPrefix="oai_dc">http://host.example/oai/a</request><ListIdentifiers><header><identifier>oai:a:1</identifier><datestamp>2024-01-01T00:00:00Z</datestamp></header><header><identifier>oai:a:2</identifier><datestamp>2024-01-01T00:00:00Z</datestamp></header></ListIdentifiers></OAI-PMH>
+> 1704067201 POST /deposit/a {"deposit":"oai:a:3","sets":[],"records":{"oai_dc":[]}}
+200
+ok 2024-01-01T00:00:01Z
+> 1704067201 GET /oai/a?verb=ListIdentifiers&metadataPrefix=oai_dc
+200
+DOC <responseDate>2024-01-01T00:00:01Z</responseDate><request verb="ListIdentifiers" metadataPrefix="oai_dc">http://host.example/oai/a</request><ListIdentifiers><header><identifier>oai:a:1</identifier><datestamp>2024-01-01T00:00:00Z</datestamp></header><header><identifier>oai:a:2</identifier><datestamp>2024-01-01T00:00:00Z</datestamp></header><resumptionToken expirationDate="2024-01-01T00:01:01Z" completeListSize="3" cursor="0">1.2</resumptionToken></ListIdentifiers></OAI-PMH>
+> 1704067202 GET /oai/a?verb=ListIdentifiers&resumptionToken=1.2
+200
+DOC <responseDate>2024-01-01T00:00:02Z</responseDate><request verb="ListIdentifiers" resumptionToken="1.2">http://host.example/oai/a</request><ListIdentifiers><header><identifier>oai:a:3</identifier><datestamp>2024-01-01T00:00:01Z</datestamp></header><resumptionToken completeListSize="3" cursor="2"></resumptionToken></ListIdentifiers></OAI-PMH>"#
+}
+
+/// How many commands these are.
+const COMMANDS: u64 = 6;
+
+/// How many records are deposited at the other repository between two of them: 200 in all.
+const BETWEEN: u64 = 40;
+
+/// The host of three repositories, whose cache has one page.
+fn host(rt: &impl Abort, alloc: Global) -> Host<PlainVersions> {
+    let config = config_in(alloc, worked_configuration().as_bytes()).expect(rt, "config_in");
+    assert_same(rt, config.cache(), 1);
+    host_over(alloc, config, PlainVersions::new(alloc)).expect(rt, "host_over")
+}
+
+/// Performs the line, and writes what it is answered.
+fn ask(
+    rt: &impl Abort,
+    alloc: Global,
+    host: &mut Host<PlainVersions>,
+    line: &str,
+    output: &mut Vec<u8>,
+) {
+    let mut reader = line.as_bytes();
+    ask_lines(alloc, host, &mut reader, output).expect(rt, "ask_lines");
+}
+
+/// Deposits records at the other repository, at that moment; each is accepted.
+fn deposit_between(
+    rt: &impl Abort,
+    alloc: Global,
+    host: &mut Host<PlainVersions>,
+    moment: &str,
+    place: u64,
+) {
+    for number in 0..BETWEEN {
+        let line = format!(in alloc;
+            "{moment} POST /deposit/b {{\"deposit\":\"oai:b:{place}-{number}\",\"sets\":[],\"records\":{{\"oai_dc\":[]}}}}"
+        ).expect(rt, "memory");
+        let mut output = Vec::new(alloc);
+        ask(rt, alloc, host, line.as_str(), &mut output);
+        assert_same(rt, output.as_slice(), b"200\nok 2024-01-01\n".as_slice());
+    }
+}
+
+/// The moment of a line, as a text.
+fn moment_of(line: &str) -> &str {
+    match line.split_once(' ') {
+        Some((moment, _)) => moment,
+        None => line,
+    }
+}
+
+/// Performs the commands of the lines, and deposits at the other repository between them, each time at the moment of the
+/// line before.
+fn ask_between(
+    rt: &impl Abort,
+    alloc: Global,
+    host: &mut Host<PlainVersions>,
+    lines: &str,
+    output: &mut Vec<u8>,
+) {
+    let mut place: u64 = 0;
+    for line in lines.lines() {
+        ask(rt, alloc, host, line, output);
+        place = place.wrapping_add(1);
+        if place < COMMANDS {
+            deposit_between(rt, alloc, host, moment_of(line), place);
+        }
+    }
+    assert_same(rt, place, COMMANDS);
+}
+
+/// Alone the repository is answered so.
+#[test]
+fn lists_alone(rt: HostRuntime) {
+    assert_transcript(&rt, rt.alloc(), lists_asked());
+}
+
+/// What is answered where 200 records are deposited at the other repository meanwhile.
+fn answered_between(rt: &impl Abort, alloc: Global) -> Vec<u8> {
+    let mut host = host(rt, alloc);
+    let lines = asked_in(rt, alloc, lists_asked());
+    let mut output = Vec::new(alloc);
+    ask_between(rt, alloc, &mut host, lines.as_str(), &mut output);
+    output
+}
+
+/// It is answered the same where 200 records are deposited at another repository meanwhile.
+#[test]
+fn lists_beside_deposits(rt: HostRuntime) {
+    let output = answered_between(&rt, rt.alloc());
+    let wanted = wanted_in(rt.alloc(), lists_asked()).expect(&rt, "wanted_in");
+    assert_same(&rt, output.as_slice(), wanted.as_bytes());
+}
