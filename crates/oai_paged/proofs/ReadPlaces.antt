@@ -1,0 +1,95 @@
+-- What is so of a place of a directory that is read.
+use Rattle.std.proofs.Common.{◌≡◌, ◌∙◌, ◌+◌, ◌<◌, ℕ, ℤ, Bool, true, false, List, [], ◌∷◌, ◌++◌, length, take, drop, get_or, sym, ap, subst, arith, unwrap_or, IsTrue}
+use Rattle.std.proofs.lemmas.Bool.{both_ways, false_from_ne_true}
+use Rattle.std.proofs.lemmas.List.{get_or_read}
+use Rattle.oai_names.proofs.Lists.{cut}
+use Rattle.oai_item.specs.Item.{ItemState}
+use Rattle.oai_item.specs.Order.{are_in_order}
+use Rattle.oai_item.specs.declared.faults.Fault.TheVariants.{Damaged}
+use Rattle.oai_item.proofs.Around.{in_order-append}
+use Rattle.oai_pool.specs.declared.pools.PagePool.{Ghosts}
+use Rattle.oai_paged.specs.Calls.{ReadsPages}
+use Rattle.oai_paged.specs.Directory.{IsDirectory}
+use Rattle.oai_paged.specs.Pages.{FitPage, IsPage, begins_at, items_in}
+use Rattle.oai_paged.specs.Places.{IsSoundPlace, Pages, PlaceState, are_below, items_at, items_on, named_in, page_no}
+use Rattle.oai_paged.specs.Searches.{MayBeAt}
+use Rattle.oai_paged.proofs.DirectoryLemmas.{goes_on, items-cut, no_place, placed-cut}
+use Rattle.oai_paged.proofs.OrderedPlaces.{own_below}
+use Rattle.oai_paged.proofs.HaveReadLemmas.{HaveRead, err_of}
+use Rattle.oai_paged.proofs.NameLemmas.{named_in-append}
+use Rattle.oai_paged.proofs.PlaceLemmas.{names_own}
+
+-- a place of a directory stands on its page
+pub placed_at : (pages : Pages) (places : List PlaceState) (at : ℕ) (p : PlaceState) → IsDirectory pages places → at < length places → p ≡ get_or places at p → IsSoundPlace pages p
+placed_at pages places at p h within is =
+    subst (λ (q : PlaceState). IsSoundPlace pages q) (sym (get_or_read places at p within is no_place)) (placed-cut pages places at no_place within h.placed).0
+
+-- and its directory names that
+pub named_at_place : (pages : Pages) (places : List PlaceState) (at : ℕ) (p : PlaceState) → IsDirectory pages places → at < length places → p ≡ get_or places at p → 0 < named_in places (page_no p)
+named_at_place pages places at p h within is =
+    let one = (placed_at pages places at p h within is).one in
+    let whole : named_in places (page_no p) ≡ named_in (take at places) (page_no p) + named_in (get_or places at p ∷ drop (at + 1) places) (page_no p) =
+    ap (λ ps. named_in ps (page_no p)) (cut places at p within) ∙ named_in-append (page_no p) (take at places) (get_or places at p ∷ drop (at + 1) places) in
+    let own : named_in (get_or places at p ∷ drop (at + 1) places) (page_no p) ≡ named_in (p ∷ drop (at + 1) places) (page_no p) = ap (λ q. named_in (q ∷ drop (at + 1) places) (page_no p)) (sym is) in
+    omega (arith, whole, own, names_own p (drop (at + 1) places) one)
+
+pub page_of_place : (pages : Pages) (p : PlaceState) (k : ℕ) → k ≡ page_no p → IsSoundPlace pages p → IsPage (unwrap_or (pages k) []) (items_in (unwrap_or (pages k) []))
+unfolding items_at
+page_of_place pages p k same h =
+    subst (λ (n : ℕ). IsPage (unwrap_or (pages n) []) (items_in (unwrap_or (pages n) []))) (sym same) h.page
+
+-- damage is found only over a device that is not honest
+pub reads_damaged : {P A : Type 0} (g : Ghosts P) (p q : P) → HaveRead g p q → g.honest p ≡ false → ReadsPages g (err_of A Damaged) p q
+reads_damaged g p q h not_honest = record {
+  counts = h.counts;
+  same = h.same;
+  pool = record {
+    room = record { enough = λ same. cc; used = omega (arith, h.room) };
+    device = record { count = h.count; device = λ same. cc };
+    honesty = record { same = h.honesty; damaged = λ _. not_honest };
+  };
+}
+
+pub not_honest_from : (honest test : Bool) → (IsTrue honest → test ≡ true) → test ≡ false → honest ≡ false
+not_honest_from honest test h fails = false_from_ne_true honest (λ is. both_ways test fails (h is))
+
+-- what was read at a place, over a device that is honest
+pub items_read : (pages : Pages) (places : List PlaceState) (at k : ℕ) (p : PlaceState) (entries : List ItemState) → entries ≡ items_in (unwrap_or (pages k) []) → k ≡ page_no p → at < length places
+    → p ≡ get_or places at p → (d : PlaceState) → entries ≡ items_at pages (get_or places at d)
+unfolding items_at
+items_read pages places at k p entries read same within is d =
+    read ∙ ap (λ n. items_in (unwrap_or (pages n) [])) (same ∙ ap page_no (get_or_read places at p within is d))
+
+-- ---- over a device that is honest, the tests of what was read hold
+
+read_is : (pages : Pages) (k : ℕ) (p : PlaceState) (entries : List ItemState) → entries ≡ items_in (unwrap_or (pages k) []) → k ≡ page_no p → entries ≡ items_at pages p
+unfolding items_at
+read_is pages k p entries read same = read ∙ ap (λ n. items_in (unwrap_or (pages n) [])) same
+
+-- it begins as the place says
+pub read_begins : (pages : Pages) (places : List PlaceState) (at k : ℕ) (p : PlaceState) (entries : List ItemState) (stamp : ℤ) (identifier : List ℕ) → IsDirectory pages places → at < length places
+    → p ≡ get_or places at p → entries ≡ items_in (unwrap_or (pages k) []) → k ≡ page_no p → stamp ≡ p.stamp → identifier ≡ p.identifier → begins_at stamp identifier entries ≡ true
+read_begins pages places at k p entries stamp identifier h within is read same dated named =
+    (λ i. begins_at (dated i) (named i) (read_is pages k p entries read same i)) ∙ (placed_at pages places at p h within is).begins
+
+-- and ends before the next one
+pub read_below : (pages : Pages) (places : List PlaceState) (at k : ℕ) (p : PlaceState) (entries : List ItemState) → IsDirectory pages places → at < length places
+    → p ≡ get_or places at p → entries ≡ items_in (unwrap_or (pages k) []) → k ≡ page_no p → are_below entries (drop (at + 1) places) ≡ true
+read_below pages places at k p entries h within is read same =
+    let own : List ItemState = items_at pages (get_or places at p) in
+    let next : List PlaceState = drop (at + 1) places in
+    let before : List ItemState = items_on pages (take at places) in
+    let behind : List ItemState = items_on pages next in
+    let parts = placed-cut pages places at p within h.placed in
+    let rising : are_in_order (before ++ (own ++ behind)) ≡ true = sym (ap are_in_order (items-cut pages places at p within)) ∙ h.rising in
+    ap (λ xs. are_below xs next) (read_is pages k p entries read same ∙ ap (items_at pages) is)
+    ∙ own_below next own behind (in_order-append before (own ++ behind) rising).1 (goes_on pages next parts.1)
+
+-- items that were read, and seen to begin and to end so
+pub may_be_read : (places : List PlaceState) (at : ℕ) (p : PlaceState) (entries : List ItemState) (stamp : ℤ) (identifier : List ℕ) → at < length places → p ≡ get_or places at p
+    → stamp ≡ p.stamp → identifier ≡ p.identifier → FitPage entries → begins_at stamp identifier entries ≡ true → are_below entries (drop (at + 1) places) ≡ true → MayBeAt places at entries
+may_be_read places at p entries stamp identifier within is dated named page begins below = record {
+  page = page;
+  begins = λ d. sym (λ i. begins_at ((dated ∙ ap (λ (q : PlaceState). q.stamp) (get_or_read places at p within is d)) i) ((named ∙ ap (λ (q : PlaceState). q.identifier) (get_or_read places at p within is d)) i) entries) ∙ begins;
+  below = below;
+}

@@ -1,0 +1,109 @@
+-- What calls one after another take of a pool, and which fault they tell.
+use Rattle.std.proofs.Common.{◌≡◌, ◌∙◌, ◌⊎◌, ◌+◌, ◌<◌, ◌≤◌, ℕ, inl, inr, Result, Ok, Err, refl, sym, ap, arith}
+use Rattle.std.proofs.lemmas.Bool.{cases_lt}
+use Rattle.oai_catalogue.specs.Store.{IsCounted, IsHonest, NeedsRoom, Spends}
+use Rattle.oai_item.specs.declared.faults.Fault.{Fault}
+use Rattle.oai_item.specs.declared.faults.Fault.TheVariants as told
+use Rattle.oai_pool.specs.Calls as pool
+use Rattle.oai_pool.specs.declared.pools.PagePool.{Ghosts}
+use Rattle.oai_pool.specs.declared.pools.PoolFault.{PoolFault}
+use Rattle.oai_pool.specs.declared.pools.PoolFault.TheVariants.{Device, NoMemory, TooManyPages}
+use Rattle.oai_paged.specs.Calls.{FreesPages, Takes, fault_of}
+
+-- results of a type that is told
+abbrev pub ok_of : {A : Type 0} → A → Result A Fault
+ok_of a = Ok a
+
+abbrev pub err_of : (A : Type 0) → Fault → Result A Fault
+err_of A fault = Err fault
+
+abbrev pub pool_err_of : (A : Type 0) → PoolFault → Result A PoolFault
+pool_err_of A fault = Err fault
+
+-- a fault of the pool, as a store tells it; a call that cannot find damage
+pub takes_fault : {P A B : Type 0} (g : Ghosts P) (numbers : ℕ) (fault : PoolFault) (p q : P)
+    → pool.SpendsPool g.room g.failures g.cache_size g.honest numbers (pool_err_of A fault) p q → Takes g numbers (err_of B (fault_of fault)) p q
+takes_fault g numbers Device p q h = record {
+  room = record { enough = λ same. cc; used = h.room };
+  device = record { count = h.device.count; device = λ same. h.device.device refl };
+  honesty = record { same = h.honesty; damaged = λ same. cc };
+}
+takes_fault g numbers NoMemory p q h = record {
+  room = record { enough = λ same. cc; used = h.room };
+  device = record { count = h.device.count; device = λ same. cc };
+  honesty = record { same = h.honesty; damaged = λ same. cc };
+}
+takes_fault g numbers TooManyPages p q h = record {
+  room = record { enough = λ same. h.enough refl; used = h.room };
+  device = record { count = h.device.count; device = λ same. cc };
+  honesty = record { same = h.honesty; damaged = λ same. cc };
+}
+
+-- a call after one that succeeded
+pub takes_both : {P A B : Type 0} (g : Ghosts P) (a b : ℕ) (x : A) (r : Result B Fault) (p q s : P) → Takes g a (ok_of x) p q → Takes g b r q s → Takes g (a + b) r p s
+takes_both g a b x (Ok y) p q s h k =
+    let used = h.room.used in
+    let more = k.room.used in
+    let first = h.device.count in
+    let second = k.device.count in
+    record {
+      room = record { enough = tt; used = omega (arith, used, more) };
+      device = record { count = omega (arith, first, second); device = tt };
+      honesty = record { same = k.honesty.same ∙ h.honesty.same; damaged = tt };
+    }
+takes_both g a b x (Err f) p q s h k =
+    let used = h.room.used in
+    let more = k.room.used in
+    let first = h.device.count in
+    let second = k.device.count in
+    record {
+      room = record { enough = λ full. omega (arith, used, k.room.enough full); used = omega (arith, used, more) };
+      device = record { count = omega (arith, first, second); device = λ failed. rose (k.device.device failed) };
+      honesty = record { same = k.honesty.same ∙ h.honesty.same; damaged = λ damage. sym h.honesty.same ∙ k.honesty.damaged damage };
+    } where
+      rose : (g.failures q < g.failures s) ⊎ (g.failures q ≡ 18446744073709551615) → (g.failures p < g.failures s) ⊎ (g.failures p ≡ 18446744073709551615)
+      rose (inl up) = inl (omega (arith, up, h.device.count))
+      rose (inr top) = top_of (cases_lt (g.failures p) (g.failures s)) where
+        top_of : (g.failures p < g.failures s) ⊎ (g.failures s ≤ g.failures p) → (g.failures p < g.failures s) ⊎ (g.failures p ≡ 18446744073709551615)
+        top_of (inl up) = inl up
+        top_of (inr no_more) = inr (omega (arith, top, no_more, h.device.count, k.device.count))
+
+-- more is enough too
+pub takes_more : {P A : Type 0} (g : Ghosts P) (a b : ℕ) (r : Result A Fault) (p q : P) → a ≤ b → Takes g a r p q → Takes g b r p q
+takes_more g a b (Ok x) p q le h = record { room = record { enough = tt; used = let used = h.room.used in omega (arith, used, le) }; device = h.device; honesty = h.honesty }
+takes_more g a b (Err f) p q le h =
+    record { room = record { enough = λ full. omega (arith, h.room.enough full, le); used = let used = h.room.used in omega (arith, used, le) }; device = h.device; honesty = h.honesty }
+
+-- names dropped after a call
+pub takes_freed_ok : {P A B : Type 0} (g : Ghosts P) (a : ℕ) (x : A) (y : B) (p q s : P) → Takes g a (ok_of x) p q → FreesPages g q s → Takes g a (ok_of y) p s
+takes_freed_ok g a x y p q s h k =
+    let used = h.room.used in
+    record {
+      room = record { enough = tt; used = omega (arith, used, k.room) };
+      device = record { count = let first = h.device.count in omega (arith, first, k.count); device = tt };
+      honesty = record { same = k.honesty ∙ h.honesty.same; damaged = tt };
+    }
+
+-- and memory refused
+pub takes_freed_memory : {P A B : Type 0} (g : Ghosts P) (a : ℕ) (x : A) (p q s : P) → Takes g a (ok_of x) p q → FreesPages g q s → Takes g a (err_of B told.NoMemory) p s
+takes_freed_memory g a x p q s h k =
+    let used = h.room.used in
+    record {
+      room = record { enough = λ same. cc; used = omega (arith, used, k.room) };
+      device = record { count = let first = h.device.count in omega (arith, first, k.count); device = λ same. cc };
+      honesty = record { same = k.honesty ∙ h.honesty.same; damaged = λ same. cc };
+    }
+
+-- after one that failed
+pub takes_freed_err : {P A B : Type 0} (g : Ghosts P) (a : ℕ) (f : Fault) (p q s : P) → Takes g a (err_of A f) p q → FreesPages g q s → Takes g a (err_of B f) p s
+takes_freed_err g a f p q s h k =
+    let used = h.room.used in
+    let first = h.device.count in
+    record {
+      room = record { enough = h.room.enough; used = omega (arith, used, k.room) };
+      device = record { count = omega (arith, first, k.count); device = λ failed. kept (h.device.device failed) };
+      honesty = record { same = k.honesty ∙ h.honesty.same; damaged = h.honesty.damaged };
+    } where
+      kept : (g.failures p < g.failures q) ⊎ (g.failures p ≡ 18446744073709551615) → (g.failures p < g.failures s) ⊎ (g.failures p ≡ 18446744073709551615)
+      kept (inl up) = inl (omega (arith, up, k.count))
+      kept (inr top) = inr top

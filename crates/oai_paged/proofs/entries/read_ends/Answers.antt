@@ -1,0 +1,34 @@
+use Rattle.std.proofs.Common.{◌≡◌, ◌+◌, ◌≤◌, ℕ, List, None, length, drop, subst, sym, arith}
+use Rattle.std.proofs.lemmas.List.{take_rest}
+use Rattle.oai_paged.specs.Entries.{HasEntries, HasEntry, IsEntryReading}
+use Rattle.oai_paged.proofs.ReadLemmas.{no_entries, no_more, one_more, size_within}
+use Rattle.oai_paged.proofs.entries.read_ends.Goals as goal
+
+pub loop-init : goal.loop-init
+loop-init c = subst (λ (ends : List ℕ). HasEntries c.args.bytes.now ends 0 0) (sym c.new-ends.ensures.items) (no_entries c.args.bytes.now)
+
+pub slice_bounds-entry_len-count : goal.slice_bounds-entry_len-count
+slice_bounds-entry_len-count c = size_within c.args.bytes.now c.loop.ends.items c.loop.counter c.loop.end c.loop.invariant
+
+pub slice_bounds-entry_len-start : goal.slice_bounds-entry_len-start
+slice_bounds-entry_len-start c =
+    let h : c.loop.end ≤ length c.args.bytes.now = size_within c.args.bytes.now c.loop.ends.items c.loop.counter c.loop.end c.loop.invariant in
+    h
+
+pub returns-in-None-clause-damaged : goal.returns-in-None-clause-damaged
+returns-in-None-clause-damaged c = λ _.
+    no_more c.args.bytes.now c.loop.ends.items c.loop.counter c.loop.end c.args.count c.loop.invariant c.loop-test.true
+    (subst (λ (bytes : List ℕ). IsEntryReading bytes None) (take_rest c.args.bytes.now c.loop.end) c.in-None.ensures)
+
+pub loop-preserved : goal.loop-preserved
+loop-preserved c =
+    let entry : HasEntry (drop c.loop.end c.args.bytes.now) c.in-Some.len =
+    subst (λ (bytes : List ℕ). HasEntry bytes c.in-Some.len) (take_rest c.args.bytes.now c.loop.end) c.in-Some.ensures
+    in
+    subst (λ (ends : List ℕ). HasEntries c.args.bytes.now ends (c.loop.counter + 1) (c.loop.end + c.in-Some.len)) (sym c.in_ok-push_end.ensures)
+    (one_more c.args.bytes.now c.loop.ends.items c.loop.counter c.loop.end c.in-Some.len c.loop.invariant entry)
+
+pub returns-clause-read : goal.returns-clause-read
+returns-clause-read c =
+    let all : c.loop.counter ≡ c.args.count = omega (arith, c.loop.auto.counter-end, c.loop-test.false) in
+    subst (λ n. HasEntries c.args.bytes.now c.loop.ends.items n c.loop.end) all c.loop.invariant

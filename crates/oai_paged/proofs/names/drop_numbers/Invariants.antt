@@ -1,0 +1,11 @@
+use Rattle.std.proofs.Common.{[], take}
+use Rattle.oai_paged.specs.Calls.{FreesPages}
+use Rattle.oai_paged.specs.Recounts.{Recounts}
+use Rattle.oai_paged.proofs.names.drop_numbers.Given as goal
+
+-- the first so many are named once less
+abbrev pub invariant-loop-number : goal.invariant-loop-number
+invariant-loop-number g l = record {
+  names : Recounts g.P.PagePool (take l.number-index l.numbers) [] l.initial.pages l.pages;
+  pool : FreesPages g.P.PagePool l.initial.pages l.pages;
+}

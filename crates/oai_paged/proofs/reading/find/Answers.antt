@@ -1,0 +1,37 @@
+use Rattle.std.proofs.Common.{◌∙◌, ℤ, Ok, Err, Some, None, [], ap, length, pos, subst, sym, w64}
+use Rattle.std.proofs.lemmas.Int.{to_z-of_z}
+use Rattle.std.proofs.lemmas.Bool.{eqb-true}
+use Rattle.std.proofs.lemmas.List.{nil_from_length}
+use Rattle.oai_item.specs.Item.{ItemState}
+use Rattle.oai_item.specs.Order.{IsPlace}
+use Rattle.oai_item.proofs.Around.{item_at-found, item_at-missing, only_place}
+use Rattle.oai_paged.specs.Searches.{BelongsAt}
+use Rattle.oai_paged.proofs.DirectoryLemmas.{no_place}
+use Rattle.oai_paged.proofs.InsidePlaces.{found_read, none_found, some_places}
+use Rattle.oai_paged.proofs.reading.find.Goals as goal
+
+pub returns-then-is_empty-clause-found : goal.returns-then-is_empty-clause-found
+returns-then-is_empty-clause-found g c =
+    λ honest. none_found (g.P.PagePool.pages c.args.pages.now) c.args.places.now c.args.stamp c.args.identifier.now
+    (nil_from_length c.args.places.now (eqb-true (length c.args.places.now) 0 (sym c.is_empty.ensures ∙ c.if-is_empty.true)))
+
+pub returns-in-Ok-clause-found : goal.returns-in-Ok-clause-found
+returns-in-Ok-clause-found g c =
+    let stamp = to_z-of_z w64 c.args.stamp c.ranges.stamp in
+    let at = c.place_of-at.result in
+    let d : ItemState = only_place (pos 0) [] in
+    let belongs : BelongsAt c.args.places.now c.args.stamp c.args.identifier.now at = subst (λ (s : ℤ). BelongsAt c.args.places.now s c.args.identifier.now at) stamp c.place_of-at.ensures in
+    let place : IsPlace c.in_ok-entries.entries c.args.stamp c.args.identifier.now (Ok c.in-Ok.at) = subst (λ (s : ℤ). IsPlace c.in_ok-entries.entries s c.args.identifier.now (Ok c.in-Ok.at)) stamp c.in-Ok.ensures in
+    λ honest. found_read (g.P.PagePool.pages c.args.pages.now) c.args.places.now c.args.stamp c.args.identifier.now at c.in_ok-entries.entries (Some c.in_ok-item-in-Ok.field-0)
+    c.requires.directory (belongs.within (some_places c.args.places.now (sym c.is_empty.ensures ∙ c.if-is_empty.false))) belongs (c.in_ok-entries.ensures.items honest no_place)
+    (item_at-found c.args.stamp c.args.identifier.now c.in_ok-entries.entries c.in-Ok.at d place ∙ ap Some (sym (c.in_ok-item-in-Ok.ensures d)))
+
+pub returns-clause-found : goal.returns-clause-found
+returns-clause-found g c =
+    let stamp = to_z-of_z w64 c.args.stamp c.ranges.stamp in
+    let at = c.place_of-at.result in
+    let belongs : BelongsAt c.args.places.now c.args.stamp c.args.identifier.now at = subst (λ (s : ℤ). BelongsAt c.args.places.now s c.args.identifier.now at) stamp c.place_of-at.ensures in
+    let place : IsPlace c.in_ok-entries.entries c.args.stamp c.args.identifier.now (Err c.in-Err.field-0) = subst (λ (s : ℤ). IsPlace c.in_ok-entries.entries s c.args.identifier.now (Err c.in-Err.field-0)) stamp c.in-Err.ensures in
+    λ honest. found_read (g.P.PagePool.pages c.args.pages.now) c.args.places.now c.args.stamp c.args.identifier.now at c.in_ok-entries.entries None
+    c.requires.directory (belongs.within (some_places c.args.places.now (sym c.is_empty.ensures ∙ c.if-is_empty.false))) belongs (c.in_ok-entries.ensures.items honest no_place)
+    (item_at-missing c.args.stamp c.args.identifier.now c.in_ok-entries.entries c.in-Err.field-0 place)

@@ -1,0 +1,26 @@
+use Rattle.std.proofs.Common.{◌≡◌, Some, sym}
+use Rattle.oai_paged.specs.Shelves.{directory_at}
+use Rattle.oai_paged.proofs.FewLemmas.{few_places}
+use Rattle.oai_paged.proofs.ShelfLemmas.{on_ok, shelved_in_order, shelved_stands}
+use Rattle.oai_paged.proofs.store.VersionsOverVersions.count.Goals as goal
+
+pub count-requires-clause-stands : goal.count-requires-clause-stands
+count-requires-clause-stands g c =
+    let G = g.P.PagePool in
+    let self = c.args.self.now in
+    let found : Some c.in-Some.directory.now ≡ directory_at self.directories.slots c.args.v = c.in-Some.ensures in
+    rw c.places.ensures (shelved_stands G self.directories.slots c.args.v c.in-Some.directory.now self.pool self.shelved (sym found))
+
+pub count-requires-clause-few : goal.count-requires-clause-few
+count-requires-clause-few g c =
+    let G = g.P.PagePool in
+    let self = c.args.self.now in
+    let found : Some c.in-Some.directory.now ≡ directory_at self.directories.slots c.args.v = c.in-Some.ensures in
+    rw c.places.ensures (few_places G self.pool c.in-Some.directory.now (g.met.P.PagePool.limited self.pool)
+    (shelved_stands G self.directories.slots c.args.v c.in-Some.directory.now self.pool self.shelved (sym found)))
+
+pub returns-clause-rising : goal.returns-clause-rising
+returns-clause-rising g c =
+    let self = c.args.self.now in
+    on_ok c.count.result (shelved_in_order (g.P.PagePool.counts self.pool) (g.P.PagePool.pages self.pool) self.directories.slots
+    self.shelved)

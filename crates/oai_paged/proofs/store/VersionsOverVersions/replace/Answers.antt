@@ -1,0 +1,67 @@
+use Rattle.std.proofs.Common.{◌≡◌, ◌∙◌, List, Some, ap, arith, sym}
+use Rattle.oai_paged.specs.Places.{PlaceState}
+use Rattle.oai_paged.specs.Shelves.{directory_at}
+use Rattle.oai_paged.proofs.RoomLemmas.{change_room}
+use Rattle.oai_paged.proofs.ShelfLemmas.{set_shelved, set_turned, shelved_stands}
+use Rattle.oai_paged.proofs.store.VersionsOverVersions.replace.Goals as goal
+
+pub replace-requires-clause-stands : goal.replace-requires-clause-stands
+replace-requires-clause-stands g c =
+    let G = g.P.PagePool in
+    let self = c.args.self.now in
+    let before : List PlaceState = c.directory.inside.places.items in
+    let found : Some c.in-Some.directory.now ≡ directory_at self.directories.slots c.args.v = c.in-Some.ensures.value in
+    let was : directory_at self.directories.slots c.args.v ≡ Some before = sym found ∙ ap Some (cc (c.directory.view_is)) in
+    shelved_stands G self.directories.slots c.args.v before self.pool self.shelved was
+
+pub invariant_of-self : goal.invariant_of-self
+invariant_of-self g c =
+    let G = g.P.PagePool in
+    let self = c.args.self.now in
+    let before : List PlaceState = c.directory.inside.places.items in
+    let found : Some c.in-Some.directory.now ≡ directory_at self.directories.slots c.args.v = c.in-Some.ensures.value in
+    let was : directory_at self.directories.slots c.args.v ≡ Some before = sym found ∙ ap Some (cc (c.directory.view_is)) in
+    record {
+      shelved = set_shelved G 6 c.args.v self.directories.slots before c.replace.new.places.items self.pool c.replace.new.pages
+          self.shelved was c.replace.result c.replace.ensures.changes;
+    }
+
+pub returns-clause-ok : goal.returns-clause-ok
+returns-clause-ok g c =
+    let G = g.P.PagePool in
+    let self = c.args.self.now in
+    let before : List PlaceState = c.directory.inside.places.items in
+    let found : Some c.in-Some.directory.now ≡ directory_at self.directories.slots c.args.v = c.in-Some.ensures.value in
+    let was : directory_at self.directories.slots c.args.v ≡ Some before = sym found ∙ ap Some (cc (c.directory.view_is)) in
+    (set_turned G 6 c.args.v self.directories.slots before c.replace.new.places.items self.pool c.replace.new.pages self.shelved was
+    c.replace.result c.replace.ensures.changes).ok
+
+pub returns-clause-err : goal.returns-clause-err
+returns-clause-err g c =
+    let G = g.P.PagePool in
+    let self = c.args.self.now in
+    let before : List PlaceState = c.directory.inside.places.items in
+    let found : Some c.in-Some.directory.now ≡ directory_at self.directories.slots c.args.v = c.in-Some.ensures.value in
+    let was : directory_at self.directories.slots c.args.v ≡ Some before = sym found ∙ ap Some (cc (c.directory.view_is)) in
+    (set_turned G 6 c.args.v self.directories.slots before c.replace.new.places.items self.pool c.replace.new.pages self.shelved was
+    c.replace.result c.replace.ensures.changes).err
+
+pub returns-clause-rising : goal.returns-clause-rising
+returns-clause-rising g c =
+    let G = g.P.PagePool in
+    let self = c.args.self.now in
+    let before : List PlaceState = c.directory.inside.places.items in
+    let found : Some c.in-Some.directory.now ≡ directory_at self.directories.slots c.args.v = c.in-Some.ensures.value in
+    let was : directory_at self.directories.slots c.args.v ≡ Some before = sym found ∙ ap Some (cc (c.directory.view_is)) in
+    (set_turned G 6 c.args.v self.directories.slots before c.replace.new.places.items self.pool c.replace.new.pages self.shelved was
+    c.replace.result c.replace.ensures.changes).rising
+
+pub returns-clause-store : goal.returns-clause-store
+returns-clause-store g c =
+    let changes = c.replace.ensures.changes in
+    record {
+      room = change_room g.P.PagePool 6 c.replace.result c.directory.inside.places.items c.replace.new.places.items c.args.self.now.pool
+          c.replace.new.pages (omega arith) changes;
+      device = changes.pool.device;
+      honesty = changes.pool.honesty;
+    }

@@ -1,0 +1,82 @@
+-- What a call does to the pool of pages and to a directory.
+use Rattle.std.specs.Prelude.{◌≡◌, ◌+◌, ◌<◌, ◌≤◌, ℕ, ℤ, Bool, List, [], ◌++◌, take, drop, is_some, Result, OnErr, OnOk}
+use Rattle.oai_catalogue.specs.Store.{Spares, Spends}
+use Rattle.oai_item.specs.Item.{ItemState}
+use Rattle.oai_item.specs.Items.{item_at, without_at}
+use Rattle.oai_item.specs.declared.faults.Fault.{Fault}
+use Rattle.oai_item.specs.declared.faults.Fault.TheVariants as told
+use Rattle.oai_pool.specs.declared.pools.PoolFault.{PoolFault}
+use Rattle.oai_pool.specs.declared.pools.PoolFault.TheVariants as pool
+use Rattle.oai_pool.specs.declared.pools.TheConstants.{MAX_PAGES}
+use Rattle.oai_pool.specs.Counts.{count_of}
+use Rattle.oai_pool.specs.declared.pools.PagePool.{Ghosts}
+use Rattle.oai_paged.specs.Directory.{IsDirectory, StandsIn}
+use Rattle.oai_paged.specs.Places.{IsSoundPlace, PlaceState, items_on, named_in}
+use Rattle.std.specs.List.{AllByRecursion}
+
+-- it takes at most so many numbers of the pool, and may reach the device
+abbrev pub Takes : {P A : Type 0} → Ghosts P → ℕ → Result A Fault → P → P → Type 0
+Takes g numbers result old new = Spends g.room g.failures g.honest numbers result old new
+
+-- it reads pages alone
+pub record ReadsPages {P A : Type 0} (g : Ghosts P) (result : Result A Fault) (old new : P) : Type 0 where
+  pub counts : g.counts new ≡ g.counts old
+  pub same : g.pages new ≡ g.pages old
+  pub pool : Takes g 0 result old new
+
+-- the pages that the places before named are named once less, and those that the places after name once more; a page that others
+-- named too is as it was
+pub record Renames {P : Type 0} (g : Ghosts P) (before after : List PlaceState) (old new : P) : Type 0 where
+  pub counts : (n : ℕ) → count_of (g.counts new) n + named_in before n ≡ count_of (g.counts old) n + named_in after n
+  pub kept : (n : ℕ) → named_in before n < count_of (g.counts old) n → g.pages new n ≡ g.pages old n
+
+-- it changes a directory, by at most so many new pages; where it fails, directory and pages are as they were
+pub record Changes {P A : Type 0} (g : Ghosts P) (numbers : ℕ) (result : Result A Fault) (before after : List PlaceState) (old new : P) : Type 0 where
+  pub directory : OnOk result (IsDirectory (g.pages new) after)
+  pub names : OnOk result (Renames g before after old new)
+  pub err : OnErr result (after ≡ before)
+  pub undone : OnErr result (Renames g [] [] old new)
+  pub pool : Takes g numbers result old new
+
+-- it takes no number, and does not reach the device
+abbrev pub FreesPages : {P : Type 0} → Ghosts P → P → P → Type 0
+FreesPages g old new = Spares g.room g.failures g.honest old new
+
+-- a page that the places name is named as often as it can be
+abbrev pub RunsOut : {P : Type 0} → Ghosts P → List PlaceState → P → Type 0
+RunsOut g places pool = (n : ℕ) × (0 < named_in places n) × (MAX_PAGES ≤ count_of (g.counts pool) n)
+
+-- the fault of a store that tells what a pool could not do
+abbrev pub fault_of : PoolFault → Fault
+fault_of pool.Device = told.Device
+fault_of pool.NoMemory = told.NoMemory
+fault_of pool.TooManyPages = told.TooManyPages
+
+-- pages of their own were added for the items, and named by these places
+pub record Adds {P : Type 0} (g : Ghosts P) (added : List ItemState) (places : List PlaceState) (old new : P) : Type 0 where
+  pub placed : AllByRecursion (IsSoundPlace (g.pages new)) places
+  pub items : items_on (g.pages new) places ≡ added
+  pub once : (n : ℕ) → named_in places n ≤ 1
+  pub fresh : (n : ℕ) → 0 < count_of (g.counts old) n → named_in places n ≡ 0
+  pub names : Renames g [] places old new
+
+-- so many places from `at` on were put in for those of a directory that are gone, whose pages are still named; put back, these make it what it was
+pub record Stages {P : Type 0} (g : Ghosts P) (at len : ℕ) (gone before after : List PlaceState) (old new : P) : Type 0 where
+  pub stands : StandsIn g new after
+  pub back : take at after ++ (gone ++ drop (at + len) after) ≡ before
+  pub names : Renames g [] (take len (drop at after)) old new
+  pub traded : (n : ℕ) → named_in after n + named_in gone n ≡ named_in before n + named_in (take len (drop at after)) n
+  pub within : (n : ℕ) → named_in gone n ≤ named_in before n
+
+-- they are the places of these items, in the place of so many from `at` on
+pub record IsDirectoryChanged {P : Type 0} (g : Ghosts P) (items : List ItemState) (at len new_at new_len : ℕ) (gone before after : List PlaceState) (old new : P) : Type 0 where
+  pub place : new_at ≡ at
+  pub taken : gone ≡ take len (drop at before)
+  pub exchanged : after ≡ take at before ++ (take new_len (drop at after) ++ drop (at + len) before)
+  pub added : Adds g items (take new_len (drop new_at after)) old new
+  pub staged : Stages g new_at new_len gone before after old new
+
+-- the item of a datestamp and identifier was taken out, where there was one
+pub record IsRemoved (stamp : ℤ) (identifier : List ℕ) (found : Bool) (old new : List ItemState) : Type 0 where
+  pub was : found ≡ is_some (item_at stamp identifier old)
+  pub left : new ≡ without_at stamp identifier old

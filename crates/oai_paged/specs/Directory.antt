@@ -1,0 +1,24 @@
+-- Directories: the places of the items of one version, in the order of the items.
+use Rattle.std.specs.Prelude.{◌≡◌, ◌+◌, ◌<◌, ◌≤◌, ℕ, true, List, take, drop, ◌++◌, length}
+use Rattle.std.specs.List.{AllByRecursion}
+use Rattle.oai_item.specs.Item.{ItemState}
+use Rattle.oai_item.specs.Order.{are_in_order}
+use Rattle.oai_pool.specs.Counts.{count_of}
+use Rattle.oai_pool.specs.declared.pools.PagePool.{Ghosts}
+use Rattle.oai_paged.specs.Places.{IsSoundPlace, Pages, PlaceState, items_on, named_in}
+
+-- the places are those of items in order, on pages of their own
+pub record IsDirectory (pages : Pages) (places : List PlaceState) : Type 0 where
+  pub placed : AllByRecursion (IsSoundPlace pages) places
+  pub rising : are_in_order (items_on pages places) ≡ true
+  pub once : (n : ℕ) → named_in places n ≤ 1
+
+-- the directory is one of the pool: it is one of the pool's pages, which count each of its names
+pub record StandsIn {P : Type 0} (g : Ghosts P) (pool : P) (places : List PlaceState) : Type 0 where
+  pub directory : IsDirectory (g.pages pool) places
+  pub named : (n : ℕ) → named_in places n ≤ count_of (g.counts pool) n
+
+-- the items may stand in the place of those of so many places from `at` on: all are then in order
+abbrev pub MayStand : Pages → List PlaceState → ℕ → ℕ → List ItemState → Type 0
+MayStand pages places at len items =
+    are_in_order (items_on pages (take at places) ++ (items ++ items_on pages (drop (at + len) places))) ≡ true

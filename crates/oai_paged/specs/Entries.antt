@@ -1,0 +1,42 @@
+-- The entries of a page in memory, for private functions.
+use Rattle.std.specs.Prelude.{◌≡◌, ◌+◌, ℕ, List, [], ◌∷◌, ◌++◌, length, drop, Option, None, Some}
+use Rattle.oai_item.specs.Encoding.{Spells, encoded}
+use Rattle.oai_item.specs.Item.{ItemState}
+use Rattle.oai_paged.specs.Pages.{AreStorable, entries_of, entry_of, items_of_entries, size_of}
+
+-- the items of entries, of which each ends at one of the numbers
+abbrev pub items_with : List ℕ → List ℕ → List ItemState
+items_with bytes ends = items_of_entries (length ends) bytes
+
+-- where each entry ends, if the first begins at that number
+abbrev pub ends_from : ℕ → List ItemState → List ℕ
+ends_from start [] = []
+ends_from start (item ∷ items) = (start + length (entry_of item)) ∷ ends_from (start + length (entry_of item)) items
+
+-- the bytes are the entries of their items, which end at the numbers
+pub record AreEntries (bytes ends : List ℕ) : Type 0 where
+  pub spelling : bytes ≡ entries_of (items_with bytes ends)
+  pub ending : ends ≡ ends_from 0 (items_with bytes ends)
+  pub storable : AreStorable (items_with bytes ends)
+
+-- the first so many of the bytes are an entry
+pub record HasEntry (bytes : List ℕ) (len : ℕ) : Type 0 where
+  pub item : ItemState
+  pub spelled : Spells (encoded item) item
+  pub long : len ≡ length (entry_of item)
+  pub parts : bytes ≡ entry_of item ++ drop len bytes
+
+-- what reading an entry in front of bytes answers: of how many bytes it is; or that there is none
+abbrev pub IsEntryReading : List ℕ → Option ℕ → Type 0
+IsEntryReading bytes (Some len) = HasEntry bytes len
+IsEntryReading bytes None =
+    (item : ItemState) (behind : List ℕ) → Spells (encoded item) item → ¬ (bytes ≡ entry_of item ++ behind)
+
+-- so many entries stand in front of the bytes, which end at these numbers, and are of so many bytes together
+pub record HasEntries (bytes ends : List ℕ) (count size : ℕ) : Type 0 where
+  pub items : List ItemState
+  pub storable : AreStorable items
+  pub many : length items ≡ count
+  pub long : size ≡ size_of items
+  pub parts : bytes ≡ entries_of items ++ drop size bytes
+  pub ending : ends ≡ ends_from 0 items

@@ -1,0 +1,11 @@
+pub mod Pages
+pub mod Entries
+pub mod Places
+pub mod Searches
+pub mod Parts
+pub mod Directory
+pub mod Calls
+pub mod Recounts
+pub mod Shelves
+pub mod Props
+pub mod Store

@@ -1,0 +1,28 @@
+-- What is known of the items of a place without reading them, and parts of what is wanted.
+use Rattle.std.specs.Prelude.{◌≡◌, ◌+◌, ◌-◌, ◌<◌, ◌≤◌, ◌≤ℤ◌, ◌++◌, ℕ, ℤ, Bool, true, List, [], ◌∷◌, None, length, take, drop, filter, min, HoldsAt}
+use Rattle.std.specs.Ordering.{is_gt}
+use Rattle.oai_item.specs.Item.{ItemState}
+use Rattle.oai_item.specs.Selection.{Filter}
+use Rattle.oai_names.specs.Names.{is_among}
+use Rattle.oai_time.specs.declared.text.TheConstants.{LAST_SECOND}
+use Rattle.oai_paged.specs.Places.{PlaceState, first_cmp}
+
+-- items before these places have no later datestamp than that one
+abbrev pub EndsBy : List PlaceState → ℤ → Type 0
+EndsBy [] upper = LAST_SECOND ≤ℤ upper
+EndsBy (next ∷ _) upper = next.stamp ≤ℤ upper
+
+-- each item of this place is asked for, and stands behind that datestamp and identifier
+pub record IsInside (places : List PlaceState) (at : ℕ) (asked : Filter) (stamp : ℤ) (identifier : List ℕ) : Type 0 where
+  pub any_set : asked.set ≡ None
+  pub lower : HoldsAt (λ place. asked.lower ≤ℤ place.stamp) places at
+  pub behind : HoldsAt (λ place. is_gt (first_cmp place stamp identifier) ≡ true) places at
+  pub prefix : HoldsAt (λ place. is_among place.prefixes asked.prefix ≡ true) places at
+  pub upper : EndsBy (drop (at + 1) places) asked.upper
+
+-- of those of the items that pass, all but the first `skip` were added to the part, as far as it then has at most so many; whatever items come next, so
+-- many of these are still to be skipped
+abbrev pub IsPartTaken : (ItemState → Bool) → ℕ → List ItemState → List ItemState → ℕ → ℕ → List ItemState → Type 0
+IsPartTaken passes most old new skip left items =
+    (rest : List ItemState) → new ++ take (most - length new) (drop left (filter passes rest))
+    ≡ old ++ take (most - length old) (drop skip (filter passes (items ++ rest)))

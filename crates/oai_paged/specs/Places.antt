@@ -1,0 +1,83 @@
+-- Places of a directory: where items stand in a pool of pages, and what is known of them.
+use Rattle.std.specs.Prelude.{◌≡◌, ◌≢◌, ◌+◌, ◌<◌, ◌≤◌, ◌&&◌, ℕ, ℤ, Bool, true, List, [], ◌∷◌, ◌++◌, length, Option, None, Some, IsSome, take, drop, unwrap_or, slice_index, filter}
+use Rattle.std.specs.List.{AllByRecursion, flat_map, list_all}
+use Rattle.std.specs.Ordering.{nat_cmp, int_cmp, ordering_then, is_gt, is_lt}
+use Rattle.std.specs.declared.cmp.Ordering.{Ordering}
+use Rattle.std.specs.Cmp.Lexicographic.{slice_cmp}
+use Rattle.oai_item.specs.Item.{ItemState, has_record}
+use Rattle.oai_item.specs.Order.{are_in_order, place_cmp}
+use Rattle.oai_item.specs.Selection.{Filter, passes}
+use Rattle.oai_pool.specs.Names.{times}
+use Rattle.oai_paged.specs.Pages.{IsPage, begins_at, items_in}
+
+-- a place: the numbers of its pages, the datestamp and the identifier of its first item, how many items there are, and prefixes of which each
+-- of them has a record
+pub record PlaceState : Type 0 where
+  pub pages : List ℕ
+  pub stamp : ℤ
+  pub identifier : List ℕ
+  pub len : ℕ
+  pub prefixes : List (List ℕ)
+
+-- the page under each number
+abbrev pub Pages : Type 0
+Pages = ℕ → Option (List ℕ)
+
+-- ---- the items
+
+-- the number of the page that its entries are on
+abbrev pub page_no : PlaceState → ℕ
+page_no place = slice_index place.pages 0
+
+-- that page
+abbrev pub page_at : Pages → PlaceState → List ℕ
+page_at pages place = unwrap_or (pages (page_no place)) []
+
+-- the items of a place
+unfoldable pub items_at : Pages → PlaceState → List ItemState
+items_at pages place = items_in (page_at pages place)
+
+-- the items of places, one after the other
+unfoldable pub items_on : Pages → List PlaceState → List ItemState
+items_on pages places = flat_map (items_at pages) places
+
+-- each item has a record of each prefix
+unfoldable pub have_records : List (List ℕ) → List ItemState → Bool
+have_records prefixes items =
+    list_all (λ (item : ItemState). list_all (λ prefix. has_record prefix item.formats) prefixes) items
+
+-- what is so of a place: it has one page, that is the page of its items, the first of these is the one it names, and of all of them is so
+-- what it says
+pub record IsSoundPlace (pages : Pages) (place : PlaceState) : Type 0 where
+  pub one : length place.pages ≡ 1
+  pub added : IsSome (pages (page_no place))
+  pub page : IsPage (page_at pages place) (items_at pages place)
+  pub begins : begins_at place.stamp place.identifier (items_at pages place) ≡ true
+  pub counted : length (items_at pages place) ≡ place.len
+  pub common : have_records place.prefixes (items_at pages place) ≡ true
+
+-- ---- their order
+
+-- how the first item of a place stands to that datestamp and identifier
+abbrev pub first_cmp : PlaceState → ℤ → List ℕ → Ordering
+first_cmp place stamp identifier =
+    ordering_then (int_cmp place.stamp stamp) (slice_cmp nat_cmp place.identifier identifier)
+
+-- each item stands before the first one of the next place, where there is one
+abbrev pub are_below : List ItemState → List PlaceState → Bool
+are_below items [] = true
+are_below items (next ∷ _) = list_all (λ item. is_lt (place_cmp item next.stamp next.identifier)) items
+
+-- the item is asked for, and stands behind that datestamp and identifier
+abbrev pub is_wanted : Filter → ℤ → List ℕ → ItemState → Bool
+is_wanted asked stamp identifier item = is_gt (place_cmp item stamp identifier) && passes asked item
+
+-- ---- the names of pages
+
+-- the numbers that places name
+unfoldable pub page_numbers : List PlaceState → List ℕ
+page_numbers places = flat_map (λ (place : PlaceState). place.pages) places
+
+-- how often places name a number
+abbrev pub named_in : List PlaceState → ℕ → ℕ
+named_in places n = times n (page_numbers places)

@@ -1,0 +1,22 @@
+-- No definition: that places stand on pages of their own is one fact, by which the ghost field of a store is shown.
+use Rattle.std.proofs.Common.{List}
+use Rattle.std.specs.List.{AllByRecursion, AllByRecursion-prop}
+use Rattle.std.proofs.Props as std
+use Rattle.oai_item.specs.Encoding.{Spells, encoded}
+use Rattle.oai_item.specs.Item.{ItemState}
+use Rattle.oai_paged.specs.Pages.{AreStorable}
+use Rattle.oai_paged.specs.Places.{IsSoundPlace, Pages, PlaceState}
+
+Spells-prop : (item : ItemState) → IsProp (Spells (encoded item) item)
+Spells-prop item = hlevel std.props
+
+pub AreStorable-prop : (items : List ItemState) → IsProp (AreStorable items)
+AreStorable-prop items = AllByRecursion-prop _ Spells-prop items
+
+pub IsSoundPlace-prop : (pages : Pages) (place : PlaceState) → IsProp (IsSoundPlace pages place)
+IsSoundPlace-prop pages place = hlevel (AreStorable-prop, std.props)
+
+pub ArePlaced-prop : (pages : Pages) (places : List PlaceState) → IsProp (AllByRecursion (IsSoundPlace pages) places)
+ArePlaced-prop pages places = AllByRecursion-prop _ (IsSoundPlace-prop pages) places
+
+pub ruleset shelved_props = (ArePlaced-prop, std.props)

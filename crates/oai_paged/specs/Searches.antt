@@ -1,0 +1,29 @@
+-- Where in a directory an item is, or would be.
+use Rattle.std.specs.Prelude.{◌≡◌, ◌⊎◌, ◌+◌, ◌<◌, ℕ, ℤ, true, false, List, [], length, drop, HoldsAt}
+use Rattle.std.specs.Ordering.{is_gt}
+use Rattle.oai_item.specs.Item.{ItemState}
+use Rattle.oai_item.specs.Selection.{Filter}
+use Rattle.oai_paged.specs.Pages.{FitPage, begins_at}
+use Rattle.oai_paged.specs.Places.{PlaceState, are_below, first_cmp}
+
+-- that datestamp and identifier belong to this place: no place before it begins behind them, and the next one does. Where no place is there,
+-- it is 0
+pub record BelongsAt (places : List PlaceState) (stamp : ℤ) (identifier : List ℕ) (at : ℕ) : Type 0 where
+  pub within : 0 < length places → at < length places
+  pub first : length places ≡ 0 → at ≡ 0
+  pub not_above : 0 < at → HoldsAt (λ place. is_gt (first_cmp place stamp identifier) ≡ false) places at
+  pub below : at + 1 < length places → HoldsAt (λ place. is_gt (first_cmp place stamp identifier) ≡ true) places (at + 1)
+
+-- items that may have been read at this place: those of a page, of which the first is the one that the place names, and the last stands before
+-- the first of the next place
+pub record MayBeAt (places : List PlaceState) (at : ℕ) (items : List ItemState) : Type 0 where
+  pub page : FitPage items
+  pub begins : HoldsAt (λ place. begins_at place.stamp place.identifier items ≡ true) places at
+  pub below : are_below items (drop (at + 1) places) ≡ true
+
+-- the items before this place stand before the lower bound of what is asked for, or not behind that datestamp and identifier
+pub record StartsAt (places : List PlaceState) (asked : Filter) (stamp : ℤ) (identifier : List ℕ) (at : ℕ) : Type 0 where
+  pub within : 0 < length places → at < length places
+  pub first : length places ≡ 0 → at ≡ 0
+  pub before : 0 < at → HoldsAt (λ place. (is_gt (first_cmp place asked.lower []) ≡ false)
+      ⊎ (is_gt (first_cmp place stamp identifier) ≡ false)) places at

@@ -1,0 +1,63 @@
+-- The directories of all versions of a store, over the pages of one pool.
+use Rattle.std.specs.Prelude.{◌≡◌, ◌+◌, ◌-◌, ◌<◌, ◌≤◌, ◌/◌, ℕ, zero, suc, List, [], ◌∷◌, Option, None, Some, length, max, min, option_map, unwrap_or, sum_by, slice_index_or}
+use Rattle.std.specs.List.{Contains}
+use Rattle.slab.specs.Slab.{Slab, get}
+use Rattle.oai_catalogue.specs.Store.{Lists, list_at}
+use Rattle.oai_item.specs.Item.{ItemState}
+use Rattle.oai_pool.specs.Counts.{count_of}
+use Rattle.oai_pool.specs.declared.pools.TheConstants.{MAX_PAGES}
+use Rattle.oai_paged.specs.Directory.{IsDirectory}
+use Rattle.oai_paged.specs.Pages.{IsPage}
+use Rattle.oai_paged.specs.Places.{Pages, PlaceState, items_on, named_in}
+
+-- a directory at each number that is in use
+abbrev pub Directories : Type 0
+Directories = List (Option (List PlaceState))
+
+-- the one at that number
+abbrev pub directory_at : Directories → ℕ → Option (List PlaceState)
+directory_at slots v = slice_index_or slots v None
+
+-- the lists of items that they stand for
+abbrev pub lists_on : Pages → Directories → Lists
+lists_on pages slots v = option_map (items_on pages) (directory_at slots v)
+
+-- how often the places of a slot name a number
+abbrev pub named_at : ℕ → Option (List PlaceState) → ℕ
+named_at n None = 0
+named_at n (Some places) = named_in places n
+
+-- how often all places of all directories name a number
+unfoldable pub named_by_all : Directories → ℕ → ℕ
+named_by_all slots n = sum_by (named_at n) slots
+
+-- each page is counted as often as the places of all directories name it, and each directory is one
+pub record AreShelved (counts : List ℕ) (pages : Pages) (slots : Directories) : Type 0 where
+  pub counted : (n : ℕ) → count_of counts n ≡ named_by_all slots n
+  pub directories : (v : ℕ) (places : List PlaceState) → directory_at slots v ≡ Some places → IsDirectory pages places
+
+-- the greatest count
+unfoldable pub most_of : List ℕ → ℕ
+most_of [] = 0
+most_of (count ∷ counts) = max count (most_of counts)
+
+-- the most pages that one call adds
+abbrev pub MAX_ADDED : ℕ
+MAX_ADDED = 6
+
+-- how many calls are sure to find room: pages, and further names of each page
+abbrev pub calls_left : ℕ → List ℕ → ℕ
+calls_left pages_left counts = min (pages_left / MAX_ADDED) (MAX_PAGES - most_of counts)
+
+-- how many items all lists below that number have together
+unfoldable pub items_below : ℕ → Lists → ℕ
+items_below zero lists = 0
+items_below (suc v) lists = length (list_at lists v) + items_below v lists
+
+-- the item stands, spelled, on a page that is named
+pub record StandsOnPage (counts : List ℕ) (pages : Pages) (item : ItemState) : Type 0 where
+  pub page : ℕ
+  pub items : List ItemState
+  pub named : 0 < count_of counts page
+  pub spelled : IsPage (unwrap_or (pages page) []) items
+  pub among : Contains items item

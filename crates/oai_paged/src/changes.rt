@@ -1,0 +1,207 @@
+//! A directory changed where it stands: pages of new entries are added, and then their places put in for old ones, by steps that cannot
+//! fail.
+ghost use Rattle.std.specs.Prelude.{◌≡◌, ◌+◌, ◌*◌, ◌<◌, ◌≤◌, ◌++◌, ◌∷◌, ℕ, List, [], true, length, take, drop, vec_capacity, vec_len, IfOk, OnErr, OnOk};
+ghost use Rattle.oai_item.specs.Item.{ItemState};
+ghost use Rattle.oai_item.specs.Order.{are_in_order};
+ghost use Rattle.oai_pool.specs.Counts.{count_of};
+ghost use Rattle.oai_paged.specs.Calls.{Adds, FreesPages, IsDirectoryChanged, Renames, Takes};
+ghost use Rattle.oai_paged.specs.Directory.{MayStand, StandsIn};
+ghost use Rattle.oai_paged.specs.Pages.{AreCuts, between, size_of};
+ghost use Rattle.oai_paged.specs.Places.{named_in};
+ghost use Rattle.oai_paged.specs.declared.sizes.TheConstants.{MAX_ENTRY_BYTES};
+
+use crate::entries::{Cuts, Entries};
+use crate::exchanges::{exchange, reserve};
+use crate::faults::fault_of;
+use crate::names::drop_all;
+use crate::places::SharedPlace;
+use oai_item::Fault;
+use oai_pool::PagePool;
+use std::alloc::Global;
+
+/// To how many pages the entries of one go at most where one more is put among them.
+const MAX_PARTS: usize = 3;
+
+/// A change of a directory: so many places from `at` on are new, and stand in for those that are gone, whose pages are still named.
+#[derive(Drop)]
+pub(crate) struct Changed {
+    /// Where the new places begin.
+    pub(crate) at: usize,
+    /// How many they are.
+    pub(crate) len: usize,
+    /// The places that are gone.
+    pub(crate) gone: Vec<SharedPlace>,
+}
+
+/// Puts pages of the entries in the place of so many places from `at` on, at most one. `fills` says that a page which is cut is filled before
+/// the next one is begun. Any fault but `Damaged` may come; directory and pages are then as before.
+pub(crate) fn change<P: PagePool>(
+    alloc: Global,
+    pages: &mut P,
+    places: &mut Vec<SharedPlace>,
+    at: usize,
+    len: usize,
+    entries: &Entries,
+    fills: bool,
+) -> Result<Changed, Fault>
+    requires within { at + len ≤ vec_len places.old }
+    requires one { len ≤ 1 }
+    requires stands { StandsIn P.PagePool pages.old places.old.items }
+    requires size { size_of entries.now ≤ 2 * MAX_ENTRY_BYTES }
+    requires may_stand { MayStand (P.pages pages.old) places.old.items at len entries.now }
+    ensures ok { IfOk result (λ changed. IsDirectoryChanged P.PagePool entries.now at len changed.at changed.len changed.gone.items
+        places.old.items places.new.items pages.old pages.new) }
+    ensures within { IfOk result (λ changed. changed.at + changed.len ≤ vec_len places.new) }
+    ensures room { IfOk result (λ changed.
+        vec_len places.new + vec_len changed.gone ≤ vec_capacity places.new) }
+    ensures back { IfOk result (λ changed. vec_len changed.gone + changed.len ≤ vec_capacity changed.gone) }
+    ensures capacity { vec_capacity places.old ≤ vec_capacity places.new }
+    ensures err { OnErr result (places.new.items ≡ places.old.items) }
+    ensures undone { OnErr result (Renames P.PagePool [] [] pages.old pages.new) }
+    ensures pool { Takes P.PagePool 3 result pages.old pages.new }
+{
+    let mut others = add_all(alloc, pages, entries, fills)?;
+    match reserve(places, &mut others) {
+        Ok(()) => {
+            let count = others.len();
+            exchange(places, at, len, &mut others);
+            Ok(Changed {
+                at,
+                len: count,
+                gone: others,
+            })
+        }
+        Err(_) => {
+            drop_all(pages, others.as_slice());
+            Err(Fault::NoMemory)
+        }
+    }
+}
+
+/// Takes a change back: the places that are gone stand where they stood, and the new ones are gone, with the names of their pages. It takes no
+/// memory and cannot fail.
+pub(crate) fn undo<P: PagePool>(pages: &mut P, places: &mut Vec<SharedPlace>, changed: Changed)
+    requires within { changed.at + changed.len ≤ vec_len places.old }
+    requires room { vec_len places.old + vec_len changed.gone ≤ vec_capacity places.old }
+    requires back { vec_len changed.gone + changed.len ≤ vec_capacity changed.gone }
+    requires named { (n : ℕ) → named_in (take changed.len (drop changed.at places.old.items)) n ≤ count_of (P.counts pages.old) n }
+    ensures places { places.new.items ≡ take changed.at places.old.items
+        ++ (changed.gone.items ++ drop (changed.at + changed.len) places.old.items) }
+    ensures names { Renames P.PagePool (take changed.len (drop changed.at places.old.items)) [] pages.old pages.new }
+    ensures pool { FreesPages P.PagePool pages.old pages.new }
+{
+    let mut others = changed.gone;
+    exchange(places, changed.at, changed.len, &mut others);
+    drop_all(pages, others.as_slice());
+}
+
+/// Adds the pages of the entries, three at most, and answers their places. Any fault but `Damaged` may come; the pages are then as before.
+fn add_all<P: PagePool>(
+    alloc: Global,
+    pages: &mut P,
+    entries: &Entries,
+    fills: bool,
+) -> Result<Vec<SharedPlace>, Fault>
+    requires size { size_of entries.now ≤ 2 * MAX_ENTRY_BYTES }
+    requires rising { are_in_order entries.now ≡ true }
+    ensures added { IfOk result (λ added. Adds P.PagePool entries.now added.items pages.old pages.new) }
+    ensures undone { OnErr result (Renames P.PagePool [] [] pages.old pages.new) }
+    ensures pool { Takes P.PagePool 3 result pages.old pages.new }
+{
+    let cuts = entries.cuts(fills);
+    let mut added = Vec::with_capacity(alloc, MAX_PARTS)?;
+    match add_parts(alloc, pages, entries, cuts, &mut added) {
+        Ok(()) => Ok(added),
+        Err(fault) => {
+            drop_all(pages, added.as_slice());
+            Err(fault)
+        }
+    }
+}
+
+/// Adds the pages of the entries, which are cut at these places, and puts their places behind the others. Any fault but `Damaged` may come; some of
+/// the pages are then added.
+fn add_parts<P: PagePool>(
+    alloc: Global,
+    pages: &mut P,
+    entries: &Entries,
+    cuts: Cuts,
+    added: &mut Vec<SharedPlace>,
+) -> Result<(), Fault>
+    requires none { added.old.items ≡ [] }
+    requires room { vec_len added.old + 3 ≤ vec_capacity added.old }
+    requires cuts { AreCuts entries.now cuts.first cuts.second }
+    requires rising { are_in_order entries.now ≡ true }
+    ensures ok { OnOk result (Adds P.PagePool entries.now added.new.items pages.old pages.new) }
+    ensures some { OnErr result ((items : List ItemState) × Adds P.PagePool items added.new.items pages.old pages.new) }
+    ensures pool { Takes P.PagePool 3 result pages.old pages.new }
+{
+    add_part(alloc, pages, entries, 0, cuts.first, added)?;
+    add_part(alloc, pages, entries, cuts.first, cuts.second, added)?;
+    add_part(alloc, pages, entries, cuts.second, entries.len(), added)
+}
+
+/// Adds the page of the entries from the one place up to the other, where there are any, and puts its place behind the others. Any fault but
+/// `Damaged` may come.
+fn add_part<P: PagePool>(
+    alloc: Global,
+    pages: &mut P,
+    entries: &Entries,
+    from: usize,
+    to: usize,
+    added: &mut Vec<SharedPlace>,
+) -> Result<(), Fault>
+    requires order { from ≤ to }
+    requires within { to ≤ length entries.now }
+    requires fits { size_of (between from to entries.now) ≤ MAX_ENTRY_BYTES }
+    requires rising { are_in_order entries.now ≡ true }
+    requires room { vec_len added.old < vec_capacity added.old }
+    ensures ok { (items : List ItemState) (first : P) → Adds P.PagePool items added.old.items first pages.old
+        → OnOk result (Adds P.PagePool (items ++ between from to entries.now) added.new.items first pages.new) }
+    ensures err { (items : List ItemState) (first : P) → Adds P.PagePool items added.old.items first pages.old
+        → OnErr result (Adds P.PagePool items added.new.items first pages.new) }
+    ensures len { vec_len added.new ≤ vec_len added.old + 1 }
+    ensures capacity { vec_capacity added.old ≤ vec_capacity added.new }
+    ensures pool { Takes P.PagePool 1 result pages.old pages.new }
+{
+    if from == to {
+        return Ok(());
+    }
+    let place = add_page(alloc, pages, entries, from, to)?;
+    added.push(place).unwrap();
+    Ok(())
+}
+
+/// Adds the page of the entries from the one place up to the other, and answers its place. Any fault but `Damaged` may come; the pages are then as
+/// before.
+fn add_page<P: PagePool>(
+    alloc: Global,
+    pages: &mut P,
+    entries: &Entries,
+    from: usize,
+    to: usize,
+) -> Result<SharedPlace, Fault>
+    requires order { from < to }
+    requires within { to ≤ length entries.now }
+    requires fits { size_of (between from to entries.now) ≤ MAX_ENTRY_BYTES }
+    requires rising { are_in_order entries.now ≡ true }
+    ensures added { IfOk result (λ place. Adds P.PagePool (between from to entries.now) (place ∷ []) pages.old pages.new) }
+    ensures undone { OnErr result (Renames P.PagePool [] [] pages.old pages.new) }
+    ensures pool { Takes P.PagePool 1 result pages.old pages.new }
+{
+    let _all = entries.len();
+    let stamp = entries.stamp(from);
+    let identifier = entries.identifier(alloc, from)?;
+    let prefixes = entries.prefixes(alloc, from, to)?;
+    let no = match pages.add(&entries.page(from, to)) {
+        Ok(no) => no,
+        Err(fault) => return Err(fault_of(fault)),
+    };
+    match SharedPlace::new(alloc, no, stamp, identifier, to - from, prefixes) {
+        Ok(place) => Ok(place),
+        Err(_) => {
+            pages.drop_ref(no);
+            Err(Fault::NoMemory)
+        }
+    }
+}

@@ -1,0 +1,560 @@
+ghost use Rattle.std.specs.Prelude.{◌≡◌, ◌==◌, ◌+◌, ◌-◌, ◌*◌, ◌^◌, ◌<◌, ◌≤◌, ℕ, List, [], true, ◌++◌, ◌∷◌, length, take, drop, filter, map, All, HoldsAt, IfOk, IfSome, IsErrOf, OnOk};
+ghost use Rattle.std.specs.List.{list_all};
+ghost use Rattle.std.specs.Ordering.{is_lt};
+ghost use Rattle.oai_device.specs.declared.devices.TheConstants.{PAGE_BYTES};
+ghost use Rattle.oai_item.specs.Encoding.{Spells, encoded};
+ghost use Rattle.oai_item.specs.Item.{ItemState, has_record};
+ghost use Rattle.oai_item.specs.Items.{item_at, with_item, without_at};
+ghost use Rattle.oai_item.specs.Order.{IsPlace, are_in_order, place_cmp};
+ghost use Rattle.oai_item.specs.Selection.{passes};
+ghost use Rattle.oai_item.specs.declared.sizes.TheConstants.{MAX_ITEM_BYTES};
+ghost use Rattle.oai_paged.specs.Entries.{HasEntries, IsEntryReading};
+ghost use Rattle.oai_paged.specs.Pages.{AreCuts, AreStorable, IsPageReading, IsRemoval, begins_at, between, entries_of, entry_of, first_number, page_spelling, size_of};
+ghost use Rattle.oai_paged.specs.Places.{have_records};
+ghost use Rattle.oai_paged.specs.declared.sizes.TheConstants.{MAX_ENTRY_BYTES};
+
+use crate::sizes::{FULL_BYTES, MAX_ENTRY_BYTES, NUMBER_BYTES};
+use oai_catalogue::Filter;
+use oai_device::PAGE_BYTES;
+use oai_item::{DecodeFault, Item, Spelling, is_spelling};
+use oai_names::{Identifier, Prefix, Sequence};
+use oai_pool::Page;
+use std::alloc::{AllocError, Global};
+use std::cmp::Ordering;
+use std::marker::Model;
+
+/// Items as the entries of a page: the spelling of each behind its length. Contracts see them as the list of the
+/// items. None of them is decoded, but where one is asked for.
+#[derive(Drop)]
+pub(crate) struct Entries {
+    bytes: Vec<u8>,
+    ends: Vec<usize>,
+}
+
+impl Model for Entries {
+    ghost use Rattle.std.specs.Prelude.{List};
+    ghost use Rattle.oai_item.specs.Item.{ItemState};
+    ghost use Rattle.oai_paged.specs.Entries.{AreEntries, items_with};
+
+    ghost Value = { List ItemState };
+
+    ghost view = { λ e. items_with e.bytes.items e.ends.items };
+
+    ghost invariant = { λ e. AreEntries e.bytes.items e.ends.items };
+}
+
+/// Where entries are cut, to be put on three pages at most.
+#[derive(Clone, Copy)]
+pub(crate) struct Cuts {
+    /// How many stand on the first page.
+    pub(crate) first: usize,
+    /// How many stand on the first two pages.
+    pub(crate) second: usize,
+}
+
+impl Entries {
+    /// No entries. It takes no memory.
+    pub(crate) fn new(alloc: Global) -> Entries
+        ensures { result ≡ [] }
+    {
+        Entries {
+            bytes: Vec::new(alloc),
+            ends: Vec::new(alloc),
+        }
+    }
+
+    /// The entries of a page. `Damaged` where the bytes are not the page of any items; `NoMemory`.
+    pub(crate) fn read(alloc: Global, page: &Page) -> Result<Entries, DecodeFault>
+        ensures { IsPageReading page.now result }
+    {
+        let count = first_number(page);
+        if count == 0 {
+            return Err(DecodeFault::Damaged);
+        }
+        let (ends, size) = read_ends(alloc, &page[NUMBER_BYTES..], count)?;
+        let (bytes, behind) = page[NUMBER_BYTES..].split_at(size);
+        if !are_zeros(behind) {
+            return Err(DecodeFault::Damaged);
+        }
+        let entries = Entries {
+            bytes: copied(alloc, bytes)?,
+            ends,
+        };
+        if !entries.are_rising() {
+            return Err(DecodeFault::Damaged);
+        }
+        Ok(entries)
+    }
+
+    /// How many there are.
+    pub(crate) fn len(&self) -> usize
+        ensures len { result ≡ length self.now }
+        ensures storable { AreStorable self.now }
+    {
+        self.ends.len()
+    }
+
+    /// How many bytes they have.
+    pub(crate) fn size(&self) -> usize
+        ensures { result ≡ size_of self.now }
+    {
+        self.bytes.len()
+    }
+
+    /// How the item at that place stands to this datestamp, in seconds from 1970 on, and identifier.
+    pub(crate) fn order_to(&self, at: usize, stamp: i64, identifier: &str) -> Ordering
+        requires { at < length self.now }
+        ensures { HoldsAt (λ item. result ≡ place_cmp item stamp identifier.now) self.now at }
+    {
+        self.spelled(at).order_to(stamp, identifier)
+    }
+
+    /// Where this datestamp, in seconds from 1970 on, and identifier are among the items: the place of the item that
+    /// has them, or where it would stand.
+    pub(crate) fn place_of(&self, stamp: i64, identifier: &str) -> Result<usize, usize>
+        requires { are_in_order self.now ≡ true }
+        ensures { IsPlace self.now stamp identifier.now result }
+    {
+        let mut low = 0;
+        let mut high = self.len();
+        while low < high {
+            let middle = low + (high - low) / 2;
+            match self.order_to(middle, stamp, identifier) {
+                Ordering::Less => low = middle + 1,
+                Ordering::Equal => return Ok(middle),
+                Ordering::Greater => high = middle,
+            }
+        }
+        Err(low)
+    }
+
+    /// Whether the first item has this datestamp, in seconds from 1970 on, and identifier.
+    pub(crate) fn begins_at(&self, stamp: i64, identifier: &str) -> bool
+        ensures { result ≡ begins_at stamp identifier.now self.now }
+    {
+        self.len() > 0 && self.order_to(0, stamp, identifier) == Ordering::Equal
+    }
+
+    /// Whether all items, which are in their order, stand before this datestamp, in seconds from 1970 on, and
+    /// identifier.
+    pub(crate) fn are_before(&self, stamp: i64, identifier: &str) -> bool
+        requires { are_in_order self.now ≡ true }
+        ensures { result ≡ list_all (λ item. is_lt (place_cmp item stamp identifier.now)) self.now }
+    {
+        let len = self.len();
+        len == 0 || self.order_to(len - 1, stamp, identifier) == Ordering::Less
+    }
+
+    /// Whether the item at that place is asked for.
+    pub(crate) fn passes(&self, at: usize, filter: &Filter) -> bool
+        requires { at < length self.now }
+        ensures { HoldsAt (λ item. result ≡ passes filter.now item) self.now at }
+    {
+        let prefix = filter.prefix.as_str();
+        self.spelled(at)
+            .passes(prefix, filter.lower, filter.upper, &filter.set)
+    }
+
+    /// The item at that place, in memory of its own. The error is out of memory.
+    pub(crate) fn item(&self, alloc: Global, at: usize) -> Result<Item, AllocError>
+        requires { at < length self.now }
+        ensures { IfOk result (λ item. HoldsAt (λ own. item ≡ own) self.now at) }
+    {
+        let item = Item::spelled(alloc, &self.spelled(at))?;
+        Ok(item)
+    }
+
+    /// The items with that one, in place of the one of its datestamp and identifier where there is one. Its spelling
+    /// has at most 16,000 bytes. The error is out of memory.
+    pub(crate) fn put(&self, alloc: Global, item: &Item) -> Result<Entries, AllocError>
+        requires rising { are_in_order self.now ≡ true }
+        requires fits { length (encoded item.now) ≤ MAX_ITEM_BYTES }
+        ensures with { IfOk result (λ entries. entries ≡ with_item item.now self.now) }
+        ensures size { IfOk result
+            (λ entries. size_of entries ≤ size_of self.now + (MAX_ITEM_BYTES + 4)) }
+    {
+        match self.place_of(item.stamp(), item.identifier().as_str()) {
+            Ok(at) => self.with(alloc, at, 1, item),
+            Err(at) => self.with(alloc, at, 0, item),
+        }
+    }
+
+    /// The items but that of this datestamp, in seconds from 1970 on, and identifier, or None where none of them has
+    /// these. The error is out of memory.
+    pub(crate) fn remove(
+        &self,
+        alloc: Global,
+        stamp: i64,
+        identifier: &str,
+    ) -> Result<Option<Entries>, AllocError>
+        requires { are_in_order self.now ≡ true }
+        ensures removal { IfOk result (λ entries. IsRemoval stamp identifier.now self.now entries) }
+        ensures size { IfOk result
+            (λ entries. IfSome entries (λ left. size_of left ≤ size_of self.now)) }
+    {
+        match self.place_of(stamp, identifier) {
+            Ok(at) => Ok(Some(self.without(alloc, at)?)),
+            Err(_) => Ok(None),
+        }
+    }
+
+    /// Where the entries are cut, to be put on pages: nowhere, where they fit on one; else in halves or, if `fills`
+    /// says so, after a page that is filled to nine tenths; and again, where the rest does not fit on one page.
+    pub(crate) fn cuts(&self, fills: bool) -> Cuts
+        requires { size_of self.now ≤ 2 * MAX_ENTRY_BYTES }
+        ensures { AreCuts self.now result.first result.second }
+    {
+        let half = self.size() / 2;
+        let goal = if fills { half.max(FULL_BYTES) } else { half };
+        let first = self.front(0, goal);
+        let second = self.front(first, goal);
+        Cuts { first, second }
+    }
+
+    /// The page of the entries from the one place up to the other.
+    pub(crate) fn page(&self, from: usize, to: usize) -> Page
+        requires some { from < to }
+        requires within { to ≤ length self.now }
+        requires fits { size_of (between from to self.now) ≤ MAX_ENTRY_BYTES }
+        ensures { result ≡ page_spelling (between from to self.now) }
+    {
+        let mut page = [0; PAGE_BYTES];
+        put_at(&mut page, 0, &((to - from) as u32).to_be_bytes());
+        put_at(&mut page, NUMBER_BYTES, self.entries(from, to));
+        page
+    }
+
+    /// The datestamp of the item at that place, in seconds from 1970 on.
+    pub(crate) fn stamp(&self, at: usize) -> i64
+        requires { at < length self.now }
+        ensures { HoldsAt (λ item. result ≡ item.stamp) self.now at }
+    {
+        self.spelled(at).stamp()
+    }
+
+    /// The identifier of the item at that place. The error is out of memory.
+    pub(crate) fn identifier(&self, alloc: Global, at: usize) -> Result<Identifier, AllocError>
+        requires { at < length self.now }
+        ensures { IfOk result (λ identifier. HoldsAt (λ item. identifier ≡ item.identifier) self.now at) }
+    {
+        let identifier = Identifier::new(alloc, self.spelled(at).identifier())?;
+        Ok(identifier)
+    }
+
+    /// The prefixes of which the items from the one place up to the other each have a record. The error is out of
+    /// memory.
+    pub(crate) fn prefixes(
+        &self,
+        alloc: Global,
+        from: usize,
+        to: usize,
+    ) -> Result<Sequence<Prefix>, AllocError>
+        requires some { from < to }
+        requires within { to ≤ length self.now }
+        ensures { IfOk result (λ prefixes. have_records prefixes (between from to self.now) ≡ true) }
+    {
+        let mut prefixes = prefixes_of(alloc, &self.spelled(from))?;
+        for at in from + 1..to {
+            prefixes = common(prefixes, &self.spelled(at));
+        }
+        Ok(Sequence::new(prefixes))
+    }
+}
+
+impl Entries {
+    /// Where the entry at that place begins.
+    fn start(&self, at: usize) -> usize
+        requires { at ≤ length self.now }
+        ensures { result ≡ size_of (take at self.now) }
+    {
+        if at == 0 {
+            return 0;
+        }
+        self.end(at - 1)
+    }
+
+    /// Where the entry at that place ends.
+    fn end(&self, at: usize) -> usize
+        requires { at < length self.now }
+        ensures { result ≡ size_of (take (at + 1) self.now) }
+    {
+        self.ends[at]
+    }
+
+    /// The bytes of the entries from the one place up to the other.
+    fn entries(&self, from: usize, to: usize) -> &[u8]
+        requires order { from ≤ to }
+        requires within { to ≤ length self.now }
+        ensures { result.now ≡ entries_of (between from to self.now) }
+    {
+        let start = self.start(from);
+        let end = self.start(to);
+        &self.bytes[start..end]
+    }
+
+    /// The spelling of the item at that place.
+    fn spelling(&self, at: usize) -> &[u8]
+        requires { at < length self.now }
+        ensures { HoldsAt (λ item. Spells result.now item) self.now at }
+    {
+        let start = self.start(at);
+        let end = self.end(at);
+        let entry = &self.bytes[start..end];
+        &entry[NUMBER_BYTES..]
+    }
+
+    /// The item at that place, as it is spelled.
+    fn spelled(&self, at: usize) -> Spelling<'_>
+        requires { at < length self.now }
+        ensures { HoldsAt (λ item. result ≡ item) self.now at }
+    {
+        Spelling::new(self.spelling(at))
+    }
+
+    /// Whether each item stands before the next.
+    fn are_rising(&self) -> bool
+        ensures { result ≡ are_in_order self.now }
+    {
+        for at in 1..self.len() {
+            if self.spelled(at - 1).order(&self.spelled(at)) != Ordering::Less {
+                return false;
+            }
+        }
+        true
+    }
+
+    /// Up to which place the entries from `from` on go on a page: to the end, where it has room for them; else so many
+    /// as have no more bytes than `goal`, but one at least.
+    fn front(&self, from: usize, goal: usize) -> usize
+        requires within { from ≤ length self.now }
+        requires goal { goal ≤ MAX_ENTRY_BYTES }
+        ensures above { from ≤ result }
+        ensures within { result ≤ length self.now }
+        ensures some { from < length self.now → from < result }
+        ensures fits { size_of (between from result self.now) ≤ MAX_ENTRY_BYTES }
+        ensures most { result < length self.now
+            → goal < size_of (between from (result + 1) self.now) }
+    {
+        let len = self.len();
+        let start = self.start(from);
+        if self.size() - start <= MAX_ENTRY_BYTES {
+            return len;
+        }
+        let mut to = from + 1;
+        while to < len && self.end(to) - start <= goal {
+            to += 1;
+        }
+        to
+    }
+
+    /// The items with that one in place of so many from the place on.
+    fn with(
+        &self,
+        alloc: Global,
+        at: usize,
+        count: usize,
+        item: &Item,
+    ) -> Result<Entries, AllocError>
+        requires within { at + count ≤ length self.now }
+        requires fits { length (encoded item.now) ≤ MAX_ITEM_BYTES }
+        ensures { IfOk result
+            (λ entries. entries ≡ take at self.now ++ (item.now ∷ drop (at + count) self.now)) }
+    {
+        let entry = entry_of(alloc, item)?;
+        let len = self.len();
+        let behind = at + count;
+        let back = self.entries(behind, len);
+        let bytes = joined(alloc, self.entries(0, at), entry.as_slice(), back)?;
+        let end = bytes.len() - back.len();
+        let mut ends = copied_ends(alloc, &self.ends[..at])?;
+        ends.push(end)?;
+        push_moved(&mut ends, &self.ends[behind..], self.start(behind), end)?;
+        Ok(Entries { bytes, ends })
+    }
+
+    /// The items but the one at that place.
+    fn without(&self, alloc: Global, at: usize) -> Result<Entries, AllocError>
+        requires { at < length self.now }
+        ensures { IfOk result
+            (λ entries. entries ≡ take at self.now ++ drop (at + 1) self.now) }
+    {
+        let len = self.len();
+        let back = self.entries(at + 1, len);
+        let bytes = joined(alloc, self.entries(0, at), &[], back)?;
+        let start = bytes.len() - back.len();
+        let mut ends = copied_ends(alloc, &self.ends[..at])?;
+        push_moved(&mut ends, &self.ends[at + 1..], self.end(at), start)?;
+        Ok(Entries { bytes, ends })
+    }
+}
+
+/// The prefixes of an item's records. The error is out of memory.
+fn prefixes_of(alloc: Global, item: &Spelling<'_>) -> Result<Vec<Prefix>, AllocError>
+    ensures { IfOk result
+        (λ prefixes. prefixes.items ≡ map (λ format. format.0) item.now.formats) }
+{
+    let mut records = item.records();
+    let mut prefixes = Vec::with_capacity(alloc, records.len())?;
+    while let Some(format) = records.next() {
+        prefixes.push(Prefix::new(alloc, format.prefix)?)?;
+    }
+    Ok(prefixes)
+}
+
+/// Those of the prefixes of which the item has a record.
+fn common(prefixes: Vec<Prefix>, item: &Spelling<'_>) -> Vec<Prefix>
+    ensures { result.items
+        ≡ filter (λ prefix. has_record prefix item.now.formats) prefixes.items }
+{
+    let mut kept = prefixes;
+    kept.retain(|prefix| item.has_record(prefix.as_str()));
+    kept
+}
+
+/// Writes the bytes into the page, from that place on.
+fn put_at(page: &mut Page, at: usize, bytes: &[u8])
+    requires { at + length bytes.now ≤ PAGE_BYTES }
+    ensures { page.new
+        ≡ take at page.old ++ (bytes.now ++ drop (at + length bytes.now) page.old) }
+{
+    page[at..at + bytes.len()].copy_from_slice(bytes);
+}
+
+/// The number in front of the bytes.
+fn first_number(bytes: &[u8]) -> usize
+    requires { 4 ≤ length bytes.now }
+    ensures { result ≡ first_number bytes.now }
+{
+    let mut number = [0; NUMBER_BYTES];
+    number.copy_from_slice(&bytes[..NUMBER_BYTES]);
+    u32::from_be_bytes(number) as usize
+}
+
+/// How many bytes the entry has that stands in front of the bytes, or None where none does.
+fn entry_len(bytes: &[u8]) -> Option<usize>
+    ensures { IsEntryReading bytes.now result }
+{
+    if bytes.len() < NUMBER_BYTES {
+        return None;
+    }
+    let len = first_number(bytes);
+    let rest = &bytes[NUMBER_BYTES..];
+    if rest.len() < len {
+        return None;
+    }
+    if !is_spelling(&rest[..len]) {
+        return None;
+    }
+    Some(NUMBER_BYTES + len)
+}
+
+/// Where each of so many entries in front of the bytes ends, and the last of them. `Damaged` where there are not so
+/// many; `NoMemory`.
+fn read_ends(alloc: Global, bytes: &[u8], count: usize) -> Result<(Vec<usize>, usize), DecodeFault>
+    ensures read { IfOk result (λ read. HasEntries bytes.now read.0.items count read.1) }
+    ensures damaged { IsErrOf result DecodeFault.Damaged
+        → (items : List ItemState) (behind : List ℕ) → AreStorable items → length items ≡ count
+        → ¬ (bytes.now ≡ entries_of items ++ behind) }
+{
+    let mut ends = Vec::new(alloc);
+    let mut end = 0;
+    for _ in 0..count {
+        match entry_len(&bytes[end..]) {
+            Some(len) => end += len,
+            None => return Err(DecodeFault::Damaged),
+        }
+        push_end(&mut ends, end)?;
+    }
+    Ok((ends, end))
+}
+
+/// Adds the end.
+fn push_end(ends: &mut Vec<usize>, end: usize) -> Result<(), AllocError>
+    ensures { OnOk result (ends.new.items ≡ ends.old.items ++ end ∷ []) }
+{
+    ends.push(end)?;
+    Ok(())
+}
+
+/// Whether each of the bytes is 0.
+fn are_zeros(bytes: &[u8]) -> bool
+    ensures { result ≡ list_all (λ byte. byte == 0) bytes.now }
+{
+    bytes.iter().all(|byte| *byte == 0)
+}
+
+/// A copy of the bytes.
+fn copied(alloc: Global, bytes: &[u8]) -> Result<Vec<u8>, AllocError>
+    ensures { IfOk result (λ copy. copy.items ≡ bytes.now) }
+{
+    let mut copy = Vec::with_capacity(alloc, bytes.len())?;
+    copy.extend_from_slice(bytes)?;
+    Ok(copy)
+}
+
+/// A copy of the numbers.
+fn copied_ends(alloc: Global, ends: &[usize]) -> Result<Vec<usize>, AllocError>
+    ensures { IfOk result (λ copy. copy.items ≡ ends.now) }
+{
+    let mut copy = Vec::with_capacity(alloc, ends.len())?;
+    copy.extend_from_slice(ends)?;
+    Ok(copy)
+}
+
+/// A copy of the bytes, one part after the other.
+fn joined(alloc: Global, front: &[u8], middle: &[u8], back: &[u8]) -> Result<Vec<u8>, AllocError>
+    ensures { IfOk result (λ copy. copy.items ≡ front.now ++ (middle.now ++ back.now)) }
+{
+    let mut copy = copied(alloc, front)?;
+    copy.extend_from_slice(middle)?;
+    copy.extend_from_slice(back)?;
+    Ok(copy)
+}
+
+/// The entry of the item, whose spelling has at most 16,000 bytes.
+fn entry_of(alloc: Global, item: &Item) -> Result<Vec<u8>, AllocError>
+    requires { length (encoded item.now) ≤ MAX_ITEM_BYTES }
+    ensures entry { IfOk result (λ bytes. bytes.items ≡ entry_of item.now) }
+    ensures spells { OnOk result (Spells (encoded item.now) item.now) }
+{
+    let spelling = spelling_of(alloc, item)?;
+    let number = (spelling.len() as u32).to_be_bytes();
+    let entry = joined(alloc, &number, spelling.as_slice(), &[])?;
+    Ok(entry)
+}
+
+/// The spelling of the item, which has at most 16,000 bytes.
+fn spelling_of(alloc: Global, item: &Item) -> Result<Vec<u8>, AllocError>
+    requires { length (encoded item.now) ≤ MAX_ITEM_BYTES }
+    ensures spelling { IfOk result (λ bytes. bytes.items ≡ encoded item.now) }
+    ensures spells { OnOk result (Spells (encoded item.now) item.now) }
+{
+    match item.encoded_len() {
+        Ok(len) => {
+            let mut bytes = vec![in alloc; 0; len]?;
+            match item.encode_into(&mut bytes) {
+                Ok(_) => Ok(bytes),
+                Err(_) => unreachable!(),
+            }
+        }
+        Err(_) => unreachable!(),
+    }
+}
+
+/// Adds the ends, of entries that began at the one number and now begin at the other.
+fn push_moved(
+    ends: &mut Vec<usize>,
+    more: &[usize],
+    from: usize,
+    to: usize,
+) -> Result<(), AllocError>
+    requires above { All (λ end. from ≤ end) more.now }
+    requires fits { All (λ end. end + to < from + 2 ^ 64) more.now }
+    ensures { OnOk result
+        (ends.new.items ≡ ends.old.items ++ map (λ end. end - from + to) more.now) }
+{
+    for end in more {
+        ends.push(*end - from + to)?;
+    }
+    Ok(())
+}

@@ -1,0 +1,19 @@
+//! Versions of the items of repositories on the pages of a pool: versions share the pages that they have in
+//! common, so that a frozen version copies no item, and a changed one only the pages that its change touches.
+#![tactic(auto)]
+
+mod changes;
+mod directories;
+mod entries;
+mod exchanges;
+mod faults;
+mod names;
+mod places;
+mod put_and_remove;
+mod reading;
+mod searches;
+mod sizes;
+mod store;
+
+pub use sizes::{MAX_ENTRY_BYTES, size_law};
+pub use store::{PagedVersions, VersionsOver};

@@ -1,0 +1,143 @@
+ghost use Rattle.std.specs.Prelude.{◌≡◌, [], ◌∷◌, ℕ, length, IfOk};
+ghost use Rattle.oai_names.specs.Names.{is_among};
+ghost use Rattle.oai_paged.specs.Places.{first_cmp};
+
+use oai_names::{Identifier, Prefix, Sequence};
+use oai_pool::PageNo;
+use std::alloc::{AllocError, Global};
+use std::cmp::Ordering;
+use std::marker::Model;
+use std::rc::Rc;
+
+/// Where items that follow one another stand, and what is known of them without reading their page.
+#[derive(Drop)]
+struct Place {
+    pages: Sequence<PageNo>,
+    stamp: i64,
+    identifier: Identifier,
+    len: usize,
+    prefixes: Sequence<Prefix>,
+}
+
+impl Model for Place {
+    ghost use Rattle.oai_paged.specs.Places.{PlaceState};
+
+    ghost Value = { PlaceState };
+
+    ghost view = { λ p. record {
+      pages = p.pages;
+      stamp = p.stamp;
+      identifier = p.identifier;
+      len = p.len;
+      prefixes = p.prefixes;
+    } };
+}
+
+/// A place that the directories of several versions may have in common: a copy of it takes no memory of its own.
+#[derive(Drop)]
+pub(crate) struct SharedPlace {
+    place: Rc<Place>,
+}
+
+impl Model for SharedPlace {
+    ghost use Rattle.oai_paged.specs.Places.{PlaceState};
+
+    ghost Value = { PlaceState };
+
+    ghost view = { λ s. s.place.value };
+}
+
+impl SharedPlace {
+    /// The place of so many items on that page, of which the first has this datestamp, in seconds from 1970 on, and
+    /// identifier, and each has a record of each of the prefixes. The error is out of memory.
+    pub(crate) fn new(
+        alloc: Global,
+        page: PageNo,
+        stamp: i64,
+        identifier: Identifier,
+        len: usize,
+        prefixes: Sequence<Prefix>,
+    ) -> Result<SharedPlace, AllocError>
+        ensures { IfOk result (λ place. place ≡ record {
+          pages = page ∷ [];
+          stamp = stamp;
+          identifier = identifier;
+          len = len;
+          prefixes = prefixes;
+        }) }
+    {
+        let mut pages = Vec::with_capacity(alloc, 1)?;
+        pages.push(page)?;
+        let place = Place {
+            pages: Sequence::new(pages),
+            stamp,
+            identifier,
+            len,
+            prefixes,
+        };
+        Ok(SharedPlace {
+            place: Rc::new(alloc, place)?,
+        })
+    }
+
+    /// The same place. The error is out of memory: no more copies of it can be counted.
+    pub(crate) fn copy(&self) -> Result<SharedPlace, AllocError>
+        ensures { IfOk result (λ copy. copy ≡ self.now) }
+    {
+        Ok(SharedPlace {
+            place: self.place.clone()?,
+        })
+    }
+
+    /// The numbers of its pages.
+    pub(crate) fn pages(&self) -> &[PageNo]
+        ensures { result.now ≡ self.now.pages }
+    {
+        self.place.pages.as_slice()
+    }
+
+    /// The datestamp of the first item, in seconds from 1970 on.
+    pub(crate) fn stamp(&self) -> i64
+        ensures { result ≡ self.now.stamp }
+    {
+        self.place.stamp
+    }
+
+    /// The identifier of the first item.
+    pub(crate) fn identifier(&self) -> &str
+        ensures { result.now ≡ self.now.identifier }
+    {
+        self.place.identifier.as_str()
+    }
+
+    /// How many items there are.
+    pub(crate) fn len(&self) -> usize
+        ensures { result ≡ self.now.len }
+    {
+        self.place.len
+    }
+
+    /// Whether the prefix is one of those of which each item is known to have a record.
+    pub(crate) fn has_prefix(&self, prefix: &str) -> bool
+        ensures { result ≡ is_among self.now.prefixes prefix.now }
+    {
+        is_among(self.place.prefixes.as_slice(), prefix)
+    }
+
+    /// How the first item stands to this datestamp, in seconds from 1970 on, and identifier.
+    pub(crate) fn order_to(&self, stamp: i64, identifier: &str) -> Ordering
+        ensures { result ≡ first_cmp self.now stamp identifier.now }
+    {
+        match self.stamp().cmp(&stamp) {
+            Ordering::Equal => self.identifier().cmp(identifier),
+            unequal => unequal,
+        }
+    }
+}
+
+/// Whether the prefix is one of these.
+fn is_among(prefixes: &[Prefix], prefix: &str) -> bool
+    ensures { result ≡ is_among prefixes.now prefix.now }
+{
+    prefixes.iter().any(|other| prefix == other.as_str())
+}

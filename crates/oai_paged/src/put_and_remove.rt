@@ -1,0 +1,168 @@
+//! Items put into a directory, and taken out.
+ghost use Rattle.std.specs.Prelude.{◌≡◌, ◌+◌, ◌<◌, ◌≤◌, ℕ, [], true, length, take, drop, is_some, vec_capacity, vec_len, IfNone, IfOk, IfSome, IsTrue, OnErr, OnOk};
+ghost use Rattle.oai_item.specs.Encoding.{encoded};
+ghost use Rattle.oai_item.specs.Items.{item_at, with_item, without_at};
+ghost use Rattle.oai_item.specs.declared.sizes.TheConstants.{MAX_ITEM_BYTES};
+ghost use Rattle.oai_paged.specs.Calls.{Changes, IsRemoved, Renames, Stages, Takes};
+ghost use Rattle.oai_paged.specs.Directory.{StandsIn};
+ghost use Rattle.oai_paged.specs.Places.{items_on};
+
+use crate::changes::{Changed, change, undo};
+use crate::entries::Entries;
+use crate::names::drop_all;
+use crate::places::SharedPlace;
+use crate::reading::read_place;
+use crate::searches::place_of;
+use oai_item::{Fault, Item};
+use oai_pool::PagePool;
+use std::alloc::Global;
+
+/// Puts the item in, in place of the one of its datestamp and identifier where there is one. Its spelling has at most 16,000 bytes. It reads one page
+/// and adds three at most. Any fault may come; directory and pages are then as before.
+pub(crate) fn put<P: PagePool>(
+    alloc: Global,
+    pages: &mut P,
+    places: &mut Vec<SharedPlace>,
+    item: &Item,
+) -> Result<(), Fault>
+    requires stands { StandsIn P.PagePool pages.old places.old.items }
+    requires fits { length (encoded item.now) ≤ MAX_ITEM_BYTES }
+    ensures list { OnOk result (IsTrue (P.honest pages.old) → items_on (P.pages pages.new) places.new.items
+        ≡ with_item item.now (items_on (P.pages pages.old) places.old.items)) }
+    ensures changes { Changes P.PagePool 3 result places.old.items places.new.items pages.old pages.new }
+{
+    let changed = put_in(alloc, pages, places, item)?;
+    drop_all(pages, changed.gone.as_slice());
+    Ok(())
+}
+
+/// Takes the item of that datestamp, in seconds from 1970 on, and identifier out, and answers whether there was one. It reads one page and adds three at
+/// most. Any fault may come; directory and pages are then as before.
+pub(crate) fn remove<P: PagePool>(
+    alloc: Global,
+    pages: &mut P,
+    places: &mut Vec<SharedPlace>,
+    stamp: i64,
+    identifier: &str,
+) -> Result<bool, Fault>
+    requires { StandsIn P.PagePool pages.old places.old.items }
+    ensures found { IfOk result (λ found. IsTrue (P.honest pages.old)
+        → found ≡ is_some (item_at stamp identifier.now (items_on (P.pages pages.old) places.old.items))) }
+    ensures list { OnOk result (IsTrue (P.honest pages.old) → items_on (P.pages pages.new) places.new.items
+        ≡ without_at stamp identifier.now (items_on (P.pages pages.old) places.old.items)) }
+    ensures changes { Changes P.PagePool 3 result places.old.items places.new.items pages.old pages.new }
+{
+    match take_out(alloc, pages, places, stamp, identifier)? {
+        Some(changed) => {
+            drop_all(pages, changed.gone.as_slice());
+            Ok(true)
+        }
+        None => Ok(false),
+    }
+}
+
+/// Takes the item of that datestamp, in seconds from 1970 on, and identifier out and puts the other item in, as `remove` and then `put` do, and answers
+/// whether there was one to take out. The spelling of the item has at most 16,000 bytes. It reads two pages and adds six at most. Any fault may
+/// come; directory and pages are then as before.
+pub(crate) fn replace<P: PagePool>(
+    alloc: Global,
+    pages: &mut P,
+    places: &mut Vec<SharedPlace>,
+    stamp: i64,
+    identifier: &str,
+    item: &Item,
+) -> Result<bool, Fault>
+    requires stands { StandsIn P.PagePool pages.old places.old.items }
+    requires fits { length (encoded item.now) ≤ MAX_ITEM_BYTES }
+    ensures found { IfOk result (λ found. IsTrue (P.honest pages.old)
+        → found ≡ is_some (item_at stamp identifier.now (items_on (P.pages pages.old) places.old.items))) }
+    ensures list { OnOk result (IsTrue (P.honest pages.old) → items_on (P.pages pages.new) places.new.items
+        ≡ with_item item.now (without_at stamp identifier.now (items_on (P.pages pages.old) places.old.items))) }
+    ensures changes { Changes P.PagePool 6 result places.old.items places.new.items pages.old pages.new }
+{
+    let Some(first) = take_out(alloc, pages, places, stamp, identifier)? else {
+        put(alloc, pages, places, item)?;
+        return Ok(false);
+    };
+    match put_in(alloc, pages, places, item) {
+        Ok(second) => {
+            drop_all(pages, second.gone.as_slice());
+            drop_all(pages, first.gone.as_slice());
+            Ok(true)
+        }
+        Err(fault) => {
+            undo(pages, places, first);
+            Err(fault)
+        }
+    }
+}
+
+/// Puts the item in; the pages of the places that are gone are still named. Any fault may come; directory and pages are then as before.
+fn put_in<P: PagePool>(
+    alloc: Global,
+    pages: &mut P,
+    places: &mut Vec<SharedPlace>,
+    item: &Item,
+) -> Result<Changed, Fault>
+    requires stands { StandsIn P.PagePool pages.old places.old.items }
+    requires fits { length (encoded item.now) ≤ MAX_ITEM_BYTES }
+    ensures list { OnOk result (IsTrue (P.honest pages.old) → items_on (P.pages pages.new) places.new.items
+        ≡ with_item item.now (items_on (P.pages pages.old) places.old.items)) }
+    ensures staged { IfOk result (λ changed. Stages P.PagePool changed.at changed.len changed.gone.items
+        places.old.items places.new.items pages.old pages.new) }
+    ensures capacity { vec_capacity places.old ≤ vec_capacity places.new }
+    ensures err { OnErr result (places.new.items ≡ places.old.items) }
+    ensures undone { OnErr result (Renames P.PagePool [] [] pages.old pages.new) }
+    ensures pool { Takes P.PagePool 3 result pages.old pages.new }
+{
+    if places.is_empty() {
+        let entries = Entries::new(alloc).put(alloc, item)?;
+        return change(alloc, pages, places, 0, 0, &entries, false);
+    }
+    let stamp = item.stamp();
+    let identifier = item.identifier().as_str();
+    let at = place_of(places.as_slice(), stamp, identifier);
+    let old = read_place(alloc, pages, places.as_slice(), at)?;
+    let entries = old.put(alloc, item)?;
+    let comes_last = at + 1 == places.len() && old.are_before(stamp, identifier);
+    change(alloc, pages, places, at, 1, &entries, comes_last)
+}
+
+/// Takes the item of that datestamp, in seconds from 1970 on, and identifier out, if there is one; the page that it was on is still named. Any fault may
+/// come; directory and pages are then as before.
+fn take_out<P: PagePool>(
+    alloc: Global,
+    pages: &mut P,
+    places: &mut Vec<SharedPlace>,
+    stamp: i64,
+    identifier: &str,
+) -> Result<Option<Changed>, Fault>
+    requires { StandsIn P.PagePool pages.old places.old.items }
+    ensures list { IfOk result (λ changed. IsTrue (P.honest pages.old) → IsRemoved stamp identifier.now
+        (is_some changed) (items_on (P.pages pages.old) places.old.items) (items_on (P.pages pages.new) places.new.items)) }
+    ensures staged { IfOk result (λ changed. IfSome changed (λ some. Stages P.PagePool some.at some.len some.gone.items
+        places.old.items places.new.items pages.old pages.new)) }
+    ensures within { IfOk result (λ changed. IfSome changed (λ some. some.at + some.len ≤ vec_len places.new)) }
+    ensures room { IfOk result (λ changed. IfSome changed (λ some.
+        vec_len places.new + vec_len some.gone ≤ vec_capacity places.new)) }
+    ensures back { IfOk result (λ changed. IfSome changed (λ some.
+        vec_len some.gone + some.len ≤ vec_capacity some.gone)) }
+    ensures none { IfOk result (λ changed. IfNone changed (places.new.items ≡ places.old.items)) }
+    ensures unchanged { IfOk result (λ changed. IfNone changed (Renames P.PagePool [] [] pages.old pages.new)) }
+    ensures err { OnErr result (places.new.items ≡ places.old.items) }
+    ensures undone { OnErr result (Renames P.PagePool [] [] pages.old pages.new) }
+    ensures pool { Takes P.PagePool 3 result pages.old pages.new }
+{
+    if places.is_empty() {
+        return Ok(None);
+    }
+    let at = place_of(places.as_slice(), stamp, identifier);
+    let old = read_place(alloc, pages, places.as_slice(), at)?;
+    match old.remove(alloc, stamp, identifier)? {
+        Some(entries) => {
+            let changed = change(alloc, pages, places, at, 1, &entries, false)?;
+            Ok(Some(changed))
+        }
+        None => Ok(None),
+    }
+}

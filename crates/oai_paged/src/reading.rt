@@ -1,0 +1,393 @@
+//! What is read of a directory: which items it has.
+ghost use Rattle.std.specs.Prelude.{◌≡◌, ◌+◌, ◌<◌, ◌≤◌, ◌++◌, ℕ, [], true, false, length, take, drop, unwrap_or, filter, HoldsAt, IfErr, IfOk, IsSome, IsTrue, OnOk};
+ghost use Rattle.std.specs.List.{list_all};
+ghost use Rattle.oai_item.specs.Items.{item_at, items_after};
+ghost use Rattle.oai_item.specs.Item.{IsStamp, ItemState};
+ghost use Rattle.oai_item.specs.Order.{are_in_order};
+ghost use Rattle.oai_item.specs.Selection.{passes, selected};
+ghost use Rattle.oai_pool.specs.Counts.{count_of};
+ghost use Rattle.oai_pool.specs.declared.pools.TheConstants.{MAX_PAGES};
+ghost use Rattle.oai_paged.specs.Calls.{ReadsPages};
+ghost use Rattle.oai_paged.specs.Directory.{StandsIn};
+ghost use Rattle.oai_paged.specs.Pages.{FitPage, IsPage, items_in};
+ghost use Rattle.oai_paged.specs.Parts.{EndsBy, IsInside, IsPartTaken};
+ghost use Rattle.oai_paged.specs.Places.{are_below, first_cmp, is_wanted, items_at, items_on};
+ghost use Rattle.oai_paged.specs.Searches.{MayBeAt, StartsAt};
+ghost use Rattle.oai_paged.specs.declared.sizes.TheConstants.{MAX_ENTRY_BYTES};
+
+use crate::entries::Entries;
+use crate::faults::fault_of;
+use crate::places::SharedPlace;
+use crate::searches::place_of;
+use oai_catalogue::Filter;
+use oai_item::{DecodeFault, Fault, Item};
+use oai_names::Sequence;
+use oai_pool::{PageNo, PagePool};
+use oai_time::LAST_SECOND;
+use std::alloc::{AllocError, Global};
+use std::cmp::Ordering;
+
+/// What is asked of a directory: the items that pass the filter, of those that stand behind a datestamp, in seconds from
+/// 1970 on, and an identifier.
+#[derive(Clone, Copy)]
+pub(crate) struct Wanted<'a> {
+    /// What the items pass.
+    pub(crate) filter: &'a Filter,
+    /// The datestamp.
+    pub(crate) stamp: i64,
+    /// The identifier.
+    pub(crate) identifier: &'a str,
+}
+
+/// The entries of the page of that number, which is named, and the page of its items. Any fault but `TooManyPages`.
+fn read_entries<P: PagePool>(alloc: Global, pages: &mut P, no: PageNo) -> Result<Entries, Fault>
+    requires named { 0 < count_of (P.counts pages.old) no }
+    requires page { let page = unwrap_or (P.pages pages.old no) [] in IsPage page (items_in page) }
+    ensures items { IfOk result (λ entries. IsTrue (P.honest pages.old)
+        → entries ≡ items_in (unwrap_or (P.pages pages.old no) [])) }
+    ensures fits { IfOk result (λ entries. FitPage entries) }
+    ensures pages { ReadsPages P.PagePool result pages.old pages.new }
+{
+    match pages.read(no) {
+        Ok(page) => match Entries::read(alloc, &page) {
+            Ok(entries) => Ok(entries),
+            Err(DecodeFault::Damaged) => Err(Fault::Damaged),
+            Err(DecodeFault::NoMemory) => Err(Fault::NoMemory),
+        },
+        Err(fault) => Err(fault_of(fault)),
+    }
+}
+
+/// The entries of a place. Any fault but `TooManyPages`.
+pub(crate) fn read_place<P: PagePool>(
+    alloc: Global,
+    pages: &mut P,
+    places: &[SharedPlace],
+    at: usize,
+) -> Result<Entries, Fault>
+    requires within { at < length places.now }
+    requires stands { StandsIn P.PagePool pages.old places.now }
+    ensures items { IfOk result (λ entries. IsTrue (P.honest pages.old)
+        → HoldsAt (λ place. entries ≡ items_at (P.pages pages.old) place) places.now at) }
+    ensures fits { IfOk result (λ entries. MayBeAt places.now at entries) }
+    ensures pages { ReadsPages P.PagePool result pages.old pages.new }
+{
+    let place = &places[at];
+    let entries = read_entries(alloc, pages, place.pages()[0])?;
+    if !entries.begins_at(place.stamp(), place.identifier()) {
+        return Err(Fault::Damaged);
+    }
+    if !are_below(&entries, &places[at + 1..]) {
+        return Err(Fault::Damaged);
+    }
+    Ok(entries)
+}
+
+/// Whether the items, which are in their order, stand before those of the next place, where there is one.
+fn are_below(entries: &Entries, places: &[SharedPlace]) -> bool
+    requires { are_in_order entries.now ≡ true }
+    ensures { result ≡ are_below entries.now places.now }
+{
+    match places {
+        [] => true,
+        [next, ..] => entries.are_before(next.stamp(), next.identifier()),
+    }
+}
+
+/// The item of that datestamp, in seconds from 1970 on, and identifier, or None. It reads one page. Any fault but
+/// `TooManyPages`.
+pub(crate) fn find<P: PagePool>(
+    alloc: Global,
+    pages: &mut P,
+    places: &[SharedPlace],
+    stamp: i64,
+    identifier: &str,
+) -> Result<Option<Item>, Fault>
+    requires { StandsIn P.PagePool pages.old places.now }
+    ensures found { IfOk result (λ item. IsTrue (P.honest pages.old)
+        → item ≡ item_at stamp identifier.now (items_on (P.pages pages.old) places.now)) }
+    ensures pages { ReadsPages P.PagePool result pages.old pages.new }
+{
+    if places.is_empty() {
+        return Ok(None);
+    }
+    let at = place_of(places, stamp, identifier);
+    let entries = read_place(alloc, pages, places, at)?;
+    match entries.place_of(stamp, identifier) {
+        Ok(at) => Ok(Some(entries.item(alloc, at)?)),
+        Err(_) => Ok(None),
+    }
+}
+
+/// How many items pass the filter. It reads the pages of those places only that are partly within the bounds, or of whose items it is not known that they
+/// have the prefix, or all where a set is asked for. Any fault but `TooManyPages`.
+pub(crate) fn count<P: PagePool>(
+    alloc: Global,
+    pages: &mut P,
+    places: &[SharedPlace],
+    filter: &Filter,
+) -> Result<usize, Fault>
+    requires stands { StandsIn P.PagePool pages.old places.now }
+    requires few { length places.now ≤ MAX_PAGES }
+    ensures number { IfOk result (λ n. IsTrue (P.honest pages.old)
+        → n ≡ length (selected filter.now (items_on (P.pages pages.old) places.now))) }
+    ensures pages { ReadsPages P.PagePool result pages.old pages.new }
+{
+    count_wanted(alloc, pages, places, Wanted::all(filter))
+}
+
+/// Of the items that pass the filter, in their order, those after the first `skip`, at most `most` of them. It passes over places by the number of their
+/// items, and reads the pages of the items that it answers. Any fault but `TooManyPages`.
+pub(crate) fn part<P: PagePool>(
+    alloc: Global,
+    pages: &mut P,
+    places: &[SharedPlace],
+    filter: &Filter,
+    skip: usize,
+    most: usize,
+) -> Result<Sequence<Item>, Fault>
+    requires { StandsIn P.PagePool pages.old places.now }
+    ensures part { IfOk result (λ part. IsTrue (P.honest pages.old)
+        → part ≡ take most (drop skip (selected filter.now (items_on (P.pages pages.old) places.now)))) }
+    ensures pages { ReadsPages P.PagePool result pages.old pages.new }
+{
+    part_wanted(alloc, pages, places, Wanted::all(filter), skip, most)
+}
+
+/// Of the items that pass the filter, in their order, those that stand behind this datestamp, in seconds from 1970 on, and identifier, at most `most` of
+/// them. It begins with a search, and reads the pages of the items that it answers. Any fault but `TooManyPages`.
+pub(crate) fn part_after<P: PagePool>(
+    alloc: Global,
+    pages: &mut P,
+    places: &[SharedPlace],
+    filter: &Filter,
+    stamp: i64,
+    identifier: &str,
+    most: usize,
+) -> Result<Sequence<Item>, Fault>
+    requires { StandsIn P.PagePool pages.old places.now }
+    ensures part { IfOk result (λ part. IsTrue (P.honest pages.old)
+        → part ≡ take most (selected filter.now
+        (items_after stamp identifier.now (items_on (P.pages pages.old) places.now)))) }
+    ensures pages { ReadsPages P.PagePool result pages.old pages.new }
+{
+    let wanted = Wanted {
+        filter,
+        stamp,
+        identifier,
+    };
+    part_wanted(alloc, pages, places, wanted, 0, most)
+}
+
+/// How many items are wanted.
+fn count_wanted<P: PagePool>(
+    alloc: Global,
+    pages: &mut P,
+    places: &[SharedPlace],
+    wanted: Wanted<'_>,
+) -> Result<usize, Fault>
+    requires stands { StandsIn P.PagePool pages.old places.now }
+    requires few { length places.now ≤ MAX_PAGES }
+    ensures number { IfOk result (λ n. IsTrue (P.honest pages.old)
+        → n ≡ length (filter (is_wanted wanted.entry.filter.now wanted.entry.stamp wanted.entry.identifier.now)
+        (items_on (P.pages pages.old) places.now))) }
+    ensures pages { ReadsPages P.PagePool result pages.old pages.new }
+{
+    let mut total = 0;
+    let filter = wanted.filter;
+    'places: for at in start_of(places, wanted)..places.len() {
+        if places[at].stamp() > filter.upper {
+            break;
+        }
+        total += count_at(alloc, pages, places, at, wanted)?;
+    }
+    Ok(total)
+}
+
+/// Of the wanted items, in their order, those after the first `skip`, at most `most` of them.
+fn part_wanted<P: PagePool>(
+    alloc: Global,
+    pages: &mut P,
+    places: &[SharedPlace],
+    wanted: Wanted<'_>,
+    skip: usize,
+    most: usize,
+) -> Result<Sequence<Item>, Fault>
+    requires { StandsIn P.PagePool pages.old places.now }
+    ensures part { IfOk result (λ part. IsTrue (P.honest pages.old)
+        → part ≡ take most (drop skip (filter (is_wanted wanted.entry.filter.now wanted.entry.stamp wanted.entry.identifier.now)
+        (items_on (P.pages pages.old) places.now)))) }
+    ensures pages { ReadsPages P.PagePool result pages.old pages.new }
+{
+    let mut part = Vec::new(alloc);
+    let mut left = skip;
+    let filter = wanted.filter;
+    'places: for at in start_of(places, wanted)..places.len() {
+        if part.len() >= most {
+            break;
+        }
+        if places[at].stamp() > filter.upper {
+            break;
+        }
+        left = take_at(alloc, pages, places, at, wanted, left, most, &mut part)?;
+    }
+    Ok(Sequence::new(part))
+}
+
+impl<'a> Wanted<'a> {
+    /// All items that pass the filter.
+    pub(crate) fn all(filter: &'a Filter) -> Wanted<'a>
+        ensures { (item : ItemState) → IsStamp item.stamp
+            → is_wanted result.filter.now result.stamp result.identifier.now item ≡ passes filter.now item }
+    {
+        Wanted {
+            filter,
+            stamp: i64::MIN,
+            identifier: "",
+        }
+    }
+}
+
+/// The first place that may have wanted items.
+fn start_of(places: &[SharedPlace], wanted: Wanted<'_>) -> usize
+    ensures { StartsAt places.now wanted.entry.filter.now wanted.entry.stamp wanted.entry.identifier.now result }
+{
+    let filter = wanted.filter;
+    if filter.lower > wanted.stamp {
+        place_of(places, filter.lower, "")
+    } else {
+        place_of(places, wanted.stamp, wanted.identifier)
+    }
+}
+
+/// Whether it is known without reading its page that all items of the place are wanted.
+fn is_inside(places: &[SharedPlace], at: usize, wanted: Wanted<'_>) -> bool
+    requires { at < length places.now }
+    ensures { IsTrue result → IsInside places.now at wanted.entry.filter.now wanted.entry.stamp wanted.entry.identifier.now }
+{
+    let place = &places[at];
+    let filter = wanted.filter;
+    if filter.set.is_some() {
+        return false;
+    }
+    if filter.lower > place.stamp() {
+        return false;
+    }
+    if place.order_to(wanted.stamp, wanted.identifier) != Ordering::Greater {
+        return false;
+    }
+    if !place.has_prefix(filter.prefix.as_str()) {
+        return false;
+    }
+    ends_by(&places[at + 1..], filter.upper)
+}
+
+/// Whether all items before these places have a datestamp of at most `upper`, in seconds from 1970 on.
+fn ends_by(places: &[SharedPlace], upper: i64) -> bool
+    ensures { IsTrue result → EndsBy places.now upper }
+{
+    match places {
+        [] => upper >= LAST_SECOND,
+        [next, ..] => next.stamp() <= upper,
+    }
+}
+
+/// How many items of the place are wanted.
+fn count_at<P: PagePool>(
+    alloc: Global,
+    pages: &mut P,
+    places: &[SharedPlace],
+    at: usize,
+    wanted: Wanted<'_>,
+) -> Result<usize, Fault>
+    requires within { at < length places.now }
+    requires stands { StandsIn P.PagePool pages.old places.now }
+    ensures number { IfOk result (λ n. IsTrue (P.honest pages.old)
+        → HoldsAt (λ place. n ≡ length (filter (is_wanted wanted.entry.filter.now wanted.entry.stamp wanted.entry.identifier.now)
+        (items_at (P.pages pages.old) place))) places.now at) }
+    ensures few { IfOk result (λ n. n ≤ MAX_ENTRY_BYTES) }
+    ensures pages { ReadsPages P.PagePool result pages.old pages.new }
+{
+    if is_inside(places, at, wanted) {
+        return Ok(places[at].len());
+    }
+    let entries = read_place(alloc, pages, places, at)?;
+    Ok(count_in(&entries, wanted))
+}
+
+/// How many of the items are wanted.
+fn count_in(entries: &Entries, wanted: Wanted<'_>) -> usize
+    ensures number { result ≡ length (filter (is_wanted wanted.entry.filter.now wanted.entry.stamp wanted.entry.identifier.now) entries.now) }
+    ensures few { result ≤ length entries.now }
+{
+    let mut count = 0;
+    'entries: for at in 0..entries.len() {
+        if is_wanted(entries, at, wanted) {
+            count += 1;
+        }
+    }
+    count
+}
+
+/// Whether the item at that place is wanted.
+fn is_wanted(entries: &Entries, at: usize, wanted: Wanted<'_>) -> bool
+    requires { at < length entries.now }
+    ensures { HoldsAt (λ item. result ≡ is_wanted wanted.entry.filter.now wanted.entry.stamp wanted.entry.identifier.now item) entries.now at }
+{
+    entries.order_to(at, wanted.stamp, wanted.identifier) == Ordering::Greater
+        && entries.passes(at, wanted.filter)
+}
+
+/// Adds the wanted items of the place after the first `skip` to the part, up to `most`, and answers how many are then left to be skipped.
+fn take_at<P: PagePool>(
+    alloc: Global,
+    pages: &mut P,
+    places: &[SharedPlace],
+    at: usize,
+    wanted: Wanted<'_>,
+    skip: usize,
+    most: usize,
+    part: &mut Vec<Item>,
+) -> Result<usize, Fault>
+    requires within { at < length places.now }
+    requires stands { StandsIn P.PagePool pages.old places.now }
+    ensures taken { IfOk result (λ left. IsTrue (P.honest pages.old)
+        → HoldsAt (λ place. IsPartTaken (is_wanted wanted.entry.filter.now wanted.entry.stamp wanted.entry.identifier.now) most
+        part.old.items part.new.items skip left (items_at (P.pages pages.old) place)) places.now at) }
+    ensures pages { ReadsPages P.PagePool result pages.old pages.new }
+{
+    let len = places[at].len();
+    if skip >= len && is_inside(places, at, wanted) {
+        return Ok(skip - len);
+    }
+    let entries = read_place(alloc, pages, places, at)?;
+    Ok(take_in(alloc, &entries, wanted, skip, most, part)?)
+}
+
+/// The same of items that were read.
+fn take_in(
+    alloc: Global,
+    entries: &Entries,
+    wanted: Wanted<'_>,
+    skip: usize,
+    most: usize,
+    part: &mut Vec<Item>,
+) -> Result<usize, AllocError>
+    ensures { IfOk result (λ left. IsPartTaken (is_wanted wanted.entry.filter.now wanted.entry.stamp wanted.entry.identifier.now) most
+        part.old.items part.new.items skip left entries.now) }
+{
+    let mut left = skip;
+    'entries: for at in 0..entries.len() {
+        if part.len() >= most {
+            break;
+        }
+        if is_wanted(entries, at, wanted) {
+            if left == 0 {
+                part.push(entries.item(alloc, at)?)?;
+            } else {
+                left -= 1;
+            }
+        }
+    }
+    Ok(left)
+}
