@@ -1,14 +1,13 @@
 -- A page added for items, and its place.
-use Rattle.std.proofs.Common.{◌≡◌, ◌∙◌, ◌+◌, ◌<◌, ◌≤◌, if◌then◌else◌, ◌==◌, ℕ, ℤ, suc, zero, List, [], ◌∷◌, ◌++◌, Some, IsSome, length, refl, sym, ap, subst, arith, append-nil, unwrap_or, get_or, Bool, true, false}
-use Rattle.std.specs.Prelude.{⊤}
+use Rattle.std.proofs.Common.{◌≡◌, ◌∙◌, ◌+◌, ◌≤◌, if◌then◌else◌, ◌==◌, ℕ, List, [], ◌∷◌, ◌++◌, Some, IsSome, length, refl, sym, ap, subst, arith, append-nil, unwrap_or, get_or, Bool, true, false}
 use Rattle.std.proofs.lemmas.Bool.{eqb-true, false_from_ne_true}
 use Rattle.oai_item.specs.Item.{ItemState}
 use Rattle.oai_pool.specs.Counts.{AddsName, KeepsNamed, count_of}
 use Rattle.oai_pool.specs.Names.{times}
 use Rattle.oai_pool.specs.declared.pools.PagePool.{Ghosts}
-use Rattle.oai_paged.specs.Calls.{Adds, Renames}
+use Rattle.oai_paged.specs.Calls.{Adds}
 use Rattle.oai_paged.specs.Pages.{FitPage, IsPage, begins_at, items_in, page_spelling}
-use Rattle.oai_paged.specs.Places.{IsSoundPlace, Pages, PlaceState, have_records, items_at, items_on, named_in, page_at, page_no}
+use Rattle.oai_paged.specs.Places.{IsSoundPlace, Pages, PlaceState, have_records, items_at, named_in, page_at, page_no}
 use Rattle.oai_paged.proofs.NameLemmas.{named_in-cons, named_in-nil, times-page}
 use Rattle.oai_paged.proofs.PageLemmas.{items_in-page}
 use Rattle.oai_paged.proofs.PlaceLemmas.{items_on-cons, items_on-nil}

@@ -1,14 +1,11 @@
 -- A directory whose places were exchanged for those of pages that were added.
-use Rattle.std.proofs.Common.{◌≡◌, ◌∙◌, ◌+◌, ◌-◌, ◌<◌, ◌≤◌, ℕ, ℤ, suc, zero, Bool, true, List, [], ◌∷◌, ◌++◌, Result, Ok, Err, IfOk, OnErr, OnOk, length, take, drop, get_or, refl, sym, ap, subst, arith, append_assoc, append-nil}
-use Rattle.std.specs.Prelude.{⊤}
+use Rattle.std.proofs.Common.{◌≡◌, ◌∙◌, ◌+◌, ◌≤◌, ℕ, List, [], ◌++◌, Result, Ok, Err, IfOk, OnErr, OnOk, length, take, drop, refl, sym, ap, subst, arith}
 use Rattle.std.proofs.lemmas.List.{drop-drop, drop_at, length-take-le, take-append-drop, take_at}
 use Rattle.oai_item.specs.Item.{ItemState}
-use Rattle.oai_item.specs.Items.{with_item, without_at}
-use Rattle.oai_item.specs.Order.{are_in_order}
 use Rattle.oai_pool.specs.declared.pools.PagePool.{Ghosts}
-use Rattle.oai_paged.specs.Calls.{Adds, IsDirectoryChanged, Renames, Stages}
-use Rattle.oai_paged.specs.Directory.{IsDirectory, MayStand, StandsIn}
-use Rattle.oai_paged.specs.Places.{Pages, PlaceState, items_on, named_in}
+use Rattle.oai_paged.specs.Calls.{Adds, IsDirectoryChanged, Renames}
+use Rattle.oai_paged.specs.Directory.{MayStand, StandsIn}
+use Rattle.oai_paged.specs.Places.{PlaceState, items_on, named_in}
 use Rattle.oai_paged.proofs.RenamedLemmas.{items_changed, stands_changed, traded_changed, within_changed}
 
 -- what is so of each value is so where there is one

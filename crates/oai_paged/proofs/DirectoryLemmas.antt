@@ -1,6 +1,5 @@
 -- A directory cut at one of its places.
-use Rattle.std.specs.Prelude.{⊤}
-use Rattle.std.proofs.Common.{◌≡◌, ◌∙◌, ◌+◌, ◌<◌, ◌≤◌, ◌⊎◌, inl, inr, ℕ, ℤ, pos, suc, zero, Bool, true, false, List, [], ◌∷◌, ◌++◌, Option, None, Some, length, take, drop, get_or, refl, sym, ap, subst, arith, add-one, append-nil}
+use Rattle.std.proofs.Common.{◌≡◌, ◌∙◌, ◌+◌, ◌<◌, ◌⊎◌, inl, inr, ℕ, ℤ, pos, suc, zero, false, List, [], ◌∷◌, ◌++◌, length, take, drop, get_or, sym, ap, subst, arith}
 use Rattle.std.specs.List.{AllByRecursion}
 use Rattle.std.specs.Ordering.{is_gt}
 use Rattle.std.proofs.lemmas.Bool.{cases_lt}
@@ -9,7 +8,7 @@ use Rattle.oai_names.proofs.Lists.{cut}
 use Rattle.oai_item.specs.Item.{ItemState}
 use Rattle.oai_item.specs.Items.{item_at, with_item, without_at}
 use Rattle.oai_item.specs.Order.{AreAround, are_in_order}
-use Rattle.oai_item.proofs.Around.{item_at-around, only_place, with_item-around, without_at-around}
+use Rattle.oai_item.proofs.Around.{item_at-around, with_item-around, without_at-around}
 use Rattle.oai_item.proofs.OrderLemmas.{in_order-with_item, in_order-without_at}
 use Rattle.oai_paged.specs.Directory.{IsDirectory, MayStand}
 use Rattle.oai_paged.specs.Pages.{begins_at}

@@ -1,16 +1,15 @@
 -- Numbers that are named: those below a limit, none of them twice, are no more than the limit; and no more are used than are named.
-use Rattle.std.proofs.Common.{◌≡◌, ◌≢◌, ◌∙◌, ◌+◌, ◌<◌, ◌≤◌, ◌==◌, if◌then◌else◌, nat_eq, ℕ, suc, zero, List, [], ◌∷◌, ◌++◌, length, length-append, min, refl, sym, ap, subst, arith, true, false, cond, inl, inr}
+use Rattle.std.proofs.Common.{◌≡◌, ◌≢◌, ◌∙◌, ◌+◌, ◌≤◌, nat_eq, ℕ, suc, zero, List, [], ◌∷◌, length, length-append, min, refl, sym, ap, subst, arith, cond, inl, inr}
 use Rattle.std.specs.List.{AllByRecursion}
 use Rattle.std.specs.Cmp.{nat_eq_equiv}
 use Rattle.std.proofs.lemmas.Bool.{cases_eq, cases_lt, cond-false, cond-true, ne_eqb}
-use Rattle.std.proofs.lemmas.Bool.Decides.{eqb_tells}
 use Rattle.std.proofs.lemmas.List.Sums.{sum_by-cons}
 use Rattle.oai_pool.specs.Counts.{count_of, used_of}
 use Rattle.oai_pool.specs.Names.{times}
 use Rattle.oai_pool.specs.declared.pools.PagePool.{Ghosts}
 use Rattle.oai_pool.specs.declared.pools.TheConstants.{MAX_PAGES}
 use Rattle.oai_paged.specs.Directory.{StandsIn}
-use Rattle.oai_paged.specs.Places.{IsSoundPlace, Pages, PlaceState, named_in, page_numbers}
+use Rattle.oai_paged.specs.Places.{IsSoundPlace, Pages, PlaceState, page_numbers}
 use Rattle.oai_paged.proofs.NameLemmas.{times-nil}
 
 -- ---- one number taken out of others

@@ -1,5 +1,5 @@
 -- What the pool of a store holds: no more pages than all lists have items, and each item on one of them.
-use Rattle.std.proofs.Common.{◌≡◌, ◌≢◌, ◌∙◌, ◌+◌, ◌<◌, ◌≤◌, ℕ, suc, zero, List, [], ◌∷◌, ◌++◌, Option, None, Some, length, length-append, take, get_or, min, refl, sym, ap, subst, arith, inl, inr, Contains, unwrap_or}
+use Rattle.std.proofs.Common.{◌≡◌, ◌∙◌, ◌+◌, ◌<◌, ◌≤◌, ℕ, suc, zero, List, [], ◌∷◌, ◌++◌, Option, None, Some, length, length-append, take, min, refl, sym, ap, subst, arith, inl, inr, Contains, unwrap_or}
 use Rattle.std.specs.Prelude.{option_map, sum_by}
 use Rattle.std.specs.List.{AllByRecursion}
 use Rattle.std.proofs.lemmas.List.Elements.{Contains-append_cases}
@@ -12,12 +12,12 @@ use Rattle.oai_pool.specs.Names.{times}
 use Rattle.oai_pool.specs.declared.pools.TheConstants.{MAX_PAGES}
 use Rattle.oai_paged.specs.Directory.{IsDirectory}
 use Rattle.oai_paged.specs.Places.{IsSoundPlace, Pages, PlaceState, items_at, items_on, named_in, page_numbers, page_no}
-use Rattle.oai_paged.specs.Shelves.{AreShelved, Directories, MAX_ADDED, StandsOnPage, calls_left, directory_at, items_below, lists_on, most_of, named_at, named_by_all}
+use Rattle.oai_paged.specs.Shelves.{AreShelved, Directories, StandsOnPage, calls_left, directory_at, items_below, lists_on, most_of, named_at, named_by_all}
 use Rattle.oai_paged.proofs.FewLemmas.{used_few}
 use Rattle.oai_paged.proofs.NameLemmas.{named_in-cons, times-append, times-nil}
 use Rattle.oai_paged.proofs.PlaceLemmas.{items_on-cons, items_on-nil, names_own}
 use Rattle.oai_paged.proofs.RoomLemmas.{most_of-le}
-use Rattle.oai_paged.proofs.ShelfLemmas.{list_of, shelved_named}
+use Rattle.oai_paged.proofs.ShelfLemmas.{shelved_named}
 use Rattle.oai_paged.proofs.SlotLemmas.{sum-all, sum-first}
 
 -- ---- how many pages
@@ -162,7 +162,7 @@ shelved_none counts pages none = record {
   directories = λ v places is. absurd (none-some places is);
 }
 
-pub all_left : (a : ℕ) (counts : List ℕ) → used_of counts ≡ 0 → MAX_PAGES ≤ a → 715_827_882 ≤ calls_left a counts
+pub all_left : (a : ℕ) (counts : List ℕ) → used_of counts ≡ 0 → MAX_PAGES ≤ a → 1_073_741_823 ≤ calls_left a counts
 all_left a counts none most =
     let least : most_of counts ≤ 0 = most_of-le counts 0 (λ n. let zero_times = none_named counts none n in omega (arith, zero_times)) in
     omega (arith, least)

@@ -1,13 +1,11 @@
 -- The items of places, over pages that change elsewhere.
-use Rattle.std.proofs.Common.{◌≡◌, ◌∙◌, ◌+◌, ◌<◌, ◌≤◌, if◌then◌else◌, ◌==◌, ℕ, suc, zero, Bool, true, false, List, [], ◌∷◌, ◌++◌, Option, IsSome, length, refl, sym, ap, subst, arith, unwrap_or, append_assoc}
+use Rattle.std.proofs.Common.{◌≡◌, ◌∙◌, ◌<◌, ℕ, List, [], ◌∷◌, ◌++◌, IsSome, length, refl, sym, ap, subst, arith, unwrap_or}
 use Rattle.std.specs.List.{AllByRecursion}
 use Rattle.std.proofs.lemmas.Grind.{flat_map-append}
-use Rattle.std.specs.Cmp.{nat_eq_equiv}
 use Rattle.oai_item.specs.Item.{ItemState}
-use Rattle.oai_pool.specs.Names.{times}
 use Rattle.oai_paged.specs.Pages.{IsPage, begins_at, items_in}
 use Rattle.oai_paged.specs.Places.{IsSoundPlace, Pages, PlaceState, have_records, items_at, items_on, named_in, page_at, page_no}
-use Rattle.oai_paged.proofs.NameLemmas.{named_in-append, named_in-cons, times-own_page}
+use Rattle.oai_paged.proofs.NameLemmas.{named_in-cons, times-own_page}
 
 -- ---- items of places one after the other
 

@@ -10,7 +10,7 @@ use Rattle.oai_pool.specs.declared.pools.TheConstants.{MAX_PAGES}
 use Rattle.oai_paged.specs.Calls.{FreesPages, Renames, RunsOut}
 use Rattle.oai_paged.specs.Places.{PlaceState, named_in, page_numbers}
 use Rattle.oai_paged.specs.Recounts.{HasFull, Recounts}
-use Rattle.oai_paged.proofs.NameLemmas.{named_in-append, named_in-cons, named_in-nil, page_numbers-append, times-append, times-nil, times-one}
+use Rattle.oai_paged.proofs.NameLemmas.{named_in-append, page_numbers-append, times-append, times-nil, times-one}
 
 -- ---- the first of some numbers, and of some places
 

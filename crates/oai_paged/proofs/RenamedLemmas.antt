@@ -1,7 +1,5 @@
 -- Pages added for items, put in for others, and dropped: what is named, what is kept, and that a directory stays one.
-use Rattle.std.specs.Prelude.{⊤}
-use Rattle.std.proofs.Common.{◌≡◌, ◌∙◌, ◌+◌, ◌<◌, ◌≤◌, inl, inr, ℕ, suc, zero, Bool, true, false, List, [], ◌∷◌, ◌++◌, Option, Some, IsSome, length, take, drop, refl, sym, ap, subst, arith, append_assoc, append-nil}
-use Rattle.std.specs.List.{AllByRecursion}
+use Rattle.std.proofs.Common.{◌≡◌, ◌∙◌, ◌+◌, ◌<◌, ◌≤◌, inl, inr, ℕ, true, List, [], ◌++◌, take, drop, refl, sym, ap, subst, arith, append-nil}
 use Rattle.std.proofs.lemmas.Bool.{cases_lt}
 use Rattle.oai_item.specs.Item.{ItemState}
 use Rattle.oai_item.specs.Order.{are_in_order}
@@ -9,7 +7,7 @@ use Rattle.oai_pool.specs.Counts.{count_of}
 use Rattle.oai_pool.specs.declared.pools.PagePool.{Ghosts}
 use Rattle.oai_paged.specs.Calls.{Adds, Renames, Stages}
 use Rattle.oai_paged.specs.Directory.{IsDirectory, StandsIn}
-use Rattle.oai_paged.specs.Places.{IsSoundPlace, Pages, PlaceState, items_on, named_in}
+use Rattle.oai_paged.specs.Places.{Pages, PlaceState, items_on, named_in}
 use Rattle.oai_paged.proofs.NameLemmas.{named_in-append, named_in-nil}
 use Rattle.oai_paged.proofs.PlaceLemmas.{AreKept, all_placed-same, items_on-append, items_on-nil, items_on-same, placed-append, placed-parts}
 

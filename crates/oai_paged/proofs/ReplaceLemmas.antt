@@ -63,7 +63,6 @@ changed_nothing g numbers x y before after old new h same k pool =
         kept = λ n named. k.kept n (omega (arith, named, named_in-nil n));
       };
       err = tt;
-      undone = tt;
       pool = takes_ok g numbers x y old new pool;
     }
 
@@ -76,7 +75,6 @@ changes_after g a b x y z before between after old mid new same k pool h =
       directory = h.directory;
       names = renames_after g before after old mid new k names;
       err = tt;
-      undone = tt;
       pool = takes_ok g (a + b) y z old new (takes_both g a b x (ok_of y) old mid new pool h.pool);
     }
 
@@ -90,7 +88,9 @@ taken_back {B = B} g a b at len x fault gone before between stood after old mid 
     record {
       directory = tt;
       names = tt;
-      err = is ∙ ap (λ ps. take at ps ++ (gone ++ drop (at + len) ps)) same ∙ s.back;
-      undone = renames_undone g at len gone before between old mid late new s k names;
+      err = record {
+        places = is ∙ ap (λ ps. take at ps ++ (gone ++ drop (at + len) ps)) same ∙ s.back;
+        names = renames_undone g at len gone before between old mid late new s k names;
+      };
       pool = takes_freed_err g (a + b) fault old late new (takes_both g a b x (err_of B fault) old mid late first then) freed;
     }

@@ -1,5 +1,5 @@
 -- How much room a store has left after its calls.
-use Rattle.std.proofs.Common.{◌≡◌, ◌∙◌, ◌+◌, ◌-◌, ◌/◌, ◌<◌, ◌≤◌, ℕ, suc, zero, List, [], ◌∷◌, max, min, Result, refl, sym, ap, arith}
+use Rattle.std.proofs.Common.{◌≡◌, ◌+◌, ◌-◌, ◌/◌, ◌<◌, ◌≤◌, ℕ, suc, zero, List, [], ◌∷◌, min, Result, ap, arith}
 use Rattle.std.specs.Prelude.{Ok, Err}
 use Rattle.std.proofs.lemmas.Result.{IfErr-weaker}
 use Rattle.oai_catalogue.specs.Store.{NeedsRoom}
@@ -9,7 +9,6 @@ use Rattle.oai_pool.specs.Counts.{count_of}
 use Rattle.oai_pool.specs.declared.pools.PagePool.{Ghosts}
 use Rattle.oai_pool.specs.declared.pools.TheConstants.{MAX_PAGES}
 use Rattle.oai_paged.specs.Calls.{Changes, Renames, RunsOut}
-use Rattle.oai_paged.specs.Directory.{IsDirectory}
 use Rattle.oai_paged.specs.Places.{PlaceState, named_in}
 use Rattle.oai_paged.specs.Shelves.{calls_left, most_of}
 use Rattle.oai_paged.proofs.NameLemmas.{named_in-nil}
@@ -34,13 +33,13 @@ most_of-more old new k h = most_of-le new (most_of old + k) (λ n. omega (arith,
 
 -- ---- calls that are left
 
-left_less : (a b most x y numbers : ℕ) → numbers ≤ 6 → a ≤ b + numbers → y ≤ x + 1 → min (a / 6) (most - x) ≤ min (b / 6) (most - y) + 1
+left_less : (a b most x y numbers : ℕ) → numbers ≤ 4 → a ≤ b + numbers → y ≤ x + 1 → min (a / 4) (most - x) ≤ min (b / 4) (most - y) + 1
 left_less a b most x y numbers few pages names = omega arith
 
-left_same : (a b most x y : ℕ) → a ≤ b → y ≤ x → min (a / 6) (most - x) ≤ min (b / 6) (most - y)
+left_same : (a b most x y : ℕ) → a ≤ b → y ≤ x → min (a / 4) (most - x) ≤ min (b / 4) (most - y)
 left_same a b most x y pages names = omega arith
 
-pub calls_left-less : (a b numbers : ℕ) (old new : List ℕ) → numbers ≤ 6 → a ≤ b + numbers
+pub calls_left-less : (a b numbers : ℕ) (old new : List ℕ) → numbers ≤ 4 → a ≤ b + numbers
     → ((n : ℕ) → count_of new n ≤ count_of old n + 1) → calls_left a old ≤ calls_left b new + 1
 calls_left-less a b numbers old new few pages names = left_less a b MAX_PAGES (most_of old) (most_of new) numbers few pages
     (most_of-more old new 1 names)
@@ -50,13 +49,13 @@ pub calls_left-same : (a b : ℕ) (old new : List ℕ) → a ≤ b → ((n : ℕ
 calls_left-same a b old new pages names = left_same a b MAX_PAGES (most_of old) (most_of new) pages
     (most_of-le new (most_of old) (λ n. omega (arith, names n, count_of-le-most old n)))
 
-few_left : (a most x numbers : ℕ) → numbers ≤ 6 → a < numbers → min (a / 6) (most - x) < 1
+few_left : (a most x numbers : ℕ) → numbers ≤ 4 → a < numbers → min (a / 4) (most - x) < 1
 few_left a most x numbers few less = omega arith
 
-none_left : (a most x : ℕ) → most ≤ x → min (a / 6) (most - x) < 1
+none_left : (a most x : ℕ) → most ≤ x → min (a / 4) (most - x) < 1
 none_left a most x full = omega arith
 
-pub calls_left-few : (a numbers : ℕ) (counts : List ℕ) → numbers ≤ 6 → a < numbers → calls_left a counts < 1
+pub calls_left-few : (a numbers : ℕ) (counts : List ℕ) → numbers ≤ 4 → a < numbers → calls_left a counts < 1
 calls_left-few a numbers counts few less = few_left a MAX_PAGES (most_of counts) numbers few less
 
 -- ---- by the calls of a pool
@@ -67,9 +66,9 @@ module _ {P A : Type 0} (g : Ghosts P) where
       → Changes g numbers result before after p q
       → (n : ℕ) → count_of (g.counts q) n ≤ count_of (g.counts p) n + 1
   change_names numbers (Ok x) before after p q changes n = omega (arith, changes.names.counts n, changes.directory.once n)
-  change_names numbers (Err x) before after p q changes n = omega (arith, changes.undone.counts n, named_in-nil n)
+  change_names numbers (Err x) before after p q changes n = omega (arith, changes.err.names.counts n, named_in-nil n)
 
-  pub change_room : (numbers : ℕ) (result : Result A Fault) (before after : List PlaceState) (p q : P) → numbers ≤ 6
+  pub change_room : (numbers : ℕ) (result : Result A Fault) (before after : List PlaceState) (p q : P) → numbers ≤ 4
       → Changes g numbers result before after p q
       → NeedsRoom 1 result (calls_left (g.room p) (g.counts p)) (calls_left (g.room q) (g.counts q))
   change_room numbers result before after p q few changes = record {

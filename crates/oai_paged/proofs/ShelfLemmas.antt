@@ -1,18 +1,18 @@
 -- The directories of a store after one of them changed.
-use Rattle.std.proofs.Common.{◌≡◌, ◌≢◌, ◌∙◌, ◌+◌, ◌<◌, ◌≤◌, ℕ, eqb, List, [], Option, None, Some, Result, IfOk, IsSome, IsTrue, OnErr, OnOk, unwrap_or, true, refl, sym, ap, subst, arith, inl, inr}
+use Rattle.std.proofs.Common.{◌≡◌, ◌≢◌, ◌∙◌, ◌+◌, ◌<◌, ◌≤◌, ℕ, eqb, List, [], Option, None, Some, Result, OnErr, OnOk, unwrap_or, true, refl, sym, ap, subst, arith, inl, inr}
 use Rattle.std.specs.Prelude.{Ok, Err, length, option_map, slice_set}
 use Rattle.std.proofs.lemmas.Bool.{cases_Bool, cases_eq, cases_lt, cond-false, cond-true, eqb-false, eqb-true}
 use Rattle.std.proofs.lemmas.List.{get_or-set_other, get_or-set_same, get_or_past}
 use Rattle.std.proofs.lemmas.Option.{none-some, same_Some}
 use Rattle.slab.specs.Slab.{Slab, Updates, get}
 use Rattle.oai_catalogue.specs.Store.{AreInOrder, ChangesOnly, Lists, list_at, with_list, without_list}
-use Rattle.oai_catalogue.proofs.ListsLemmas.{list_at-with, same_lists}
+use Rattle.oai_catalogue.proofs.ListsLemmas.{same_lists}
 use Rattle.oai_item.specs.Item.{ItemState}
 use Rattle.oai_item.specs.Order.{are_in_order}
 use Rattle.oai_item.specs.declared.faults.Fault.{Fault}
 use Rattle.oai_pool.specs.Counts.{count_of}
 use Rattle.oai_pool.specs.declared.pools.PagePool.{Ghosts}
-use Rattle.oai_paged.specs.Calls.{Changes, ReadsPages, Renames}
+use Rattle.oai_paged.specs.Calls.{Changes, Renames}
 use Rattle.oai_paged.specs.Directory.{IsDirectory, StandsIn}
 use Rattle.oai_paged.specs.Places.{Pages, PlaceState, items_on, named_in}
 use Rattle.oai_paged.specs.Shelves.{AreShelved, Directories, directory_at, lists_on, named_at, named_by_all}
@@ -339,7 +339,7 @@ module _ {P A : Type 0} (g : Ghosts P) (numbers v : ℕ) (old new : Directories)
     (was : directory_at old v ≡ Some before) (now : directory_at new v ≡ Some after) where
   change_turns : (result : Result A Fault) → Changes g numbers result before after p q → Turns g v old new p q
   change_turns (Ok x) changes = turn_changed g old new v before after p q others was now changes.names changes.directory
-  change_turns (Err x) changes = turn_kept g old new v before after p q h others was now changes.err changes.undone
+  change_turns (Err x) changes = turn_kept g old new v before after p q h others was now changes.err.places changes.err.names
 
   pub change_shelved : (result : Result A Fault) → Changes g numbers result before after p q → AreShelved (g.counts q) (g.pages q) new
   change_shelved result changes = turned_shelved g v old new p q h (change_turns result changes)
@@ -367,7 +367,7 @@ module _ {P A : Type 0} (g : Ghosts P) (numbers v : ℕ) (old new : Directories)
   }
   change_turned (Err x) changes = record {
     ok = tt;
-    err = unchanged_lists g v old new before after p q h others was now changes.err changes.undone;
+    err = unchanged_lists g v old new before after p q h others was now changes.err.places changes.err.names;
     rising = tt;
   }
 

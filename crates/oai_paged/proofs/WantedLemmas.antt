@@ -1,26 +1,25 @@
 -- Which items of a directory can be wanted, and of which places it is known without reading them.
-use Rattle.std.proofs.Common.{◌≡◌, ◌∙◌, ◌+◌, ◌<◌, ◌≤◌, ◌≤ℤ◌, ◌<ℤ◌, ◌⊎◌, inl, inr, ⊎_elim, ℕ, ℤ, pos, suc, zero, Bool, true, false, cond, not, ◌&&◌, List, [], ◌∷◌, ◌++◌, None, length, take, drop, get_or, refl, sym, ap, subst, arith}
-use Rattle.std.specs.Prelude.{filter, int_le}
-use Rattle.std.specs.List.{AllByRecursion, list_all, list_any}
+use Rattle.std.proofs.Common.{◌≡◌, ◌∙◌, ◌<ℤ◌, ◌⊎◌, inl, inr, ⊎_elim, ℕ, ℤ, Bool, true, false, ◌&&◌, List, [], ◌∷◌, None, refl, sym, ap, arith}
+use Rattle.std.specs.Prelude.{int_le}
+use Rattle.std.specs.List.{list_all}
 use Rattle.std.specs.Ordering.{int_cmp, is_gt, is_lt, nat_cmp, ordering_then}
 use Rattle.std.specs.declared.cmp.Ordering.{Ordering}
 use Rattle.std.specs.declared.cmp.Ordering.TheVariants.{Less, Equal, Greater}
 use Rattle.std.specs.Cmp.Lexicographic.{slice_cmp}
 use Rattle.std.specs.Str.{bytes_eq}
-use Rattle.std.proofs.lemmas.Bool.{and_from, and_parts, both_ways, cases_Bool, false_from_ne_true, not_from_false, or_cases}
+use Rattle.std.proofs.lemmas.Bool.{and_from, and_parts, both_ways, false_from_ne_true, or_cases}
 use Rattle.std.proofs.lemmas.Cmp.{int_ranked}
 use Rattle.std.proofs.lemmas.Int.{ints}
 use Rattle.std.proofs.lemmas.Slice.Eq.{bytes_eq-Decides}
-use Rattle.oai_names.proofs.Lists.{all-weaker, filter_all, filter_none}
+use Rattle.oai_names.proofs.Lists.{all-weaker}
 use Rattle.oai_names.specs.Names.{is_among}
 use Rattle.oai_item.specs.Item.{ItemState, has_record}
-use Rattle.oai_item.specs.Order.{are_in_order, item_cmp, place_cmp, precedes}
+use Rattle.oai_item.specs.Order.{are_in_order, place_cmp, precedes}
 use Rattle.oai_item.specs.Selection.{Filter, is_in_given, passes}
 use Rattle.oai_item.proofs.Around.{only_place}
 use Rattle.oai_item.proofs.OrderLemmas.{behind-precedes, is_at-Equal, is_equal, not_above-below, total}
 use Rattle.oai_paged.specs.Pages.{begins_at}
 use Rattle.oai_paged.specs.Places.{have_records, is_wanted}
-use Rattle.oai_paged.proofs.OrderedPlaces.{at-cmp}
 
 -- ---- datestamps of items in order
 

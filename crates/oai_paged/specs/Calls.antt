@@ -11,7 +11,9 @@ use Rattle.oai_pool.specs.declared.pools.TheConstants.{MAX_PAGES}
 use Rattle.oai_pool.specs.Counts.{count_of}
 use Rattle.oai_pool.specs.declared.pools.PagePool.{Ghosts}
 use Rattle.oai_paged.specs.Directory.{IsDirectory, StandsIn}
+use Rattle.oai_paged.specs.Pages.{size_of}
 use Rattle.oai_paged.specs.Places.{IsSoundPlace, PlaceState, items_on, named_in}
+use Rattle.oai_paged.specs.declared.sizes.TheConstants.{MAX_ENTRY_BYTES}
 use Rattle.std.specs.List.{AllByRecursion}
 
 -- it takes at most so many numbers of the pool, and may reach the device
@@ -30,13 +32,22 @@ pub record Renames {P : Type 0} (g : Ghosts P) (before after : List PlaceState) 
   pub counts : (n : ℕ) → count_of (g.counts new) n + named_in before n ≡ count_of (g.counts old) n + named_in after n
   pub kept : (n : ℕ) → named_in before n < count_of (g.counts old) n → g.pages new n ≡ g.pages old n
 
+-- it leaves a directory and its pages as they were
+pub record ChangesNothing {P : Type 0} (g : Ghosts P) (before after : List PlaceState) (old new : P) : Type 0 where
+  pub places : after ≡ before
+  pub names : Renames g [] [] old new
+
 -- it changes a directory, by at most so many new pages; where it fails, directory and pages are as they were
 pub record Changes {P A : Type 0} (g : Ghosts P) (numbers : ℕ) (result : Result A Fault) (before after : List PlaceState) (old new : P) : Type 0 where
   pub directory : OnOk result (IsDirectory (g.pages new) after)
   pub names : OnOk result (Renames g before after old new)
-  pub err : OnErr result (after ≡ before)
-  pub undone : OnErr result (Renames g [] [] old new)
+  pub err : OnErr result (ChangesNothing g before after old new)
   pub pool : Takes g numbers result old new
+
+-- it adds the pages of entries: three at most, and one at most where all of them fit on one
+pub record AddsPages {P A : Type 0} (g : Ghosts P) (entries : List ItemState) (result : Result A Fault) (old new : P) : Type 0 where
+  pub pool : Takes g 3 result old new
+  pub few : size_of entries ≤ MAX_ENTRY_BYTES → Takes g 1 result old new
 
 -- it takes no number, and does not reach the device
 abbrev pub FreesPages : {P : Type 0} → Ghosts P → P → P → Type 0
@@ -67,6 +78,13 @@ pub record Stages {P : Type 0} (g : Ghosts P) (at len : ℕ) (gone before after 
   pub names : Renames g [] (take len (drop at after)) old new
   pub traded : (n : ℕ) → named_in after n + named_in gone n ≡ named_in before n + named_in (take len (drop at after)) n
   pub within : (n : ℕ) → named_in gone n ≤ named_in before n
+
+-- the places that are gone can be put back for the new ones, so many from `at` on of those that stand there now: each of the two has room
+-- for the other's
+pub record HasWayBack (at len stand room gone gone_room : ℕ) : Type 0 where
+  pub within : at + len ≤ stand
+  pub there : stand + gone ≤ room
+  pub back : gone + len ≤ gone_room
 
 -- they are the places of these items, in the place of so many from `at` on
 pub record IsDirectoryChanged {P : Type 0} (g : Ghosts P) (items : List ItemState) (at len new_at new_len : ℕ) (gone before after : List PlaceState) (old new : P) : Type 0 where

@@ -1,5 +1,5 @@
 -- Directories: the places of the items of one version, in the order of the items.
-use Rattle.std.specs.Prelude.{◌≡◌, ◌+◌, ◌<◌, ◌≤◌, ℕ, true, List, take, drop, ◌++◌, length}
+use Rattle.std.specs.Prelude.{◌≡◌, ◌+◌, ◌≤◌, ℕ, true, List, take, drop, ◌++◌}
 use Rattle.std.specs.List.{AllByRecursion}
 use Rattle.oai_item.specs.Item.{ItemState}
 use Rattle.oai_item.specs.Order.{are_in_order}

@@ -84,13 +84,14 @@ abbrev pub begins_at : ℤ → List ℕ → List ItemState → Bool
 begins_at stamp identifier [] = false
 begins_at stamp identifier (item ∷ _) = is_at stamp identifier item
 
--- cut at these places, the items fit on three pages, of which those with no item are left out
+-- cut at these places, the items fit on three pages, of which those with no item are left out; where all fit on one, that is the first
 pub record AreCuts (items : List ItemState) (first second : ℕ) : Type 0 where
   pub first_below : first ≤ second
   pub second_below : second ≤ length items
   pub one : size_of (between 0 first items) ≤ MAX_ENTRY_BYTES
   pub two : size_of (between first second items) ≤ MAX_ENTRY_BYTES
   pub three : size_of (between second (length items) items) ≤ MAX_ENTRY_BYTES
+  pub whole : size_of items ≤ MAX_ENTRY_BYTES → first ≡ length items
 
 -- the items but that of a datestamp and identifier; or that none has these
 abbrev pub IsRemoval : ℤ → List ℕ → List ItemState → Option (List ItemState) → Type 0

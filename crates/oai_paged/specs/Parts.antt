@@ -1,5 +1,5 @@
 -- What is known of the items of a place without reading them, and parts of what is wanted.
-use Rattle.std.specs.Prelude.{◌≡◌, ◌+◌, ◌-◌, ◌<◌, ◌≤◌, ◌≤ℤ◌, ◌++◌, ℕ, ℤ, Bool, true, List, [], ◌∷◌, None, length, take, drop, filter, min, HoldsAt}
+use Rattle.std.specs.Prelude.{◌≡◌, ◌+◌, ◌-◌, ◌≤ℤ◌, ◌++◌, ℕ, ℤ, Bool, true, List, [], ◌∷◌, None, length, take, drop, filter, HoldsAt}
 use Rattle.std.specs.Ordering.{is_gt}
 use Rattle.oai_item.specs.Item.{ItemState}
 use Rattle.oai_item.specs.Selection.{Filter}

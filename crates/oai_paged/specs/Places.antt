@@ -1,11 +1,11 @@
 -- Places of a directory: where items stand in a pool of pages, and what is known of them.
-use Rattle.std.specs.Prelude.{◌≡◌, ◌≢◌, ◌+◌, ◌<◌, ◌≤◌, ◌&&◌, ℕ, ℤ, Bool, true, List, [], ◌∷◌, ◌++◌, length, Option, None, Some, IsSome, take, drop, unwrap_or, slice_index, filter}
-use Rattle.std.specs.List.{AllByRecursion, flat_map, list_all}
+use Rattle.std.specs.Prelude.{◌≡◌, ◌&&◌, ℕ, ℤ, Bool, true, List, [], ◌∷◌, length, Option, IsSome, unwrap_or, slice_index}
+use Rattle.std.specs.List.{flat_map, list_all}
 use Rattle.std.specs.Ordering.{nat_cmp, int_cmp, ordering_then, is_gt, is_lt}
 use Rattle.std.specs.declared.cmp.Ordering.{Ordering}
 use Rattle.std.specs.Cmp.Lexicographic.{slice_cmp}
 use Rattle.oai_item.specs.Item.{ItemState, has_record}
-use Rattle.oai_item.specs.Order.{are_in_order, place_cmp}
+use Rattle.oai_item.specs.Order.{place_cmp}
 use Rattle.oai_item.specs.Selection.{Filter, passes}
 use Rattle.oai_pool.specs.Names.{times}
 use Rattle.oai_paged.specs.Pages.{IsPage, begins_at, items_in}

@@ -1,7 +1,6 @@
 -- The directories of all versions of a store, over the pages of one pool.
-use Rattle.std.specs.Prelude.{◌≡◌, ◌+◌, ◌-◌, ◌<◌, ◌≤◌, ◌/◌, ℕ, zero, suc, List, [], ◌∷◌, Option, None, Some, length, max, min, option_map, unwrap_or, sum_by, slice_index_or}
+use Rattle.std.specs.Prelude.{◌≡◌, ◌+◌, ◌-◌, ◌<◌, ◌/◌, ℕ, zero, suc, List, [], ◌∷◌, Option, None, Some, length, max, min, option_map, unwrap_or, sum_by, slice_index_or}
 use Rattle.std.specs.List.{Contains}
-use Rattle.slab.specs.Slab.{Slab, get}
 use Rattle.oai_catalogue.specs.Store.{Lists, list_at}
 use Rattle.oai_item.specs.Item.{ItemState}
 use Rattle.oai_pool.specs.Counts.{count_of}
@@ -43,7 +42,7 @@ most_of (count ∷ counts) = max count (most_of counts)
 
 -- the most pages that one call adds
 abbrev pub MAX_ADDED : ℕ
-MAX_ADDED = 6
+MAX_ADDED = 4
 
 -- how many calls are sure to find room: pages, and further names of each page
 abbrev pub calls_left : ℕ → List ℕ → ℕ

@@ -4,7 +4,7 @@ ghost use Rattle.std.specs.Prelude.{◌≡◌, ◌+◌, ◌*◌, ◌<◌, ◌≤
 ghost use Rattle.oai_item.specs.Item.{ItemState};
 ghost use Rattle.oai_item.specs.Order.{are_in_order};
 ghost use Rattle.oai_pool.specs.Counts.{count_of};
-ghost use Rattle.oai_paged.specs.Calls.{Adds, FreesPages, IsDirectoryChanged, Renames, Takes};
+ghost use Rattle.oai_paged.specs.Calls.{Adds, AddsPages, ChangesNothing, FreesPages, HasWayBack, IsDirectoryChanged, Renames, Takes};
 ghost use Rattle.oai_paged.specs.Directory.{MayStand, StandsIn};
 ghost use Rattle.oai_paged.specs.Pages.{AreCuts, between, size_of};
 ghost use Rattle.oai_paged.specs.Places.{named_in};
@@ -33,8 +33,9 @@ pub(crate) struct Changed {
     pub(crate) gone: Vec<SharedPlace>,
 }
 
-/// Puts pages of the entries in the place of so many places from `at` on, at most one. `fills` says that a page which is cut is filled before
-/// the next one is begun. Any fault but `Damaged` may come; directory and pages are then as before.
+/// Puts pages of the entries in the place of so many places from `at` on, at most one: three pages at most, and one at most where they fit on one.
+/// `fills` says that a page which is cut is filled before the next one is begun. Any fault but `Damaged` may come; directory and pages are then as
+/// before.
 pub(crate) fn change<P: PagePool>(
     alloc: Global,
     pages: &mut P,
@@ -51,14 +52,11 @@ pub(crate) fn change<P: PagePool>(
     requires may_stand { MayStand (P.pages pages.old) places.old.items at len entries.now }
     ensures ok { IfOk result (λ changed. IsDirectoryChanged P.PagePool entries.now at len changed.at changed.len changed.gone.items
         places.old.items places.new.items pages.old pages.new) }
-    ensures within { IfOk result (λ changed. changed.at + changed.len ≤ vec_len places.new) }
-    ensures room { IfOk result (λ changed.
-        vec_len places.new + vec_len changed.gone ≤ vec_capacity places.new) }
-    ensures back { IfOk result (λ changed. vec_len changed.gone + changed.len ≤ vec_capacity changed.gone) }
+    ensures back { IfOk result (λ changed. HasWayBack changed.at changed.len
+        (vec_len places.new) (vec_capacity places.new) (vec_len changed.gone) (vec_capacity changed.gone)) }
     ensures capacity { vec_capacity places.old ≤ vec_capacity places.new }
-    ensures err { OnErr result (places.new.items ≡ places.old.items) }
-    ensures undone { OnErr result (Renames P.PagePool [] [] pages.old pages.new) }
-    ensures pool { Takes P.PagePool 3 result pages.old pages.new }
+    ensures err { OnErr result (ChangesNothing P.PagePool places.old.items places.new.items pages.old pages.new) }
+    ensures pool { AddsPages P.PagePool entries.now result pages.old pages.new }
 {
     let mut others = add_all(alloc, pages, entries, fills)?;
     match reserve(places, &mut others) {
@@ -81,9 +79,8 @@ pub(crate) fn change<P: PagePool>(
 /// Takes a change back: the places that are gone stand where they stood, and the new ones are gone, with the names of their pages. It takes no
 /// memory and cannot fail.
 pub(crate) fn undo<P: PagePool>(pages: &mut P, places: &mut Vec<SharedPlace>, changed: Changed)
-    requires within { changed.at + changed.len ≤ vec_len places.old }
-    requires room { vec_len places.old + vec_len changed.gone ≤ vec_capacity places.old }
-    requires back { vec_len changed.gone + changed.len ≤ vec_capacity changed.gone }
+    requires back { HasWayBack changed.at changed.len
+        (vec_len places.old) (vec_capacity places.old) (vec_len changed.gone) (vec_capacity changed.gone) }
     requires named { (n : ℕ) → named_in (take changed.len (drop changed.at places.old.items)) n ≤ count_of (P.counts pages.old) n }
     ensures places { places.new.items ≡ take changed.at places.old.items
         ++ (changed.gone.items ++ drop (changed.at + changed.len) places.old.items) }
@@ -95,7 +92,8 @@ pub(crate) fn undo<P: PagePool>(pages: &mut P, places: &mut Vec<SharedPlace>, ch
     drop_all(pages, others.as_slice());
 }
 
-/// Adds the pages of the entries, three at most, and answers their places. Any fault but `Damaged` may come; the pages are then as before.
+/// Adds the pages of the entries, three at most, or one at most where they fit on one, and answers their places. Any fault but `Damaged` may come; the
+/// pages are then as before.
 fn add_all<P: PagePool>(
     alloc: Global,
     pages: &mut P,
@@ -106,7 +104,7 @@ fn add_all<P: PagePool>(
     requires rising { are_in_order entries.now ≡ true }
     ensures added { IfOk result (λ added. Adds P.PagePool entries.now added.items pages.old pages.new) }
     ensures undone { OnErr result (Renames P.PagePool [] [] pages.old pages.new) }
-    ensures pool { Takes P.PagePool 3 result pages.old pages.new }
+    ensures pool { AddsPages P.PagePool entries.now result pages.old pages.new }
 {
     let cuts = entries.cuts(fills);
     let mut added = Vec::with_capacity(alloc, MAX_PARTS)?;
@@ -134,7 +132,7 @@ fn add_parts<P: PagePool>(
     requires rising { are_in_order entries.now ≡ true }
     ensures ok { OnOk result (Adds P.PagePool entries.now added.new.items pages.old pages.new) }
     ensures some { OnErr result ((items : List ItemState) × Adds P.PagePool items added.new.items pages.old pages.new) }
-    ensures pool { Takes P.PagePool 3 result pages.old pages.new }
+    ensures pool { AddsPages P.PagePool entries.now result pages.old pages.new }
 {
     add_part(alloc, pages, entries, 0, cuts.first, added)?;
     add_part(alloc, pages, entries, cuts.first, cuts.second, added)?;
@@ -160,8 +158,8 @@ fn add_part<P: PagePool>(
         → OnOk result (Adds P.PagePool (items ++ between from to entries.now) added.new.items first pages.new) }
     ensures err { (items : List ItemState) (first : P) → Adds P.PagePool items added.old.items first pages.old
         → OnErr result (Adds P.PagePool items added.new.items first pages.new) }
-    ensures len { vec_len added.new ≤ vec_len added.old + 1 }
-    ensures capacity { vec_capacity added.old ≤ vec_capacity added.new }
+    ensures left { vec_capacity added.old + vec_len added.new ≤ vec_capacity added.new + vec_len added.old + 1 }
+    ensures none { from ≡ to → Takes P.PagePool 0 result pages.old pages.new }
     ensures pool { Takes P.PagePool 1 result pages.old pages.new }
 {
     if from == to {

@@ -334,6 +334,7 @@ impl Entries {
         ensures fits { size_of (between from result self.now) ≤ MAX_ENTRY_BYTES }
         ensures most { result < length self.now
             → goal < size_of (between from (result + 1) self.now) }
+        ensures whole { size_of (between from (length self.now) self.now) ≤ MAX_ENTRY_BYTES → result ≡ length self.now }
     {
         let len = self.len();
         let start = self.start(from);

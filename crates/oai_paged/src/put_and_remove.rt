@@ -3,7 +3,7 @@ ghost use Rattle.std.specs.Prelude.{◌≡◌, ◌+◌, ◌<◌, ◌≤◌, ℕ,
 ghost use Rattle.oai_item.specs.Encoding.{encoded};
 ghost use Rattle.oai_item.specs.Items.{item_at, with_item, without_at};
 ghost use Rattle.oai_item.specs.declared.sizes.TheConstants.{MAX_ITEM_BYTES};
-ghost use Rattle.oai_paged.specs.Calls.{Changes, IsRemoved, Renames, Stages, Takes};
+ghost use Rattle.oai_paged.specs.Calls.{Changes, ChangesNothing, HasWayBack, IsRemoved, Stages, Takes};
 ghost use Rattle.oai_paged.specs.Directory.{StandsIn};
 ghost use Rattle.oai_paged.specs.Places.{items_on};
 
@@ -36,7 +36,7 @@ pub(crate) fn put<P: PagePool>(
     Ok(())
 }
 
-/// Takes the item of that datestamp, in seconds from 1970 on, and identifier out, and answers whether there was one. It reads one page and adds three at
+/// Takes the item of that datestamp, in seconds from 1970 on, and identifier out, and answers whether there was one. It reads one page and adds one at
 /// most. Any fault may come; directory and pages are then as before.
 pub(crate) fn remove<P: PagePool>(
     alloc: Global,
@@ -50,7 +50,7 @@ pub(crate) fn remove<P: PagePool>(
         → found ≡ is_some (item_at stamp identifier.now (items_on (P.pages pages.old) places.old.items))) }
     ensures list { OnOk result (IsTrue (P.honest pages.old) → items_on (P.pages pages.new) places.new.items
         ≡ without_at stamp identifier.now (items_on (P.pages pages.old) places.old.items)) }
-    ensures changes { Changes P.PagePool 3 result places.old.items places.new.items pages.old pages.new }
+    ensures changes { Changes P.PagePool 1 result places.old.items places.new.items pages.old pages.new }
 {
     match take_out(alloc, pages, places, stamp, identifier)? {
         Some(changed) => {
@@ -62,7 +62,7 @@ pub(crate) fn remove<P: PagePool>(
 }
 
 /// Takes the item of that datestamp, in seconds from 1970 on, and identifier out and puts the other item in, as `remove` and then `put` do, and answers
-/// whether there was one to take out. The spelling of the item has at most 16,000 bytes. It reads two pages and adds six at most. Any fault may
+/// whether there was one to take out. The spelling of the item has at most 16,000 bytes. It reads two pages and adds four at most. Any fault may
 /// come; directory and pages are then as before.
 pub(crate) fn replace<P: PagePool>(
     alloc: Global,
@@ -78,7 +78,7 @@ pub(crate) fn replace<P: PagePool>(
         → found ≡ is_some (item_at stamp identifier.now (items_on (P.pages pages.old) places.old.items))) }
     ensures list { OnOk result (IsTrue (P.honest pages.old) → items_on (P.pages pages.new) places.new.items
         ≡ with_item item.now (without_at stamp identifier.now (items_on (P.pages pages.old) places.old.items))) }
-    ensures changes { Changes P.PagePool 6 result places.old.items places.new.items pages.old pages.new }
+    ensures changes { Changes P.PagePool 4 result places.old.items places.new.items pages.old pages.new }
 {
     let Some(first) = take_out(alloc, pages, places, stamp, identifier)? else {
         put(alloc, pages, places, item)?;
@@ -111,8 +111,7 @@ fn put_in<P: PagePool>(
     ensures staged { IfOk result (λ changed. Stages P.PagePool changed.at changed.len changed.gone.items
         places.old.items places.new.items pages.old pages.new) }
     ensures capacity { vec_capacity places.old ≤ vec_capacity places.new }
-    ensures err { OnErr result (places.new.items ≡ places.old.items) }
-    ensures undone { OnErr result (Renames P.PagePool [] [] pages.old pages.new) }
+    ensures err { OnErr result (ChangesNothing P.PagePool places.old.items places.new.items pages.old pages.new) }
     ensures pool { Takes P.PagePool 3 result pages.old pages.new }
 {
     if places.is_empty() {
@@ -128,8 +127,8 @@ fn put_in<P: PagePool>(
     change(alloc, pages, places, at, 1, &entries, comes_last)
 }
 
-/// Takes the item of that datestamp, in seconds from 1970 on, and identifier out, if there is one; the page that it was on is still named. Any fault may
-/// come; directory and pages are then as before.
+/// Takes the item of that datestamp, in seconds from 1970 on, and identifier out, if there is one; the page that it was on is still named. It adds one page
+/// at most. Any fault may come; directory and pages are then as before.
 fn take_out<P: PagePool>(
     alloc: Global,
     pages: &mut P,
@@ -142,16 +141,11 @@ fn take_out<P: PagePool>(
         (is_some changed) (items_on (P.pages pages.old) places.old.items) (items_on (P.pages pages.new) places.new.items)) }
     ensures staged { IfOk result (λ changed. IfSome changed (λ some. Stages P.PagePool some.at some.len some.gone.items
         places.old.items places.new.items pages.old pages.new)) }
-    ensures within { IfOk result (λ changed. IfSome changed (λ some. some.at + some.len ≤ vec_len places.new)) }
-    ensures room { IfOk result (λ changed. IfSome changed (λ some.
-        vec_len places.new + vec_len some.gone ≤ vec_capacity places.new)) }
-    ensures back { IfOk result (λ changed. IfSome changed (λ some.
-        vec_len some.gone + some.len ≤ vec_capacity some.gone)) }
-    ensures none { IfOk result (λ changed. IfNone changed (places.new.items ≡ places.old.items)) }
-    ensures unchanged { IfOk result (λ changed. IfNone changed (Renames P.PagePool [] [] pages.old pages.new)) }
-    ensures err { OnErr result (places.new.items ≡ places.old.items) }
-    ensures undone { OnErr result (Renames P.PagePool [] [] pages.old pages.new) }
-    ensures pool { Takes P.PagePool 3 result pages.old pages.new }
+    ensures back { IfOk result (λ changed. IfSome changed (λ some. HasWayBack some.at some.len
+        (vec_len places.new) (vec_capacity places.new) (vec_len some.gone) (vec_capacity some.gone))) }
+    ensures none { IfOk result (λ changed. IfNone changed (ChangesNothing P.PagePool places.old.items places.new.items pages.old pages.new)) }
+    ensures err { OnErr result (ChangesNothing P.PagePool places.old.items places.new.items pages.old pages.new) }
+    ensures pool { Takes P.PagePool 1 result pages.old pages.new }
 {
     if places.is_empty() {
         return Ok(None);

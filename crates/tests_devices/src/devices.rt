@@ -1,7 +1,7 @@
 //! Devices in memory, one that fails and one that lies.
 use crate::assertions::{assert_same, assert_shown, page_of};
+use crate::saturated::WornDevice;
 use crate::steps::{assert_read_fails, assert_written, write};
-use crate::worn::WornDevice;
 use oai_device::{
     DeviceFault, FaultyDevice, FlippingDevice, MAX_FAILURES, MemoryDevice, PageDevice,
 };

@@ -8,16 +8,16 @@ mod counting;
 #[cfg(test)]
 mod devices;
 #[cfg(test)]
-mod failing;
-#[cfg(test)]
 mod files;
 #[cfg(test)]
 mod filled;
 #[cfg(test)]
+mod pool_failures;
+#[cfg(test)]
 mod pools;
 #[cfg(test)]
-mod steps;
+mod saturated;
 #[cfg(test)]
-mod worn;
+mod steps;
 
 pub use counting::CountingDevice;

@@ -2,8 +2,8 @@
 use crate::assertions::{assert_page, assert_same, assert_shown, page_of};
 use crate::counting::CountingDevice;
 use crate::filled::{assert_filled, fill};
+use crate::saturated::WornDevice;
 use crate::steps::{add, assert_both, assert_named, drop_name, share_and_drop};
-use crate::worn::WornDevice;
 use oai_device::{FaultyDevice, FlippingDevice, MemoryDevice, PageDevice};
 use oai_pool::{PagePool, Pool, PoolFault};
 use std::panic::Expect;

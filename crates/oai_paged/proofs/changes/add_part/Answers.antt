@@ -1,4 +1,4 @@
-use Rattle.std.proofs.Common.{◌≡◌, ◌∙◌, ◌++◌, ◌∷◌, [], List, ap, append-nil, arith, is_ok, subst, sym, true}
+use Rattle.std.proofs.Common.{◌≡◌, ◌∙◌, ◌++◌, ◌∷◌, [], List, ap, append-nil, is_ok, subst, sym, true}
 use Rattle.oai_item.specs.Item.{ItemState}
 use Rattle.oai_paged.specs.Calls.{Adds}
 use Rattle.oai_paged.specs.Pages.{between}

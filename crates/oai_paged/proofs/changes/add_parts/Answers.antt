@@ -1,4 +1,4 @@
-use Rattle.std.proofs.Common.{◌≡◌, ◌∙◌, ◌++◌, [], List, OnOk, ap, subst, length}
+use Rattle.std.proofs.Common.{◌≡◌, ◌∙◌, ◌++◌, [], List, OnOk, ap, subst}
 use Rattle.oai_item.specs.Item.{ItemState}
 use Rattle.oai_paged.specs.Calls.{Adds}
 use Rattle.oai_paged.specs.Pages.{between}

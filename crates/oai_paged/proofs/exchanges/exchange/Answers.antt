@@ -1,4 +1,4 @@
-use Rattle.std.proofs.Common.{arith, ap, ◌∙◌, ◌≡◌, ◌+◌, ◌++◌, drop, take, length}
+use Rattle.std.proofs.Common.{arith, ap, ◌∙◌, ◌≡◌, ◌+◌, ◌++◌, drop, take}
 use Rattle.oai_paged.proofs.ExchangeLemmas.{exchanged_in, exchanged_out}
 use Rattle.oai_paged.proofs.exchanges.exchange.Goals as goal
 

@@ -1,5 +1,5 @@
-use Rattle.std.proofs.Common.{◌≡◌, ◌∙◌, List, ap, arith}
-use Rattle.oai_paged.specs.Places.{PlaceState, named_in}
+use Rattle.std.proofs.Common.{◌∙◌, ap, arith}
+use Rattle.oai_paged.specs.Places.{named_in}
 use Rattle.oai_paged.proofs.RenamedLemmas.{gone_named, settled}
 use Rattle.oai_paged.proofs.TakenLemmas.{takes_freed_ok}
 use Rattle.oai_paged.proofs.put_and_remove.put.Goals as goal
@@ -32,6 +32,5 @@ returns-clause-changes g c =
       directory = end.directory;
       names = end.names;
       err = tt;
-      undone = tt;
       pool = takes_freed_ok g.P.PagePool 3 changed tt c.args.pages.now c.put_in.new.pages c.drop_all.new.pages c.in_ok-changed.ensures.pool c.drop_all.ensures.pool;
     }

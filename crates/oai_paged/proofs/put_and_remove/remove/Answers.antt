@@ -38,12 +38,10 @@ returns-in-Some-clause-changes g c =
       directory = end.directory;
       names = end.names;
       err = tt;
-      undone = tt;
-      pool = takes_freed_ok g.P.PagePool 3 c.in_ok-changed.field-0 true c.args.pages.now c.take_out.new.pages c.drop_all.new.pages c.in_ok-changed.ensures.pool c.drop_all.ensures.pool;
+      pool = takes_freed_ok g.P.PagePool 1 c.in_ok-changed.field-0 true c.args.pages.now c.take_out.new.pages c.drop_all.new.pages c.in_ok-changed.ensures.pool c.drop_all.ensures.pool;
     }
 
 pub returns-in-None-clause-changes : goal.returns-in-None-clause-changes
 returns-in-None-clause-changes g c =
     let same = rw c.in-None.is at c.in_ok-changed.ensures.none in
-    let names = rw c.in-None.is at c.in_ok-changed.ensures.unchanged in
-    changed_nothing g.P.PagePool 3 c.in_ok-changed.field-0 false c.args.places.now.items c.take_out.new.places.items c.args.pages.now c.take_out.new.pages c.requires same names c.in_ok-changed.ensures.pool
+    changed_nothing g.P.PagePool 1 c.in_ok-changed.field-0 false c.args.places.now.items c.take_out.new.places.items c.args.pages.now c.take_out.new.pages c.requires same.places same.names c.in_ok-changed.ensures.pool

@@ -54,6 +54,10 @@ returns-else-end-start-clause-some c = λ _. c.loop-to.invariant.above
 pub returns-else-end-start-clause-fits : goal.returns-else-end-start-clause-fits
 returns-else-end-start-clause-fits c = c.loop-to.invariant.fits
 
+pub returns-else-end-start-clause-whole : goal.returns-else-end-start-clause-whole
+returns-else-end-start-clause-whole c = λ fits.
+    absurd (omega (arith, c.start-start.ensures, c.size.ensures, c.if-size-start-le-MAX_ENTRY_BYTES.false, size_of-rest c.args.self.now c.args.from c.requires.within, fits))
+
 pub returns-else-end-start-clause-most : goal.returns-else-end-start-clause-most
 returns-else-end-start-clause-most c = λ _.
     omega (
@@ -66,6 +70,10 @@ returns-else-end-start-clause-most c = λ _.
 
 pub returns-after-loop-to-clause-within : goal.returns-after-loop-to-clause-within
 returns-after-loop-to-clause-within c = c.loop-to.invariant.within
+
+pub returns-after-loop-to-clause-whole : goal.returns-after-loop-to-clause-whole
+returns-after-loop-to-clause-whole c = λ fits.
+    absurd (omega (arith, c.start-start.ensures, c.size.ensures, c.if-size-start-le-MAX_ENTRY_BYTES.false, size_of-rest c.args.self.now c.args.from c.requires.within, fits))
 
 pub returns-after-loop-to-clause-fits : goal.returns-after-loop-to-clause-fits
 returns-after-loop-to-clause-fits c = c.loop-to.invariant.fits

@@ -1,0 +1,120 @@
+//! Two lists of a store, each of which changes beside the other.
+ghost use Rattle.std.specs.Prelude.{◌≡◌, IsSome};
+
+use oai_catalogue::{Filter, Versions};
+use oai_item::{Fault, Item};
+use oai_names::Sequence;
+use std::mem;
+use std::panic::Expect;
+use std::process::Abort;
+
+/// A store, and two of its lists: the one at hand, of which the calls speak, and the other one. The key of an item is its
+/// datestamp and its identifier.
+#[derive(Drop)]
+pub(crate) struct TwoLists<V: Versions + Drop> {
+    store: V,
+    own: u64,
+    other: u64,
+    ghost own_stands: { IsSome (V.lists store own) },
+    ghost other_stands: { IsSome (V.lists store other) },
+}
+
+impl<V: Versions + Drop> TwoLists<V> {
+    /// Two empty lists of the store.
+    pub(crate) fn new(rt: &impl Abort, mut store: V) -> TwoLists<V> {
+        let own = store.fresh().expect(rt, "fresh");
+        let other = store.fresh().expect(rt, "fresh");
+        TwoLists { store, own, other }
+    }
+
+    /// The store.
+    pub(crate) fn store(&self) -> &V {
+        &self.store
+    }
+
+    /// The other list is at hand from now on.
+    pub(crate) fn turn(&mut self) {
+        mem::swap(&mut self.own, &mut self.other);
+    }
+
+    /// The other list is let go, and what the one at hand holds now stands in its place.
+    pub(crate) fn freeze(&mut self, rt: &impl Abort) -> Result<(), Fault> {
+        match self.store.freeze(self.own) {
+            Ok(frozen) => {
+                assert!(rt; self.other != self.own && self.other != frozen);
+                self.store.release(self.other);
+                self.other = frozen;
+                Ok(())
+            }
+            Err(fault) => Err(fault),
+        }
+    }
+
+    /// The list at hand is let go, and an empty one stands in its place.
+    pub(crate) fn renew(&mut self, rt: &impl Abort) -> Result<(), Fault> {
+        match self.store.fresh() {
+            Ok(fresh) => {
+                assert!(rt; self.own != self.other && self.own != fresh);
+                self.store.release(self.own);
+                self.own = fresh;
+                Ok(())
+            }
+            Err(fault) => Err(fault),
+        }
+    }
+
+    /// Puts the item in.
+    pub(crate) fn put(&mut self, rt: &impl Abort, item: &Item) -> Result<(), Fault> {
+        item.encoded_len().expect(rt, "encoded_len");
+        self.store.put(self.own, item)
+    }
+
+    /// Takes the item of that key out, and answers whether there was one.
+    pub(crate) fn remove(&mut self, key: &Item) -> Result<bool, Fault> {
+        self.store.remove(self.own, key.stamp(), key.identifier())
+    }
+
+    /// Takes the item of that key out and puts the other item in, and answers whether there was one to take out.
+    pub(crate) fn replace(
+        &mut self,
+        rt: &impl Abort,
+        key: &Item,
+        item: &Item,
+    ) -> Result<bool, Fault> {
+        item.encoded_len().expect(rt, "encoded_len");
+        self.store
+            .replace(self.own, key.stamp(), key.identifier(), item)
+    }
+
+    /// The item of that key.
+    pub(crate) fn find(&mut self, key: &Item) -> Result<Option<Item>, Fault> {
+        self.store.find(self.own, key.stamp(), key.identifier())
+    }
+
+    /// How many items pass the filter.
+    pub(crate) fn count(&mut self, filter: &Filter) -> Result<usize, Fault> {
+        self.store.count(self.own, filter)
+    }
+
+    /// Of the items that pass the filter those after the first `skip`, at most `most` of them.
+    pub(crate) fn part(
+        &mut self,
+        filter: &Filter,
+        skip: usize,
+        most: usize,
+    ) -> Result<Sequence<Item>, Fault> {
+        self.store.part(self.own, filter, skip, most)
+    }
+
+    /// Of the items that pass the filter those behind the key, at most `most` of them.
+    pub(crate) fn part_after(
+        &mut self,
+        filter: &Filter,
+        key: &Item,
+        most: usize,
+    ) -> Result<Sequence<Item>, Fault> {
+        let identifier = key.identifier();
+        self.store
+            .part_after(self.own, filter, key.stamp(), identifier, most)
+    }
+}
