@@ -5,6 +5,7 @@ use Rattle.std.specs.List.{list_all}
 use Rattle.std.proofs.lemmas.Bool.{and_from, and_parts, cond-false, false≢true, lt-leb, true≢false}
 use Rattle.std.proofs.lemmas.Bool.Decides.{nat_tests}
 use Rattle.std.proofs.lemmas.List.Folds.{list_all-append}
+use native.Mathlib.Nat.{zero-mod}
 use Rattle.oai_names.specs.Sets.{HasSetsAbove, has_set}
 use Rattle.oai_names.specs.declared.list_verbs.ListVerb.{ListVerb}
 use Rattle.oai_item.specs.Formats.{format_named}
@@ -29,7 +30,7 @@ use Rattle.oai_repo.specs.Machine.{Command, act}
 use Rattle.oai_laws.specs.Runs.{Exchange, IsPart, Timed, performed, run}
 use Rattle.oai_repo.specs.State.{FrozenList, Holdings, NamedSet, OpenLists, RepoState, empty_state, moved}
 use Rattle.oai_laws.proofs.EffectLemmas.{named, sound_act, sound_empty, sound_moved}
-use Rattle.oai_laws.proofs.FollowLemmas.{Followed, IsGood, asked_page, follow, asked_later}
+use Rattle.oai_laws.proofs.FollowLemmas.{Followed, IsGood, asked_page, first_given, follow, asked_later}
 use Rattle.oai_repo.proofs.KeptLemmas.{at_most}
 use Rattle.oai_repo.proofs.SelectionLemmas.{unknown_format, unknown_set}
 use Rattle.oai_laws.proofs.StandLemmas.{Stands, stands_opened}
@@ -69,7 +70,7 @@ few_selected config holdings asked good kept =
     few some all most part within limit = grind (arith, nat_tests)
 
 -- a part may have some records
-some_in_part : (config : Config) → IsConfig config → 1 ≤ config.chunk
+pub some_in_part : (config : Config) → IsConfig config → 1 ≤ config.chunk
 unfolding are_limits
 some_in_part config good =
     let limits = and_parts (is_chunk config.chunk && is_lifetime config.lifetime && is_lists config.lists) (is_items config.items) good.limited in
@@ -91,6 +92,7 @@ record IsFirst (config : Config) (state : RepoState) (command : Command) (list_r
   pub told : answer_in (act config state command).0 ≡ Some (answer_by_verb list.verb good.format (part_from config list 0))
   pub stands : Stands config list (act config state command).1
   pub lasting : list.end ≡ state.clock +ℤ pos config.lifetime
+  pub given : list.given ≡ config.chunk
 
 -- it is told to wait, or opens the list
 by_wait : (config : Config) (state : RepoState) (command : Command) (list_request : ListRequest) (format : Format) (wait : Option ℤ) → wait_at config state.clock state.open_lists ≡ wait
@@ -118,6 +120,7 @@ by_wait config state command list_request format None wait good sound verb known
       told = done.0;
       stands = subst (Stands config list) (sym done.1) (stands_opened config state list sound refl refl);
       lasting = refl;
+      given = refl;
     }
 
 -- a list that is too long for one page begins, where it may
@@ -198,7 +201,7 @@ chain_here config state timed commands list_request others good sound part verb 
     let sound_found = sound_moved config timed.moment state sound in
     let open_lists = first_turn config found timed.command list_request good sound_found verb is many answered in
     let within : 0 < length open_lists.list.items = omega (arith, many, ap length open_lists.items) in
-    let followed = follow config commands exchange.left open_lists.list 0 exchange others open_lists.good (sound_act config found timed.command sound_found) open_lists.stands within open_lists.told open_lists.lasting part
+    let followed = follow config commands exchange.left open_lists.list 0 exchange others open_lists.good (sound_act config found timed.command sound_found) open_lists.stands within (zero-mod config.chunk) (λ _. first_given config open_lists.list open_lists.given) open_lists.told open_lists.lasting part
     (subst (λ (v : ListVerb). AreNext v exchange others) (sym open_lists.verb) next)
     in
     whole_list config found list_request open_lists.good.format (exchange ∷ others) sound_found.kept open_lists.known

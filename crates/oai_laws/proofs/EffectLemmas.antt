@@ -33,9 +33,9 @@ use Rattle.oai_item.specs.declared.deleted_record.DeletedRecord.TheVariants.{No,
 use Rattle.oai_repo.specs.Answers.{filter_of}
 use Rattle.oai_repo.specs.Changes.{after_deletion, after_purge, changed, dead_refusal, deposit_refusal, drops_format, is_one_too_many, is_transient, item_refusal, limit_of, missing_refusal, purge_refusal, purged, refusal_of, stamp_at, with_new, with_tombstone}
 use Rattle.oai_settings.specs.Config.{Config}
-use Rattle.oai_laws.specs.Effects.{Effect, is_formed, is_of_format, has_known_records, is_live, IsEffected, IsLeftOver, IsPossible, IsPut, IsSound, effected, goes_below, holding, is_given, item_put, item_taken, items_purged, list_opened, list_renewed, set_added, unchanged}
+use Rattle.oai_laws.specs.Effects.{Effect, is_formed, is_of_format, has_known_records, is_live, IsEffected, IsLeftOver, IsPossible, IsPut, IsSound, effected, goes_below, holding, is_given, item_put, item_taken, items_purged, list_opened, list_carried_on, set_added, unchanged}
 use Rattle.oai_repo.specs.Kept.{AreKept, is_too_large, is_well_kept}
-use Rattle.oai_repo.specs.Listing.{Response, request_response, opens_list, continued_response, has_no_sets, list_response, new_list, list_continued, prolonged_at, format_response, selection_response, token_response, wait_at}
+use Rattle.oai_repo.specs.Listing.{Response, request_response, opens_list, continued_response, has_no_sets, list_response, new_list, next_cursor, list_continued, carried_on, carried_on_at, format_response, selection_response, token_response, wait_at}
 use Rattle.oai_repo.specs.Machine.{Command, act, act_on_change, requesting, changing, rejecting}
 use Rattle.oai_repo.specs.State.{FrozenList, Holdings, NamedSet, OpenLists, RepoState, empty_state, is_open_at, moved}
 use Rattle.oai_repo.proofs.KeptLemmas.{emptied-record, few-new, fits, kept-none, no_cause, purged_kept, set_kept, stands, taken, well-deposited, well-tombstone, well-without}
@@ -79,56 +79,56 @@ put_live config state item put none = by_test item.live put.dead
     by_test false dead = absurd ((dead refl).policy none)
 
 -- a list that stays open, or does not, has the number that it had
-pub same_number : (config : Config) (clock : ℤ) (number : ℕ) (list : FrozenList) → (prolonged_at config clock number list).number ≡ list.number
-same_number config clock number list = by_test (eqb list.number number)
+pub same_number : (config : Config) (clock : ℤ) (number : ℕ) (next : Option ℕ) (list : FrozenList) → (carried_on_at config clock number next list).number ≡ list.number
+same_number config clock number next list = by_test (eqb list.number number)
   where
-    by_test : (b : Bool) → (cond b (record list { end = clock +ℤ pos config.lifetime }) list).number ≡ list.number
+    by_test : (b : Bool) → (cond b (carried_on config clock next list) list).number ≡ list.number
     by_test true = refl
     by_test false = refl
 
 -- a list that stays open keeps its number
-renewed_given : (config : Config) (clock : ℤ) (number next : ℕ) (lists : List FrozenList) → list_all (is_given next) lists ≡ true
-    → list_all (is_given next) (map (prolonged_at config clock number) lists) ≡ true
-renewed_given config clock number next [] h = refl
-renewed_given config clock number next (x ∷ lists) h =
-    let parts = and_parts (is_given next x) (list_all (is_given next) lists) h in
-    and_from (is_given next (prolonged_at config clock number x)) (list_all (is_given next) (map (prolonged_at config clock number) lists))
-    (ap (λ (n : ℕ). nat_lt n next) (same_number config clock number x) ∙ parts.0)
-    (renewed_given config clock number next lists parts.1)
+carried_given : (config : Config) (clock : ℤ) (number : ℕ) (next : Option ℕ) (last : ℕ) (lists : List FrozenList) → list_all (is_given last) lists ≡ true
+    → list_all (is_given last) (map (carried_on_at config clock number next) lists) ≡ true
+carried_given config clock number next last [] h = refl
+carried_given config clock number next last (x ∷ lists) h =
+    let parts = and_parts (is_given last x) (list_all (is_given last) lists) h in
+    and_from (is_given last (carried_on_at config clock number next x)) (list_all (is_given last) (map (carried_on_at config clock number next) lists))
+    (ap (λ (n : ℕ). nat_lt n last) (same_number config clock number next x) ∙ parts.0)
+    (carried_given config clock number next last lists parts.1)
 
 -- and the items that it had
-same_items : (config : Config) (clock : ℤ) (number : ℕ) (list : FrozenList) → (prolonged_at config clock number list).items ≡ list.items
-same_items config clock number list = by_test (eqb list.number number)
+same_items : (config : Config) (clock : ℤ) (number : ℕ) (next : Option ℕ) (list : FrozenList) → (carried_on_at config clock number next list).items ≡ list.items
+same_items config clock number next list = by_test (eqb list.number number)
   where
-    by_test : (b : Bool) → (cond b (record list { end = clock +ℤ pos config.lifetime }) list).items ≡ list.items
+    by_test : (b : Bool) → (cond b (carried_on config clock next list) list).items ≡ list.items
     by_test true = refl
     by_test false = refl
 
-renewed_formed : (config : Config) (clock : ℤ) (number : ℕ) (lists : List FrozenList) → list_all (is_formed config) lists ≡ true
-    → list_all (is_formed config) (map (prolonged_at config clock number) lists) ≡ true
-renewed_formed config clock number [] h = refl
-renewed_formed config clock number (x ∷ lists) h =
+carried_formed : (config : Config) (clock : ℤ) (number : ℕ) (next : Option ℕ) (lists : List FrozenList) → list_all (is_formed config) lists ≡ true
+    → list_all (is_formed config) (map (carried_on_at config clock number next) lists) ≡ true
+carried_formed config clock number next [] h = refl
+carried_formed config clock number next (x ∷ lists) h =
     let parts = and_parts (is_formed config x) (list_all (is_formed config) lists) h in
-    and_from (is_formed config (prolonged_at config clock number x)) (list_all (is_formed config) (map (prolonged_at config clock number) lists))
-    (ap (λ (items : List ItemState). list_all (has_known_records config) items) (same_items config clock number x) ∙ parts.0)
-    (renewed_formed config clock number lists parts.1)
+    and_from (is_formed config (carried_on_at config clock number next x)) (list_all (is_formed config) (map (carried_on_at config clock number next) lists))
+    (ap (λ (items : List ItemState). list_all (has_known_records config) items) (same_items config clock number next x) ∙ parts.0)
+    (carried_formed config clock number next lists parts.1)
 
 -- and the prefix that it had
-same_prefix : (config : Config) (clock : ℤ) (number : ℕ) (list : FrozenList) → (prolonged_at config clock number list).prefix ≡ list.prefix
-same_prefix config clock number list = by_test (eqb list.number number)
+same_prefix : (config : Config) (clock : ℤ) (number : ℕ) (next : Option ℕ) (list : FrozenList) → (carried_on_at config clock number next list).prefix ≡ list.prefix
+same_prefix config clock number next list = by_test (eqb list.number number)
   where
-    by_test : (b : Bool) → (cond b (record list { end = clock +ℤ pos config.lifetime }) list).prefix ≡ list.prefix
+    by_test : (b : Bool) → (cond b (carried_on config clock next list) list).prefix ≡ list.prefix
     by_test true = refl
     by_test false = refl
 
-renewed_known : (config : Config) (clock : ℤ) (number : ℕ) (lists : List FrozenList) → list_all (is_of_format config) lists ≡ true
-    → list_all (is_of_format config) (map (prolonged_at config clock number) lists) ≡ true
-renewed_known config clock number [] h = refl
-renewed_known config clock number (x ∷ lists) h =
+carried_known : (config : Config) (clock : ℤ) (number : ℕ) (next : Option ℕ) (lists : List FrozenList) → list_all (is_of_format config) lists ≡ true
+    → list_all (is_of_format config) (map (carried_on_at config clock number next) lists) ≡ true
+carried_known config clock number next [] h = refl
+carried_known config clock number next (x ∷ lists) h =
     let parts = and_parts (is_of_format config x) (list_all (is_of_format config) lists) h in
-    and_from (is_of_format config (prolonged_at config clock number x)) (list_all (is_of_format config) (map (prolonged_at config clock number) lists))
-    (ap (λ (prefix : List ℕ). is_some (format_named prefix config.formats)) (same_prefix config clock number x) ∙ parts.0)
-    (renewed_known config clock number lists parts.1)
+    and_from (is_of_format config (carried_on_at config clock number next x)) (list_all (is_of_format config) (map (carried_on_at config clock number next) lists))
+    (ap (λ (prefix : List ℕ). is_some (format_named prefix config.formats)) (same_prefix config clock number next x) ∙ parts.0)
+    (carried_known config clock number next lists parts.1)
 
 -- numbers that were given were given before the next one too
 given_more : (next : ℕ) (lists : List FrozenList) → list_all (is_given next) lists ≡ true → list_all (is_given (next + 1)) lists ≡ true
@@ -191,12 +191,12 @@ sound_effected config state (items_purged limit) possible sound = record {
   few = sound.few;
 }
 sound_effected config state (set_added set) possible sound = record { kept = set_kept config state.holdings set sound.kept; live = sound.live; given = sound.given; formed = sound.formed; known = sound.known; few = sound.few }
-sound_effected config state (list_renewed number) possible sound = record {
+sound_effected config state (list_carried_on number next) possible sound = record {
   kept = sound.kept;
   live = sound.live;
-  given = renewed_given config state.clock number state.open_lists.next state.open_lists.lists sound.given;
-  formed = renewed_formed config state.clock number state.open_lists.lists sound.formed;
-  known = renewed_known config state.clock number state.open_lists.lists sound.known;
+  given = carried_given config state.clock number next state.open_lists.next state.open_lists.lists sound.given;
+  formed = carried_formed config state.clock number next state.open_lists.lists sound.formed;
+  known = carried_known config state.clock number next state.open_lists.lists sound.known;
   few = sound.few;
 }
 sound_effected config state (list_opened list) possible sound = record {
@@ -284,11 +284,11 @@ listed config state verb prefix set items formed =
 continued : (config : Config) (state : RepoState) (verb : ListVerb) (cursor : ℕ) (found : Option FrozenList)
     → IsBegunBy config state (continued_response config state.clock state.open_lists verb cursor found)
 continued config state verb cursor None = nothing config state
-continued config state verb cursor (Some list) = record { effect = list_renewed list.number; possible = tt; done = refl }
+continued config state verb cursor (Some list) = record { effect = list_carried_on list.number (next_cursor config list cursor); possible = tt; done = refl }
 
 resumed : (config : Config) (state : RepoState) (verb : ListVerb) (token : Option Token) → IsBegunBy config state (token_response config state.clock state.open_lists verb token)
 resumed config state verb None = nothing config state
-resumed config state verb (Some token) = continued config state verb token.cursor (list_continued state.open_lists verb token)
+resumed config state verb (Some token) = continued config state verb token.cursor (list_continued config state.open_lists verb token)
 
 answered : (config : Config) (state : RepoState) (request : AskOrError) → IsSound config state → IsBegunBy config state (request_response config state request)
 answered config state bad_verb sound = nothing config state

@@ -1,9 +1,11 @@
 -- The pages of a chain are, joined, the records that were selected at its first request.
-use Rattle.std.proofs.Common.{◌≡◌, ◌∙◌, inl, inr, ℕ, ℤ, pos, ◌+◌, ◌+ℤ◌, ◌<◌, ◌≤◌, ◌^◌, Bool, true, false, not, ◌||◌, cond, List, [], ◌∷◌, ◌++◌, length, append-nil, append_assoc, suc, zero, take, drop, map, Option, None, Some, is_none, refl, sym, ap, subst, arith}
-use Rattle.std.specs.Prelude.{option_and_then, int_lt, nat_lt}
-use Rattle.std.proofs.lemmas.Bool.{and_from, cond-true, lt-ltb, ltb-true}
+use Rattle.std.proofs.Common.{◌≡◌, ◌∙◌, inl, inr, ℕ, ℤ, pos, max, ◌+◌, ◌%◌, ◌&&◌, eqb, ◌+ℤ◌, ◌<◌, ◌≤◌, ◌^◌, Bool, true, false, not, ◌||◌, cond, List, [], ◌∷◌, ◌++◌, length, append-nil, append_assoc, suc, zero, take, drop, map, Option, None, Some, is_none, refl, sym, ap, subst, arith}
+use Rattle.std.specs.Prelude.{option_and_then, int_lt, nat_le, nat_lt}
+use Rattle.std.proofs.Math.Nat.{add-mod, le-max_right}
+use native.Mathlib.Nat.{mod_self, zero-mod}
+use Rattle.std.proofs.lemmas.Bool.{and_from, cond-true, eq-eqb, le-leb, lt-ltb, ltb-true}
 use Rattle.std.proofs.lemmas.Bool.Decides.{nat_tests}
-use Rattle.std.proofs.lemmas.List.{drop-drop, length-drop}
+use Rattle.std.proofs.lemmas.List.{drop-drop, length-drop, length-take}
 use Rattle.oai_names.specs.declared.list_verbs.ListVerb.{ListVerb}
 use Rattle.oai_names.specs.declared.list_verbs.ListVerb.TheVariants as list
 use Rattle.oai_lists.specs.Tokens.{token_of, token_text}
@@ -20,12 +22,12 @@ use Rattle.oai_repo.specs.Answers.{arguments_of_request}
 use Rattle.oai_settings.specs.Config.{Config}
 use Rattle.oai_laws.specs.Effects.{IsSound, is_given}
 use Rattle.oai_laws.specs.Following.{AreLasting, ArePagesAt, AreNext, IsLasting, IsNextRequest, IsPageAt, TokenOffer, answer_in, are_complete, extent_in, is_later, is_of_records, joined, next_request, offer_in, page_in}
-use Rattle.oai_repo.specs.Listing.{Response, request_response, continued_response, extent_at, is_of_number, is_continued, is_same_verb, items_from, part_from, part_answer, prolonged, with_answer, answer_by_verb, token_response, retry_after, where_continued, with_prolonged}
+use Rattle.oai_repo.specs.Listing.{Response, request_response, continued_response, carried_on, extent_at, highest_given, is_of_number, is_continued, is_handed_out, is_same_verb, is_valid_cursor, items_from, next_cursor, part_from, part_answer, prolonged, with_answer, answer_by_verb, token_response, retry_after, where_continued, with_carried_on}
 use Rattle.oai_repo.specs.Machine.{Command, act, requesting, outcome_of}
 use Rattle.oai_laws.specs.Runs.{Exchange, IsPart, Timed, performed, run}
 use Rattle.oai_repo.specs.State.{FrozenList, OpenLists, RepoState, moved}
 use Rattle.oai_laws.proofs.EffectLemmas.{effect_of, sound_act, sound_moved}
-use Rattle.oai_laws.proofs.StandLemmas.{IsThere, Stands, of_found, stands_effected, stands_moved, stands_renewed}
+use Rattle.oai_laws.proofs.StandLemmas.{IsThere, Stands, list_there, of_found, stands_carried_on, stands_effected, stands_moved}
 
 -- ---- the parts of a list
 
@@ -54,7 +56,7 @@ none_behind (suc n) [] h = refl
 none_behind (suc n) (x ∷ xs) h = none_behind n xs (omega (arith, h))
 
 -- how many records stand before the next part
-next_at : Config → FrozenList → ℕ → ℕ
+unfoldable pub next_at : Config → FrozenList → ℕ → ℕ
 next_at config list cursor = cursor + length (items_from config list cursor)
 
 -- the two ways in which a part ends
@@ -85,7 +87,7 @@ unfolding part_from next_at
 part_ends config list cursor = refl
 
 -- whether records remain behind a part
-remain : Config → FrozenList → ℕ → Bool
+unfoldable pub remain : Config → FrozenList → ℕ → Bool
 remain config list cursor = nat_lt (next_at config list cursor) (length list.items)
 
 part_offer : (config : Config) (list : FrozenList) (cursor : ℕ) → is_none (offer_in (part_from config list cursor).continuation) ≡ not (remain config list cursor)
@@ -117,6 +119,48 @@ part_placed config list cursor some within = record {
       ap length (part_items config list cursor) ∙ full_part config.chunk (drop cursor list.items) within;
   dated = part_dated config list cursor;
 }
+
+-- the next part begins behind a multiple of `chunk` records, where this one does
+pub next_behind : (config : Config) (list : FrozenList) (cursor : ℕ) → remain config list cursor ≡ true → next_at config list cursor ≡ cursor + config.chunk
+unfolding remain next_at
+next_behind config list cursor more =
+    let within : cursor + length (items_from config list cursor) < length list.items = ltb-true (cursor + length (items_from config list cursor)) (length list.items) more in
+    let size = length-drop cursor list.items in
+    let full = full_part config.chunk (drop cursor list.items) (omega (arith, within, size)) in
+    omega (arith, full)
+
+next_multiple : (chunk cursor : ℕ) → cursor % chunk ≡ 0 → (cursor + chunk) % chunk ≡ 0
+next_multiple chunk cursor multiple =
+    add-mod cursor chunk chunk ∙ ap (λ n. (n + chunk % chunk) % chunk) multiple ∙ ap (λ n. (0 + n) % chunk) (mod_self chunk) ∙ zero-mod chunk
+
+-- a cursor that was handed out
+is_given_out : (chunk given cursor : ℕ) → 1 ≤ cursor → cursor % chunk ≡ 0 → cursor ≤ given → is_handed_out chunk given cursor ≡ true
+is_given_out chunk given cursor some multiple below =
+    and_from (nat_lt 0 cursor && eqb (cursor % chunk) 0) (nat_le cursor given)
+    (and_from (nat_lt 0 cursor) (eqb (cursor % chunk) 0) (lt-ltb 0 cursor (omega (arith, some))) (eq-eqb (cursor % chunk) 0 multiple)) (le-leb cursor given below)
+
+-- the token of a part is handed out once the part is answered
+next_given : (config : Config) (clock : ℤ) (list : FrozenList) (cursor : ℕ) → remain config list cursor ≡ true → next_at config list cursor ≤ (carried_on config clock (next_cursor config list cursor) list).given
+unfolding remain next_at
+next_given config clock list cursor more =
+    let next : ℕ = cursor + length (items_from config list cursor) in
+    let there : highest_given (next_cursor config list cursor) list.given ≡ max list.given next =
+    ap (λ (o : Option ℕ). highest_given o list.given) (cond-true (nat_lt next (length list.items)) (Some next) None more)
+    in
+    subst (λ (n : ℕ). next ≤ n) (sym there) (le-max_right list.given next)
+
+-- the first token of a list
+pub first_given : (config : Config) (list : FrozenList) → list.given ≡ config.chunk → next_at config list 0 ≤ list.given
+unfolding next_at
+first_given config list is = let few = length-take config.chunk list.items in omega (arith, few, is)
+
+-- what a part offers behind which records remain
+pub part_offers : (config : Config) (list : FrozenList) (cursor : ℕ) → remain config list cursor ≡ true
+    → offer_in (part_from config list cursor).continuation ≡ Some (record { token = token_text (record { list = list.number; cursor = next_at config list cursor }); expires = list.end })
+unfolding remain
+part_offers config list cursor more =
+    ap offer_in (part_ends config list cursor)
+    ∙ ap (λ (b : Bool). offer_in (by_rest list cursor (next_at config list cursor) b)) more
 
 -- a token lasts as long as its list
 part_lasting : (config : Config) (list : FrozenList) (cursor : ℕ) (exchange : Exchange) → list.end ≡ exchange.found.clock +ℤ pos config.lifetime → IsLasting config exchange (part_from config list cursor)
@@ -211,7 +255,7 @@ numbered number next last below few = grind (arith, nat_tests)
 small_number : (config : Config) (state : RepoState) (list : FrozenList) → IsSound config state → IsThere list state.open_lists → list.number < 2 ^ 64
 small_number config state list sound there =
     numbered list.number state.open_lists.next LAST_NUMBER
-    (of_found (is_of_number list.number) (is_given state.open_lists.next) state.open_lists.lists (record list { end = there.0 }) there.2 sound.given) sound.few
+    (of_found (is_of_number list.number) (is_given state.open_lists.next) state.open_lists.lists (list_there list state.open_lists there) there.4 sound.given) sound.few
 
 abbrev pub asked_next : FrozenList → ℕ → List ℕ
 asked_next list cursor = token_text (record { list = list.number; cursor = cursor })
@@ -220,19 +264,38 @@ token_read : (list : FrozenList) (cursor : ℕ) → list.number < 2 ^ 64 → cur
 token_read list cursor small within =
     token_of-is (asked_next list cursor) (record { list = list.number; cursor = cursor }) (record { list = small; cursor = within; spelled = refl })
 
--- the token of a list that is there, by its verb, and of a record that it has
+-- a part of a list does not depend on its end before, nor on what was handed out
+part_found : (config : Config) (clock : ℤ) (list : FrozenList) (cursor : ℕ) (end : ℤ) (given : ℕ)
+    → part_from config (prolonged config clock (record list { end = end; given = given })) cursor ≡ part_from config (prolonged config clock list) cursor
+unfolding part_from
+part_found config clock list cursor end given = refl
+
+part_carried : (config : Config) (clock : ℤ) (next : Option ℕ) (list : FrozenList) (cursor : ℕ) → part_from config (prolonged config clock list) cursor ≡ part_from config (carried_on config clock next list) cursor
+unfolding part_from
+part_carried config clock next list cursor = refl
+
+-- the token of a list that is there, by its verb, of a record that it has, and with a cursor that was handed out
 answered_next : (config : Config) (state : RepoState) (list : FrozenList) (cursor : ℕ) (good : IsGood config list) → IsSound config state → IsThere list state.open_lists → cursor < length list.items
+    → 1 ≤ cursor → cursor % config.chunk ≡ 0 → cursor ≤ list.given
     → request_response config state (asks (ask.Resume list.verb (asked_next list cursor)))
-    ≡ (with_answer (answer_by_verb list.verb good.format (part_from config (prolonged config state.clock list) cursor)), with_prolonged config state.clock list.number state.open_lists)
-answered_next config state list cursor good sound there within =
-    let found : FrozenList = record list { end = there.0 } in
+    ≡ (with_answer (answer_by_verb list.verb good.format (part_from config (prolonged config state.clock list) cursor)), with_carried_on config state.clock list.number (next_cursor config list cursor) state.open_lists)
+answered_next config state list cursor good sound there within some multiple below =
+    let found : FrozenList = list_there list state.open_lists there in
     let token : Token = record { list = list.number; cursor = cursor } in
-    let from : Option FrozenList → Response × OpenLists = λ o. continued_response config state.clock state.open_lists list.verb cursor (where_continued list.verb token o) in
-    let right : is_continued list.verb token found.verb (length found.items) ≡ true = and_from (is_same_verb list.verb list.verb) (nat_lt cursor (length list.items)) (same_verb list.verb good.verb) (lt-ltb cursor (length list.items) within) in
+    let from : Option FrozenList → Response × OpenLists = λ o. continued_response config state.clock state.open_lists list.verb cursor (where_continued config list.verb token o) in
+    let higher = there.3 in
+    let valid : is_valid_cursor config.chunk (length list.items) there.1 cursor ≡ true =
+    and_from (nat_lt cursor (length list.items)) (is_handed_out config.chunk there.1 cursor) (lt-ltb cursor (length list.items) within)
+    (is_given_out config.chunk there.1 cursor some multiple (omega (arith, below, higher)))
+    in
+    let right : is_continued config.chunk list.verb token found.verb (length found.items) found.given ≡ true =
+    and_from (is_same_verb list.verb list.verb) (is_valid_cursor config.chunk (length list.items) there.1 cursor) (same_verb list.verb good.verb) valid
+    in
     ap (token_response config state.clock state.open_lists list.verb) (token_read list cursor (small_number config state list sound there) (omega (arith, within, good.small)))
-    ∙ ap from there.2
-    ∙ ap (continued_response config state.clock state.open_lists list.verb cursor) (cond-true (is_continued list.verb token found.verb (length found.items)) (Some found) None right)
-    ∙ ap (λ (f : Option Format). (with_answer (part_answer list.verb f (part_from config (prolonged config state.clock list) cursor)), with_prolonged config state.clock list.number state.open_lists)) good.known
+    ∙ ap from there.4
+    ∙ ap (continued_response config state.clock state.open_lists list.verb cursor) (cond-true (is_continued config.chunk list.verb token found.verb (length found.items) found.given) (Some found) None right)
+    ∙ ap (λ (p : Page). (with_answer (part_answer list.verb (format_named list.prefix config.formats) p), with_carried_on config state.clock list.number (next_cursor config list cursor) state.open_lists)) (part_found config state.clock list cursor there.0 there.1)
+    ∙ ap (λ (f : Option Format). (with_answer (part_answer list.verb f (part_from config (prolonged config state.clock list) cursor)), with_carried_on config state.clock list.number (next_cursor config list cursor) state.open_lists)) good.known
 
 -- ---- one request of a chain
 
@@ -269,13 +332,16 @@ asked_later config state command request seconds open_lists is answer =
 
 -- the next request of a chain, by the token of the page before it
 turned : (config : Config) (state : RepoState) (command : Command) (list : FrozenList) (cursor : ℕ) (good : IsGood config list) → IsSound config state → Stands config list state
-    → command ≡ next_request list.verb (asked_next list cursor) → cursor < length list.items → int_lt state.clock list.end ≡ true
-    → (answer_in (act config state command).0 ≡ Some (answer_by_verb list.verb good.format (part_from config (prolonged config state.clock list) cursor)))
-    × Stands config (prolonged config state.clock list) (act config state command).1
-turned config state command list cursor good sound stands is within before =
+    → command ≡ next_request list.verb (asked_next list cursor) → cursor < length list.items → int_lt state.clock list.end ≡ true → 1 ≤ cursor → cursor % config.chunk ≡ 0 → cursor ≤ list.given
+    → (let after = carried_on config state.clock (next_cursor config list cursor) list in
+    (answer_in (act config state command).0 ≡ Some (answer_by_verb list.verb good.format (part_from config after cursor))) × Stands config after (act config state command).1)
+turned config state command list cursor good sound stands is within before some multiple below =
     let there = stands.there before in
-    let done = asked_page config state command _ _ _ is (answered_next config state list cursor good sound there within) in
-    (done.0, subst (Stands config (prolonged config state.clock list)) (sym done.1) (stands_renewed config state list there))
+    let next : Option ℕ = next_cursor config list cursor in
+    let done = asked_page config state command _ _ _ is (answered_next config state list cursor good sound there within some multiple below) in (
+      done.0 ∙ ap (λ (p : Page). Some (answer_by_verb list.verb good.format p)) (part_carried config state.clock next list cursor),
+      subst (Stands config (carried_on config state.clock next list)) (sym done.1) (stands_carried_on config state next list there),
+    )
 
 -- the list goes on standing where another command comes
 stands_on : (config : Config) (state : RepoState) (command : Command) (list : FrozenList) → IsSound config state → Stands config list state → Stands config list (act config state command).1
@@ -308,22 +374,28 @@ remains_within : (config : Config) (list : FrozenList) (cursor : ℕ) → remain
 unfolding remain
 remains_within config list cursor h = h
 
+-- the same of the list as it is then
+next_given' : (config : Config) (clock : ℤ) (list : FrozenList) (cursor : ℕ)
+    → (let after = carried_on config clock (next_cursor config list cursor) list in remain config after cursor ≡ true → next_at config after cursor ≤ after.given)
+unfolding remain next_at
+next_given' config clock list cursor more = next_given config clock list cursor more
+
 -- the pages of those that follow a page, and of it
 abbrev pub Followed : Config → ListVerb → Format → List ItemState → ℕ → List Exchange → Type 0
 Followed config verb format items cursor exchanges = (pages : List Page) × IsTold config verb format items cursor exchanges pages
 
 pub follow : (config : Config) (commands : List Timed) (state : RepoState) (list : FrozenList) (cursor : ℕ) (before : Exchange) (others : List Exchange)
-    (good : IsGood config list) → IsSound config state → Stands config list state → cursor < length list.items
+    (good : IsGood config list) → IsSound config state → Stands config list state → cursor < length list.items → cursor % config.chunk ≡ 0 → (remain config list cursor ≡ true → next_at config list cursor ≤ list.given)
     → answer_in before.outcome ≡ Some (answer_by_verb list.verb good.format (part_from config list cursor)) → list.end ≡ before.found.clock +ℤ pos config.lifetime → IsPart others (run config state commands) → AreNext list.verb before others → Followed config list.verb good.format list.items cursor (before ∷ others)
-follow config [] state list cursor before others good sound stands within told lasting none next =
+follow config [] state list cursor before others good sound stands within multiple given told lasting none next =
     subst (λ (es : List Exchange). Followed config list.verb good.format list.items cursor (before ∷ es)) (sym none) (part_from config list cursor ∷ [], one_page config list good.format cursor before told lasting good.part within)
-follow config (timed ∷ commands) state list cursor before others good sound stands within told lasting (inl part) next =
+follow config (timed ∷ commands) state list cursor before others good sound stands within multiple given told lasting (inl part) next =
     let found : RepoState = moved timed.moment state in
     let sound_found = sound_moved config timed.moment state sound in
     let stands_found = stands_moved config list timed.moment state stands in
     follow config commands (act config found timed.command).1 list cursor before others good (sound_act config found timed.command sound_found)
-    (stands_on config found timed.command list sound_found stands_found) within told lasting part next
-follow config (timed ∷ commands) state list cursor before others good sound stands within told lasting (inr here) next =
+    (stands_on config found timed.command list sound_found stands_found) within multiple given told lasting part next
+follow config (timed ∷ commands) state list cursor before others good sound stands within multiple given told lasting (inr here) next =
     let found : RepoState = moved timed.moment state in
     let exchange : Exchange = performed config state timed in
     let sound_found = sound_moved config timed.moment state sound in
@@ -332,9 +404,14 @@ follow config (timed ∷ commands) state list cursor before others good sound st
     let asked = next_asked config list good cursor before exchange told nexts.0 in
     let next' : ℕ = next_at config list cursor in
     let more : next' < length list.items = ltb-true next' (length list.items) (remains_within config list cursor asked.0) in
-    let turn = turned config found timed.command list next' good sound_found stands_found asked.1 more asked.2 in
-    let later = follow config commands exchange.left (prolonged config found.clock list) next' exchange here.0 (record { format = good.format; verb = good.verb; known = good.known; small = good.small; part = good.part })
-    (sound_act config found timed.command sound_found) turn.1 more turn.0 refl here.2 nexts.1
+    let behind : next' ≡ cursor + config.chunk = next_behind config list cursor asked.0 in
+    let part = good.part in
+    let some : 1 ≤ next' = omega (arith, behind, part) in
+    let multiple' : next' % config.chunk ≡ 0 = ap (λ n. n % config.chunk) behind ∙ next_multiple config.chunk cursor multiple in
+    let turn = turned config found timed.command list next' good sound_found stands_found asked.1 more asked.2 some multiple' (given asked.0) in
+    let list' : FrozenList = carried_on config found.clock (next_cursor config list next') list in
+    let later = follow config commands exchange.left list' next' exchange here.0 (record { format = good.format; verb = good.verb; known = good.known; small = good.small; part = good.part })
+    (sound_act config found timed.command sound_found) turn.1 more multiple' (λ left. next_given' config found.clock list next' left) turn.0 refl here.2 nexts.1
     in
     subst (λ (es : List Exchange). Followed config list.verb good.format list.items cursor (before ∷ es)) (sym here.1)
     (part_from config list cursor ∷ later.0, more_pages config list good.format cursor before (exchange ∷ here.0) later.0 told lasting asked.0 good.part within later.1)

@@ -1,5 +1,5 @@
 -- The numbers of lists rise in the course of time, each is given once, and the last one of 64 bits never.
-use Rattle.std.proofs.Common.{◌≡◌, ◌∙◌, ◌⊎◌, inl, inr, ℕ, ℤ, ◌+◌, ◌<◌, Bool, true, false, not, ◌||◌, eqb, List, [], ◌∷◌, ◌++◌, map, refl, sym, ap, subst, arith}
+use Rattle.std.proofs.Common.{◌≡◌, ◌∙◌, ◌⊎◌, inl, inr, ℕ, ℤ, ◌+◌, ◌<◌, Bool, true, false, not, ◌||◌, eqb, List, [], ◌∷◌, ◌++◌, map, Option, refl, sym, ap, subst, arith}
 use Rattle.std.specs.Prelude.{filter, nat_le, nat_lt}
 use Rattle.std.specs.List.{list_all}
 use Rattle.std.proofs.lemmas.Bool.{and_from, and_parts, cond-true, cond-false, or_left, or_right}
@@ -9,8 +9,8 @@ use Rattle.std.proofs.lemmas.List.Elements.{filter-append}
 use Rattle.oai_names.specs.Names.{is_one_of}
 use Rattle.oai_lists.specs.declared.lists.TheConstants.{LAST_NUMBER}
 use Rattle.oai_settings.specs.Config.{Config}
-use Rattle.oai_laws.specs.Effects.{Effect, IsPossible, IsSound, effected, is_given, item_put, item_taken, items_purged, list_opened, list_renewed, set_added, unchanged}
-use Rattle.oai_repo.specs.Listing.{prolonged_at, with_prolonged}
+use Rattle.oai_laws.specs.Effects.{Effect, IsPossible, IsSound, effected, is_given, item_put, item_taken, items_purged, list_carried_on, list_opened, set_added, unchanged}
+use Rattle.oai_repo.specs.Listing.{carried_on_at, with_carried_on}
 use Rattle.oai_laws.specs.Runs.{Exchange, Throughout, Timed, are_never_last, numbers_rise_strictly, given_in, numbers_given, numbers_open, performed, run}
 use Rattle.oai_repo.specs.State.{FrozenList, RepoState, empty_state, moved}
 use Rattle.oai_laws.proofs.EffectLemmas.{effect_of, number_left, same_number, sound_act, sound_empty, sound_moved}
@@ -77,12 +77,12 @@ one_given next list lists is h =
     ∙ ap (λ ns. ns ++ filter test (next ∷ [])) (none_given numbers numbers refl)
     ∙ cond-true (test next) (next ∷ []) [] (ap not (ungiven next lists h))
 
-renewed_numbers : (config : Config) (clock : ℤ) (number : ℕ) (lists : List FrozenList)
-    → map (λ (l : FrozenList). l.number) (map (prolonged_at config clock number) lists) ≡ map (λ (l : FrozenList). l.number) lists
-renewed_numbers config clock number [] = refl
-renewed_numbers config clock number (x ∷ lists) =
-    ap (λ (n : ℕ). n ∷ map (λ (l : FrozenList). l.number) (map (prolonged_at config clock number) lists)) (same_number config clock number x)
-    ∙ ap (λ ns. x.number ∷ ns) (renewed_numbers config clock number lists)
+carried_numbers : (config : Config) (clock : ℤ) (number : ℕ) (next : Option ℕ) (lists : List FrozenList)
+    → map (λ (l : FrozenList). l.number) (map (carried_on_at config clock number next) lists) ≡ map (λ (l : FrozenList). l.number) lists
+carried_numbers config clock number next [] = refl
+carried_numbers config clock number next (x ∷ lists) =
+    ap (λ (n : ℕ). n ∷ map (λ (l : FrozenList). l.number) (map (carried_on_at config clock number next) lists)) (same_number config clock number next x)
+    ∙ ap (λ ns. x.number ∷ ns) (carried_numbers config clock number next lists)
 
 -- the numbers that are given between these two: none, or the first of the two, which is not the last of all
 abbrev IsGiving : ℕ → List ℕ → ℕ → Type 0
@@ -98,8 +98,8 @@ given_by config state (item_put item) possible sound = inl (none_given (numbers_
 given_by config state (item_taken identifier) possible sound = inl (none_given (numbers_open state.open_lists) (numbers_open state.open_lists) refl, refl)
 given_by config state (items_purged limit) possible sound = inl (none_given (numbers_open state.open_lists) (numbers_open state.open_lists) refl, refl)
 given_by config state (set_added set) possible sound = inl (none_given (numbers_open state.open_lists) (numbers_open state.open_lists) refl, refl)
-given_by config state (list_renewed number) possible sound = inl (
-  none_given (numbers_open state.open_lists) (numbers_open (with_prolonged config state.clock number state.open_lists)) (renewed_numbers config state.clock number state.open_lists.lists),
+given_by config state (list_carried_on number next) possible sound = inl (
+  none_given (numbers_open state.open_lists) (numbers_open (with_carried_on config state.clock number next state.open_lists)) (carried_numbers config state.clock number next state.open_lists.lists),
   refl,
 )
 given_by config state (list_opened list) possible sound = inr (

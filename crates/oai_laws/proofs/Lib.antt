@@ -6,6 +6,7 @@ pub mod ToldLemmas
 pub mod StandLemmas
 pub mod FollowLemmas
 pub mod ChainLemmas
+pub mod OfferLemmas
 pub mod WholeLemmas
 pub mod TokenLemmas
 pub mod GivenLemmas

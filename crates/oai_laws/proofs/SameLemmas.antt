@@ -67,7 +67,7 @@ continued_same config state asked verb cursor (Some list) = λ told.
 
 token_same : (config : Config) (state : RepoState) (asked : Attributes) (verb : ListVerb) (token : Option Token) → IsSame config state asked (token_response config state.clock state.open_lists verb token)
 token_same config state asked verb None = λ told. refl
-token_same config state asked verb (Some token) = continued_same config state asked verb token.cursor (list_continued state.open_lists verb token)
+token_same config state asked verb (Some token) = continued_same config state asked verb token.cursor (list_continued config state.open_lists verb token)
 
 pub tokens_keep : (config : Config) (state : RepoState) (verb : ListVerb) (token : List ℕ)
     → (let done = act config state (requesting (asks (ask.Resume verb token))) in answer_in done.0 ≡ Some (fails BadResumptionToken) → done.1 ≡ state)

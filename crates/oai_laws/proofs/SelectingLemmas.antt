@@ -33,7 +33,7 @@ use Rattle.oai_repo.specs.Answers.{filter_of, lower_given, upper_given}
 use Rattle.oai_repo.specs.Changes.{stamp_at}
 use Rattle.oai_repo.specs.Machine.{Command, act}
 use Rattle.oai_repo.specs.State.{RepoState, empty_state, moved}
-use Rattle.oai_laws.specs.Effects.{Effect, IsPossible, IsSound, effected, goes_below, item_put, item_taken, items_purged, list_opened, list_renewed, set_added, unchanged}
+use Rattle.oai_laws.specs.Effects.{Effect, IsPossible, IsSound, effected, goes_below, item_put, item_taken, items_purged, list_opened, list_carried_on, set_added, unchanged}
 use Rattle.oai_laws.specs.Following.{ListRequest, selection_in}
 use Rattle.oai_laws.specs.Runs.{Exchange, Throughout, Timed, performed, run}
 use Rattle.oai_laws.specs.Selecting.{IsAskedFor, IsFrom, IsInSet, IsSelection, IsUntil, has_granular_stamp}
@@ -127,7 +127,7 @@ timed_effected config state (item_taken identifier) good possible timed =
 timed_effected config state (items_purged limit) good possible timed =
     record { years = timed.years; open_lists = timed.open_lists; dated = all-filter (has_granular_stamp config state.clock) (λ item. not (goes_below limit item)) state.holdings.items timed.dated }
 timed_effected config state (set_added set) good possible timed = record { years = timed.years; open_lists = timed.open_lists; dated = timed.dated }
-timed_effected config state (list_renewed number) good possible timed = record { years = timed.years; open_lists = timed.open_lists; dated = timed.dated }
+timed_effected config state (list_carried_on number next) good possible timed = record { years = timed.years; open_lists = timed.open_lists; dated = timed.dated }
 timed_effected config state (list_opened list) good possible timed = record { years = timed.years; open_lists = timed.open_lists; dated = timed.dated }
 
 timed_act : (config : Config) (state : RepoState) (command : Command) → IsConfig config → IsSound config state → IsTimed config state → IsTimed config (act config state command).1

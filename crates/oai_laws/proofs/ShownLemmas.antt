@@ -143,10 +143,10 @@ regular_part_told config verb list (Some format) cursor rules found formed =
     regular_part config verb format list cursor (found_good list.prefix config.formats format rules found) (all_own config list.prefix format list.items found formed)
 
 regular_continued : (config : Config) (clock : ℤ) (open_lists : OpenLists) (verb : ListVerb) (token : Token) (found : Option FrozenList) → AreRepositoryFormats config.formats
-    → ((list : FrozenList) → found ≡ Some list → is_formed config list ≡ true) → IsRegularDone (continued_response config clock open_lists verb token.cursor (where_continued verb token found))
+    → ((list : FrozenList) → found ≡ Some list → is_formed config list ≡ true) → IsRegularDone (continued_response config clock open_lists verb token.cursor (where_continued config verb token found))
 regular_continued config clock open_lists verb token None rules formed = tt
 regular_continued config clock open_lists verb token (Some list) rules formed =
-    cond_both (is_continued verb token list.verb (length list.items)) (Some list) None (λ (o : Option FrozenList). IsRegularDone (continued_response config clock open_lists verb token.cursor o))
+    cond_both (is_continued config.chunk verb token list.verb (length list.items) list.given) (Some list) None (λ (o : Option FrozenList). IsRegularDone (continued_response config clock open_lists verb token.cursor o))
     (λ _. regular_part_told config verb (prolonged config clock list) (format_named list.prefix config.formats) token.cursor rules refl (formed list refl))
     (λ _. tt)
 

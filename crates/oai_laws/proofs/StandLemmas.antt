@@ -1,16 +1,17 @@
 -- A list that was told of stands until its end, whatever is asked and deposited meanwhile.
-use Rattle.std.proofs.Common.{◌≡◌, ◌∙◌, inl, inr, ℕ, ℤ, pos, ◌+ℤ◌, ◌≤ℤ◌, Bool, true, false, eqb, cond, List, [], ◌∷◌, map, Option, None, Some, refl, sym, ap, subst, arith}
+use Rattle.std.proofs.Common.{◌≡◌, ◌∙◌, inl, inr, ℕ, ℤ, pos, ◌≤◌, ◌+ℤ◌, ◌≤ℤ◌, Bool, true, false, eqb, cond, List, [], ◌∷◌, map, Option, None, Some, refl, sym, ap, subst, arith}
 use Rattle.std.specs.Prelude.{filter, find, int_lt, nat_lt}
 use Rattle.std.specs.List.{list_all}
 use Rattle.std.specs.Option.{option_or}
 use Rattle.std.proofs.lemmas.Bool.{and_parts, cases_Bool, cond_both, cond-true, cond-false}
 use Rattle.std.proofs.lemmas.Bool.Decides.{nat_tests}
+use Rattle.std.proofs.Math.Nat.{le-max_left}
 use Rattle.std.proofs.lemmas.Int.{ints}
 use Rattle.std.proofs.lemmas.List.Folds.{find-append}
 use Rattle.oai_time.specs.Clock.{tick}
 use Rattle.oai_settings.specs.Config.{Config}
-use Rattle.oai_laws.specs.Effects.{Effect, IsSound, effected, is_given, item_put, item_taken, items_purged, list_opened, list_renewed, set_added, unchanged}
-use Rattle.oai_repo.specs.Listing.{is_of_number, prolonged, prolonged_at, with_new_list, with_prolonged}
+use Rattle.oai_laws.specs.Effects.{Effect, IsSound, effected, is_given, item_put, item_taken, items_purged, list_carried_on, list_opened, set_added, unchanged}
+use Rattle.oai_repo.specs.Listing.{carried_on, carried_on_at, highest_given, is_of_number, with_carried_on, with_new_list}
 use Rattle.oai_repo.specs.State.{FrozenList, OpenLists, RepoState, is_open_at, moved}
 use Rattle.oai_laws.proofs.EffectLemmas.{same_number}
 
@@ -64,9 +65,15 @@ of_found p q (y ∷ xs) x h all =
 
 -- ---- a list that stands
 
--- among the open lists is this one, with no earlier end
+-- among the open lists is this one, with no earlier end, and no token fewer handed out
 abbrev pub IsThere : FrozenList → OpenLists → Type 0
-IsThere list open_lists = (end : ℤ) × (list.end ≤ℤ end) × (find (is_of_number list.number) open_lists.lists ≡ Some (record list { end = end }))
+IsThere list open_lists =
+    (end : ℤ) × (given : ℕ) × (list.end ≤ℤ end) × (list.given ≤ given)
+    × (find (is_of_number list.number) open_lists.lists ≡ Some (record list { end = end; given = given }))
+
+-- the list that is found
+abbrev pub list_there : (list : FrozenList) (open_lists : OpenLists) → IsThere list open_lists → FrozenList
+list_there list open_lists there = record list { end = there.0; given = there.1 }
 
 -- a list with the end that was told: this is not later than the clock and the lifetime, and until then the list is there
 pub record Stands (config : Config) (list : FrozenList) (state : RepoState) : Type 0 where
@@ -97,7 +104,9 @@ stands_moved config list moment state stands =
           let found = stands.there (was_before state.clock now list.end later before) in (
             found.0,
             found.1,
-            find_kept (is_of_number list.number) (is_open_at now) state.open_lists.lists (record list { end = found.0 }) found.2 (before_that now list.end found.0 before found.1),
+            found.2,
+            found.3,
+            find_kept (is_of_number list.number) (is_open_at now) state.open_lists.lists (list_there list state.open_lists found) found.4 (before_that now list.end found.0 before found.2),
           );
     }
 
@@ -106,30 +115,45 @@ stands_moved config list moment state stands =
 itself : (a : ℤ) → a ≤ℤ a
 itself a = grind (arith, ints)
 
-pub same_test : (config : Config) (clock : ℤ) (number other : ℕ) (list : FrozenList) → is_of_number other (prolonged_at config clock number list) ≡ is_of_number other list
-same_test config clock number other list = ap (λ (n : ℕ). eqb n other) (same_number config clock number list)
+pub same_test : (config : Config) (clock : ℤ) (number : ℕ) (next : Option ℕ) (other : ℕ) (list : FrozenList) → is_of_number other (carried_on_at config clock number next list) ≡ is_of_number other list
+same_test config clock number next other list = ap (λ (n : ℕ). eqb n other) (same_number config clock number next list)
 
--- a list that stays open, or does not, ends no earlier
-still_there : (config : Config) (clock : ℤ) (number : ℕ) (list : FrozenList) (end : ℤ) (test : Bool) → list.end ≤ℤ end → list.end ≤ℤ (clock +ℤ pos config.lifetime)
-    → (later : ℤ) × (list.end ≤ℤ later) × (cond test (record list { end = clock +ℤ pos config.lifetime }) (record list { end = end }) ≡ record list { end = later })
-still_there config clock number list end true within soon = (clock +ℤ pos config.lifetime, soon, refl)
-still_there config clock number list end false within soon = (end, within, refl)
+-- the highest cursor falls neither by a token, nor where it was higher before
+pub given_rises : (next : Option ℕ) (given : ℕ) → given ≤ highest_given next given
+given_rises None given = omega arith
+given_rises (Some cursor) given = le-max_left given cursor
 
-renewed_there : (config : Config) (clock : ℤ) (number : ℕ) (list : FrozenList) (open_lists : OpenLists) → list.end ≤ℤ (clock +ℤ pos config.lifetime) → IsThere list open_lists
-    → IsThere list (with_prolonged config clock number open_lists)
-renewed_there config clock number list open_lists soon there =
-    let found : FrozenList = record list { end = there.0 } in
-    let after = still_there config clock number list there.0 (is_of_number number found) there.1 soon in (
+given_higher : (next : Option ℕ) (given other : ℕ) → given ≤ other → highest_given next given ≤ highest_given next other
+given_higher None given other h = h
+given_higher (Some cursor) given other h = omega (arith, h)
+
+-- a list that is carried on, or is not, ends no earlier
+still_there : (config : Config) (clock : ℤ) (number : ℕ) (next : Option ℕ) (list : FrozenList) (end : ℤ) (given : ℕ) (test : Bool) → list.end ≤ℤ end → list.given ≤ given → list.end ≤ℤ (clock +ℤ pos config.lifetime)
+    → (later : ℤ) × (more : ℕ) × (list.end ≤ℤ later) × (list.given ≤ more)
+    × (cond test (record list { end = clock +ℤ pos config.lifetime; given = highest_given next given }) (record list { end = end; given = given }) ≡ record list { end = later; given = more })
+still_there config clock number next list end given true within fewer soon =
+    let rises = given_rises next given in (clock +ℤ pos config.lifetime, highest_given next given, soon, omega (arith, fewer, rises), refl)
+still_there config clock number next list end given false within fewer soon = (end, given, within, fewer, refl)
+
+carried_there : (config : Config) (clock : ℤ) (number : ℕ) (next : Option ℕ) (list : FrozenList) (open_lists : OpenLists) → list.end ≤ℤ (clock +ℤ pos config.lifetime) → IsThere list open_lists
+    → IsThere list (with_carried_on config clock number next open_lists)
+carried_there config clock number next list open_lists soon there =
+    let found : FrozenList = list_there list open_lists there in
+    let after = still_there config clock number next list there.0 there.1 (is_of_number number found) there.2 there.3 soon in (
       after.0,
       after.1,
-      find_mapped (is_of_number list.number) (prolonged_at config clock number) (same_test config clock number list.number) open_lists.lists found there.2 ∙ ap (λ (l : FrozenList). Some l) after.2,
+      after.2,
+      after.3,
+      find_mapped (is_of_number list.number) (carried_on_at config clock number next) (same_test config clock number next list.number) open_lists.lists found there.4 ∙ ap (λ (l : FrozenList). Some l) after.4,
     )
 
 opened_there : (list other : FrozenList) (open_lists : OpenLists) → IsThere list open_lists → IsThere list (with_new_list other open_lists)
 opened_there list other open_lists there = (
   there.0,
   there.1,
-  find-append (is_of_number list.number) open_lists.lists (other ∷ []) ∙ ap (λ (o : Option FrozenList). option_or o (find (is_of_number list.number) (other ∷ []))) there.2,
+  there.2,
+  there.3,
+  find-append (is_of_number list.number) open_lists.lists (other ∷ []) ∙ ap (λ (o : Option FrozenList). option_or o (find (is_of_number list.number) (other ∷ []))) there.4,
 )
 
 pub stands_effected : (config : Config) (list : FrozenList) (state : RepoState) (effect : Effect) → Stands config list state → Stands config list (effected config state effect)
@@ -138,9 +162,9 @@ stands_effected config list state (item_put item) stands = record { soon = stand
 stands_effected config list state (item_taken identifier) stands = record { soon = stands.soon; there = stands.there }
 stands_effected config list state (items_purged limit) stands = record { soon = stands.soon; there = stands.there }
 stands_effected config list state (set_added set) stands = record { soon = stands.soon; there = stands.there }
-stands_effected config list state (list_renewed number) stands = record {
+stands_effected config list state (list_carried_on number next) stands = record {
   soon = stands.soon;
-  there = λ before. renewed_there config state.clock number list state.open_lists stands.soon (stands.there before);
+  there = λ before. carried_there config state.clock number next list state.open_lists stands.soon (stands.there before);
 }
 stands_effected config list state (list_opened other) stands = record {
   soon = stands.soon;
@@ -156,7 +180,9 @@ stands_opened config state list sound number lasting = record {
   soon = subst (λ (e : ℤ). list.end ≤ℤ e) lasting (itself list.end);
   there = λ before. (
     list.end,
+    list.given,
     itself list.end,
+    omega arith,
     find-append (is_of_number list.number) state.open_lists.lists (list ∷ [])
         ∙ ap (λ (o : Option FrozenList). option_or o (find (is_of_number list.number) (list ∷ []))) (ap (λ (n : ℕ). find (is_of_number n) state.open_lists.lists) number ∙ find_ungiven state.open_lists.next state.open_lists.lists sound.given)
         ∙ cond-true (is_of_number list.number list) (Some list) None (own list.number),
@@ -167,16 +193,18 @@ stands_opened config state list sound number lasting = record {
     own n = grind (arith, nat_tests)
 
 -- one that is continued stands with its new end
-pub stands_renewed : (config : Config) (state : RepoState) (list : FrozenList) → IsThere list state.open_lists
-    → Stands config (prolonged config state.clock list) (effected config state (list_renewed list.number))
-stands_renewed config state list there = record {
+pub stands_carried_on : (config : Config) (state : RepoState) (next : Option ℕ) (list : FrozenList) → IsThere list state.open_lists
+    → Stands config (carried_on config state.clock next list) (effected config state (list_carried_on list.number next))
+stands_carried_on config state next list there = record {
   soon = itself (state.clock +ℤ pos config.lifetime);
   there = λ before.
-      let found : FrozenList = record list { end = there.0 } in (
+      let found : FrozenList = list_there list state.open_lists there in (
         state.clock +ℤ pos config.lifetime,
+        highest_given next there.1,
         itself (state.clock +ℤ pos config.lifetime),
-        find_mapped (is_of_number list.number) (prolonged_at config state.clock list.number) (same_test config state.clock list.number list.number) state.open_lists.lists found there.2
-            ∙ ap (λ (l : FrozenList). Some l) (cond-true (is_of_number list.number list) (record list { end = state.clock +ℤ pos config.lifetime }) found (own list.number)),
+        given_higher next list.given there.1 there.3,
+        find_mapped (is_of_number list.number) (carried_on_at config state.clock list.number next) (same_test config state.clock list.number next list.number) state.open_lists.lists found there.4
+            ∙ ap (λ (l : FrozenList). Some l) (cond-true (is_of_number list.number list) (carried_on config state.clock next found) found (own list.number)),
       );
 }
   where

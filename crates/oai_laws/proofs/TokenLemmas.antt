@@ -13,7 +13,7 @@ use Rattle.oai_args.specs.declared.requests.Ask.TheVariants as ask
 use Rattle.oai_answers.specs.Answers.{Attributes, Page}
 use Rattle.oai_settings.specs.Config.{Config}
 use Rattle.oai_repo.specs.Answers.{arguments_of_request}
-use Rattle.oai_repo.specs.Listing.{Response, continued_response, is_of_number, is_continued, is_same_verb, part_from, part_answer, prolonged, with_answer, answer_by_verb, token_response, where_continued}
+use Rattle.oai_repo.specs.Listing.{Response, continued_response, is_of_number, is_continued, is_same_verb, is_valid_cursor, part_from, part_answer, prolonged, with_answer, answer_by_verb, token_response, where_continued}
 use Rattle.oai_repo.specs.Machine.{act, requesting, outcome_of}
 use Rattle.oai_repo.specs.State.{FrozenList, OpenLists, RepoState}
 use Rattle.oai_laws.specs.Effects.{IsSound, is_of_format}
@@ -29,7 +29,7 @@ shown_by list.Records list.Sets format page same = cc
 shown_by list.Sets list.Sets format page same = cc
 
 -- a part of it in its format, which the repository has
-part_shown : (config : Config) (clock : ℤ) (asked : Attributes) (its verb : ListVerb) (format : Option Format) (page : Page) → is_some format ≡ true → is_same_verb its verb ≡ true
+pub part_shown : (config : Config) (clock : ℤ) (asked : Attributes) (its verb : ListVerb) (format : Option Format) (page : Page) → is_some format ≡ true → is_same_verb its verb ≡ true
     → page_shown (outcome_of config clock asked (with_answer (part_answer verb format page))) ≡ Some page
 part_shown config clock asked its verb None page known same = cc
 part_shown config clock asked its verb (Some format) page known same = shown_by its verb format page same
@@ -40,14 +40,14 @@ IsContinuedBy config clock asked done = IsContinued (outcome_of config clock ask
 
 found_shown : (config : Config) (clock : ℤ) (open_lists : OpenLists) (asked : Attributes) (verb : ListVerb) (token : Token) (found : Option FrozenList)
     → ((list : FrozenList) → found ≡ Some list → is_of_format config list ≡ true)
-    → IsContinuedBy config clock asked (continued_response config clock open_lists verb token.cursor (where_continued verb token found))
+    → IsContinuedBy config clock asked (continued_response config clock open_lists verb token.cursor (where_continued config verb token found))
 found_shown config clock open_lists asked verb token None known = inl refl
 found_shown config clock open_lists asked verb token (Some list) known =
-    cond_both (is_continued verb token list.verb (length list.items)) (Some list) None (λ (o : Option FrozenList). IsContinuedBy config clock asked (continued_response config clock open_lists verb token.cursor o))
+    cond_both (is_continued config.chunk verb token list.verb (length list.items) list.given) (Some list) None (λ (o : Option FrozenList). IsContinuedBy config clock asked (continued_response config clock open_lists verb token.cursor o))
     (λ fits. inr (
       part_from config (prolonged config clock list) token.cursor,
       part_shown config clock asked list.verb verb (format_named list.prefix config.formats) (part_from config (prolonged config clock list) token.cursor) (known list refl)
-          (and_parts (is_same_verb list.verb verb) (nat_lt token.cursor (length list.items)) fits).0,
+          (and_parts (is_same_verb list.verb verb) (is_valid_cursor config.chunk (length list.items) list.given token.cursor) fits).0,
     ))
     (λ _. inl refl)
 

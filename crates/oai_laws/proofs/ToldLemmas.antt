@@ -60,7 +60,7 @@ continued_waits config state asked seconds verb cursor (Some list) = λ told. cc
 token_waits : (config : Config) (state : RepoState) (asked : Attributes) (seconds : ℤ) (verb : ListVerb) (token : Option Token)
     → WaitsIf config state asked seconds (token_response config state.clock state.open_lists verb token)
 token_waits config state asked seconds verb None = λ told. cc
-token_waits config state asked seconds verb (Some token) = continued_waits config state asked seconds verb token.cursor (list_continued state.open_lists verb token)
+token_waits config state asked seconds verb (Some token) = continued_waits config state asked seconds verb token.cursor (list_continued config state.open_lists verb token)
 
 request_waits : (config : Config) (state : RepoState) (asked : Attributes) (seconds : ℤ) (request : AskOrError) → WaitsIf config state asked seconds (request_response config state request)
 request_waits config state asked seconds bad_verb = λ told. cc

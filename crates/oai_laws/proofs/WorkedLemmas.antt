@@ -46,8 +46,8 @@ fifth = item (codes "oai:a:5") 0
 abbrev five : List ItemState
 five = first_items ++ fourth ∷ fifth ∷ []
 
-abbrev list_of : ℕ → ListVerb → ℕ → FrozenList
-list_of number verb end = record { number = number; verb = verb; prefix = codes "oai_dc"; items = five; end = second end }
+abbrev list_of : ℕ → ListVerb → ℕ → ℕ → FrozenList
+list_of number verb end given = record { number = number; verb = verb; prefix = codes "oai_dc"; items = five; end = second end; given = given }
 
 abbrev state_at : ℕ → List ItemState → List FrozenList → ℕ → RepoState
 state_at n items lists next = record { clock = second n; holdings = record { items = items; sets = [] }; open_lists = record { lists = lists; next = next } }
@@ -68,31 +68,31 @@ abbrev s5 : RepoState
 s5 = state_at 0 five [] 1
 
 abbrev s6 : RepoState
-s6 = state_at 0 five (list_of 1 list.Identifiers 60 ∷ []) 2
+s6 = state_at 0 five (list_of 1 list.Identifiers 60 2 ∷ []) 2
 
 abbrev s7 : RepoState
-s7 = state_at 60 five (list_of 2 list.Records 120 ∷ []) 3
+s7 = state_at 60 five (list_of 2 list.Records 120 2 ∷ []) 3
 
 abbrev six : List ItemState
 six = five ++ item (codes "oai:a:6") 61 ∷ []
 
 abbrev s9 : RepoState
-s9 = state_at 61 six (list_of 2 list.Records 120 ∷ []) 3
+s9 = state_at 61 six (list_of 2 list.Records 120 2 ∷ []) 3
 
 abbrev without_fourth : List ItemState
 without_fourth = first_items ++ fifth ∷ item (codes "oai:a:6") 61 ∷ tombstone_of (second 62) fourth ∷ []
 
 abbrev s10 : RepoState
-s10 = state_at 62 without_fourth (list_of 2 list.Records 120 ∷ []) 3
+s10 = state_at 62 without_fourth (list_of 2 list.Records 120 2 ∷ []) 3
 
 abbrev s12 : RepoState
-s12 = state_at 63 without_fourth (list_of 2 list.Records 120 ∷ []) 3
+s12 = state_at 63 without_fourth (list_of 2 list.Records 120 2 ∷ []) 3
 
 abbrev s13 : RepoState
-s13 = state_at 64 without_fourth (list_of 2 list.Records 124 ∷ []) 3
+s13 = state_at 64 without_fourth (list_of 2 list.Records 124 4 ∷ []) 3
 
 abbrev s14 : RepoState
-s14 = state_at 70 (first_items ++ item (codes "oai:a:6") 61 ∷ tombstone_of (second 62) fourth ∷ item (codes "oai:a:5") 70 ∷ []) (list_of 2 list.Records 124 ∷ []) 3
+s14 = state_at 70 (first_items ++ item (codes "oai:a:6") 61 ∷ tombstone_of (second 62) fourth ∷ item (codes "oai:a:5") 70 ∷ []) (list_of 2 list.Records 124 4 ∷ []) 3
 
 -- a command leads from one of them to the next
 abbrev Leads : RepoState → Timed → RepoState → Type 0
@@ -241,13 +241,13 @@ among =
 
 -- the list, as each page found it, and the page
 abbrev page_1 : Page
-page_1 = part_from worked_config (list_of 2 list.Records 120) 0
+page_1 = part_from worked_config (list_of 2 list.Records 120 2) 0
 
 abbrev page_2 : Page
-page_2 = part_from worked_config (list_of 2 list.Records 124) 2
+page_2 = part_from worked_config (list_of 2 list.Records 124 4) 2
 
 abbrev page_3 : Page
-page_3 = part_from worked_config (list_of 2 list.Records 183) 4
+page_3 = part_from worked_config (list_of 2 list.Records 183 4) 4
 
 pub told_1 : page_shown opens.outcome ≡ Some page_1
 unfolding act selected selection_response part_from wait_at record_named format_named dublin_core token_text token_of fmt.digits

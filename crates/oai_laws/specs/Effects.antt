@@ -1,5 +1,5 @@
 -- What a command can do to a state, and what is true of every state that commands lead to. This repository's own.
-use Rattle.std.specs.Prelude.{◌≡◌, ◌≢◌, ◌≤◌, ℕ, ℤ, pos, ◌+ℤ◌, int_lt, Bool, true, false, ◌&&◌, not, List, [], ◌∷◌, ◌++◌, length, filter, None, Some, is_some, nat_lt}
+use Rattle.std.specs.Prelude.{◌≡◌, ◌≢◌, ◌≤◌, ℕ, ℤ, pos, ◌+ℤ◌, int_lt, Bool, true, false, ◌&&◌, not, List, [], ◌∷◌, ◌++◌, length, filter, Option, None, Some, is_some, nat_lt}
 use Rattle.std.specs.List.{list_all}
 use Rattle.oai_lists.specs.declared.lists.TheConstants.{LAST_NUMBER}
 use Rattle.oai_item.specs.Formats.{format_named}
@@ -12,20 +12,21 @@ use Rattle.oai_args.specs.declared.requests.Ask.TheVariants as ask
 use Rattle.oai_repo.specs.Changes.{drops_format, is_one_too_many, set_refusal, stamp_at, with_new}
 use Rattle.oai_settings.specs.Config.{Config}
 use Rattle.oai_repo.specs.Kept.{AreKept, is_well_kept}
-use Rattle.oai_repo.specs.Listing.{wait_at, with_new_list, with_prolonged}
+use Rattle.oai_repo.specs.Listing.{wait_at, with_carried_on, with_new_list}
 use Rattle.oai_repo.specs.State.{FrozenList, NamedSet, RepoState}
 
 -- ---- what is done to a state
 
 -- nothing; an item comes in place of the one of its identifier, if there is one; the item of an identifier goes, and nothing of it is
--- kept; the deleted items below a limit go; a set comes behind the others; the open list of a number stays open from now on; or a list is opened
+-- kept; the deleted items below a limit go; a set comes behind the others; the open list of a number stays open from now on, and a token with a
+-- cursor is handed out, where there is one; or a list is opened
 pub data Effect : Type 0 where
   unchanged : Effect
   item_put : ItemState → Effect
   item_taken : List ℕ → Effect
   items_purged : ℤ → Effect
   set_added : NamedSet → Effect
-  list_renewed : ℕ → Effect
+  list_carried_on : ℕ → Option ℕ → Effect
   list_opened : FrozenList → Effect
 
 -- the state with other items
@@ -43,7 +44,7 @@ effected config state (item_put item) = holding state (with_new item state.holdi
 effected config state (item_taken identifier) = holding state (without identifier state.holdings.items)
 effected config state (items_purged limit) = holding state (filter (λ item. not (goes_below limit item)) state.holdings.items)
 effected config state (set_added set) = record state { holdings = record state.holdings { sets = state.holdings.sets ++ set ∷ [] } }
-effected config state (list_renewed number) = record state { open_lists = with_prolonged config state.clock number state.open_lists }
+effected config state (list_carried_on number next) = record state { open_lists = with_carried_on config state.clock number next state.open_lists }
 effected config state (list_opened list) = record state { open_lists = with_new_list list state.open_lists }
 
 -- ---- when it can be done
@@ -93,7 +94,7 @@ IsPossible config state (item_put item) = IsPut config state item
 IsPossible config state (item_taken identifier) = config.deleted ≡ No
 IsPossible config state (items_purged limit) = config.deleted ≡ Transient
 IsPossible config state (set_added set) = set_refusal state.holdings.sets set.0 ≡ None
-IsPossible config state (list_renewed number) = Unit {0}
+IsPossible config state (list_carried_on number next) = Unit {0}
 IsPossible config state (list_opened list) = IsOpened config state list
 
 -- the second state is the first after something that can be done to it

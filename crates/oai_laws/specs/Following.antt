@@ -176,6 +176,21 @@ pub record IsFollowedThrough (config : Config) (list_request : ListRequest) (sel
 abbrev pub IsContinued : Outcome → Type 0
 IsContinued outcome = (answer_in outcome ≡ Some (fails BadResumptionToken)) ⊎ ((page : Page) × (page_shown outcome ≡ Some page))
 
+-- ---- which tokens were handed out
+
+-- what was answered is a page that offers the token
+pub record IsOffered (token : List ℕ) (outcome : Outcome) : Type 0 where
+  pub page : Page
+  pub offer : TokenOffer
+  pub told : page_shown outcome ≡ Some page
+  pub offered : offer_in page.continuation ≡ Some offer
+  pub same : offer.token ≡ token
+
+-- one of these exchanges was answered so
+abbrev pub WasOffered : List ℕ → List Exchange → Type 0
+WasOffered token [] = ⊥
+WasOffered token (exchange ∷ exchanges) = IsOffered token exchange.outcome ⊎ WasOffered token exchanges
+
 -- ---- a list that is no longer than a page
 
 -- a list request is answered with its whole selection: by the verb and in the format that was asked for, in one page without a token, and the

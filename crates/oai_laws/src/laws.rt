@@ -1,7 +1,7 @@
 //! What is true of a repository in the course of time, whatever is asked of it and deposited. These
 //! laws are of the machine by whose definitions the calls of [`Repo`](oai_repo::Repo) are specified.
 
-ghost use Rattle.std.specs.Prelude.{◌≡◌, ◌≢◌, ◌≤◌, ℕ, ℤ, List, [], ◌∷◌, length, Some, true};
+ghost use Rattle.std.specs.Prelude.{◌≡◌, ◌≢◌, ◌≤◌, ℕ, ℤ, List, [], ◌∷◌, ◌++◌, length, Some, true};
 ghost use Rattle.std.specs.List.{list_all};
 ghost use Rattle.oai_names.specs.declared.list_verbs.ListVerb.{ListVerb};
 ghost use Rattle.oai_item.specs.Refusals.{Cause};
@@ -15,7 +15,7 @@ ghost use Rattle.oai_answers.specs.Seen.{document_seen};
 ghost use Rattle.oai_settings.specs.Config.{Config, IsConfig};
 ghost use Rattle.oai_laws.specs.Changing.{DoesChange};
 ghost use Rattle.oai_laws.specs.Effects.{Effect, IsEffected, IsPossible, IsSound, effected, is_of_no_list};
-ghost use Rattle.oai_laws.specs.Following.{IsChain, IsContinued, IsFollowedThrough, IsAnsweredNone, IsAnsweredWhole, ListRequest, answer_in, is_of_records, selection_in};
+ghost use Rattle.oai_laws.specs.Following.{IsChain, IsContinued, IsFollowedThrough, IsAnsweredNone, IsAnsweredWhole, ListRequest, WasOffered, answer_in, is_of_records, next_request, page_shown, selection_in};
 ghost use Rattle.oai_repo.specs.Machine.{Command, accepted, act, requesting, changing, later, refused_with};
 ghost use Rattle.oai_laws.specs.Runs.{Exchange, Throughout, Timed, are_never_last, numbers_rise_strictly, numbers_given, run};
 ghost use Rattle.oai_laws.specs.Selecting.{IsSelection, has_granular_stamp};
@@ -128,6 +128,18 @@ pub fn following_law()
         → IsAnsweredWhole config state list_request }
     ensures none { (config : Config) (state : RepoState) (list_request : ListRequest)
         → selection_in state list_request ≡ [] → IsAnsweredNone config state list_request }
+{}
+
+/// Which tokens are answered (OAI-PMH 2.0, section 3.5). Whatever a repository is asked from its beginning
+/// on, and whenever: a token that is answered with a page was handed out before, in a page that this
+/// repository answered. It begins with the number of its list, which no other list has or had
+/// ([`number_law`]); so that page was one of the same list.
+pub fn token_law()
+    ensures { (config : Config) (commands : List Timed) (before after : List Exchange)
+        (exchange : Exchange) (verb : ListVerb) (token : List ℕ) (page : Page) → IsConfig config
+        → before ++ exchange ∷ after ≡ run config (empty_state config) commands
+        → exchange.command ≡ next_request verb token → page_shown exchange.outcome ≡ Some page
+        → WasOffered token before }
 {}
 
 /// What the law of following asks for can be met: a run of fifteen commands, computed, in which a list

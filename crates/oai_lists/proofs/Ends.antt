@@ -10,7 +10,7 @@ use Rattle.std.proofs.lemmas.List.Folds.{list_all-append}
 use Rattle.std.proofs.lemmas.List.Quantifiers.{position-Some}
 use Rattle.std.proofs.lemmas.List.Sums.{AllPass-from_list_all, list_all-from_AllPass, position_or_len_is}
 use Rattle.oai_lists.specs.HeldTable.{IsHeldTable, IsListPlace, no_list_numbered}
-use Rattle.oai_lists.specs.OpenLists.{IsEarliest, IsListOpening, Table, number_or_fault, are_numbered_lists, has_ended, has_list_number, is_open, list_numbered, list_number, open_fault, open_ones, renewed, renewed_one, with_opened}
+use Rattle.oai_lists.specs.OpenLists.{IsEarliest, IsListOpening, Table, number_or_fault, are_numbered_lists, has_ended, has_list_number, is_open, list_numbered, list_number, open_fault, open_ones, with_opened}
 use Rattle.oai_lists.specs.declared.lists.OpenFault.{OpenFault}
 use Rattle.oai_lists.specs.declared.lists.OpenFault.TheVariants.{Full, NumbersSpent}
 use Rattle.oai_lists.specs.declared.open_lists.OpenList.{OpenList}
@@ -39,10 +39,10 @@ not_below a b h = grind (arith, ints)
 itself_le : (a : ℤ) → int_le a a ≡ true
 itself_le a = grind (arith, ints)
 
-min_left : (a b c : ℤ) → int_le a c ≡ true → int_le (int_min a b) c ≡ true
+pub min_left : (a b c : ℤ) → int_le a c ≡ true → int_le (int_min a b) c ≡ true
 min_left a b c h = cond_both (int_lt b a) b a (λ m. int_le m c ≡ true) (λ less. let l : int_lt b a ≡ true = less in below b a c l h) (λ _. h)
 
-min_right : (a b : ℤ) → int_le (int_min a b) b ≡ true
+pub min_right : (a b : ℤ) → int_le (int_min a b) b ≡ true
 min_right a b = cond_both (int_lt b a) b a (λ m. int_le m b ≡ true) (λ _. itself_le b) (λ least. not_below a b least)
 
 -- ---- which lists have ended
@@ -196,60 +196,6 @@ held_at table earliest at d within held = record {
 pub held_removed : (limit next : ℕ) (lists : List OpenList) (earliest : ℤ) (at : ℕ) → at < length lists → IsHeldTable (record { limit = limit; next = next; lists = lists }) earliest → IsHeldTable (record { limit = limit; next = next; lists = remove lists at }) earliest
 held_removed limit next [] earliest at within held = absurd (omega arith)
 held_removed limit next (x ∷ lists) earliest at within held = held_at (record { limit = limit; next = next; lists = x ∷ lists }) earliest at x within held
-
--- the same lists, one with another end
-renewed_number : (number : ℕ) (end : ℤ) (list : OpenList) → (renewed_one number end list).number ≡ list.number
-renewed_number number end list = cond_both (has_list_number number list) (record list { end = end }) list (λ x. x.number ≡ list.number) (λ _. refl) (λ _. refl)
-
-renewed_end : (number : ℕ) (end earliest : ℤ) (list : OpenList) → int_le earliest list.end ≡ true → int_le (int_min earliest end) (renewed_one number end list).end ≡ true
-renewed_end number end earliest list h =
-    cond_both (has_list_number number list) (record list { end = end }) list (λ x. int_le (int_min earliest end) x.end ≡ true) (λ _. min_right earliest end) (λ _. min_left earliest end list.end h)
-
-before_renewed : (number : ℕ) (end : ℤ) (x : OpenList) (lists : List OpenList) → list_all (is_lower list_number (renewed_one number end x)) (renewed number end lists) ≡ list_all (is_lower list_number x) lists
-before_renewed number end x [] = refl
-before_renewed number end x (y ∷ lists) =
-    let here : is_lower list_number (renewed_one number end x) (renewed_one number end y) ≡ is_lower list_number x y = ap (λ n. nat_lt n (renewed_one number end y).number) (renewed_number number end x) ∙ ap (nat_lt x.number) (renewed_number number end y) in
-    ap (λ b. b && list_all (is_lower list_number (renewed_one number end x)) (renewed number end lists)) here ∙ ap (λ b. is_lower list_number x y && b) (before_renewed number end x lists)
-
-numbered_renewed : (number : ℕ) (end : ℤ) (lists : List OpenList) → are_numbered_lists (renewed number end lists) ≡ are_numbered_lists lists
-numbered_renewed number end [] = refl
-numbered_renewed number end (x ∷ lists) =
-    ap (λ b. b && are_numbered_lists (renewed number end lists)) (before_renewed number end x lists) ∙ ap (λ b. list_all (is_lower list_number x) lists && b) (numbered_renewed number end lists)
-
-given_renewed : (number next : ℕ) (end : ℤ) (lists : List OpenList) → list_all (λ list. nat_lt list.number next) (renewed number end lists) ≡ list_all (λ list. nat_lt list.number next) lists
-given_renewed number next end [] = refl
-given_renewed number next end (x ∷ lists) =
-    ap (λ n. nat_lt n next && list_all (λ list. nat_lt list.number next) (renewed number end lists)) (renewed_number number end x) ∙ ap (λ b. nat_lt x.number next && b) (given_renewed number next end lists)
-
-bound_renewed : (number : ℕ) (end earliest : ℤ) (lists : List OpenList) → list_all (λ list. int_le earliest list.end) lists ≡ true → list_all (λ list. int_le (int_min earliest end) list.end) (renewed number end lists) ≡ true
-bound_renewed number end earliest [] h = refl
-bound_renewed number end earliest (x ∷ lists) h =
-    let parts = and_parts (int_le earliest x.end) (list_all (λ list. int_le earliest list.end) lists) h in
-    and_from _ _ (renewed_end number end earliest x parts.0) (bound_renewed number end earliest lists parts.1)
-
-pub held_renewed : (limit next number : ℕ) (lists : List OpenList) (earliest end : ℤ) → IsHeldTable (record { limit = limit; next = next; lists = lists }) earliest → IsHeldTable (record { limit = limit; next = next; lists = renewed number end lists }) (int_min earliest end)
-held_renewed limit next number lists earliest end held = record {
-  numbers = record { numbered = numbered_renewed number end lists ∙ held.numbers.numbered; given = given_renewed number next end lists ∙ held.numbers.given };
-  bound = bound_renewed number end earliest lists held.bound;
-}
-
-unrenewed : (number : ℕ) (end : ℤ) (lists : List OpenList) → no_list_numbered number lists → renewed number end lists ≡ lists
-unrenewed number end [] h = refl
-unrenewed number end (x ∷ lists) h =
-    let parts = and_parts (not (has_list_number number x)) (list_all (λ list. not (has_list_number number list)) lists) h in
-    ap (λ y. y ∷ renewed number end lists) (cond-false (has_list_number number x) (record x { end = end }) x (not-true _ parts.0)) ∙ ap (λ ys. x ∷ ys) (unrenewed number end lists parts.1)
-
--- the one list that is renewed
-pub renewed-placed : (number : ℕ) (end : ℤ) (lists : List OpenList) (at : ℕ) (d : OpenList) → IsListPlace number lists (Some at) → renewed number end lists ≡ set lists at (record (get_or lists at d) { end = end })
-renewed-placed number end lists at d placed =
-    let x : OpenList = get_or lists at d in
-    let rest : List OpenList = drop (at + 1) lists in
-    ap (renewed number end) (cut lists at d placed.0)
-    ∙ map-append (renewed_one number end) (take at lists) (x ∷ rest)
-    ∙ ap (λ ys. ys ++ renewed number end (x ∷ rest)) (unrenewed number end (take at lists) placed.2)
-    ∙ ap (λ y. take at lists ++ (y ∷ renewed number end rest)) (cond-true (has_list_number number x) (record x { end = end }) x (placed.1 d))
-    ∙ ap (λ ys. take at lists ++ (record x { end = end } ∷ ys)) (unrenewed number end rest placed.3)
-    ∙ sym (set_cut lists at (record x { end = end }) placed.0)
 
 -- ---- opening that is refused
 

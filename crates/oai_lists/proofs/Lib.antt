@@ -1,4 +1,5 @@
 pub mod Stops
 pub mod Tables
+pub mod Changes
 pub mod Ends
 pub mod TokensRead

@@ -1,9 +1,10 @@
 -- The lists that a repository has begun to answer and that resumption tokens continue. OAI-PMH 2.0, section 3.5.
-use Rattle.std.specs.Prelude.{◌≡◌, ◌+◌, ◌≤ℤ◌, ℕ, ℤ, int_le, int_lt, Bool, true, ◌&&◌, ◌==◌, nat_le, nat_lt, if◌then◌else◌, List, [], ◌∷◌, ◌++◌, length, map, Option, None, Some, MatchOption, filter, find, Result, Ok, Err}
+use Rattle.std.specs.Prelude.{◌≡◌, ◌+◌, ◌≤ℤ◌, ℕ, ℤ, max, int_le, int_lt, Bool, true, ◌&&◌, ◌==◌, nat_le, nat_lt, if◌then◌else◌, List, [], ◌∷◌, ◌++◌, length, map, Option, None, Some, MatchOption, filter, find, Result, Ok, Err}
 use Rattle.std.specs.List.{All, Contains, after_first, before_first, list_all}
 use Rattle.oai_names.specs.declared.list_verbs.ListVerb.{ListVerb}
 use Rattle.oai_names.specs.Numbered.{numbers_rise}
 use Rattle.oai_item.specs.Selection.{Filter}
+use Rattle.oai_lists.specs.declared.open_lists.Mark.{Mark}
 use Rattle.oai_lists.specs.declared.open_lists.OpenList.{OpenList}
 use Rattle.oai_lists.specs.declared.lists.OpenFault.{OpenFault}
 use Rattle.oai_lists.specs.declared.lists.OpenFault.TheVariants.{Full, NumbersSpent, NoMemory}
@@ -60,15 +61,17 @@ number_or_fault (Some fault) next = Err fault
 abbrev pub with_opened : Table → OpenList → Table
 with_opened table list = record table { next = table.next + 1; lists = table.lists ++ list ∷ [] }
 
--- the list of these parts, with the next number
-abbrev pub next_list : Table → ListVerb → Filter → ℕ → ℕ → ℤ → OpenList
-next_list table verb filter version size end = record {
+-- the list of these parts, with the next number; the first cursor was given, and nothing is marked
+abbrev pub next_list : Table → ListVerb → Filter → ℕ → ℕ → ℤ → ℕ → OpenList
+next_list table verb filter version size end first = record {
   number = table.next;
   verb = verb;
   filter = filter;
   version = version;
   size = size;
   end = end;
+  given = first;
+  mark = None;
 }
 
 -- what opening the list at that moment answers, and the table then: it is the last one, or the first cause that applies is told and the table
@@ -79,15 +82,27 @@ IsListOpening old now list (Ok number) new =
 IsListOpening old now list (Err NoMemory) new = (open_fault old now ≡ None) × (new ≡ old)
 IsListOpening old now list (Err fault) new = (open_fault old now ≡ Some fault) × (new ≡ old)
 
--- ---- renewing
+-- ---- changing one list
 
--- the list with that end, where it has that number
-abbrev pub renewed_one : ℕ → ℤ → OpenList → OpenList
-renewed_one number end list = if has_list_number number list then record list { end = end } else list
+-- the list after that change, where it has that number
+abbrev pub changed_one : ℕ → (OpenList → OpenList) → OpenList → OpenList
+changed_one number change list = if has_list_number number list then change list else list
 
--- the lists, the one of that number with that end
-abbrev pub renewed : ℕ → ℤ → List OpenList → List OpenList
-renewed number end lists = map (renewed_one number end) lists
+-- the lists, the one of that number after that change
+abbrev pub with_change : ℕ → (OpenList → OpenList) → List OpenList → List OpenList
+with_change number change lists = map (changed_one number change) lists
+
+-- the list with that end
+abbrev pub open_until : ℤ → OpenList → OpenList
+open_until end list = record list { end = end }
+
+-- the list of which that cursor was given too
+abbrev pub given_too : ℕ → OpenList → OpenList
+given_too cursor list = record list { given = max list.given cursor }
+
+-- the list with that mark, or with none
+abbrev pub with_mark : Option Mark → OpenList → OpenList
+with_mark mark list = record list { mark = mark }
 
 -- ---- the earliest end
 

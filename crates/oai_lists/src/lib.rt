@@ -7,5 +7,5 @@ mod open_lists;
 mod tokens;
 
 pub use lists::{LAST_NUMBER, Lists, OpenFault};
-pub use open_lists::OpenList;
+pub use open_lists::{Mark, OpenList};
 pub use tokens::Token;

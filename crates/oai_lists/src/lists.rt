@@ -3,9 +3,9 @@ ghost use Rattle.std.specs.List.{find, remove};
 ghost use Rattle.oai_lists.specs.declared.open_lists.OpenList.{OpenList as Opened};
 ghost use Rattle.std.specs.Option.{option_copied, option_map};
 ghost use Rattle.oai_lists.specs.HeldTable.{IsListPlace};
-ghost use Rattle.oai_lists.specs.OpenLists.{IsEarliest, IsListOpening, IsListTable, number_or_fault, are_numbered_lists, has_ended, list_numbered, next_list, open_fault, open_numbered, open_ones, renewed, without_ended};
+ghost use Rattle.oai_lists.specs.OpenLists.{IsEarliest, IsListOpening, IsListTable, number_or_fault, are_numbered_lists, has_ended, list_numbered, next_list, given_too, open_fault, open_numbered, open_ones, open_until, with_change, with_mark, without_ended};
 
-use crate::open_lists::OpenList;
+use crate::open_lists::{Mark, OpenList};
 use oai_catalogue::Filter;
 use oai_names::ListVerb;
 use std::alloc::Global;
@@ -83,8 +83,9 @@ impl Lists {
     }
 
     /// Opens a list of `size` records of that version at `now`, which ends at `end`, both in seconds from
-    /// 1970 on, and gives its number, the next one. On an error the lists are as before; the errors are
-    /// those of `OpenFault`, the first that applies. It costs what `next` does, and a place at the end.
+    /// 1970 on, and gives its number, the next one. The cursor that was given in its first token is
+    /// `first`, and it has no mark. On an error the lists are as before; the errors are those of
+    /// `OpenFault`, the first that applies. It costs what `next` does, and a place at the end.
     pub fn open(
         &mut self,
         now: i64,
@@ -93,9 +94,11 @@ impl Lists {
         version: u64,
         size: u64,
         end: i64,
+        first: u64,
     ) -> Result<u64, OpenFault>
-        ensures { let list = next_list self.old verb filter version size end in
+        ensures opened { let list = next_list self.old verb filter version size end first in
             IsListOpening self.old now list result self.new }
+        ensures valid { IsListTable self.old }
     {
         let number = match self.next(now) {
             Ok(number) => number,
@@ -108,6 +111,8 @@ impl Lists {
             version,
             size,
             end,
+            given: first,
+            mark: None,
         };
         match self.lists.push(list) {
             Ok(()) => {}
@@ -138,7 +143,8 @@ impl Lists {
     /// it looks at about log n.
     pub fn renew(&mut self, number: u64, end: i64)
         requires { IsSome (list_numbered number self.old.lists) }
-        ensures { self.new ≡ record self.old { lists = renewed number end self.old.lists } }
+        ensures { self.new
+            ≡ record self.old { lists = with_change number (open_until end) self.old.lists } }
     {
         let Some(at) = place_of(self.lists.as_slice(), number) else {
             unreachable!()
@@ -146,6 +152,34 @@ impl Lists {
         let list = &mut self.lists[at];
         list.end = end;
         self.earliest = self.earliest.min(end);
+    }
+
+    /// Tells that a token of the list of that number was given with that cursor: the highest cursor given is
+    /// this one, where it was lower. It takes no memory. Of n lists it looks at about log n.
+    pub fn give(&mut self, number: u64, cursor: u64)
+        requires { IsSome (list_numbered number self.old.lists) }
+        ensures { self.new
+            ≡ record self.old { lists = with_change number (given_too cursor) self.old.lists } }
+    {
+        let Some(at) = place_of(self.lists.as_slice(), number) else {
+            unreachable!()
+        };
+        let list = &mut self.lists[at];
+        list.given = list.given.max(cursor);
+    }
+
+    /// Sets the mark of the list of that number, or lets it go. It takes no memory. Of n lists it looks at
+    /// about log n.
+    pub fn set_mark(&mut self, number: u64, mark: Option<Mark>)
+        requires { IsSome (list_numbered number self.old.lists) }
+        ensures { self.new
+            ≡ record self.old { lists = with_change number (with_mark mark) self.old.lists } }
+    {
+        let Some(at) = place_of(self.lists.as_slice(), number) else {
+            unreachable!()
+        };
+        let list = &mut self.lists[at];
+        list.mark = mark;
     }
 
     /// Drops the first list whose end is not above `now`, in seconds from 1970 on, and gives its version,

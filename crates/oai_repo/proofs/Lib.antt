@@ -12,6 +12,7 @@ pub mod PartLemmas
 pub mod PurgeLemmas
 pub mod EarliestLemmas
 pub mod ListReplyLemmas
+pub mod MarkLemmas
 pub mod TokenLemmas
 pub mod WaitLemmas
 pub mod NeighbourLemmas

@@ -7,7 +7,7 @@ use Rattle.oai_settings.specs.Config.{Config}
 use Rattle.oai_repo.specs.Fields.{RepoFields, IsStored, KeepsOthers, ItemIndex, StandsIn, open_lists_of, numbers_of, state_of}
 use Rattle.oai_repo.specs.State.{NamedSet, OpenLists, RepoState, at_clock}
 use Rattle.oai_repo.specs.Tables.{versions_ended, without_lists}
-use Rattle.oai_repo.proofs.OpenListLemmas.{open_lists_dropped, counted_dropped, items_dropped, indexed_same, still_same}
+use Rattle.oai_repo.proofs.OpenListLemmas.{open_lists_dropped, items_dropped, indexed_same, still_same, table_agrees_dropped}
 use Rattle.oai_repo.proofs.EndLemmas.{in_use_dropped, kept_dropped}
 
 abbrev pub held_with : Config → ℤ → ItemIndex → List NamedSet → Table → RepoFields
@@ -44,7 +44,7 @@ pub held_dropped : (config : Config) (c now : ℤ) (index : ItemIndex) (sets : L
     → IsStored (held_with config c index sets table) all → IsStored (held_with config now index sets (dropped now table)) (without_lists (versions_ended now table) all)
 held_dropped config c now index sets table all stands held = record {
   indexed = indexed_same config index sets all (without_lists (versions_ended now table) all) (items_dropped now index.version table all stands.apart) held.indexed;
-  agrees = record { counted = counted_dropped now index.version table all stands.apart held.agrees.counted };
+  agrees = table_agrees_dropped now index.version table all stands.apart held.agrees;
 }
 
 pub others_dropped : (config : Config) (c now : ℤ) (index : ItemIndex) (sets : List NamedSet) (table : Table) (all : Lists)

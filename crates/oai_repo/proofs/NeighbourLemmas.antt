@@ -3,7 +3,7 @@ use Rattle.std.proofs.Common.{◌≡◌, inl, inr, ℕ, true, false, eqb, is_som
 use Rattle.std.proofs.lemmas.Bool.{cases_Bool, or_left, or_right}
 use Rattle.oai_catalogue.specs.Store.{Lists}
 use Rattle.oai_repo.specs.Fields.{RepoFields, IsStored, KeepsOthers, StandsIn, has, numbers_of, versions_in}
-use Rattle.oai_repo.proofs.OpenListLemmas.{all_counted, indexed_same}
+use Rattle.oai_repo.proofs.OpenListLemmas.{indexed_same, table_agrees_same}
 use Rattle.oai_repo.proofs.NumberLemmas.{clash, none_false, same_number, used_at, used_by}
 
 -- no number is one of both
@@ -40,7 +40,7 @@ held_where other before after same held =
     let v : ℕ = other.index.version in
     record {
       indexed = indexed_same other.config other.index other.sets before after (same v (or_left (eqb v v) (has (versions_in other.table) v) (same_number v))) held.indexed;
-      agrees = record { counted = all_counted before after other.table.lists (λ n there. same n (or_right (eqb v n) (has (versions_in other.table) n) there)) held.agrees.counted };
+      agrees = table_agrees_same other.table before after (λ n there. same n (or_right (eqb v n) (has (versions_in other.table) n) there)) held.agrees;
     }
 
 pub still_stands : (old new other : RepoFields) (before after : Lists) → KeepsOthers (numbers_of old) before (numbers_of new) after → StandsIn other before → AreApart other old → StandsIn other after

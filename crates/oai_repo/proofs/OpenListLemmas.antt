@@ -1,24 +1,30 @@
 -- The open lists of a repository, as its table and its store have them.
 use Rattle.std.proofs.Common.{◌≡◌, ◌∙◌, inl, inr, ℕ, ℤ, pos, ◌+◌, ◌+ℤ◌, ◌≤ℤ◌, Bool, true, false, not, ◌&&◌, ◌||◌, eqb, List, [], ◌∷◌, ◌++◌, length, map, Option, None, Some, IsSome, unwrap_or, refl, sym, ap, subst, arith}
-use Rattle.std.specs.Prelude.{filter, find, int_le, int_lt}
+use Rattle.std.specs.Prelude.{filter, find, int_le, int_lt, nat_lt}
 use Rattle.std.specs.List.{list_all}
 use Rattle.std.specs.Option.{option_map}
 use Rattle.std.proofs.lemmas.Bool.{and_from, and_left, and_parts, and_right, cases_Bool, cond-true, cond-false, cond_both, eq-eqb, eqb-true, false_from_ne_true, not-true, or_left, or_right}
+use Rattle.std.proofs.lemmas.Bool.Decides.{nat_tests}
 use Rattle.std.proofs.lemmas.Int.{ints}
 use Rattle.std.proofs.lemmas.List.{map-append}
 use Rattle.std.proofs.lemmas.List.Elements.{filter-append}
+use Rattle.oai_names.proofs.Lists.{all-weaker}
+use Rattle.oai_names.specs.Numbered.{is_lower}
 use Rattle.oai_item.specs.Item.{ItemState}
 use Rattle.oai_item.specs.Selection.{selected}
 use Rattle.oai_catalogue.specs.Store.{Lists, list_at, with_list}
 use Rattle.oai_catalogue.proofs.ListsLemmas.{list_at-with}
-use Rattle.oai_lists.specs.OpenLists.{Table, has_list_number, is_open, list_numbered, open_numbered, open_ones, renewed, renewed_one, with_opened as opening}
+use Rattle.oai_lists.proofs.Changes.{change-last, changed_twice, unchanged_lists}
+use Rattle.oai_lists.specs.HeldTable.{no_list_numbered}
+use Rattle.oai_lists.specs.OpenLists.{IsListTable, Table, are_numbered_lists, changed_one, given_too, has_list_number, is_open, list_number, list_numbered, open_numbered, open_ones, open_until, with_change, with_mark, with_opened as opening}
+use Rattle.oai_lists.specs.declared.open_lists.Mark.{Mark}
 use Rattle.oai_lists.specs.declared.open_lists.OpenList.{OpenList}
 use Rattle.oai_settings.specs.Config.{Config}
-use Rattle.oai_repo.specs.Fields.{AreInUse, IndexAgrees, IsIndexed, KeepsOthers, ItemIndex, are_counted, are_different, open_lists_of, frozen_in, has, is_counted, has_writable_stamp, versions_in}
+use Rattle.oai_repo.specs.Fields.{AreInUse, IndexAgrees, IsIndexed, KeepsOthers, ItemIndex, TableAgrees, are_different, open_lists_of, frozen_in, has, is_counted, is_marked, is_place_in, items_frozen, has_writable_stamp, versions_in}
 use Rattle.oai_repo.specs.Kept.{AreKept}
-use Rattle.oai_repo.specs.Listing.{is_of_number, prolonged, prolonged_at, with_new_list, with_prolonged}
+use Rattle.oai_repo.specs.Listing.{carried_on, carried_on_at, is_of_number, with_carried_on, with_new_list}
 use Rattle.oai_repo.specs.State.{FrozenList, NamedSet, OpenLists, is_open_at, still_open}
-use Rattle.oai_repo.specs.Tables.{IsKeptTable, IsLeftOpen, has_end, versions_ended, without_lists}
+use Rattle.oai_repo.specs.Tables.{IsKeptTable, IsLeftOpen, has_end, kept_open, versions_ended, without_lists}
 use Rattle.oai_repo.proofs.EndLemmas.{in_use_dropped, kept_dropped, left_same, open_here, open_later, versions}
 use Rattle.oai_repo.proofs.NumberLemmas.{clash, in_use_end, kept_end, kept_same, same_number, turned, unused_lacks}
 
@@ -26,11 +32,15 @@ use Rattle.oai_repo.proofs.NumberLemmas.{clash, in_use_end, kept_end, kept_same,
 
 frozen_same : (a b : Lists) (list : OpenList) → b list.version ≡ a list.version → frozen_in b list ≡ frozen_in a list
 frozen_same a b list same =
-    let made : Option (List ItemState) → FrozenList = λ o. record { number = list.number; verb = list.verb; prefix = list.filter.prefix; items = selected list.filter (unwrap_or o []); end = list.end } in
+    let made : Option (List ItemState) → FrozenList = λ o. record { number = list.number; verb = list.verb; prefix = list.filter.prefix; items = selected list.filter (unwrap_or o []); end = list.end; given = list.given } in
     ap made same
 
-counted_at : (a b : Lists) (list : OpenList) → b list.version ≡ a list.version → is_counted b list ≡ is_counted a list
-counted_at a b list same = ap (λ (frozen : FrozenList). eqb list.size (length frozen.items)) (frozen_same a b list same)
+-- what is asked of a list and of the items of its selection
+abbrev pub agrees_by : (OpenList → List ItemState → Bool) → Lists → OpenList → Bool
+agrees_by q lists list = q list (items_frozen lists list)
+
+agrees_at : (q : OpenList → List ItemState → Bool) (a b : Lists) (list : OpenList) → b list.version ≡ a list.version → agrees_by q b list ≡ agrees_by q a list
+agrees_at q a b list same = ap (λ (o : Option (List ItemState)). q list (selected list.filter (unwrap_or o []))) same
 
 map_frozen : (a b : Lists) (lists : List OpenList) → ((n : ℕ) → has (versions lists) n ≡ true → b n ≡ a n) → map (frozen_in b) lists ≡ map (frozen_in a) lists
 map_frozen a b [] same = refl
@@ -38,13 +48,27 @@ map_frozen a b (x ∷ lists) same =
     ap (λ (list : FrozenList). list ∷ map (frozen_in b) lists) (frozen_same a b x (same x.version (or_left (eqb x.version x.version) (has (versions lists) x.version) (same_number x.version))))
     ∙ ap (λ ls. frozen_in a x ∷ ls) (map_frozen a b lists (λ n there. same n (or_right (eqb x.version n) (has (versions lists) n) there)))
 
-pub all_counted : (a b : Lists) (lists : List OpenList) → ((n : ℕ) → has (versions lists) n ≡ true → b n ≡ a n) → list_all (is_counted a) lists ≡ true → list_all (is_counted b) lists ≡ true
-all_counted a b [] same h = refl
-all_counted a b (x ∷ lists) same h =
-    let parts = and_parts (is_counted a x) (list_all (is_counted a) lists) h in
-    and_from (is_counted b x) (list_all (is_counted b) lists)
-    (counted_at a b x (same x.version (or_left (eqb x.version x.version) (has (versions lists) x.version) (same_number x.version))) ∙ parts.0)
-    (all_counted a b lists (λ n there. same n (or_right (eqb x.version n) (has (versions lists) n) there)) parts.1)
+pub all_agree : (q : OpenList → List ItemState → Bool) (a b : Lists) (lists : List OpenList) → ((n : ℕ) → has (versions lists) n ≡ true → b n ≡ a n) → list_all (agrees_by q a) lists ≡ true → list_all (agrees_by q b) lists ≡ true
+all_agree q a b [] same h = refl
+all_agree q a b (x ∷ lists) same h =
+    let parts = and_parts (agrees_by q a x) (list_all (agrees_by q a) lists) h in
+    and_from (agrees_by q b x) (list_all (agrees_by q b) lists)
+    (agrees_at q a b x (same x.version (or_left (eqb x.version x.version) (has (versions lists) x.version) (same_number x.version))) ∙ parts.0)
+    (all_agree q a b lists (λ n there. same n (or_right (eqb x.version n) (has (versions lists) n) there)) parts.1)
+
+-- the size is that of the items, and the mark is a place among them
+abbrev pub by_size : OpenList → List ItemState → Bool
+by_size list items = eqb list.size (length items)
+
+abbrev pub by_mark : OpenList → List ItemState → Bool
+by_mark list items = is_place_in items list.mark
+
+-- a table agrees with other lists that hold the same under its numbers
+pub table_agrees_same : (table : Table) (a b : Lists) → ((n : ℕ) → has (versions_in table) n ≡ true → b n ≡ a n) → TableAgrees table a → TableAgrees table b
+table_agrees_same table a b same agrees = record {
+  counted = all_agree by_size a b table.lists same agrees.counted;
+  marked = all_agree by_mark a b table.lists same agrees.marked;
+}
 
 -- an open one is among all
 open_there : (now : ℤ) (lists : List OpenList) (n : ℕ) → has (versions (open_ones now lists)) n ≡ true → has (versions lists) n ≡ true
@@ -137,12 +161,19 @@ all_open now (x ∷ lists) =
       | inr over ↦ ap (list_all (is_open now)) (open_later now x lists over) ∙ all_open now lists
     ]
 
-pub counted_dropped : (now : ℤ) (v : ℕ) (table : Table) (all : Lists) → are_different (v ∷ versions_in table) ≡ true → are_counted table all ≡ true
-    → are_counted (record table { lists = open_ones now table.lists }) (without_lists (versions_ended now table) all) ≡ true
-counted_dropped now v table all apart h =
-    all_counted all (without_lists (versions_ended now table) all) (open_ones now table.lists)
+all_dropped : (q : OpenList → List ItemState → Bool) (now : ℤ) (v : ℕ) (table : Table) (all : Lists) → are_different (v ∷ versions_in table) ≡ true → list_all (agrees_by q all) table.lists ≡ true
+    → list_all (agrees_by q (without_lists (versions_ended now table) all)) (open_ones now table.lists) ≡ true
+all_dropped q now v table all apart h =
+    all_agree q all (without_lists (versions_ended now table) all) (open_ones now table.lists)
     (λ n there. left_same now v table.lists all apart n (or_right (eqb v n) (has (versions (open_ones now table.lists)) n) there))
-    (some_all (is_counted all) now table.lists h)
+    (some_all (agrees_by q all) now table.lists h)
+
+pub table_agrees_dropped : (now : ℤ) (v : ℕ) (table : Table) (all : Lists) → are_different (v ∷ versions_in table) ≡ true → TableAgrees table all
+    → TableAgrees (record table { lists = open_ones now table.lists }) (without_lists (versions_ended now table) all)
+table_agrees_dropped now v table all apart agrees = record {
+  counted = all_dropped by_size now v table all apart agrees.counted;
+  marked = all_dropped by_mark now v table all apart agrees.marked;
+}
 
 pub table_dropped : (config : Config) (now : ℤ) (table : Table) → IsKeptTable config table → IsKeptTable config (record table { lists = open_ones now table.lists })
 table_dropped config now table kept = record { limit = kept.limit; ends = some_all has_end now table.lists kept.ends }
@@ -239,96 +270,161 @@ found_frozen number now all (x ∷ lists) =
           ∙ sym (ap (option_map (frozen_in all)) (cond-false (opened_as number now x) (Some x) (find (opened_as number now) lists) (and_right (has_list_number number x) (is_open now x) over)))
     ]
 
--- ---- a list that stays open from now on
+-- ---- a list of which a part was answered
 
-renewed_open : (now end : ℤ) (number : ℕ) (x : OpenList) → int_lt now end ≡ true → is_open now x ≡ true → is_open now (renewed_one number end x) ≡ true
-renewed_open now end number x later lasts =
-    cond_both (has_list_number number x) (record x { end = end }) x (λ (list : OpenList). is_open now list ≡ true) (λ _. later) (λ _. lasts)
+kept_stays : (now end : ℤ) (next : Option ℕ) (mark : Option Mark) (number : ℕ) (x : OpenList) → int_lt now end ≡ true → is_open now x ≡ true → is_open now (changed_one number (kept_open end next mark) x) ≡ true
+kept_stays now end next mark number x later lasts =
+    cond_both (has_list_number number x) (kept_open end next mark x) x (λ (list : OpenList). is_open now list ≡ true) (λ _. later) (λ _. lasts)
 
-renewed_frozen : (config : Config) (now end : ℤ) (number : ℕ) (all : Lists) (x : OpenList) → end ≡ now +ℤ pos config.lifetime
-    → frozen_in all (renewed_one number end x) ≡ prolonged_at config now number (frozen_in all x)
-renewed_frozen config now end number all x is =
+kept_frozen : (config : Config) (now end : ℤ) (next : Option ℕ) (mark : Option Mark) (number : ℕ) (all : Lists) (x : OpenList) → end ≡ now +ℤ pos config.lifetime
+    → frozen_in all (changed_one number (kept_open end next mark) x) ≡ carried_on_at config now number next (frozen_in all x)
+kept_frozen config now end next mark number all x is =
     elim (cases_Bool (has_list_number number x)) [
       | inl here ↦
-          ap (frozen_in all) (cond-true (has_list_number number x) (record x { end = end }) x here)
-          ∙ ap (λ (e : ℤ). frozen_in all (record x { end = e })) is
-          ∙ sym (cond-true (has_list_number number x) (prolonged config now (frozen_in all x)) (frozen_in all x) here)
+          ap (frozen_in all) (cond-true (has_list_number number x) (kept_open end next mark x) x here)
+          ∙ ap (λ (e : ℤ). frozen_in all (kept_open e next mark x)) is
+          ∙ sym (cond-true (has_list_number number x) (carried_on config now next (frozen_in all x)) (frozen_in all x) here)
       | inr other ↦
-          ap (frozen_in all) (cond-false (has_list_number number x) (record x { end = end }) x other)
-          ∙ sym (cond-false (has_list_number number x) (prolonged config now (frozen_in all x)) (frozen_in all x) other)
+          ap (frozen_in all) (cond-false (has_list_number number x) (kept_open end next mark x) x other)
+          ∙ sym (cond-false (has_list_number number x) (carried_on config now next (frozen_in all x)) (frozen_in all x) other)
     ]
 
-renewed_lists : (config : Config) (now end : ℤ) (number : ℕ) (all : Lists) (lists : List OpenList) → end ≡ now +ℤ pos config.lifetime → int_lt now end ≡ true
-    → map (frozen_in all) (open_ones now (renewed number end (open_ones now lists))) ≡ map (prolonged_at config now number) (map (frozen_in all) (open_ones now lists))
-renewed_lists config now end number all [] is later = refl
-renewed_lists config now end number all (x ∷ lists) is later =
-    let rest = renewed_lists config now end number all lists is later in
+kept_lists : (config : Config) (now end : ℤ) (next : Option ℕ) (mark : Option Mark) (number : ℕ) (all : Lists) (lists : List OpenList) → end ≡ now +ℤ pos config.lifetime → int_lt now end ≡ true
+    → map (frozen_in all) (open_ones now (with_change number (kept_open end next mark) (open_ones now lists))) ≡ map (carried_on_at config now number next) (map (frozen_in all) (open_ones now lists))
+kept_lists config now end next mark number all [] is later = refl
+kept_lists config now end next mark number all (x ∷ lists) is later =
+    let change : OpenList → OpenList = kept_open end next mark in
+    let rest = kept_lists config now end next mark number all lists is later in
     elim (cases_Bool (is_open now x)) [
       | inl lasts ↦
-          ap (λ ls. map (frozen_in all) (open_ones now (renewed number end ls))) (open_here now x lists lasts)
-          ∙ ap (map (frozen_in all)) (open_here now (renewed_one number end x) (renewed number end (open_ones now lists)) (renewed_open now end number x later lasts))
-          ∙ ap (λ (list : FrozenList). list ∷ map (frozen_in all) (open_ones now (renewed number end (open_ones now lists)))) (renewed_frozen config now end number all x is)
-          ∙ ap (λ ls. prolonged_at config now number (frozen_in all x) ∷ ls) rest
-          ∙ ap (λ ls. map (prolonged_at config now number) (map (frozen_in all) ls)) (sym (open_here now x lists lasts))
+          ap (λ ls. map (frozen_in all) (open_ones now (with_change number change ls))) (open_here now x lists lasts)
+          ∙ ap (map (frozen_in all)) (open_here now (changed_one number change x) (with_change number change (open_ones now lists)) (kept_stays now end next mark number x later lasts))
+          ∙ ap (λ (list : FrozenList). list ∷ map (frozen_in all) (open_ones now (with_change number change (open_ones now lists)))) (kept_frozen config now end next mark number all x is)
+          ∙ ap (λ ls. carried_on_at config now number next (frozen_in all x) ∷ ls) rest
+          ∙ ap (λ ls. map (carried_on_at config now number next) (map (frozen_in all) ls)) (sym (open_here now x lists lasts))
       | inr over ↦
-          ap (λ ls. map (frozen_in all) (open_ones now (renewed number end ls))) (open_later now x lists over)
+          ap (λ ls. map (frozen_in all) (open_ones now (with_change number change ls))) (open_later now x lists over)
           ∙ rest
-          ∙ ap (λ ls. map (prolonged_at config now number) (map (frozen_in all) ls)) (sym (open_later now x lists over))
+          ∙ ap (λ ls. map (carried_on_at config now number next) (map (frozen_in all) ls)) (sym (open_later now x lists over))
     ]
 
--- the table in which the others are dropped, and the end of that one is set
-abbrev pub continued_table : ℤ → ℤ → ℕ → Table → Table
-continued_table now end number table = record table { lists = renewed number end (open_ones now table.lists) }
+-- the calls that keep it open, one after the other
+pub kept_with : (number : ℕ) (end : ℤ) (cursor : ℕ) (mark : Option Mark) (lists : List OpenList)
+    → with_change number (with_mark mark) (with_change number (given_too cursor) (with_change number (open_until end) lists)) ≡ with_change number (kept_open end (Some cursor) mark) lists
+kept_with number end cursor mark lists =
+    ap (with_change number (with_mark mark)) (changed_twice number (open_until end) (given_too cursor) (λ x. refl) lists)
+    ∙ changed_twice number (λ x. given_too cursor (open_until end x)) (with_mark mark) (λ x. refl) lists
 
-pub open_lists_renewed : (config : Config) (now end : ℤ) (number v : ℕ) (table : Table) (all : Lists) → end ≡ now +ℤ pos config.lifetime → int_lt now end ≡ true → are_different (v ∷ versions_in table) ≡ true
-    → open_lists_of now (continued_table now end number table) (without_lists (versions_ended now table) all) ≡ with_prolonged config now number (open_lists_of now table all)
-open_lists_renewed config now end number v table all is later apart =
+pub kept_without : (number : ℕ) (end : ℤ) (mark : Option Mark) (lists : List OpenList)
+    → with_change number (with_mark mark) (with_change number (open_until end) lists) ≡ with_change number (kept_open end None mark) lists
+kept_without number end mark lists = changed_twice number (open_until end) (with_mark mark) (λ x. refl) lists
+
+-- the table in which the others are dropped, and that one is kept open
+abbrev pub kept_table : ℤ → ℤ → Option ℕ → Option Mark → ℕ → Table → Table
+kept_table now end next mark number table = record table { lists = with_change number (kept_open end next mark) (open_ones now table.lists) }
+
+pub open_lists_kept : (config : Config) (now end : ℤ) (next : Option ℕ) (mark : Option Mark) (number v : ℕ) (table : Table) (all : Lists) → end ≡ now +ℤ pos config.lifetime → int_lt now end ≡ true → are_different (v ∷ versions_in table) ≡ true
+    → open_lists_of now (kept_table now end next mark number table) (without_lists (versions_ended now table) all) ≡ with_carried_on config now number next (open_lists_of now table all)
+open_lists_kept config now end next mark number v table all is later apart =
     let made : List FrozenList → OpenLists = λ lists. record { lists = lists; next = table.next } in
     let after : Lists = without_lists (versions_ended now table) all in
-    ap made (renewed_lists config now end number after table.lists is later
-    ∙ ap (map (prolonged_at config now number)) (map_frozen all after (open_ones now table.lists)
+    ap made (kept_lists config now end next mark number after table.lists is later
+    ∙ ap (map (carried_on_at config now number next)) (map_frozen all after (open_ones now table.lists)
     (λ n there. left_same now v table.lists all apart n (or_right (eqb v n) (has (versions (open_ones now table.lists)) n) there))))
 
--- the numbers stay, and what is true of each
-renewed_versions : (number : ℕ) (end : ℤ) (lists : List OpenList) → versions (renewed number end lists) ≡ versions lists
-renewed_versions number end [] = refl
-renewed_versions number end (x ∷ lists) =
-    ap (λ (v : ℕ). v ∷ versions (renewed number end lists)) (cond_both (has_list_number number x) (record x { end = end }) x (λ (list : OpenList). list.version ≡ x.version) (λ _. refl) (λ _. refl))
-    ∙ ap (λ vs. x.version ∷ vs) (renewed_versions number end lists)
+-- the versions stay, and what is true of each
+kept_versions : (end : ℤ) (next : Option ℕ) (mark : Option Mark) (number : ℕ) (lists : List OpenList) → versions (with_change number (kept_open end next mark) lists) ≡ versions lists
+kept_versions end next mark number [] = refl
+kept_versions end next mark number (x ∷ lists) =
+    let change : OpenList → OpenList = kept_open end next mark in
+    ap (λ (v : ℕ). v ∷ versions (with_change number change lists)) (cond_both (has_list_number number x) (change x) x (λ (list : OpenList). list.version ≡ x.version) (λ _. refl) (λ _. refl))
+    ∙ ap (λ vs. x.version ∷ vs) (kept_versions end next mark number lists)
 
-renewed_all : (p : OpenList → Bool) (number : ℕ) (end : ℤ) (lists : List OpenList) → ((x : OpenList) → p x ≡ true → p (record x { end = end }) ≡ true) → list_all p lists ≡ true → list_all p (renewed number end lists) ≡ true
-renewed_all p number end [] keeps h = refl
-renewed_all p number end (x ∷ lists) keeps h =
+changed_all : (p : OpenList → Bool) (number : ℕ) (change : OpenList → OpenList) (lists : List OpenList) → ((x : OpenList) → p x ≡ true → p (change x) ≡ true) → list_all p lists ≡ true → list_all p (with_change number change lists) ≡ true
+changed_all p number change [] keeps h = refl
+changed_all p number change (x ∷ lists) keeps h =
     let parts = and_parts (p x) (list_all p lists) h in
-    and_from (p (renewed_one number end x)) (list_all p (renewed number end lists))
-    (cond_both (has_list_number number x) (record x { end = end }) x (λ (list : OpenList). p list ≡ true) (λ _. keeps x parts.0) (λ _. parts.0))
-    (renewed_all p number end lists keeps parts.1)
+    and_from (p (changed_one number change x)) (list_all p (with_change number change lists))
+    (cond_both (has_list_number number x) (change x) x (λ (list : OpenList). p list ≡ true) (λ _. keeps x parts.0) (λ _. parts.0))
+    (changed_all p number change lists keeps parts.1)
 
-pub counted_renewed : (now end : ℤ) (number v : ℕ) (table : Table) (all : Lists) → are_different (v ∷ versions_in table) ≡ true → are_counted table all ≡ true
-    → are_counted (continued_table now end number table) (without_lists (versions_ended now table) all) ≡ true
-counted_renewed now end number v table all apart h =
+-- where numbers rise, what is true of the list of the number after its change is true of every list of that number
+higher_apart : (number : ℕ) (y : OpenList) (lists : List OpenList) → has_list_number number y ≡ true → list_all (is_lower list_number y) lists ≡ true → no_list_numbered number lists
+higher_apart number y lists here above =
+    all-weaker (λ (list : OpenList). is_lower list_number y list) (λ list. not (has_list_number number list)) (λ list more. other y.number list.number here more) lists above
+  where
+    other : (n m : ℕ) → eqb n number ≡ true → nat_lt n m ≡ true → not (eqb m number) ≡ true
+    other n m is more = grind (arith, nat_tests)
+
+one_changed : (now : ℤ) (number : ℕ) (q : OpenList → Bool) (change : OpenList → OpenList) (lists : List OpenList) (x : OpenList) → are_numbered_lists lists ≡ true → open_numbered number now lists ≡ Some x → q (change x) ≡ true → list_all q lists ≡ true
+    → list_all q (with_change number change (open_ones now lists)) ≡ true
+unfolding open_numbered
+one_changed now number q change [] x rising found changed h = refl
+one_changed now number q change (y ∷ lists) x rising found changed h =
+    let parts = and_parts (q y) (list_all q lists) h in
+    let order = and_parts (list_all (is_lower list_number y) lists) (are_numbered_lists lists) rising in
+    elim (cases_Bool (has_list_number number y)) [
+      | inl here ↦
+          let none : no_list_numbered number lists = higher_apart number y lists here order.0 in
+          let rest : list_all q (with_change number change (open_ones now lists)) ≡ true =
+          ap (list_all q) (unchanged_lists number change (open_ones now lists) (some_all (λ list. not (has_list_number number list)) now lists none)) ∙ some_all q now lists parts.1
+          in
+          elim (cases_Bool (is_open now y)) [
+            | inl lasts ↦
+                let e : Some y ≡ Some x = sym (cond-true (opened_as number now y) (Some y) (find (opened_as number now) lists) (and_from (has_list_number number y) (is_open now y) here lasts)) ∙ found in
+                let same : y ≡ x = cc in
+                ap (λ ls. list_all q (with_change number change ls)) (open_here now y lists lasts)
+                ∙ and_from (q (changed_one number change y)) (list_all q (with_change number change (open_ones now lists)))
+                (ap q (cond-true (has_list_number number y) (change y) y here ∙ ap change same) ∙ changed) rest
+            | inr over ↦ ap (λ ls. list_all q (with_change number change ls)) (open_later now y lists over) ∙ rest
+          ]
+      | inr other ↦
+          let rest : list_all q (with_change number change (open_ones now lists)) ≡ true =
+          one_changed now number q change lists x order.1 (sym (cond-false (opened_as number now y) (Some y) (find (opened_as number now) lists) (and_left (has_list_number number y) (is_open now y) other)) ∙ found) changed parts.1
+          in
+          elim (cases_Bool (is_open now y)) [
+            | inl lasts ↦
+                ap (λ ls. list_all q (with_change number change ls)) (open_here now y lists lasts)
+                ∙ and_from (q (changed_one number change y)) (list_all q (with_change number change (open_ones now lists)))
+                (ap q (cond-false (has_list_number number y) (change y) y other) ∙ parts.0) rest
+            | inr over ↦ ap (λ ls. list_all q (with_change number change ls)) (open_later now y lists over) ∙ rest
+          ]
+    ]
+
+-- the list of the number has a place among its items for a mark
+pub table_agrees_kept : (now end : ℤ) (next : Option ℕ) (mark : Option Mark) (number v : ℕ) (table : Table) (all : Lists) (x : OpenList) → are_different (v ∷ versions_in table) ≡ true → IsListTable table → open_numbered number now table.lists ≡ Some x
+    → is_place_in (items_frozen all x) mark ≡ true → TableAgrees table all → TableAgrees (kept_table now end next mark number table) (without_lists (versions_ended now table) all)
+table_agrees_kept now end next mark number v table all x apart numbers found place agrees =
     let after : Lists = without_lists (versions_ended now table) all in
-    renewed_all (is_counted after) number end (open_ones now table.lists) (λ x counted. counted) (counted_dropped now v table all apart h)
+    let change : OpenList → OpenList = kept_open end next mark in
+    let same : (n : ℕ) → has (versions (open_ones now table.lists)) n ≡ true → after n ≡ all n = λ n there. left_same now v table.lists all apart n (or_right (eqb v n) (has (versions (open_ones now table.lists)) n) there) in
+    record {
+      counted = changed_all (is_counted after) number change (open_ones now table.lists) (λ y counted. counted) (all_dropped by_size now v table all apart agrees.counted);
+      marked =
+          all_agree by_mark all after (with_change number change (open_ones now table.lists))
+          (λ n there. same n (ap (λ vs. has vs n) (sym (kept_versions end next mark number (open_ones now table.lists))) ∙ there))
+          (one_changed now number (is_marked all) change table.lists x numbers.numbered found place agrees.marked);
+    }
 
-pub table_renewed : (config : Config) (now end : ℤ) (number : ℕ) (table : Table) → int_le end (pos 253_402_300_799) ≡ true → IsKeptTable config table → IsKeptTable config (continued_table now end number table)
-table_renewed config now end number table fits kept = record {
+pub table_kept : (config : Config) (now end : ℤ) (next : Option ℕ) (mark : Option Mark) (number : ℕ) (table : Table) → int_le end (pos 253_402_300_799) ≡ true → IsKeptTable config table → IsKeptTable config (kept_table now end next mark number table)
+table_kept config now end next mark number table fits kept = record {
   limit = kept.limit;
-  ends = renewed_all has_end number end (open_ones now table.lists) (λ x h. fits) (some_all has_end now table.lists kept.ends);
+  ends = changed_all has_end number (kept_open end next mark) (open_ones now table.lists) (λ x h. fits) (some_all has_end now table.lists kept.ends);
 }
 
 -- a table with the same numbers as another
 pub in_use_same : (v : ℕ) (a b : List ℕ) (all : Lists) → b ≡ a → AreInUse (v ∷ a) all → AreInUse (v ∷ b) all
 in_use_same v a b all same stands = subst (λ (ns : List ℕ). AreInUse (v ∷ ns) all) (sym same) stands
 
-pub left_renewed : (config : Config) (now end : ℤ) (number v : ℕ) (table : Table) (all : Lists) → int_le end (pos 253_402_300_799) ≡ true → IsKeptTable config table → AreInUse (v ∷ versions_in table) all
-    → IsLeftOpen config now v table all (continued_table now end number table) (without_lists (versions_ended now table) all)
-left_renewed config now end number v table all fits kept stands =
+pub left_kept : (config : Config) (now end : ℤ) (next : Option ℕ) (mark : Option Mark) (number v : ℕ) (table : Table) (all : Lists) → int_le end (pos 253_402_300_799) ≡ true → IsKeptTable config table → AreInUse (v ∷ versions_in table) all
+    → IsLeftOpen config now v table all (kept_table now end next mark number table) (without_lists (versions_ended now table) all)
+left_kept config now end next mark number v table all fits kept stands =
     let after : Lists = without_lists (versions_ended now table) all in
-    let same : versions_in (continued_table now end number table) ≡ versions (open_ones now table.lists) = renewed_versions number end (open_ones now table.lists) in
+    let same : versions_in (kept_table now end next mark number table) ≡ versions (open_ones now table.lists) = kept_versions end next mark number (open_ones now table.lists) in
     record {
-      asked = inr (inr (inl (number, end, refl)));
-      kept = table_renewed config now end number table fits kept;
-      stands = in_use_same v (versions (open_ones now table.lists)) (versions_in (continued_table now end number table)) after same (in_use_dropped now v table.lists all stands);
+      asked = inr (inr (inl (number, end, next, mark, refl)));
+      kept = table_kept config now end next mark number table fits kept;
+      stands = in_use_same v (versions (open_ones now table.lists)) (versions_in (kept_table now end next mark number table)) after same (in_use_dropped now v table.lists all stands);
       others = subst (λ (ns : List ℕ). KeepsOthers (v ∷ versions_in table) all (v ∷ ns) after) (sym same) (kept_dropped now v table.lists all);
       items = ap (λ (o : Option (List ItemState)). unwrap_or o []) (items_dropped now v table all stands.apart);
     }
@@ -363,27 +459,55 @@ other_lists v table w items all stands free n there =
     (unused_lacks (v ∷ versions_in table) all w stands.used free)))
 
 pub open_lists_opened : (now : ℤ) (v : ℕ) (table : Table) (all : Lists) (list : OpenList) (items : List ItemState) → AreInUse (v ∷ versions_in table) all → all list.version ≡ None → is_open now list ≡ true
-    → open_lists_of now (opening table list) (with_list list.version items all) ≡ with_new_list (record { number = list.number; verb = list.verb; prefix = list.filter.prefix; items = selected list.filter items; end = list.end }) (open_lists_of now table all)
+    → open_lists_of now (opening table list) (with_list list.version items all) ≡ with_new_list (record { number = list.number; verb = list.verb; prefix = list.filter.prefix; items = selected list.filter items; end = list.end; given = list.given }) (open_lists_of now table all)
 open_lists_opened now v table all list items stands free lasts =
     let after : Lists = with_list list.version items all in
     let made : List FrozenList → OpenLists = λ lists. record { lists = lists; next = table.next + 1 } in
-    let frozen : List ItemState → FrozenList = λ xs. record { number = list.number; verb = list.verb; prefix = list.filter.prefix; items = selected list.filter xs; end = list.end } in
+    let frozen : List ItemState → FrozenList = λ xs. record { number = list.number; verb = list.verb; prefix = list.filter.prefix; items = selected list.filter xs; end = list.end; given = list.given } in
     ap made (ap (map (frozen_in after)) (open_end now table.lists list lasts)
     ∙ map-append (frozen_in after) (open_ones now table.lists) (list ∷ [])
     ∙ ap (λ ls. ls ++ frozen_in after list ∷ []) (map_frozen all after (open_ones now table.lists) (λ n there. other_lists v table list.version items all stands free n (open_there now table.lists n there)))
     ∙ ap (λ (xs : List ItemState). map (frozen_in all) (open_ones now table.lists) ++ frozen xs ∷ []) (list_at-with list.version items all))
 
+-- the list that was opened last is there, and its mark is set
+pub numbered_last : (number : ℕ) (lists : List OpenList) (x : OpenList) → x.number ≡ number → IsSome (list_numbered number (lists ++ x ∷ []))
+unfolding list_numbered
+numbered_last number [] x is = subst (λ (o : Option OpenList). IsSome o) (sym (cond-true (has_list_number number x) (Some x) None (eq-eqb x.number number is))) refl
+numbered_last number (y ∷ lists) x is =
+    elim (cases_Bool (has_list_number number y)) [
+      | inl here ↦ subst (λ (o : Option OpenList). IsSome o) (sym (cond-true (has_list_number number y) (Some y) (find (has_list_number number) (lists ++ x ∷ [])) here)) refl
+      | inr other ↦
+          subst (λ (o : Option OpenList). IsSome o) (sym (cond-false (has_list_number number y) (Some y) (find (has_list_number number) (lists ++ x ∷ [])) other)) (numbered_last number lists x is)
+    ]
+
+pub opened_marked : (number : ℕ) (table opened new : Table) (list : OpenList) (mark : Option Mark) → IsListTable table → number ≡ table.next → list.number ≡ table.next → opened ≡ opening table list
+    → new ≡ record opened { lists = with_change number (with_mark mark) opened.lists } → new ≡ opening table (with_mark mark list)
+opened_marked number table opened new list mark numbers is own made set =
+    let marked : ℕ → Table → Table = λ n t. record t { lists = with_change n (with_mark mark) t.lists } in
+    let with_lists : List OpenList → Table = λ lists. record table { next = table.next + 1; lists = lists } in
+    set
+    ∙ ap (marked number) made
+    ∙ ap (λ (n : ℕ). marked n (opening table list)) is
+    ∙ ap with_lists (change-last table.next (with_mark mark) table.lists list numbers.given own)
+
 all_end : (p : OpenList → Bool) (lists : List OpenList) (x : OpenList) → list_all p lists ≡ true → p x ≡ true → list_all p (lists ++ x ∷ []) ≡ true
 all_end p [] x h there = and_from (p x) true there refl
 all_end p (y ∷ lists) x h there = let parts = and_parts (p y) (list_all p lists) h in and_from (p y) (list_all p (lists ++ x ∷ [])) parts.0 (all_end p lists x parts.1 there)
 
-pub counted_opened : (v : ℕ) (table : Table) (all : Lists) (list : OpenList) (items : List ItemState) → AreInUse (v ∷ versions_in table) all → all list.version ≡ None
-    → are_counted table all ≡ true → list.size ≡ length (selected list.filter items) → are_counted (opening table list) (with_list list.version items all) ≡ true
-counted_opened v table all list items stands free h size =
+opened_agrees : (q : OpenList → List ItemState → Bool) (v : ℕ) (table : Table) (all : Lists) (list : OpenList) (items : List ItemState) → AreInUse (v ∷ versions_in table) all → all list.version ≡ None
+    → list_all (agrees_by q all) table.lists ≡ true → q list (selected list.filter items) ≡ true → list_all (agrees_by q (with_list list.version items all)) (table.lists ++ list ∷ []) ≡ true
+opened_agrees q v table all list items stands free h own =
     let after : Lists = with_list list.version items all in
-    all_end (is_counted after) table.lists list
-    (all_counted all after table.lists (λ n there. other_lists v table list.version items all stands free n there) h)
-    (eq-eqb list.size (length (selected list.filter (list_at after list.version))) (size ∙ ap (λ (xs : List ItemState). length (selected list.filter xs)) (sym (list_at-with list.version items all))))
+    all_end (agrees_by q after) table.lists list
+    (all_agree q all after table.lists (λ n there. other_lists v table list.version items all stands free n there) h)
+    (ap (λ (xs : List ItemState). q list (selected list.filter xs)) (list_at-with list.version items all) ∙ own)
+
+pub table_agrees_opened : (v : ℕ) (table : Table) (all : Lists) (list : OpenList) (items : List ItemState) → AreInUse (v ∷ versions_in table) all → all list.version ≡ None
+    → list.size ≡ length (selected list.filter items) → is_place_in (selected list.filter items) list.mark ≡ true → TableAgrees table all → TableAgrees (opening table list) (with_list list.version items all)
+table_agrees_opened v table all list items stands free size place agrees = record {
+  counted = opened_agrees by_size v table all list items stands free agrees.counted (eq-eqb list.size (length (selected list.filter items)) size);
+  marked = opened_agrees by_mark v table all list items stands free agrees.marked place;
+}
 
 pub left_opened : (config : Config) (now : ℤ) (v : ℕ) (table : Table) (all : Lists) (list : OpenList) (items : List ItemState) → IsKeptTable config table → AreInUse (v ∷ versions_in table) all → all list.version ≡ None
     → int_le list.end (pos 253_402_300_799) ≡ true → list.number ≡ table.next → IsLeftOpen config now v table all (opening table list) (with_list list.version items all)

@@ -14,7 +14,7 @@ use Rattle.oai_lists.specs.declared.tokens.Token.{Token}
 use Rattle.oai_settings.specs.Config.{Config}
 use Rattle.oai_repo.specs.Views.{IsViewReply}
 use Rattle.oai_repo.specs.Fields.{are_counted, open_lists_of, frozen_in, is_counted}
-use Rattle.oai_repo.specs.Listing.{Response, continued_response, is_continued, is_same_verb, list_continued, part_from, part_answer, prolonged, with_answer, token_response, where_continued, with_prolonged}
+use Rattle.oai_repo.specs.Listing.{Response, continued_response, is_continued, is_handed_out, is_same_verb, is_valid_cursor, list_continued, next_cursor, part_from, part_answer, prolonged, with_answer, token_response, where_continued, with_carried_on}
 use Rattle.oai_repo.specs.State.{FrozenList, OpenLists}
 use Rattle.oai_repo.specs.Tables.{table_continued, table_where}
 use Rattle.oai_repo.specs.declared.responses.Reply.{Reply}
@@ -24,39 +24,43 @@ use Rattle.oai_repo.proofs.OpenListLemmas.{found_frozen, open_parts}
 -- ---- what was found in the table
 
 -- the list of the table, and what of it is right
-pub record IsContinued (now : ℤ) (verb : ListVerb) (lists : List OpenList) (list : OpenList) (cursor : ℕ) (token : Token) : Type 0 where
+pub record IsContinued (now : ℤ) (chunk : ℕ) (verb : ListVerb) (lists : List OpenList) (list : OpenList) (cursor : ℕ) (token : Token) : Type 0 where
   pub there : open_numbered token.list now lists ≡ Some list
   pub right : is_same_verb list.verb verb ≡ true
   pub at : cursor ≡ token.cursor
-  pub within : nat_lt cursor list.size ≡ true
+  pub valid : is_valid_cursor chunk list.size list.given cursor ≡ true
 
-where_parts : (verb : ListVerb) (token : Token) (found : Option OpenList) (list : OpenList) (cursor : ℕ) → Some (list, cursor) ≡ table_where verb token found
-    → (found ≡ Some list) × (is_same_verb list.verb verb ≡ true) × (cursor ≡ token.cursor) × (nat_lt cursor list.size ≡ true)
-where_parts verb token None list cursor h = cc
-where_parts verb token (Some x) list cursor h =
-    elim (cases_Bool (is_same_verb x.verb verb && nat_lt token.cursor x.size)) [
+-- the cursor is below the size
+pub valid_within : (chunk size given cursor : ℕ) → is_valid_cursor chunk size given cursor ≡ true → nat_lt cursor size ≡ true
+valid_within chunk size given cursor valid = (and_parts (nat_lt cursor size) (is_handed_out chunk given cursor) valid).0
+
+where_parts : (chunk : ℕ) (verb : ListVerb) (token : Token) (found : Option OpenList) (list : OpenList) (cursor : ℕ) → Some (list, cursor) ≡ table_where chunk verb token found
+    → (found ≡ Some list) × (is_same_verb list.verb verb ≡ true) × (cursor ≡ token.cursor) × (is_valid_cursor chunk list.size list.given cursor ≡ true)
+where_parts chunk verb token None list cursor h = cc
+where_parts chunk verb token (Some x) list cursor h =
+    elim (cases_Bool (is_continued chunk verb token x.verb x.size x.given)) [
       | inl right ↦
-          let e : Some (list, cursor) ≡ Some (x, token.cursor) = h ∙ cond-true (is_same_verb x.verb verb && nat_lt token.cursor x.size) (Some (x, token.cursor)) None right in
+          let e : Some (list, cursor) ≡ Some (x, token.cursor) = h ∙ cond-true (is_continued chunk verb token x.verb x.size x.given) (Some (x, token.cursor)) None right in
           let pair : (list, cursor) ≡ (x, token.cursor) = cc in
           let list_is : list ≡ x = ap (λ (q : OpenList × ℕ). q.0) pair in
           let cursor_is : cursor ≡ token.cursor = ap (λ (q : OpenList × ℕ). q.1) pair in
-          let parts = and_parts (is_same_verb x.verb verb) (nat_lt token.cursor x.size) right in (
+          let parts = and_parts (is_same_verb x.verb verb) (is_valid_cursor chunk x.size x.given token.cursor) right in (
             ap (λ (l : OpenList). Some l) (sym list_is),
             ap (λ (l : OpenList). is_same_verb l.verb verb) list_is ∙ parts.0,
             cursor_is,
-            ap (λ (k : ℕ). nat_lt k list.size) cursor_is ∙ ap (λ (l : OpenList). nat_lt token.cursor l.size) list_is ∙ parts.1,
+            ap (λ (k : ℕ). is_valid_cursor chunk list.size list.given k) cursor_is ∙ ap (λ (l : OpenList). is_valid_cursor chunk l.size l.given token.cursor) list_is ∙ parts.1,
           )
       | inr wrong ↦
-          let e : Some (list, cursor) ≡ None = h ∙ cond-false (is_same_verb x.verb verb && nat_lt token.cursor x.size) (Some (x, token.cursor)) None wrong in
+          let e : Some (list, cursor) ≡ None = h ∙ cond-false (is_continued chunk verb token x.verb x.size x.given) (Some (x, token.cursor)) None wrong in
           cc
     ]
 
-pub token_found : (now : ℤ) (verb : ListVerb) (lists : List OpenList) (asked : Option Token) (list : OpenList) (cursor : ℕ) → Some (list, cursor) ≡ table_continued now verb lists asked
-    → (token : Token) × (asked ≡ Some token) × IsContinued now verb lists list cursor token
-token_found now verb lists None list cursor h = cc
-token_found now verb lists (Some token) list cursor h =
-    let parts = where_parts verb token (open_numbered token.list now lists) list cursor h in
-    (token, refl, record { there = parts.0; right = parts.1; at = parts.2; within = parts.3 })
+pub token_found : (now : ℤ) (chunk : ℕ) (verb : ListVerb) (lists : List OpenList) (asked : Option Token) (list : OpenList) (cursor : ℕ) → Some (list, cursor) ≡ table_continued now chunk verb lists asked
+    → (token : Token) × (asked ≡ Some token) × IsContinued now chunk verb lists list cursor token
+token_found now chunk verb lists None list cursor h = cc
+token_found now chunk verb lists (Some token) list cursor h =
+    let parts = where_parts chunk verb token (open_numbered token.list now lists) list cursor h in
+    (token, refl, record { there = parts.0; right = parts.1; at = parts.2; valid = parts.3 })
 
 -- ---- the list of the state
 
@@ -64,52 +68,52 @@ counted_size : (all : Lists) (list : OpenList) → is_counted all list ≡ true 
 counted_size all list h = eqb-true list.size (length (frozen_in all list).items) h
 
 -- the test of the state is that of the table
-same_test : (verb : ListVerb) (token : Token) (all : Lists) (list : OpenList) → is_counted all list ≡ true
-    → is_continued verb token list.verb (length (frozen_in all list).items) ≡ (is_same_verb list.verb verb && nat_lt token.cursor list.size)
-same_test verb token all list h = ap (λ (n : ℕ). is_same_verb list.verb verb && nat_lt token.cursor n) (sym (counted_size all list h))
+same_test : (chunk : ℕ) (verb : ListVerb) (token : Token) (all : Lists) (list : OpenList) → is_counted all list ≡ true
+    → is_continued chunk verb token list.verb (length (frozen_in all list).items) list.given ≡ is_continued chunk verb token list.verb list.size list.given
+same_test chunk verb token all list h = ap (λ (n : ℕ). is_continued chunk verb token list.verb n list.given) (sym (counted_size all list h))
 
-continued_as : (now : ℤ) (verb : ListVerb) (token : Token) (table : Table) (all : Lists)
-    → list_continued (open_lists_of now table all) verb token ≡ where_continued verb token (option_map (frozen_in all) (open_numbered token.list now table.lists))
-continued_as now verb token table all = ap (where_continued verb token) (found_frozen token.list now all table.lists)
+continued_as : (config : Config) (now : ℤ) (verb : ListVerb) (token : Token) (table : Table) (all : Lists)
+    → list_continued config (open_lists_of now table all) verb token ≡ where_continued config verb token (option_map (frozen_in all) (open_numbered token.list now table.lists))
+continued_as config now verb token table all = ap (where_continued config verb token) (found_frozen token.list now all table.lists)
 
 pub goes_on : (config : Config) (now : ℤ) (verb : ListVerb) (table : Table) (all : Lists) (list : OpenList) (cursor : ℕ) (asked : Option Token) (token : Token) → asked ≡ Some token
-    → IsContinued now verb table.lists list cursor token → are_counted table all ≡ true
+    → IsContinued now config.chunk verb table.lists list cursor token → are_counted table all ≡ true
     → token_response config now (open_lists_of now table all) verb asked
-    ≡ (with_answer (part_answer verb (format_named list.filter.prefix config.formats) (part_from config (prolonged config now (frozen_in all list)) cursor)), with_prolonged config now list.number (open_lists_of now table all))
+    ≡ (with_answer (part_answer verb (format_named list.filter.prefix config.formats) (part_from config (prolonged config now (frozen_in all list)) cursor)), with_carried_on config now list.number (next_cursor config (frozen_in all list) cursor) (open_lists_of now table all))
 goes_on config now verb table all list cursor asked token is h counted =
     let open_lists : OpenLists = open_lists_of now table all in
     let frozen : FrozenList = frozen_in all list in
     let parts = open_parts token.list now (is_counted all) table.lists list h.there counted in
-    let test : is_continued verb token frozen.verb (length frozen.items) ≡ true =
-    same_test verb token all list parts.2
-    ∙ ap (λ (b : Bool). b && nat_lt token.cursor list.size) h.right
-    ∙ ap (λ (k : ℕ). nat_lt k list.size) (sym h.at) ∙ h.within
+    let test : is_continued config.chunk verb token frozen.verb (length frozen.items) frozen.given ≡ true =
+    same_test config.chunk verb token all list parts.2
+    ∙ ap (λ (b : Bool). b && is_valid_cursor config.chunk list.size list.given token.cursor) h.right
+    ∙ ap (λ (k : ℕ). is_valid_cursor config.chunk list.size list.given k) (sym h.at) ∙ h.valid
     in
-    let found : list_continued open_lists verb token ≡ Some frozen =
-    continued_as now verb token table all
-    ∙ ap (λ (o : Option OpenList). where_continued verb token (option_map (frozen_in all) o)) h.there
-    ∙ cond-true (is_continued verb token frozen.verb (length frozen.items)) (Some frozen) None test
+    let found : list_continued config open_lists verb token ≡ Some frozen =
+    continued_as config now verb token table all
+    ∙ ap (λ (o : Option OpenList). where_continued config verb token (option_map (frozen_in all) o)) h.there
+    ∙ cond-true (is_continued config.chunk verb token frozen.verb (length frozen.items) frozen.given) (Some frozen) None test
     in
     ap (token_response config now open_lists verb) is
     ∙ ap (continued_response config now open_lists verb token.cursor) found
     ∙ ap (λ (k : ℕ). continued_response config now open_lists verb k (Some frozen)) (sym h.at)
 
-stops_where : (verb : ListVerb) (token : Token) (all : Lists) (found : Option OpenList) → ((list : OpenList) → found ≡ Some list → is_counted all list ≡ true) → None ≡ table_where verb token found
-    → where_continued verb token (option_map (frozen_in all) found) ≡ None
-stops_where verb token all None counted h = refl
-stops_where verb token all (Some x) counted h =
-    elim (cases_Bool (is_same_verb x.verb verb && nat_lt token.cursor x.size)) [
+stops_where : (config : Config) (verb : ListVerb) (token : Token) (all : Lists) (found : Option OpenList) → ((list : OpenList) → found ≡ Some list → is_counted all list ≡ true) → None ≡ table_where config.chunk verb token found
+    → where_continued config verb token (option_map (frozen_in all) found) ≡ None
+stops_where config verb token all None counted h = refl
+stops_where config verb token all (Some x) counted h =
+    elim (cases_Bool (is_continued config.chunk verb token x.verb x.size x.given)) [
       | inl right ↦
-          let e : None ≡ Some (x, token.cursor) = h ∙ cond-true (is_same_verb x.verb verb && nat_lt token.cursor x.size) (Some (x, token.cursor)) None right in
+          let e : None ≡ Some (x, token.cursor) = h ∙ cond-true (is_continued config.chunk verb token x.verb x.size x.given) (Some (x, token.cursor)) None right in
           cc
-      | inr wrong ↦ cond-false (is_continued verb token x.verb (length (frozen_in all x).items)) (Some (frozen_in all x)) None (same_test verb token all x (counted x refl) ∙ wrong)
+      | inr wrong ↦ cond-false (is_continued config.chunk verb token x.verb (length (frozen_in all x).items) x.given) (Some (frozen_in all x)) None (same_test config.chunk verb token all x (counted x refl) ∙ wrong)
     ]
 
-pub stops : (config : Config) (now : ℤ) (verb : ListVerb) (table : Table) (all : Lists) (asked : Option Token) → None ≡ table_continued now verb table.lists asked → are_counted table all ≡ true
+pub stops : (config : Config) (now : ℤ) (verb : ListVerb) (table : Table) (all : Lists) (asked : Option Token) → None ≡ table_continued now config.chunk verb table.lists asked → are_counted table all ≡ true
     → token_response config now (open_lists_of now table all) verb asked ≡ (with_answer (fails BadResumptionToken), open_lists_of now table all)
 stops config now verb table all None h counted = refl
 stops config now verb table all (Some token) h counted =
     let open_lists : OpenLists = open_lists_of now table all in
     ap (continued_response config now open_lists verb token.cursor)
-    (continued_as now verb token table all
-    ∙ stops_where verb token all (open_numbered token.list now table.lists) (λ list there. (open_parts token.list now (is_counted all) table.lists list there counted).2) h)
+    (continued_as config now verb token table all
+    ∙ stops_where config verb token all (open_numbered token.list now table.lists) (λ list there. (open_parts token.list now (is_counted all) table.lists list there counted).2) h)

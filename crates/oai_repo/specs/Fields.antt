@@ -1,14 +1,15 @@
 -- What a `Repo` keeps, and the state that it stands for with the lists of its store. This repository's own view of OAI-PMH 2.0,
 -- sections 2.3 to 2.7.
-use Rattle.std.specs.Prelude.{◌≡◌, ℕ, ℤ, int_le, Bool, true, false, not, ◌==◌, ◌&&◌, List, [], ◌∷◌, length, map, None, is_some, IsTrue}
+use Rattle.std.specs.Prelude.{◌≡◌, ℕ, ℤ, int_le, Bool, true, false, not, ◌==◌, ◌&&◌, List, [], ◌∷◌, length, map, take, Option, None, Some, is_some, IsTrue}
 use Rattle.oai_time.specs.declared.text.TheConstants.{FIRST_SECOND, LAST_SECOND}
 use Rattle.std.specs.List.{list_all, list_any}
 use Rattle.std.specs.Option.{option_map}
 use Rattle.oai_item.specs.Item.{ItemState}
-use Rattle.oai_item.specs.Items.{are_apart, item_named}
+use Rattle.oai_item.specs.Items.{are_apart, is_at, item_named}
 use Rattle.oai_item.specs.Selection.{selected}
 use Rattle.oai_catalogue.specs.Store.{Lists, list_at, with_list}
 use Rattle.oai_lists.specs.OpenLists.{Table, is_open, open_ones}
+use Rattle.oai_lists.specs.declared.open_lists.Mark.{Mark}
 use Rattle.oai_lists.specs.declared.open_lists.OpenList.{OpenList}
 use Rattle.oai_settings.specs.Config.{Config}
 use Rattle.oai_repo.specs.Kept.{AreKept}
@@ -50,6 +51,7 @@ frozen_in lists list = record {
   prefix = list.filter.prefix;
   items = items_frozen lists list;
   end = list.end;
+  given = list.given;
 }
 
 -- those of the lists of the table that are open at the clock
@@ -86,9 +88,28 @@ is_counted lists list = list.size == length (items_frozen lists list)
 abbrev pub are_counted : Table → Lists → Bool
 are_counted table lists = list_all (is_counted lists) table.lists
 
+-- the last of the items has that datestamp and identifier
+abbrev pub ends_at : ℤ → List ℕ → List ItemState → Bool
+ends_at stamp identifier [] = false
+ends_at stamp identifier (item ∷ []) = is_at stamp identifier item
+ends_at stamp identifier (item ∷ other ∷ items) = ends_at stamp identifier (other ∷ items)
+
+-- the mark, if there is one, is a place among the items: the one before its cursor has its datestamp and identifier
+abbrev pub is_place_in : List ItemState → Option Mark → Bool
+is_place_in items None = true
+is_place_in items (Some mark) = ends_at mark.stamp mark.identifier (take mark.cursor items)
+
+-- the mark of a list is a place in its selection
+abbrev pub is_marked : Lists → OpenList → Bool
+is_marked lists list = is_place_in (items_frozen lists list) list.mark
+
+abbrev pub are_marked : Table → Lists → Bool
+are_marked table lists = list_all (is_marked lists) table.lists
+
 -- the table agrees with the lists that its versions hold
 pub record TableAgrees (table : Table) (lists : Lists) : Type 0 where
   pub counted : are_counted table lists ≡ true
+  pub marked : are_marked table lists ≡ true
 
 -- what an honest store has of a repository
 pub record IsStored (held : RepoFields) (lists : Lists) : Type 0 where

@@ -1,5 +1,5 @@
 -- Lists that are answered in parts, and the tokens that ask for the next one. OAI-PMH 2.0, sections 3.5, 4.3 and 4.5.
-use Rattle.std.specs.Prelude.{ℕ, ℤ, pos, ◌+◌, ◌+ℤ◌, ◌-ℤ◌, Bool, true, false, ◌&&◌, ◌==◌, nat_le, nat_lt, List, [], ◌∷◌, ◌++◌, length, map, take, drop, Option, Some, None, is_some, if◌then◌else◌, find}
+use Rattle.std.specs.Prelude.{ℕ, ℤ, pos, max, ◌+◌, ◌%◌, ◌+ℤ◌, ◌-ℤ◌, Bool, true, false, ◌&&◌, ◌==◌, nat_le, nat_lt, List, [], ◌∷◌, ◌++◌, length, map, take, drop, Option, Some, None, is_some, if◌then◌else◌, find}
 use Rattle.std.specs.Int.{int_min}
 use Rattle.oai_names.specs.declared.list_verbs.ListVerb.{ListVerb}
 use Rattle.oai_names.specs.declared.list_verbs.ListVerb.TheVariants as list
@@ -76,7 +76,7 @@ wait_at config clock open_lists =
     else (if open_lists.next == LAST_NUMBER then Some (pos config.lifetime)
     else None)
 
--- a list of these items that begins now: it is open for its lifetime
+-- a list of these items that begins now: it is open for its lifetime, and the token of its first part is handed out
 abbrev pub new_list : Config → ℤ → OpenLists → ListVerb → List ℕ → List ItemState → FrozenList
 new_list config clock open_lists verb prefix items = record {
   number = open_lists.next;
@@ -84,6 +84,7 @@ new_list config clock open_lists verb prefix items = record {
   prefix = prefix;
   items = items;
   end = clock +ℤ pos config.lifetime;
+  given = config.chunk;
 }
 
 -- the open lists, and that one
@@ -118,50 +119,77 @@ is_same_verb list.Identifiers list.Identifiers = true
 is_same_verb list.Records list.Records = true
 is_same_verb _ _ = false
 
--- the token continues a list of that verb and of so many records by the verb `verb`: it is the same one, and the cursor is below the size
-abbrev pub is_continued : ListVerb → Token → ListVerb → ℕ → Bool
-is_continued verb token list_verb size = is_same_verb list_verb verb && nat_lt token.cursor size
+-- a token with that cursor was handed out, where `given` is the highest that was: each part but the first begins behind a multiple of `chunk`
+-- records, and no token asks for the first
+abbrev pub is_handed_out : ℕ → ℕ → ℕ → Bool
+is_handed_out chunk given cursor = nat_lt 0 cursor && cursor % chunk == 0 && nat_le cursor given
+
+-- the cursor is one of a list of so many records: it is below the size, and was handed out
+abbrev pub is_valid_cursor : ℕ → ℕ → ℕ → ℕ → Bool
+is_valid_cursor chunk size given cursor = nat_lt cursor size && is_handed_out chunk given cursor
+
+-- the token continues a list of that verb, of so many records and with that highest cursor by the verb `verb`: it is the same one, and the
+-- cursor is one of the list
+abbrev pub is_continued : ℕ → ListVerb → Token → ListVerb → ℕ → ℕ → Bool
+is_continued chunk verb token list_verb size given = is_same_verb list_verb verb && is_valid_cursor chunk size given token.cursor
 
 -- the list, where the token continues it by the verb
-abbrev pub where_continued : ListVerb → Token → Option FrozenList → Option FrozenList
-where_continued verb token None = None
-where_continued verb token (Some list) = if is_continued verb token list.verb (length list.items) then Some list else None
+abbrev pub where_continued : Config → ListVerb → Token → Option FrozenList → Option FrozenList
+where_continued config verb token None = None
+where_continued config verb token (Some list) = if is_continued config.chunk verb token list.verb (length list.items) list.given then Some list else None
 
 -- the list has that number
 abbrev pub is_of_number : ℕ → FrozenList → Bool
 is_of_number number list = list.number == number
 
 -- the list that a token continues: of the open lists the one of its number, where the verb and the cursor are right
-abbrev pub list_continued : OpenLists → ListVerb → Token → Option FrozenList
-list_continued open_lists verb token = where_continued verb token (find (is_of_number token.list) open_lists.lists)
+abbrev pub list_continued : Config → OpenLists → ListVerb → Token → Option FrozenList
+list_continued config open_lists verb token = where_continued config verb token (find (is_of_number token.list) open_lists.lists)
 
 -- the list is open for its lifetime from now on
 abbrev pub prolonged : Config → ℤ → FrozenList → FrozenList
 prolonged config clock list = record list { end = clock +ℤ pos config.lifetime }
 
+-- the cursor of the token behind a part that ends before the record `next`, where records remain of so many
+abbrev pub cursor_behind : ℕ → ℕ → Option ℕ
+cursor_behind size next = if nat_lt next size then Some next else None
+
+-- the same of the part that begins behind so many records of the list
+abbrev pub next_cursor : Config → FrozenList → ℕ → Option ℕ
+next_cursor config list cursor = cursor_behind (length list.items) (cursor + length (items_from config list cursor))
+
+-- the highest cursor that was handed out, once a token with that one is, if there is one
+abbrev pub highest_given : Option ℕ → ℕ → ℕ
+highest_given None given = given
+highest_given (Some cursor) given = max given cursor
+
+-- the list once a part of it was answered, with a token of that cursor or none: it is open for its lifetime from now on
+abbrev pub carried_on : Config → ℤ → Option ℕ → FrozenList → FrozenList
+carried_on config clock next list = record list { end = clock +ℤ pos config.lifetime; given = highest_given next list.given }
+
 -- the same, where it has the number
-abbrev pub prolonged_at : Config → ℤ → ℕ → FrozenList → FrozenList
-prolonged_at config clock number list = if is_of_number number list then prolonged config clock list else list
+abbrev pub carried_on_at : Config → ℤ → ℕ → Option ℕ → FrozenList → FrozenList
+carried_on_at config clock number next list = if is_of_number number list then carried_on config clock next list else list
 
 -- of the open lists that of the number
-abbrev pub with_prolonged : Config → ℤ → ℕ → OpenLists → OpenLists
-with_prolonged config clock number open_lists = record open_lists { lists = map (prolonged_at config clock number) open_lists.lists }
+abbrev pub with_carried_on : Config → ℤ → ℕ → Option ℕ → OpenLists → OpenLists
+with_carried_on config clock number next open_lists = record open_lists { lists = map (carried_on_at config clock number next) open_lists.lists }
 
 -- a part of a list in the format of its prefix, which the repository has
 abbrev pub part_answer : ListVerb → Option Format → Page → Answer
 part_answer verb None page = fails CannotDisseminateFormat
 part_answer verb (Some format) page = answer_by_verb verb format page
 
--- a list that is continued at that cursor: the part is returned, and the list stays open from now on
+-- a list that is continued at that cursor: the part is returned, its token is handed out, and the list stays open from now on
 abbrev pub continued_response : Config → ℤ → OpenLists → ListVerb → ℕ → Option FrozenList → Response × OpenLists
 continued_response config clock open_lists verb cursor None = (with_answer (fails BadResumptionToken), open_lists)
 continued_response config clock open_lists verb cursor (Some list) =
-    (with_answer (part_answer verb (format_named list.prefix config.formats) (part_from config (prolonged config clock list) cursor)), with_prolonged config clock list.number open_lists)
+    (with_answer (part_answer verb (format_named list.prefix config.formats) (part_from config (prolonged config clock list) cursor)), with_carried_on config clock list.number (next_cursor config list cursor) open_lists)
 
 -- what a token is answered, where the text is one
 abbrev pub token_response : Config → ℤ → OpenLists → ListVerb → Option Token → Response × OpenLists
 token_response config clock open_lists verb None = (with_answer (fails BadResumptionToken), open_lists)
-token_response config clock open_lists verb (Some token) = continued_response config clock open_lists verb token.cursor (list_continued open_lists verb token)
+token_response config clock open_lists verb (Some token) = continued_response config clock open_lists verb token.cursor (list_continued config open_lists verb token)
 
 -- ---- a request
 

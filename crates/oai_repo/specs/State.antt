@@ -17,13 +17,15 @@ pub record Holdings : Type 0 where
   pub sets : List NamedSet
 
 -- a list that was begun to be answered and that tokens continue (section 3.5): its number, the verb and the prefix that were
--- asked for, all items that were selected, as they were, and the moment from which on it is open no more, in seconds from 1970 on
+-- asked for, all items that were selected, as they were, the moment from which on it is open no more, in seconds from 1970 on, and
+-- the highest cursor that was handed out in a token
 pub record FrozenList : Type 0 where
   pub number : ℕ
   pub verb : ListVerb
   pub prefix : List ℕ
   pub items : List ItemState
   pub end : ℤ
+  pub given : ℕ
 
 -- the lists that are open, in the order in which they were begun, and the number of the next
 pub record OpenLists : Type 0 where

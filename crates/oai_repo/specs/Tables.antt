@@ -3,14 +3,16 @@ use Rattle.std.specs.Prelude.{◌≡◌, ◌⊎◌, ◌+◌, ◌≤◌, ℕ, ℤ
 use Rattle.oai_time.specs.declared.text.TheConstants.{LAST_SECOND}
 use Rattle.std.specs.List.{list_all}
 use Rattle.oai_catalogue.specs.Store.{Lists, list_at}
+use Rattle.oai_item.specs.Item.{ItemState}
 use Rattle.oai_names.specs.declared.list_verbs.ListVerb.{ListVerb}
-use Rattle.oai_lists.specs.OpenLists.{Table, has_ended, open_numbered, open_ones, renewed, with_opened}
+use Rattle.oai_lists.specs.OpenLists.{Table, has_ended, open_numbered, open_ones, with_change, with_opened}
 use Rattle.oai_lists.specs.declared.tokens.Token.{Token}
+use Rattle.oai_lists.specs.declared.open_lists.Mark.{Mark}
 use Rattle.oai_lists.specs.declared.open_lists.OpenList.{OpenList}
 use Rattle.oai_settings.specs.Config.{Config, is_in_years}
 use Rattle.oai_repo.specs.Entries.{Entries}
-use Rattle.oai_repo.specs.Fields.{AreInUse, KeepsOthers, has, versions_in}
-use Rattle.oai_repo.specs.Listing.{is_continued}
+use Rattle.oai_repo.specs.Fields.{AreInUse, KeepsOthers, ends_at, has, versions_in}
+use Rattle.oai_repo.specs.Listing.{highest_given, is_continued}
 
 -- ---- what has ended
 
@@ -45,12 +47,21 @@ pub record IsRepo (config : Config) (clock : ℤ) (entries : Entries) (table : T
 abbrev pub dropped_at : ℤ → Table → Table
 dropped_at now table = record table { lists = open_ones now table.lists }
 
--- what a request makes of the table at that moment: nothing; the lists that have ended go; then one of the open ones may have another end; or a
--- list begins, with the next number
+-- the list of which a part was answered: it has another end and another mark, and a token with that cursor was given, where there is one
+abbrev pub kept_open : ℤ → Option ℕ → Option Mark → OpenList → OpenList
+kept_open end next mark list = record list { end = end; given = highest_given next list.given; mark = mark }
+
+-- the mark stands behind these items, before the record `next`: the last of them has its datestamp and identifier
+abbrev pub IsMarkBehind : List ItemState → ℕ → Mark → Type 0
+IsMarkBehind items next mark = (mark.cursor ≡ next) × (ends_at mark.stamp mark.identifier items ≡ true)
+
+-- what a request makes of the table at that moment: nothing; the lists that have ended go; then a part of one of the open ones may have been
+-- answered; or a list begins, with the next number
 abbrev pub IsAskedTable : ℤ → Table → Table → Type 0
 IsAskedTable now old new =
     (new ≡ old) ⊎ (new ≡ dropped_at now old)
-    ⊎ ((number : ℕ) × (end : ℤ) × (new ≡ record old { lists = renewed number end (open_ones now old.lists) }))
+    ⊎ ((number : ℕ) × (end : ℤ) × (next : Option ℕ) × (mark : Option Mark)
+    × (new ≡ record old { lists = with_change number (kept_open end next mark) (open_ones now old.lists) }))
     ⊎ ((list : OpenList) × (list.number ≡ old.next) × (new ≡ with_opened old list))
 
 -- what a request makes of the table, without the lists that have ended by then
@@ -70,11 +81,11 @@ pub record IsLeftOpen (config : Config) (now : ℤ) (v : ℕ) (old : Table) (bef
 -- ---- the list that a token continues
 
 -- the list, where the token continues it by the verb
-abbrev pub table_where : ListVerb → Token → Option OpenList → Option (OpenList × ℕ)
-table_where verb token None = None
-table_where verb token (Some list) = if is_continued verb token list.verb list.size then Some (list, token.cursor) else None
+abbrev pub table_where : ℕ → ListVerb → Token → Option OpenList → Option (OpenList × ℕ)
+table_where chunk verb token None = None
+table_where chunk verb token (Some list) = if is_continued chunk verb token list.verb list.size list.given then Some (list, token.cursor) else None
 
 -- the list of the table, and the cursor
-abbrev pub table_continued : ℤ → ListVerb → List OpenList → Option Token → Option (OpenList × ℕ)
-table_continued now verb lists None = None
-table_continued now verb lists (Some token) = table_where verb token (open_numbered token.list now lists)
+abbrev pub table_continued : ℤ → ℕ → ListVerb → List OpenList → Option Token → Option (OpenList × ℕ)
+table_continued now chunk verb lists None = None
+table_continued now chunk verb lists (Some token) = table_where chunk verb token (open_numbered token.list now lists)

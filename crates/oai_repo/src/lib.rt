@@ -4,6 +4,7 @@
 mod changes;
 mod item_index;
 mod lists;
+mod parts;
 mod records;
 mod repo;
 mod requests;

@@ -16,6 +16,7 @@ ghost use Rattle.oai_repo.specs.Listing as listing;
 ghost use Rattle.oai_repo.specs.Tables.{has_end, versions_ended, without_lists};
 ghost use Rattle.oai_repo.specs.Views.{IsFilter, IsReady, IsViewReply, Leaves, first_items, view_list_response, view_new_list, view_selected, view_selection_response, view_wait};
 
+use crate::parts::mark_behind;
 use crate::responses::{Reply, make_reply, reply_with_error};
 use crate::tokens::{ListPart, reply_with_part};
 use crate::view::RepoView;
@@ -195,6 +196,7 @@ fn start_list<V: Versions>(
     };
     let items = &first.as_slice()[..repo.config.chunk() as usize];
     let reply = reply_with_part(repo, selection.verb, selection.format, items, part)?;
+    let mark = mark_behind(repo.alloc, items, repo.config.chunk());
     let frozen = store.freeze(version)?;
     match lists.open(
         repo.clock,
@@ -203,8 +205,12 @@ fn start_list<V: Versions>(
         frozen,
         size,
         part.end,
+        repo.config.chunk(),
     ) {
-        Ok(_) => Ok(reply),
+        Ok(_) => {
+            lists.set_mark(number, mark);
+            Ok(reply)
+        }
         Err(_) => {
             store.release(frozen);
             Err(Fault::NoMemory)

@@ -88,7 +88,9 @@ impl Repo {
     ///
     /// A request for one item costs one search of the store. A list that one answer holds costs what the
     /// store needs to read it; the first part of a longer one besides what it needs to count what is
-    /// selected and to freeze a version; each further part what it needs to read the part.
+    /// selected and to freeze a version; each further part what it needs to read the part, wherever it
+    /// stands. A part that is asked for again, after another one was told, costs besides what the store
+    /// needs to pass over the records before it.
     pub fn ask<V: Versions>(
         &mut self,
         store: &mut V,

@@ -1,26 +1,26 @@
 //! Resumption tokens (OAI-PMH 2.0, section 3.5): parts of a list, and the token for the next one.
-ghost use Rattle.std.specs.Prelude.{◌≡◌, ◌<◌, ◌≤◌, ◌+◌, length, take, drop, true, IfOk, IsSome, IsTrue};
+ghost use Rattle.std.specs.Prelude.{◌≡◌, ◌≢◌, ◌<◌, ◌≤◌, ◌+◌, ◌+ℤ◌, pos, length, true, IfOk, IsSome, IsTrue, OnSome};
 ghost use Rattle.std.specs.Option.{option_map};
 ghost use Rattle.oai_time.specs.Stamp.{IsWritable};
 ghost use Rattle.oai_item.specs.Formats.{format_named};
-ghost use Rattle.oai_item.specs.Selection.{selected};
 ghost use Rattle.oai_catalogue.specs.Calls.{OnlyReads, Uses};
-ghost use Rattle.oai_catalogue.specs.Store.{list_at};
+ghost use Rattle.oai_lists.specs.OpenLists.{IsListTable, list_numbered, with_change};
 ghost use Rattle.oai_lists.specs.Tokens.{token_of};
 ghost use Rattle.oai_settings.specs.Config.{is_in_years};
-ghost use Rattle.oai_repo.specs.Fields.{frozen_in, is_counted};
+ghost use Rattle.oai_repo.specs.Fields.{frozen_in, is_counted, is_marked, is_place_in, items_frozen};
 ghost use Rattle.oai_repo.specs.Listing as listing;
-ghost use Rattle.oai_repo.specs.Tables.{table_continued};
+ghost use Rattle.oai_repo.specs.Tables.{kept_open, table_continued};
 ghost use Rattle.oai_repo.specs.Views.{IsReady, IsViewReply, Leaves, document_reply, view_token_response};
 
 use crate::lists::{answer_by_verb, drop_ended};
+use crate::parts::{mark_behind, read_part};
 use crate::responses::{Reply, make_reply, reply_with_error};
 use crate::view::RepoView;
 use oai_answers::{ErrorCode, Extent, Listed, Remaining, Resumption};
-use oai_catalogue::{Filter, Versions};
+use oai_catalogue::Versions;
 use oai_item::{Fault, Format, Item};
-use oai_lists::{Lists, OpenList, Token};
-use oai_names::{ListVerb, Sequence};
+use oai_lists::{Lists, Mark, OpenList, Token};
+use oai_names::ListVerb;
 use std::alloc::AllocError;
 
 /// A part of a list that is too long for one answer, an incomplete list.
@@ -32,6 +32,17 @@ pub(crate) struct ListPart {
     pub(crate) end: i64,
     /// How many records the list has, and how many of them stand before the part.
     pub(crate) extent: Extent,
+}
+
+/// A part of a list that was continued, as it was answered.
+#[derive(Drop)]
+struct AnsweredPart {
+    /// The reply.
+    reply: Reply,
+    /// The cursor of its token, where records remain.
+    next: Option<u64>,
+    /// The place behind its last record, where memory was found for it.
+    mark: Option<Mark>,
 }
 
 /// Replies to a request with a token.
@@ -50,34 +61,80 @@ pub(crate) fn reply_with_next_part<V: Versions>(
     ensures left { Leaves V.Versions result repo.now lists.old store.old lists.new store.new }
     ensures store { Uses V.Versions 0 result store.old store.new }
 {
-    let Some((list, cursor)) = continued(lists, repo.clock, verb, token) else {
+    let chunk = chunk_of(repo);
+    let Some((list, cursor)) = continued(lists, repo.clock, chunk, verb, token) else {
         return Ok(reply_with_error(repo, ErrorCode::BadResumptionToken)?);
     };
     let number = list.number;
-    let reply = reply_from(repo, store, verb, list, cursor)?;
+    let part = reply_from(repo, store, verb, list, cursor)?;
     drop_ended(lists, store, repo.clock);
-    lists.renew(number, repo.end());
-    Ok(reply)
+    carry_on(lists, number, repo.end(), part.next, part.mark);
+    Ok(part.reply)
+}
+
+/// How many records a part of a list may have.
+#[tactic(auto, unfolding(oai_settings::specs::Config::are_limits))]
+fn chunk_of(repo: &RepoView<'_>) -> u64
+    ensures chunk { result ≡ repo.now.config.now.chunk }
+    ensures some { result ≢ 0 }
+{
+    repo.config.chunk()
 }
 
 /// The open list that the token continues by that verb, and how many of its records come before the part
-/// that is asked for.
+/// that is asked for. A part has `chunk` records.
 fn continued<'a>(
     lists: &'a Lists,
     now: i64,
+    chunk: u64,
     verb: ListVerb,
     token: &str,
 ) -> Option<(&'a OpenList, u64)>
-    ensures { option_map (λ r. (r.0.now, r.1)) result
-        ≡ table_continued now verb lists.now.lists (token_of token.now) }
+    requires some { chunk ≢ 0 }
+    ensures found { option_map (λ r. (r.0.now, r.1)) result
+        ≡ table_continued now chunk verb lists.now.lists (token_of token.now) }
+    ensures valid { OnSome result (IsListTable lists.now) }
 {
     let token = Token::read(token)?;
     let list = lists.find(token.list, now)?;
-    if is_same_verb(list.verb, verb) && token.cursor < list.size {
+    if is_same_verb(list.verb, verb) && is_valid_cursor(list, chunk, token.cursor) {
         Some((list, token.cursor))
     } else {
         None
     }
+}
+
+/// Whether a part of the list begins behind so many of its records, and a token that asks for it was
+/// handed out.
+fn is_valid_cursor(list: &OpenList, chunk: u64, cursor: u64) -> bool
+    requires some { chunk ≢ 0 }
+    ensures { result ≡ listing.is_valid_cursor chunk list.now.size list.now.given cursor }
+{
+    cursor < list.size && is_handed_out(chunk, list.given, cursor)
+}
+
+/// Whether a token with the cursor was handed out, where `given` is the highest that was.
+fn is_handed_out(chunk: u64, given: u64, cursor: u64) -> bool
+    requires some { chunk ≢ 0 }
+    ensures { result ≡ listing.is_handed_out chunk given cursor }
+{
+    0 < cursor && cursor % chunk == 0 && cursor <= given
+}
+
+/// Keeps of a list of which a part was answered how long it stays open, in seconds from 1970 on, the
+/// cursor of the part's token, where it has one, and the place behind it. It takes no memory.
+fn carry_on(lists: &mut Lists, number: u64, end: i64, next: Option<u64>, mark: Option<Mark>)
+    requires held { IsSome (list_numbered number lists.old.lists) }
+    ensures { lists.new ≡ record lists.old {
+      lists = with_change number (kept_open end next mark) lists.old.lists;
+    } }
+{
+    lists.renew(number, end);
+    match next {
+        Some(cursor) => lists.give(number, cursor),
+        None => {}
+    }
+    lists.set_mark(number, mark);
 }
 
 /// Whether the verbs are one, and one of a list that tokens continue.
@@ -99,69 +156,90 @@ fn reply_from<V: Versions>(
     verb: ListVerb,
     list: &OpenList,
     cursor: u64,
-) -> Result<Reply, Fault>
+) -> Result<AnsweredPart, Fault>
     requires dated { is_in_years repo.now.clock ≡ true }
     requires within { cursor < list.now.size }
     requires stands { IsSome (V.lists store.old list.now.version) }
     requires counted { IsTrue (V.honest store.old) → is_counted (V.lists store.old) list.now
         ≡ true }
-    ensures reply { IfOk result (λ reply. IsTrue (V.honest store.old) → reply
+    requires marked { IsTrue (V.honest store.old) → is_marked (V.lists store.old) list.now
+        ≡ true }
+    ensures reply { IfOk result (λ part. IsTrue (V.honest store.old) → part.reply
         ≡ document_reply repo.now (listing.part_answer verb
         (format_named list.now.filter.prefix repo.now.config.now.formats)
         (listing.part_from repo.now.config.now (listing.prolonged repo.now.config.now repo.now.clock
         (frozen_in (V.lists store.old) list.now)) cursor))) }
+    ensures next { IfOk result (λ part. IsTrue (V.honest store.old) → part.next
+        ≡ listing.next_cursor repo.now.config.now (frozen_in (V.lists store.old) list.now) cursor) }
+    ensures mark { IfOk result (λ part. IsTrue (V.honest store.old)
+        → is_place_in (items_frozen (V.lists store.old) list.now) part.mark ≡ true) }
     ensures reads { OnlyReads V.Versions result store.old store.new }
 {
+    let items = read_part(store, list, cursor, repo.config.chunk())?;
     let extent = Extent {
         size: list.size,
         cursor,
     };
-    let items = read_part(
-        store,
-        list.version,
-        &list.filter,
-        extent,
-        repo.config.chunk(),
-    )?;
+    let next = end_of_part(extent, items.as_slice());
+    let reply = reply_with_items(repo, verb, list, items.as_slice(), cursor)?;
+    Ok(AnsweredPart {
+        reply,
+        next: cursor_behind(list.size, next),
+        mark: mark_behind(repo.alloc, items.as_slice(), next),
+    })
+}
+
+/// How many records of a list stand up to the end of the part: those before it, and the part's own.
+fn end_of_part(extent: Extent, items: &[Item]) -> u64
+    requires within { extent.cursor + length items.now ≤ extent.size }
+    ensures { result ≡ extent.cursor + length items.now }
+{
+    extent.cursor + items.len() as u64
+}
+
+/// The cursor of the token behind a part that ends before the record `next`, or None where no records
+/// remain of so many.
+fn cursor_behind(size: u64, next: u64) -> Option<u64>
+    ensures { result ≡ listing.cursor_behind size next }
+{
+    if next < size { Some(next) } else { None }
+}
+
+/// The document with the items as the part of the list that begins behind so many of its records.
+fn reply_with_items(
+    repo: &RepoView<'_>,
+    verb: ListVerb,
+    list: &OpenList,
+    items: &[Item],
+    cursor: u64,
+) -> Result<Reply, AllocError>
+    requires dated { is_in_years repo.now.clock ≡ true }
+    requires within { cursor + length items.now ≤ list.now.size }
+    ensures { IfOk result (λ reply. reply ≡ document_reply repo.now (listing.part_answer verb
+        (format_named list.now.filter.prefix repo.now.config.now.formats) (record {
+          items = items.now;
+          granularity = repo.now.config.now.granularity;
+          continuation = listing.continued_at list.now.number
+              (repo.now.clock +ℤ pos repo.now.config.now.lifetime)
+              (record { size = list.now.size; cursor = cursor }) (cursor + length items.now);
+        }))) }
+{
     let part = ListPart {
         number: list.number,
         end: repo.end(),
-        extent,
+        extent: Extent {
+            size: list.size,
+            cursor,
+        },
     };
     match repo
         .config
         .formats()
         .find_named(list.filter.prefix().as_str())
     {
-        Some(format) => Ok(reply_with_part(repo, verb, format, items.as_slice(), part)?),
-        None => Ok(reply_with_error(repo, ErrorCode::CannotDisseminateFormat)?),
+        Some(format) => reply_with_part(repo, verb, format, items, part),
+        None => reply_with_error(repo, ErrorCode::CannotDisseminateFormat),
     }
-}
-
-/// The items of a part of a list that a version holds. Any fault but `TooManyPages` may come, and
-/// `Damaged` where the store returns another number of them than the list's size has.
-fn read_part<V: Versions>(
-    store: &mut V,
-    version: u64,
-    filter: &Filter,
-    extent: Extent,
-    chunk: u64,
-) -> Result<Sequence<Item>, Fault>
-    requires stands { IsSome (V.lists store.old version) }
-    requires within { extent.cursor < extent.size }
-    requires counted { IsTrue (V.honest store.old) → extent.size
-        ≡ length (selected filter.now (list_at (V.lists store.old) version)) }
-    ensures items { IfOk result (λ items. IsTrue (V.honest store.old) → items
-        ≡ take chunk (drop extent.cursor (selected filter.now
-        (list_at (V.lists store.old) version)))) }
-    ensures within { IfOk result (λ items. extent.cursor + length items ≤ extent.size) }
-    ensures reads { OnlyReads V.Versions result store.old store.new }
-{
-    let items = store.part(version, filter, extent.cursor as usize, chunk as usize)?;
-    if items.len() as u64 != chunk.min(extent.size - extent.cursor) {
-        return Err(Fault::Damaged);
-    }
-    Ok(items)
 }
 
 /// The document with the items as that part of a list. A token asks for the next part, where records
@@ -184,7 +262,7 @@ pub(crate) fn reply_with_part(
               (part.extent.cursor + length items.now);
         }))) }
 {
-    let next = part.extent.cursor + items.len() as u64;
+    let next = end_of_part(part.extent, items);
     if part.extent.size <= next {
         let list = listed(repo, items, Resumption::Last(part.extent));
         return make_reply(repo, answer_by_verb(verb, format, list));

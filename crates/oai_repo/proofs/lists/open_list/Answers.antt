@@ -4,7 +4,7 @@ use Rattle.std.proofs.lemmas.Int.{to_z-of_z}
 use Rattle.oai_lists.specs.OpenLists.{number_or_fault, open_fault}
 use Rattle.oai_lists.specs.declared.lists.OpenFault.TheVariants.{Full, NumbersSpent}
 use Rattle.oai_repo.specs.declared.responses.Reply.TheVariants.{Later}
-use Rattle.oai_repo.proofs.OpenListLemmas.{open_lists_dropped, counted_dropped, left_dropped}
+use Rattle.oai_repo.proofs.OpenListLemmas.{open_lists_dropped, left_dropped, table_agrees_dropped}
 use Rattle.oai_repo.proofs.ClockLemmas.{years_fit}
 use Rattle.oai_repo.proofs.WaitLemmas.{may_begin, waits_full, waits_spent}
 use Rattle.oai_repo.proofs.lists.open_list.Goals as goal
@@ -43,7 +43,7 @@ returns-in-Err-Full-clause-left g c =
     let released = simp to_z-of_z at c.seconds_to_end.ensures.released in
     record {
       left = rw (dropped, released) (left_dropped repo.config.now repo.clock repo.index.now.version table all c.requires.ready.kept c.requires.ready.stands);
-      agrees = λ honest. record { counted = rw (dropped, released) (counted_dropped repo.clock repo.index.now.version table all c.requires.ready.stands.apart (c.requires.ready.agrees honest).counted) };
+      agrees = λ honest. rw (dropped, released) (table_agrees_dropped repo.clock repo.index.now.version table all c.requires.ready.stands.apart (c.requires.ready.agrees honest));
       err = tt;
       err_lists = tt;
     }

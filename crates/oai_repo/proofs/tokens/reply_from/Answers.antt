@@ -1,29 +1,40 @@
--- The part is that of the list as the state has it.
-use Rattle.std.proofs.Common.{◌∙◌, refl, sym, ap, Option, FitsSigned, w64, length}
-use Rattle.std.specs.Option.{option_copied}
+-- The part is that of the list as the state has it, and the mark stands behind it.
+use Rattle.std.proofs.Common.{◌≡◌, ◌∙◌, ◌+◌, ◌+ℤ◌, ℕ, pos, ap, refl, length}
 use Rattle.std.proofs.lemmas.Bool.{eqb-true}
-use Rattle.std.proofs.lemmas.Int.{to_z-of_z}
 use Rattle.oai_answers.specs.Answers.{Page}
-use Rattle.oai_item.specs.declared.formats.Format.{Format}
+use Rattle.oai_item.specs.Formats.{format_named}
 use Rattle.oai_repo.specs.Views.{document_reply}
-use Rattle.oai_repo.specs.Fields.{frozen_in}
-use Rattle.oai_repo.specs.Listing.{part_from, part_answer, prolonged, answer_by_verb}
+use Rattle.oai_repo.specs.Fields.{frozen_in, items_frozen}
+use Rattle.oai_repo.specs.Listing.{cursor_behind, part_from, part_answer, prolonged}
 use Rattle.oai_repo.specs.State.{FrozenList}
+use Rattle.oai_repo.proofs.MarkLemmas.{mark_place}
 use Rattle.oai_repo.proofs.PartLemmas.{part_is}
 use Rattle.oai_repo.proofs.tokens.reply_from.Goals as goal
 
-pub returns-in-Some-clause-reply : goal.returns-in-Some-clause-reply
-returns-in-Some-clause-reply g c = λ honest.
-    let fits : FitsSigned w64 c.end.result = record { sfits = c.end.type_inv } in
+pub returns-clause-reply : goal.returns-clause-reply
+returns-clause-reply g c = λ honest.
     let repo = c.args.repo.now in
     let config = repo.config.now in
     let all = g.V.Versions.lists c.args.store.now in
     let list : FrozenList = prolonged config repo.clock (frozen_in all c.args.list.now) in
     let size = eqb-true c.args.list.now.size (length (frozen_in all c.args.list.now).items) (c.requires.counted honest) in
     let items = rw c.chunk.ensures.chunk at (c.in_ok-items.ensures.items honest) in
-    let known = rw (c.formats.ensures, c.as_str.ensures.text, c.prefix.ensures) at (sym c.find_named.ensures.found ∙ ap option_copied c.in-Some.is) in
-    let page = part_is config list c.in_ok-items.items c.args.list.now.number c.args.list.now.size c.args.cursor c.end.result refl size c.end.ensures.end items in
-    let told = simp to_z-of_z at (rw c.as_slice.ensures at c.in_ok-reply_with_part-in-Some.ensures) in
-    told
-    ∙ ap (λ (p : Page). document_reply repo (answer_by_verb c.args.verb c.in-Some.format.now p)) page
-    ∙ ap (λ (f : Option Format). document_reply repo (part_answer c.args.verb f (part_from config list c.args.cursor))) (sym known)
+    let page = part_is config list c.in_ok-items.items c.args.list.now.number c.args.list.now.size c.args.cursor (repo.clock +ℤ pos config.lifetime) refl size refl items in
+    (rw c.as_slice-2.ensures at c.in_ok-reply.ensures) ∙ ap (λ (p : Page). document_reply repo (part_answer c.args.verb (format_named c.args.list.now.filter.prefix config.formats) p)) page
+
+pub returns-clause-next : goal.returns-clause-next
+returns-clause-next g c = λ honest.
+    let config = c.args.repo.now.config.now in
+    let all = g.V.Versions.lists c.args.store.now in
+    let list : FrozenList = frozen_in all c.args.list.now in
+    let size = eqb-true c.args.list.now.size (length list.items) (c.requires.counted honest) in
+    let items = rw c.chunk.ensures.chunk at (c.in_ok-items.ensures.items honest) in
+    (rw (c.end_of_part-next.ensures, c.as_slice.ensures) at c.cursor_behind.ensures)
+    ∙ ap (λ (n : ℕ). cursor_behind n (c.args.cursor + length c.in_ok-items.items)) size
+    ∙ ap (λ xs. cursor_behind (length list.items) (c.args.cursor + length xs)) items
+
+pub returns-clause-mark : goal.returns-clause-mark
+returns-clause-mark g c = λ honest.
+    let all = g.V.Versions.lists c.args.store.now in
+    mark_place (items_frozen all c.args.list.now) c.in_ok-items.items c.args.cursor c.chunk.result c.mark_behind.result (c.in_ok-items.ensures.items honest)
+    (rw (c.end_of_part-next.ensures, c.as_slice.ensures, c.as_slice-3.ensures) at c.mark_behind.ensures)

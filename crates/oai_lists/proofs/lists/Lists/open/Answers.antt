@@ -1,4 +1,4 @@
-use Rattle.std.proofs.Common.{rules, ◌≡◌, ◌≢◌, ◌∙◌, ◌+◌, ◌++◌, ◌∷◌, [], ℕ, ℤ, FitsSigned, Fits, List, ap, arith, subst, sym, w64}
+use Rattle.std.proofs.Common.{rules, ◌≡◌, ◌≢◌, ◌∙◌, ◌+◌, ◌++◌, ◌∷◌, [], None, ℕ, ℤ, FitsSigned, Fits, List, ap, arith, subst, sym, w64}
 use Rattle.std.specs.Int.{int_min}
 use Rattle.std.proofs.lemmas.Int.{to_z-of_z}
 use Rattle.oai_lists.specs.HeldTable.{IsHeldTable}
@@ -8,10 +8,10 @@ use Rattle.oai_lists.specs.declared.lists.TheConstants.{LAST_NUMBER}
 use Rattle.oai_lists.proofs.Ends.{held_push, opening_free, opening_refused}
 use Rattle.oai_lists.proofs.lists.Lists.open.Goals as goal
 
-pub returns-in-Err : goal.returns-in-Err
-returns-in-Err c =
+pub returns-in-Err-clause-opened : goal.returns-in-Err-clause-opened
+returns-in-Err-clause-opened c =
     let fits : FitsSigned w64 c.args.now = c.ranges.now in
-    opening_refused c.args.self.now c.args.now (record { number = c.args.self.now.next; verb = c.args.verb; filter = c.args.filter; version = c.args.version; size = c.args.size; end = c.args.end }) c.in-Err.fault (simp to_z-of_z at c.in-Err.ensures)
+    opening_refused c.args.self.now c.args.now (record { number = c.args.self.now.next; verb = c.args.verb; filter = c.args.filter; version = c.args.version; size = c.args.size; end = c.args.end; given = c.args.first; mark = None }) c.in-Err.fault (simp to_z-of_z at c.in-Err.ensures)
 
 pub overflow_add-self : goal.overflow_add-self
 overflow_add-self c =
@@ -29,7 +29,7 @@ invariant_of-self-2 c =
     let fits_new : FitsSigned w64 c.min-self-inside.result = record { sfits = c.min-self-inside.type_inv } in
     let free = opening_free c.args.self.now c.args.now c.in-Ok.number (simp to_z-of_z at c.in-Ok.ensures) in
     let items : List OpenList = c.self.inside.lists.items in
-    let list : OpenList = record { number = c.in-Ok.number; verb = c.args.verb; filter = c.args.filter; version = c.args.version; size = c.args.size; end = c.args.end } in
+    let list : OpenList = record { number = c.in-Ok.number; verb = c.args.verb; filter = c.args.filter; version = c.args.version; size = c.args.size; end = c.args.end; given = c.args.first; mark = None } in
     let same : c.in-Ok.number ≡ c.self.inside.next = free.1 ∙ sym (ap (λ (t : Table). t.next) c.self.view_is) in
     let pushed : c.push.new.self.items ≡ items ++ list ∷ [] = simp to_z-of_z at c.in-Ok-push.ensures.items in
     let bound : c.min-self-inside.result ≡ int_min c.self.inside.earliest c.args.end = simp to_z-of_z at c.min-self-inside.ensures.value in
@@ -40,14 +40,14 @@ invariant_of-self-2 c =
     (subst (λ (lists : List OpenList). IsHeldTable (record { limit = c.self.inside.limit; next = c.in-Ok.number + 1; lists = lists }) (int_min c.self.inside.earliest c.args.end)) (sym pushed)
     (subst (λ (n : ℕ). IsHeldTable (record { limit = c.self.inside.limit; next = n + 1; lists = items ++ list ∷ [] }) (int_min c.self.inside.earliest c.args.end)) (sym same) held)))
 
-pub returns : goal.returns
-returns c =
+pub returns-clause-opened : goal.returns-clause-opened
+returns-clause-opened c =
     let fits : FitsSigned w64 c.args.now = c.ranges.now in
     let fits_end : FitsSigned w64 c.args.end = c.ranges.end in
     let free = opening_free c.args.self.now c.args.now c.in-Ok.number (simp to_z-of_z at c.in-Ok.ensures) in
     let items : List OpenList = c.self.inside.lists.items in
     let same : c.in-Ok.number ≡ c.self.inside.next = free.1 ∙ sym (ap (λ (t : Table). t.next) c.self.view_is) in
-    let named : ℕ → OpenList = λ n. record { number = n; verb = c.args.verb; filter = c.args.filter; version = c.args.version; size = c.args.size; end = c.args.end } in
+    let named : ℕ → OpenList = λ n. record { number = n; verb = c.args.verb; filter = c.args.filter; version = c.args.version; size = c.args.size; end = c.args.end; given = c.args.first; mark = None } in
     let pushed : c.push.new.self.items ≡ items ++ named c.in-Ok.number ∷ [] = simp to_z-of_z at c.in-Ok-push.ensures.items in (
       free.0,
       free.1,

@@ -9,7 +9,7 @@ use Rattle.oai_repo.specs.Machine.{Outcome, accepted, refused_with}
 use Rattle.oai_repo.specs.State.{OpenLists, RepoState, still_open}
 use Rattle.oai_repo.specs.Indexing.{MakesChange}
 use Rattle.oai_item.specs.declared.refusals.Refusal.TheVariants as refusal
-use Rattle.oai_repo.proofs.OpenListLemmas.{all_counted, open_lists_same}
+use Rattle.oai_repo.proofs.OpenListLemmas.{open_lists_same, table_agrees_same}
 use Rattle.oai_repo.proofs.ClockLemmas.{in_years-tick}
 use Rattle.oai_repo.proofs.MoveLemmas.{state_moved}
 use Rattle.oai_repo.proofs.NumberLemmas.{in_use_moved, kept_moved, kept_twice, moved_others}
@@ -44,7 +44,7 @@ move_to-requires-clause-owns g c =
           let was : IsTrue (g.V.Versions.honest c.args.store.now) = subst (λ (b : Bool). IsTrue b) c.make_change-made.ensures.store.honesty.same honest in
           record {
             indexed = c.make_change-made.ensures.made.indexed was;
-            agrees = record { counted = all_counted before after inside.lists.lists (moved_others v w numbers before after owns.stands moved) (owns.held was).agrees.counted };
+            agrees = table_agrees_same inside.lists before after (moved_others v w numbers before after owns.stands moved) (owns.held was).agrees;
           };
     }
 
@@ -64,7 +64,7 @@ move_to-requires-in-Err-Refused-clause-owns g c =
           let was : IsTrue (g.V.Versions.honest c.args.store.now) = subst (λ (b : Bool). IsTrue b) c.make_change-made.ensures.store.honesty.same honest in
           record {
             indexed = c.make_change-made.ensures.made.indexed was;
-            agrees = record { counted = all_counted before after inside.lists.lists (moved_others v w numbers before after owns.stands moved) (owns.held was).agrees.counted };
+            agrees = table_agrees_same inside.lists before after (moved_others v w numbers before after owns.stands moved) (owns.held was).agrees;
           };
     }
 
@@ -189,7 +189,7 @@ returns-in-Err-Fault-clause-keeps g c =
       stands = in_use_moved v w numbers before after owns.stands moved;
       held = λ honest. record {
         indexed = c.make_change-made.ensures.made.indexed honest;
-        agrees = record { counted = all_counted before after inside.lists.lists (moved_others v w numbers before after owns.stands moved) (owns.held honest).agrees.counted };
+        agrees = table_agrees_same inside.lists before after (moved_others v w numbers before after owns.stands moved) (owns.held honest).agrees;
       };
       others = kept_moved v w numbers before after owns.stands moved;
     })

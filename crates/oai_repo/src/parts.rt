@@ -1,0 +1,93 @@
+//! The records of a part of a list (OAI-PMH 2.0, section 3.5), and the place behind them.
+ghost use Rattle.std.specs.Prelude.{◌≡◌, ◌<◌, ◌≤◌, ◌+◌, length, take, drop, true, Some, IfOk, IfSome, IsSome, IsTrue};
+ghost use Rattle.oai_catalogue.specs.Calls.{OnlyReads};
+ghost use Rattle.oai_repo.specs.Fields.{is_counted, is_marked, items_frozen};
+ghost use Rattle.oai_repo.specs.Tables.{IsMarkBehind};
+
+use oai_catalogue::Versions;
+use oai_item::{Fault, Item};
+use oai_lists::{Mark, OpenList};
+use oai_names::Sequence;
+use std::alloc::Global;
+
+/// The items of a part of a list, which begins behind so many of its records. Any fault but
+/// `TooManyPages` may come, and `Damaged` where the store returns another number of them than the list's
+/// size has.
+pub(crate) fn read_part<V: Versions>(
+    store: &mut V,
+    list: &OpenList,
+    cursor: u64,
+    chunk: u64,
+) -> Result<Sequence<Item>, Fault>
+    requires stands { IsSome (V.lists store.old list.now.version) }
+    requires within { cursor < list.now.size }
+    requires counted { IsTrue (V.honest store.old) → is_counted (V.lists store.old) list.now
+        ≡ true }
+    requires marked { IsTrue (V.honest store.old) → is_marked (V.lists store.old) list.now
+        ≡ true }
+    ensures items { IfOk result (λ items. IsTrue (V.honest store.old) → items
+        ≡ take chunk (drop cursor (items_frozen (V.lists store.old) list.now))) }
+    ensures within { IfOk result (λ items. cursor + length items ≤ list.now.size) }
+    ensures reads { OnlyReads V.Versions result store.old store.new }
+{
+    let items = items_behind(store, list, cursor, chunk as usize)?;
+    if items.len() as u64 != chunk.min(list.size - cursor) {
+        return Err(Fault::Damaged);
+    }
+    Ok(items)
+}
+
+/// Of the items of a list those behind so many of its records, at most `most` of them. At the place of
+/// its mark the store is asked for what stands behind the mark's record, so that nothing before it is
+/// counted. Any fault but `TooManyPages` may come.
+fn items_behind<V: Versions>(
+    store: &mut V,
+    list: &OpenList,
+    cursor: u64,
+    most: usize,
+) -> Result<Sequence<Item>, Fault>
+    requires stands { IsSome (V.lists store.old list.now.version) }
+    requires marked { IsTrue (V.honest store.old) → is_marked (V.lists store.old) list.now
+        ≡ true }
+    ensures items { IfOk result (λ items. IsTrue (V.honest store.old) → items
+        ≡ take most (drop cursor (items_frozen (V.lists store.old) list.now))) }
+    ensures reads { OnlyReads V.Versions result store.old store.new }
+{
+    let (version, filter) = (list.version, &list.filter);
+    match mark_at(list, cursor) {
+        Some(mark) => store.part_after(version, filter, mark.stamp, &mark.identifier, most),
+        None => store.part(version, filter, cursor as usize, most),
+    }
+}
+
+/// The mark of the list, where it is at that cursor.
+fn mark_at(list: &OpenList, cursor: u64) -> Option<&Mark>
+    ensures { IfSome result (λ mark. (list.now.mark ≡ Some mark.now) × (mark.now.cursor ≡ cursor)) }
+{
+    match &list.mark {
+        Some(mark) => {
+            if mark.cursor == cursor {
+                Some(mark)
+            } else {
+                None
+            }
+        }
+        None => None,
+    }
+}
+
+/// The place behind the items, which end before the record `next` of their list; None where there are
+/// none, or where no memory is found for it.
+pub(crate) fn mark_behind(alloc: Global, items: &[Item], next: u64) -> Option<Mark>
+    ensures { IfSome result (λ mark. IsMarkBehind items.now next mark) }
+{
+    let last = items.last()?;
+    match last.identifier().copy(alloc) {
+        Ok(identifier) => Some(Mark {
+            cursor: next,
+            stamp: last.stamp(),
+            identifier,
+        }),
+        Err(_) => None,
+    }
+}
