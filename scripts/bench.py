@@ -31,15 +31,20 @@ SHORT = 5
 
 TOKEN = re.compile(rb"<resumptionToken [^>]*>([^<]+)</resumptionToken>")
 
+# How many lists are opened, and stay open, before the memory is looked at again.
+OPEN = 20
+
 COLUMNS = {
     "items": "items",
     "deposits": "deposit lines/s",
     "records": "ListRecords records/s",
     "gets": "GetRecord/s",
     "memory": "peak memory MB",
-    "redeposits": "redeposits",
-    "firsts": "first parts",
-    "copies": "peak memory MB, with these",
+    "open": f"peak memory MB, {OPEN} lists more open",
+    "file": "file MB",
+    "redeposits": "redeposits/s of its processor",
+    "grown": "file MB, with these",
+    "firsts": "first parts/s of its processor",
 }
 
 
@@ -134,6 +139,13 @@ def as_many(work, most):
     return count
 
 
+def by_processor(server, work):
+    """What the work counts, for each second of processor time that the server has spent on it."""
+    begun = server.processor()
+    count = work()
+    return round(count / (server.processor() - begun))
+
+
 def redeposits(connection, size):
     """How many items get another state in LONG seconds, each by a message of its own."""
     chance = random.Random(SEED)
@@ -141,12 +153,16 @@ def redeposits(connection, size):
     return as_many(lambda: post_all(connection, bodies_of([item(chance.randrange(size), next(versions))])), LONG)
 
 
+def begin_list(connection):
+    """Begins a list of all records."""
+    status, _ = get(connection, "verb=ListRecords&metadataPrefix=oai_dc")
+    if status != 200:
+        raise SystemExit(f"the first part of a list was answered {status}")
+
+
 def first_parts(connection):
-    """How many lists begin in LONG seconds, and how many of the requests were told to wait, since as many lists were open as may be."""
-    answered = []
-    as_many(lambda: answered.append(get(connection, "verb=ListRecords&metadataPrefix=oai_dc")[0]), LONG)
-    waits = answered.count(503)
-    return f"{answered.count(200)}" + (f" ({waits} told to wait)" if waits else "")
+    """How many lists begin in LONG seconds."""
+    return as_many(lambda: begin_list(connection), LONG)
 
 
 def megabytes(kilobytes):
@@ -154,22 +170,28 @@ def megabytes(kilobytes):
 
 
 def measure(size):
-    """The row of one size. The lists of the second server end after a second, since each has a copy of the items."""
+    """The row of one size. The lists of the second server end after a second, since many are begun."""
     row = {"items": size}
-    with Server(configuration(CHUNK, 3600, 10, 2 * size)) as server:
+    with Server(configuration(CHUNK, 3600, 2 * OPEN, 2 * size)) as server:
         connection = server.connect()
         row["deposits"] = round(size / load(connection, size))
         row["records"] = round(size / seconds(lambda: read_all(connection, size)))
         connection.close()
         row["gets"] = round((gets_by_wrk if shutil.which("wrk") else gets_by_loop)(server, size))
         row["memory"] = megabytes(server.most_memory())
-    with Server(configuration(CHUNK, 1, 1000, 2 * size)) as server:
+        connection = server.connect()
+        for _ in range(OPEN):
+            begin_list(connection)
+        connection.close()
+        row["open"] = megabytes(server.most_memory())
+        row["file"] = megabytes(server.file_kilobytes())
+    with Server(configuration(CHUNK, 1, 10_000, 2 * size)) as server:
         connection = server.connect()
         load(connection, size)
-        row["redeposits"] = redeposits(connection, size)
-        row["firsts"] = first_parts(connection)
+        row["redeposits"] = by_processor(server, lambda: redeposits(connection, size))
+        row["grown"] = megabytes(server.file_kilobytes())
+        row["firsts"] = by_processor(server, lambda: first_parts(connection))
         connection.close()
-        row["copies"] = megabytes(server.most_memory())
     return row
 
 

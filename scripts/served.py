@@ -52,6 +52,16 @@ class Server:
         """A connection, which must be closed before another one is served."""
         return http.client.HTTPConnection("127.0.0.1", self.port, timeout=PATIENCE)
 
+    def file_kilobytes(self):
+        """How long the file of its pages is, in kilobytes."""
+        return os.path.getsize(f"{self.folder.name}/spill") / 1024
+
+    def processor(self):
+        """For how many seconds of a processor's time it has worked."""
+        with open(f"/proc/{self.process.pid}/stat", encoding="ascii") as it:
+            user, system = it.read().rsplit(")", 1)[1].split()[11:13]
+        return (int(user) + int(system)) / os.sysconf("SC_CLK_TCK")
+
     def most_memory(self):
         """The most memory that the server has had, in kilobytes."""
         with open(f"/proc/{self.process.pid}/status", encoding="ascii") as it:

@@ -14,7 +14,7 @@ use Rattle.oai_cli.specs.Inputs.{IsNextLine, IsUnread, left, unread, IsReadSoFar
 use Rattle.oai_cli.specs.ExchangeLines.{IsLineDone, IsUnspecified, is_bad, is_line_filled, shown, parse_exchange}
 use Rattle.oai_cli.specs.NumberedLines.{AreFirst, line_count, lines_of}
 use Rattle.oai_cli.specs.declared.stop.Stop.{Stop}
-use Rattle.oai_cli.specs.declared.stop.Stop.TheVariants.{BadConfig, BadExchange, BadPiece, CannotRead, InputFault, NoMemory, OutputFault, SocketFault, TooManyConnections, Usage}
+use Rattle.oai_cli.specs.declared.stop.Stop.TheVariants.{BadConfig, BadExchange, BadPiece, CannotRead, DeviceFault, InputFault, NoMemory, OutputFault, SocketFault, TooManyConnections, Usage}
 use Rattle.oai_cli.proofs.KnownLemmas.{appends_both, appends_kept, appends_none}
 use Rattle.oai_cli.proofs.ReadLemmas.{counted_next, known_so, number_next, read_front, read_none, read_to, read_whole}
 
@@ -141,6 +141,7 @@ stopped_there front lines others line old new is Writes (BadConfig fault) cut en
 stopped_there front lines others line old new is Writes (BadPiece number) cut ended = let is_so : BadPiece number ≡ OutputFault = ended.0 in absurd cc
 stopped_there front lines others line old new is Writes (TooManyConnections number) cut ended = let is_so : TooManyConnections number ≡ OutputFault = ended.0 in absurd cc
 stopped_there front lines others line old new is Writes InputFault cut ended = let is_so : InputFault ≡ OutputFault = ended.0 in absurd cc
+stopped_there front lines others line old new is Writes DeviceFault cut ended = let is_so : DeviceFault ≡ OutputFault = ended.0 in absurd cc
 stopped_there front lines others line old new is Writes SocketFault cut ended = let is_so : SocketFault ≡ OutputFault = ended.0 in absurd cc
 stopped_there front lines others line old new is Writes NoMemory cut ended = let is_so : NoMemory ≡ OutputFault = ended.0 in absurd cc
 
@@ -214,6 +215,7 @@ kept_so lines old new a b c (Err (BadConfig fault)) kept asked = begun_kept line
 kept_so lines old new a b c (Err (BadPiece number)) kept asked = begun_kept lines old new a b c kept asked
 kept_so lines old new a b c (Err (TooManyConnections number)) kept asked = begun_kept lines old new a b c kept asked
 kept_so lines old new a b c (Err InputFault) kept asked = begun_kept lines old new a b c kept asked
+kept_so lines old new a b c (Err DeviceFault) kept asked = begun_kept lines old new a b c kept asked
 kept_so lines old new a b c (Err SocketFault) kept asked = begun_kept lines old new a b c kept asked
 kept_so lines old new a b c (Err NoMemory) kept asked = begun_kept lines old new a b c kept asked
 
@@ -243,6 +245,7 @@ unsaid_so lines old new Writes (Err (BadConfig fault)) asked = first_unsaid line
 unsaid_so lines old new Writes (Err (BadPiece number)) asked = first_unsaid lines old new Writes asked
 unsaid_so lines old new Writes (Err (TooManyConnections number)) asked = first_unsaid lines old new Writes asked
 unsaid_so lines old new Writes (Err InputFault) asked = first_unsaid lines old new Writes asked
+unsaid_so lines old new Writes (Err DeviceFault) asked = first_unsaid lines old new Writes asked
 unsaid_so lines old new Writes (Err SocketFault) asked = first_unsaid lines old new Writes asked
 unsaid_so lines old new Writes (Err NoMemory) asked = first_unsaid lines old new Writes asked
 

@@ -21,7 +21,7 @@ use Rattle.oai_cli.specs.Stops.{StopsTracing}
 use Rattle.oai_cli.specs.Traces.{AreFollowed, AreTraced, AreTracedTo, BeginsOnly, HasBegun, IsBrokenOff, IsFirst, IsFollowed, IsFollowedOn, IsConnectionOf, IsUnopenable, IsTraced, Shown, Tracing, number_or, shown_on, nothing_traced, AreLinesCounted, IsBroken, IsLine, IsUnopened}
 use Rattle.oai_cli.specs.declared.trace.events.Event.{Event}
 use Rattle.oai_cli.specs.declared.stop.Stop.{Stop}
-use Rattle.oai_cli.specs.declared.stop.Stop.TheVariants.{BadConfig, BadExchange, BadPiece, CannotRead, InputFault, NoMemory, OutputFault, SocketFault, TooManyConnections, Usage}
+use Rattle.oai_cli.specs.declared.stop.Stop.TheVariants.{BadConfig, BadExchange, BadPiece, CannotRead, DeviceFault, InputFault, NoMemory, OutputFault, SocketFault, TooManyConnections, Usage}
 use Rattle.oai_cli.proofs.Apart.{equal_others, opened_others, others_then}
 use Rattle.oai_cli.proofs.KnownLemmas.{appends_both, appends_kept, appends_none}
 use Rattle.oai_cli.proofs.ReadLemmas.{counted_next, known_all, known_so, number_next, read_front, read_to, read_whole}
@@ -71,6 +71,7 @@ line_unparsed step line number state known (BadConfig fault) full said = (inr sa
 line_unparsed step line number state known (BadExchange at) full said = (inr said, inl refl)
 line_unparsed step line number state known InputFault full said = (inr said, inl refl)
 line_unparsed step line number state known OutputFault full said = (inr said, inl refl)
+line_unparsed step line number state known DeviceFault full said = (inr said, inl refl)
 line_unparsed step line number state known SocketFault full said = (inr said, inl refl)
 line_unparsed step line number state known NoMemory full said = (inr said, inl refl)
 
@@ -85,6 +86,7 @@ line_unopened step line number event old new known (BadConfig fault) parsed_as w
 line_unopened step line number event old new known (BadExchange at) parsed_as why = (inr why.0, inr (record { event = event; parsed_as = parsed_as; others = why.2 }))
 line_unopened step line number event old new known InputFault parsed_as why = (inr why.0, inr (record { event = event; parsed_as = parsed_as; others = why.2 }))
 line_unopened step line number event old new known OutputFault parsed_as why = (inr why.0, inr (record { event = event; parsed_as = parsed_as; others = why.2 }))
+line_unopened step line number event old new known DeviceFault parsed_as why = (inr why.0, inr (record { event = event; parsed_as = parsed_as; others = why.2 }))
 line_unopened step line number event old new known SocketFault parsed_as why = (inr why.0, inr (record { event = event; parsed_as = parsed_as; others = why.2 }))
 line_unopened step line number event old new known NoMemory parsed_as why = (inr why.0, inr (record { event = event; parsed_as = parsed_as; others = why.2 }))
 
@@ -222,6 +224,7 @@ line_stops step line number old new Writes (BadConfig fault) is = broken_stops (
 line_stops step line number old new Writes (BadExchange at) is = broken_stops (BadExchange at) is.0
 line_stops step line number old new Writes InputFault is = tt
 line_stops step line number old new Writes OutputFault is = tt
+line_stops step line number old new Writes DeviceFault is = broken_stops DeviceFault is.0
 line_stops step line number old new Writes SocketFault is = broken_stops SocketFault is.0
 line_stops step line number old new Writes NoMemory is = tt
 
@@ -274,6 +277,8 @@ stopped_there step front lines others line old mid new was is from before after 
     broken_off step front lines (line ∷ others) old mid new.front (Appends from before) cut done.followed here.1
 stopped_there step front lines others line old mid new was is from before after InputFault counted cut here done = absurd (elim here.0 [ inl is ↦ cc | inr is ↦ cc ])
 stopped_there step front lines others line old mid new was is from before after OutputFault counted cut here done =
+    broken_off step front lines (line ∷ others) old mid new.front (Appends from before) cut done.followed here.1
+stopped_there step front lines others line old mid new was is from before after DeviceFault counted cut here done =
     broken_off step front lines (line ∷ others) old mid new.front (Appends from before) cut done.followed here.1
 stopped_there step front lines others line old mid new was is from before after SocketFault counted cut here done =
     broken_off step front lines (line ∷ others) old mid new.front (Appends from before) cut done.followed here.1
@@ -371,6 +376,7 @@ kept_so step lines old new a b c (Err CannotRead) kept traced = traced
 kept_so step lines old new a b c (Err (BadConfig fault)) kept traced = traced
 kept_so step lines old new a b c (Err (BadExchange number)) kept traced = traced
 kept_so step lines old new a b c (Err OutputFault) kept traced = traced
+kept_so step lines old new a b c (Err DeviceFault) kept traced = traced
 kept_so step lines old new a b c (Err SocketFault) kept traced = traced
 kept_so step lines old new a b c (Err NoMemory) kept traced = traced
 
@@ -406,6 +412,7 @@ unsaid_so step lines old new Writes (Err CannotRead) traced = traced
 unsaid_so step lines old new Writes (Err (BadConfig fault)) traced = traced
 unsaid_so step lines old new Writes (Err (BadExchange number)) traced = traced
 unsaid_so step lines old new Writes (Err OutputFault) traced = traced
+unsaid_so step lines old new Writes (Err DeviceFault) traced = traced
 unsaid_so step lines old new Writes (Err SocketFault) traced = traced
 unsaid_so step lines old new Writes (Err NoMemory) traced = traced
 

@@ -25,6 +25,8 @@ pub enum Stop {
     InputFault,
     /// The output could not be written.
     OutputFault,
+    /// The file of the pages could not be created or emptied.
+    DeviceFault,
     /// The program could not listen, or could not accept a connection.
     SocketFault,
     /// Memory was refused.
@@ -33,8 +35,8 @@ pub enum Stop {
 
 impl Stop {
     /// The program's exit status: 2 where the arguments are wrong, or the configuration cannot be read or
-    /// has a fault, and 1 for each other cause, also where memory runs out before the work, and for a port that
-    /// cannot be listened on.
+    /// has a fault, and 1 for each other cause, also where memory runs out before the work, for a file of pages
+    /// that cannot be created or emptied, and for a port that cannot be listened on.
     pub fn status(self) -> u8
         ensures { result ≡ spec.status_of self }
     {
@@ -47,6 +49,7 @@ impl Stop {
             Stop::TooManyConnections(_) => 1,
             Stop::InputFault => 1,
             Stop::OutputFault => 1,
+            Stop::DeviceFault => 1,
             Stop::SocketFault => 1,
             Stop::NoMemory => 1,
         }
@@ -73,6 +76,7 @@ impl fmt::Display for Stop {
             Stop::TooManyConnections(number) => write!(f, "line {number}: too many connections"),
             Stop::InputFault => write!(f, "input fault"),
             Stop::OutputFault => write!(f, "output fault"),
+            Stop::DeviceFault => write!(f, "device fault"),
             Stop::SocketFault => write!(f, "socket fault"),
             Stop::NoMemory => write!(f, "out of memory"),
         }

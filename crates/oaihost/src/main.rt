@@ -5,13 +5,14 @@ ghost use Rattle.std.specs.Prelude.{◌≡◌, IfOk};
 ghost use Rattle.std.specs.Process.{exit_status};
 ghost use Rattle.oai_cli.specs.Stops as spec;
 
-use oai_catalogue::PlainVersions;
 use oai_cli::{
-    MAX_CONNECTIONS, Stop, ask_lines, check_config, host_over, read_config, read_file, read_number,
-    serve_port, trace_lines,
+    MAX_CONNECTIONS, Stop, ask_lines, check_config, empty_file, host_on, read_config, read_file,
+    read_number, serve_port, trace_lines,
 };
+use oai_device::{FileDevice, MemoryDevice};
 use oai_front::Front;
 use std::env;
+use std::fs::File;
 use std::io::{self, BufWriter};
 use std::process::ExitCode;
 use std::rt::{Clock, Env, Files, Net};
@@ -25,8 +26,8 @@ enum Command {
     Ask(String),
     /// To take the pieces and ends of connections that standard input tells.
     Trace(String),
-    /// To serve so many connections on a port of 127.0.0.1.
-    Serve(String, u16, u64),
+    /// To serve so many connections on a port of 127.0.0.1, with the pages in the file of the second path.
+    Serve(String, u16, String, u64),
 }
 
 fn main(rt: HostRuntime) -> io::Result<ExitCode> {
@@ -34,8 +35,8 @@ fn main(rt: HostRuntime) -> io::Result<ExitCode> {
         Ok(Command::Check(path)) => run_check(&rt, path.as_str()),
         Ok(Command::Ask(path)) => run_ask(&rt, path.as_str()),
         Ok(Command::Trace(path)) => run_trace(&rt, path.as_str()),
-        Ok(Command::Serve(path, port, connections)) => {
-            run_serve(&rt, path.as_str(), port, connections)
+        Ok(Command::Serve(path, port, spill, connections)) => {
+            run_serve(&rt, path.as_str(), port, spill.as_str(), connections)
         }
         Err(stop) => Err(stop),
     };
@@ -59,17 +60,31 @@ fn called_for(rt: &(impl Env + AllocGlobal)) -> Result<Command, Stop> {
     let others = arguments.next();
     match (word, path, port, spill, connections, others) {
         (Some(word), Some(path), None, None, None, None) => command_named(word.as_str(), path),
-        (Some(word), Some(path), Some(port), Some(_), Some(connections), None) => {
-            to_serve(word.as_str(), path, port.as_bytes(), connections.as_bytes())
+        (Some(word), Some(path), Some(port), Some(spill), Some(connections), None) => {
+            to_serve(
+                word.as_str(),
+                path,
+                port.as_bytes(),
+                spill,
+                connections.as_bytes(),
+            )
         }
         _ => Err(Stop::Usage),
     }
 }
 
-/// The command to serve, with that port and so many connections.
-fn to_serve(word: &str, path: String, port: &[u8], connections: &[u8]) -> Result<Command, Stop> {
+/// The command to serve, with that port, that file and so many connections.
+fn to_serve(
+    word: &str,
+    path: String,
+    port: &[u8],
+    spill: String,
+    connections: &[u8],
+) -> Result<Command, Stop> {
     match (word, read_port(port), read_number(connections)) {
-        ("serve", Some(port), Some(connections)) => Ok(Command::Serve(path, port, connections)),
+        ("serve", Some(port), Some(connections)) => {
+            Ok(Command::Serve(path, port, spill, connections))
+        }
         _ => Err(Stop::Usage),
     }
 }
@@ -99,7 +114,7 @@ fn run_check(rt: &(impl Files + Print + AllocGlobal), path: &str) -> Result<(), 
 fn run_ask(rt: &(impl Files + Input + Print + AllocGlobal), path: &str) -> Result<(), Stop> {
     let alloc = rt.alloc();
     let config = read_config(rt, path)?;
-    let mut host = host_over(alloc, config, PlainVersions::new(alloc))?;
+    let mut host = host_on(alloc, config, MemoryDevice::new(alloc))?;
     let Ok(mut writer) = BufWriter::new(alloc, io::writer(rt)) else {
         return Err(Stop::NoMemory);
     };
@@ -111,7 +126,7 @@ fn run_ask(rt: &(impl Files + Input + Print + AllocGlobal), path: &str) -> Resul
 fn run_trace(rt: &(impl Files + Input + Print + AllocGlobal), path: &str) -> Result<(), Stop> {
     let alloc = rt.alloc();
     let config = read_config(rt, path)?;
-    let host = host_over(alloc, config, PlainVersions::new(alloc))?;
+    let host = host_on(alloc, config, MemoryDevice::new(alloc))?;
     let mut front = Front::new(alloc, host, MAX_CONNECTIONS);
     let Ok(mut writer) = BufWriter::new(alloc, io::writer(rt)) else {
         return Err(Stop::NoMemory);
@@ -119,16 +134,19 @@ fn run_trace(rt: &(impl Files + Input + Print + AllocGlobal), path: &str) -> Res
     trace_lines(alloc, &mut front, &mut rt.reader(), &mut writer)
 }
 
-/// Serves so many connections to the repositories of the configuration, one after the other.
+/// Serves so many connections to the repositories of the configuration, one after the other, with the pages
+/// in the file `spill`, which is created or emptied once the configuration is read.
 fn run_serve(
-    rt: &(impl Files + Net + Clock + Print + AllocGlobal),
+    rt: &(impl Files<File = File> + Net + Clock + Print + AllocGlobal),
     path: &str,
     port: u16,
+    spill: &str,
     connections: u64,
 ) -> Result<(), Stop> {
     let alloc = rt.alloc();
     let config = read_config(rt, path)?;
-    let host = host_over(alloc, config, PlainVersions::new(alloc))?;
+    let device = FileDevice::new(empty_file(rt, spill)?);
+    let host = host_on(alloc, config, device)?;
     let mut front = Front::new(alloc, host, 1);
     serve_port(rt, &mut front, port, connections)
 }
