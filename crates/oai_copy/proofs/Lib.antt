@@ -1,0 +1,4 @@
+pub mod OrderLemmas
+pub mod ListedLemmas
+pub mod SortLemmas
+pub mod MergeLemmas

@@ -1,0 +1,2 @@
+pub mod Harvests
+pub mod Worked
