@@ -1,23 +1,41 @@
 //! Lines that are performed on a new host, and what is written for them.
 use crate::assertions::assert_same_at;
 use oai_catalogue::PlainVersions;
-use oai_cli::{Stop, ask_lines, config_in, host_over};
+use oai_cli::{Stop, ask_lines, config_in, host_on, host_over};
+use oai_device::MemoryDevice;
+use oai_host::Config;
 use std::alloc::Global;
 use std::io::{Read, Write};
 use std::panic::Expect;
 use std::process::Abort;
-use tests_worked::{wanted_in, worked_configuration};
+use tests_fixtures::{wanted_in, worked_configuration};
 
-/// Performs the lines that the reader gives on a new host; why that stopped, if it did.
+/// The worked configuration.
+pub(crate) fn config(rt: &impl Abort, alloc: Global) -> Config {
+    config_in(alloc, worked_configuration().as_bytes()).expect(rt, "config_in")
+}
+
+/// Performs the lines that the reader gives on a new host over pages in memory, as the program does; why that
+/// stopped, if it did.
 pub(crate) fn performed<R: Read, W: Write>(
     rt: &impl Abort,
     alloc: Global,
     reader: &mut R,
     writer: &mut W,
 ) -> Result<(), Stop> {
-    let config = config_in(alloc, worked_configuration().as_bytes()).expect(rt, "config_in");
-    let mut host = host_over(alloc, config, PlainVersions::new(alloc)).expect(rt, "host_over");
+    let device = MemoryDevice::new(alloc);
+    let mut host = host_on(alloc, config(rt, alloc), device).expect(rt, "host_on");
     ask_lines(alloc, &mut host, reader, writer)
+}
+
+/// What is written for the lines by a new host over plain lists.
+fn written_over_lists(rt: &impl Abort, alloc: Global, input: &str) -> Vec<u8> {
+    let store = PlainVersions::new(alloc);
+    let mut host = host_over(alloc, config(rt, alloc), store).expect(rt, "host_over");
+    let mut reader = input.as_bytes();
+    let mut output = Vec::new(alloc);
+    ask_lines(alloc, &mut host, &mut reader, &mut output).expect(rt, "ask_lines");
+    output
 }
 
 /// What is written for the lines that the reader gives.
@@ -36,10 +54,12 @@ pub(crate) fn stop_of<R: Read>(rt: &impl Abort, alloc: Global, reader: &mut R) -
     }
 }
 
-/// The lines are answered so.
+/// The lines are answered so, over pages and over plain lists.
 pub(crate) fn assert_asked(rt: &impl Abort, alloc: Global, input: &str, wanted: &str) {
     let mut reader = input.as_bytes();
     let output = written(rt, alloc, &mut reader);
+    assert_same_at(rt, output.as_slice(), wanted.as_bytes(), input);
+    let output = written_over_lists(rt, alloc, input);
     assert_same_at(rt, output.as_slice(), wanted.as_bytes(), input);
 }
 

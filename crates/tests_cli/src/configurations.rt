@@ -5,7 +5,7 @@ use std::alloc::Global;
 use std::fs;
 use std::panic::Expect;
 use std::process::Abort;
-use tests_worked::worked_configuration;
+use tests_fixtures::worked_configuration;
 
 /// The file of the test, which lies where it runs.
 const PATH: &str = "configuration-of-many-reads.json";

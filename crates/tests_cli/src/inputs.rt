@@ -10,7 +10,7 @@ use std::alloc::Global;
 use std::io::{self, ErrorKind, Read, Write};
 use std::panic::Expect;
 use std::process::Abort;
-use tests_worked::push_wanted;
+use tests_fixtures::push_wanted;
 
 /// A deposit, an empty line, a line that is no JSON, and a deposit that has no line end.
 fn script() -> &'static str {

@@ -6,30 +6,32 @@ mod asking;
 #[cfg(test)]
 mod assertions;
 #[cfg(test)]
-mod checking;
+mod check_config;
 #[cfg(test)]
 mod configurations;
 #[cfg(test)]
-mod failing;
+mod exchanges;
 #[cfg(test)]
-mod faults;
+mod failing_store;
 #[cfg(test)]
-mod following;
+mod failing_streams;
+#[cfg(test)]
+mod followed_list;
 #[cfg(test)]
 mod harvests;
-#[cfg(test)]
-mod hosting;
 #[cfg(test)]
 mod inputs;
 #[cfg(test)]
 mod neighbours;
 #[cfg(test)]
-mod serving;
+mod pages;
+#[cfg(test)]
+mod repositories;
+#[cfg(test)]
+mod serve_stream;
 #[cfg(test)]
 mod tokens;
 #[cfg(test)]
-mod tracing;
+mod trace_lines;
 #[cfg(test)]
 mod transcripts;
-#[cfg(test)]
-mod worked;

@@ -1,13 +1,19 @@
-//! One repository while much is deposited at another: what it is asked, and what it is answered, are the same.
+//! One repository while much is deposited at another: what it is asked, and what it is answered, are the same, however
+//! few pages the cache of both has.
 use crate::asking::{asked_in, assert_transcript};
-use crate::assertions::assert_same;
-use oai_catalogue::PlainVersions;
-use oai_cli::{ask_lines, config_in, host_over};
+use crate::assertions::{assert_same, assert_same_at};
+use crate::check_config::changed;
+use oai_cli::{ask_lines, config_in, host_on};
+use oai_device::MemoryDevice;
 use oai_host::Host;
+use oai_paged::PagedVersions;
 use std::alloc::Global;
 use std::panic::Expect;
 use std::process::Abort;
-use tests_worked::{wanted_in, worked_configuration};
+use tests_fixtures::{wanted_in, worked_configuration};
+
+/// A host over pages in memory.
+type PagedHost = Host<PagedVersions<MemoryDevice>>;
 
 /// Lists of one repository, one of them in two parts.
 fn lists_asked() -> &'static str {
@@ -37,33 +43,29 @@ const COMMANDS: u64 = 6;
 /// How many records are deposited at the other repository between two of them: 200 in all.
 const BETWEEN: u64 = 40;
 
-/// The host of three repositories, whose cache has one page.
-fn host(rt: &impl Abort, alloc: Global) -> Host<PlainVersions> {
-    let config = config_in(alloc, worked_configuration().as_bytes()).expect(rt, "config_in");
-    assert_same(rt, config.cache(), 1);
-    host_over(alloc, config, PlainVersions::new(alloc)).expect(rt, "host_over")
+/// The worked configuration, with a cache of so many pages.
+fn configuration(rt: &impl Abort, alloc: Global, cache: u64) -> String {
+    let told = format!(in alloc; "\"cache\":{cache},").expect(rt, "memory");
+    let text = worked_configuration();
+    changed(rt, alloc, text, "\"cache\":1,", told.as_str())
+}
+
+/// The host of three repositories, whose cache has so many pages.
+fn host(rt: &impl Abort, alloc: Global, cache: u64) -> PagedHost {
+    let text = configuration(rt, alloc, cache);
+    let config = config_in(alloc, text.as_bytes()).expect(rt, "config_in");
+    assert_same(rt, config.cache(), cache);
+    host_on(alloc, config, MemoryDevice::new(alloc)).expect(rt, "host_on")
 }
 
 /// Performs the line, and writes what it is answered.
-fn ask(
-    rt: &impl Abort,
-    alloc: Global,
-    host: &mut Host<PlainVersions>,
-    line: &str,
-    output: &mut Vec<u8>,
-) {
+fn ask(rt: &impl Abort, alloc: Global, host: &mut PagedHost, line: &str, output: &mut Vec<u8>) {
     let mut reader = line.as_bytes();
     ask_lines(alloc, host, &mut reader, output).expect(rt, "ask_lines");
 }
 
 /// Deposits records at the other repository, at that moment; each is accepted.
-fn deposit_between(
-    rt: &impl Abort,
-    alloc: Global,
-    host: &mut Host<PlainVersions>,
-    moment: &str,
-    place: u64,
-) {
+fn deposit_between(rt: &impl Abort, alloc: Global, host: &mut PagedHost, moment: &str, place: u64) {
     for number in 0..BETWEEN {
         let line = format!(in alloc;
             "{moment} POST /deposit/b {{\"deposit\":\"oai:b:{place}-{number}\",\"sets\":[],\"records\":{{\"oai_dc\":[]}}}}"
@@ -87,7 +89,7 @@ fn moment_of(line: &str) -> &str {
 fn ask_between(
     rt: &impl Abort,
     alloc: Global,
-    host: &mut Host<PlainVersions>,
+    host: &mut PagedHost,
     lines: &str,
     output: &mut Vec<u8>,
 ) {
@@ -108,9 +110,9 @@ fn lists_alone(rt: HostRuntime) {
     assert_transcript(&rt, rt.alloc(), lists_asked());
 }
 
-/// What is answered where 200 records are deposited at the other repository meanwhile.
-fn answered_between(rt: &impl Abort, alloc: Global) -> Vec<u8> {
-    let mut host = host(rt, alloc);
+/// What is answered where 200 records are deposited at the other repository meanwhile, with a cache of so many pages.
+fn answered_between(rt: &impl Abort, alloc: Global, cache: u64) -> Vec<u8> {
+    let mut host = host(rt, alloc, cache);
     let lines = asked_in(rt, alloc, lists_asked());
     let mut output = Vec::new(alloc);
     ask_between(rt, alloc, &mut host, lines.as_str(), &mut output);
@@ -120,7 +122,9 @@ fn answered_between(rt: &impl Abort, alloc: Global) -> Vec<u8> {
 /// It is answered the same where 200 records are deposited at another repository meanwhile.
 #[test]
 fn lists_beside_deposits(rt: HostRuntime) {
-    let output = answered_between(&rt, rt.alloc());
     let wanted = wanted_in(rt.alloc(), lists_asked()).expect(&rt, "wanted_in");
-    assert_same(&rt, output.as_slice(), wanted.as_bytes());
+    for cache in [1, 2, 64] {
+        let output = answered_between(&rt, rt.alloc(), cache);
+        assert_same_at(&rt, output.as_slice(), wanted.as_bytes(), cache);
+    }
 }

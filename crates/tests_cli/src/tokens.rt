@@ -4,7 +4,7 @@
 use crate::asking::assert_transcript;
 
 /// A list of as many records as an answer may have is whole; one more, and it comes in parts. A part may be
-/// asked for again, and from any of its records on.
+/// asked for again, but by the token that was handed out for it alone.
 fn tokens_asked() -> &'static str {
     r#"> 1704067200 POST /deposit/a {"deposit":"oai:a:1","sets":[],"records":{"oai_dc":[]}}
 200
@@ -29,10 +29,10 @@ DOC <responseDate>2024-01-01T00:00:02Z</responseDate><request verb="ListIdentifi
 DOC <responseDate>2024-01-01T00:00:03Z</responseDate><request verb="ListIdentifiers" resumptionToken="1.2">http://host.example/oai/a</request><ListIdentifiers><header><identifier>oai:a:3</identifier><datestamp>2024-01-01T00:00:01Z</datestamp></header><resumptionToken completeListSize="3" cursor="2"></resumptionToken></ListIdentifiers></OAI-PMH>
 > 1704067204 GET /oai/a?verb=ListIdentifiers&resumptionToken=1.0
 200
-DOC <responseDate>2024-01-01T00:00:04Z</responseDate><request verb="ListIdentifiers" resumptionToken="1.0">http://host.example/oai/a</request><ListIdentifiers><header><identifier>oai:a:1</identifier><datestamp>2024-01-01T00:00:00Z</datestamp></header><header><identifier>oai:a:2</identifier><datestamp>2024-01-01T00:00:00Z</datestamp></header><resumptionToken expirationDate="2024-01-01T00:01:04Z" completeListSize="3" cursor="0">1.2</resumptionToken></ListIdentifiers></OAI-PMH>
+DOC <responseDate>2024-01-01T00:00:04Z</responseDate><request verb="ListIdentifiers" resumptionToken="1.0">http://host.example/oai/a</request><error code="badResumptionToken">The resumption token is invalid or has expired.</error></OAI-PMH>
 > 1704067204 GET /oai/a?verb=ListIdentifiers&resumptionToken=1.1
 200
-DOC <responseDate>2024-01-01T00:00:04Z</responseDate><request verb="ListIdentifiers" resumptionToken="1.1">http://host.example/oai/a</request><ListIdentifiers><header><identifier>oai:a:2</identifier><datestamp>2024-01-01T00:00:00Z</datestamp></header><header><identifier>oai:a:3</identifier><datestamp>2024-01-01T00:00:01Z</datestamp></header><resumptionToken completeListSize="3" cursor="1"></resumptionToken></ListIdentifiers></OAI-PMH>"#
+DOC <responseDate>2024-01-01T00:00:04Z</responseDate><request verb="ListIdentifiers" resumptionToken="1.1">http://host.example/oai/a</request><error code="badResumptionToken">The resumption token is invalid or has expired.</error></OAI-PMH>"#
 }
 
 #[test]
@@ -348,10 +348,129 @@ DOC <responseDate>2024-01-01T00:00:02Z</responseDate><request verb="ListRecords"
 DOC <responseDate>2024-01-01T00:00:02Z</responseDate><request>http://host.example/oai/a</request><error code="badArgument">An argument is illegal, missing, repeated or of illegal syntax.</error></OAI-PMH>
 > 1704067202 GET /oai/a?verb=ListIdentifiers&resumptionToken=1.1
 200
-DOC <responseDate>2024-01-01T00:00:02Z</responseDate><request verb="ListIdentifiers" resumptionToken="1.1">http://host.example/oai/a</request><ListIdentifiers><header><identifier>oai:a:2</identifier><datestamp>2024-01-01T00:00:00Z</datestamp></header><header><identifier>oai:a:3</identifier><datestamp>2024-01-01T00:00:01Z</datestamp></header><resumptionToken completeListSize="3" cursor="1"></resumptionToken></ListIdentifiers></OAI-PMH>"#
+DOC <responseDate>2024-01-01T00:00:02Z</responseDate><request verb="ListIdentifiers" resumptionToken="1.1">http://host.example/oai/a</request><error code="badResumptionToken">The resumption token is invalid or has expired.</error></OAI-PMH>"#
 }
 
 #[test]
 fn token_elsewhere(rt: HostRuntime) {
     assert_transcript(&rt, rt.alloc(), token_elsewhere_asked());
+}
+
+/// A token is taken once it was handed out, and no other: none for the first part, none between two parts,
+/// and none for a part that was not reached.
+fn handed_out_tokens_asked() -> &'static str {
+    r#"> 1704067200 POST /deposit/a {"deposit":"oai:a:1","sets":[],"records":{"oai_dc":[]}}
+200
+ok 2024-01-01T00:00:00Z
+> 1704067200 POST /deposit/a {"deposit":"oai:a:2","sets":[],"records":{"oai_dc":[]}}
+200
+ok 2024-01-01T00:00:00Z
+> 1704067200 POST /deposit/a {"deposit":"oai:a:3","sets":[],"records":{"oai_dc":[]}}
+200
+ok 2024-01-01T00:00:00Z
+> 1704067200 POST /deposit/a {"deposit":"oai:a:4","sets":[],"records":{"oai_dc":[]}}
+200
+ok 2024-01-01T00:00:00Z
+> 1704067200 POST /deposit/a {"deposit":"oai:a:5","sets":[],"records":{"oai_dc":[]}}
+200
+ok 2024-01-01T00:00:00Z
+> 1704067200 GET /oai/a?verb=ListIdentifiers&metadataPrefix=oai_dc
+200
+DOC <responseDate>2024-01-01T00:00:00Z</responseDate><request verb="ListIdentifiers" metadataPrefix="oai_dc">http://host.example/oai/a</request><ListIdentifiers><header><identifier>oai:a:1</identifier><datestamp>2024-01-01T00:00:00Z</datestamp></header><header><identifier>oai:a:2</identifier><datestamp>2024-01-01T00:00:00Z</datestamp></header><resumptionToken expirationDate="2024-01-01T00:01:00Z" completeListSize="5" cursor="0">1.2</resumptionToken></ListIdentifiers></OAI-PMH>
+> 1704067200 GET /oai/a?verb=ListIdentifiers&resumptionToken=1.0
+200
+DOC <responseDate>2024-01-01T00:00:00Z</responseDate><request verb="ListIdentifiers" resumptionToken="1.0">http://host.example/oai/a</request><error code="badResumptionToken">The resumption token is invalid or has expired.</error></OAI-PMH>
+> 1704067200 GET /oai/a?verb=ListIdentifiers&resumptionToken=1.1
+200
+DOC <responseDate>2024-01-01T00:00:00Z</responseDate><request verb="ListIdentifiers" resumptionToken="1.1">http://host.example/oai/a</request><error code="badResumptionToken">The resumption token is invalid or has expired.</error></OAI-PMH>
+> 1704067200 GET /oai/a?verb=ListIdentifiers&resumptionToken=1.4
+200
+DOC <responseDate>2024-01-01T00:00:00Z</responseDate><request verb="ListIdentifiers" resumptionToken="1.4">http://host.example/oai/a</request><error code="badResumptionToken">The resumption token is invalid or has expired.</error></OAI-PMH>
+> 1704067200 GET /oai/a?verb=ListIdentifiers&resumptionToken=1.2
+200
+DOC <responseDate>2024-01-01T00:00:00Z</responseDate><request verb="ListIdentifiers" resumptionToken="1.2">http://host.example/oai/a</request><ListIdentifiers><header><identifier>oai:a:3</identifier><datestamp>2024-01-01T00:00:00Z</datestamp></header><header><identifier>oai:a:4</identifier><datestamp>2024-01-01T00:00:00Z</datestamp></header><resumptionToken expirationDate="2024-01-01T00:01:00Z" completeListSize="5" cursor="2">1.4</resumptionToken></ListIdentifiers></OAI-PMH>
+> 1704067200 GET /oai/a?verb=ListIdentifiers&resumptionToken=1.4
+200
+DOC <responseDate>2024-01-01T00:00:00Z</responseDate><request verb="ListIdentifiers" resumptionToken="1.4">http://host.example/oai/a</request><ListIdentifiers><header><identifier>oai:a:5</identifier><datestamp>2024-01-01T00:00:00Z</datestamp></header><resumptionToken completeListSize="5" cursor="4"></resumptionToken></ListIdentifiers></OAI-PMH>
+> 1704067200 GET /oai/a?verb=ListIdentifiers&resumptionToken=1.2
+200
+DOC <responseDate>2024-01-01T00:00:00Z</responseDate><request verb="ListIdentifiers" resumptionToken="1.2">http://host.example/oai/a</request><ListIdentifiers><header><identifier>oai:a:3</identifier><datestamp>2024-01-01T00:00:00Z</datestamp></header><header><identifier>oai:a:4</identifier><datestamp>2024-01-01T00:00:00Z</datestamp></header><resumptionToken expirationDate="2024-01-01T00:01:00Z" completeListSize="5" cursor="2">1.4</resumptionToken></ListIdentifiers></OAI-PMH>
+> 1704067200 GET /oai/a?verb=ListIdentifiers&resumptionToken=1.0
+200
+DOC <responseDate>2024-01-01T00:00:00Z</responseDate><request verb="ListIdentifiers" resumptionToken="1.0">http://host.example/oai/a</request><error code="badResumptionToken">The resumption token is invalid or has expired.</error></OAI-PMH>
+> 1704067200 GET /oai/a?verb=ListIdentifiers&resumptionToken=1.3
+200
+DOC <responseDate>2024-01-01T00:00:00Z</responseDate><request verb="ListIdentifiers" resumptionToken="1.3">http://host.example/oai/a</request><error code="badResumptionToken">The resumption token is invalid or has expired.</error></OAI-PMH>
+> 1704067200 GET /oai/a?verb=ListIdentifiers&resumptionToken=1.5
+200
+DOC <responseDate>2024-01-01T00:00:00Z</responseDate><request verb="ListIdentifiers" resumptionToken="1.5">http://host.example/oai/a</request><error code="badResumptionToken">The resumption token is invalid or has expired.</error></OAI-PMH>
+> 1704067200 GET /oai/a?verb=ListIdentifiers&resumptionToken=1.6
+200
+DOC <responseDate>2024-01-01T00:00:00Z</responseDate><request verb="ListIdentifiers" resumptionToken="1.6">http://host.example/oai/a</request><error code="badResumptionToken">The resumption token is invalid or has expired.</error></OAI-PMH>"#
+}
+
+#[test]
+fn handed_out_tokens(rt: HostRuntime) {
+    assert_transcript(&rt, rt.alloc(), handed_out_tokens_asked());
+}
+
+/// A part is the same wherever the list was read before: once again right behind the part before it, after a
+/// later part, and after the last record of the part before it was deposited again.
+fn parts_asked_again_asked() -> &'static str {
+    r#"> 1704067200 POST /deposit/a {"deposit":"oai:a:1","sets":[],"records":{"oai_dc":[]}}
+200
+ok 2024-01-01T00:00:00Z
+> 1704067200 POST /deposit/a {"deposit":"oai:a:2","sets":[],"records":{"oai_dc":[]}}
+200
+ok 2024-01-01T00:00:00Z
+> 1704067200 POST /deposit/a {"deposit":"oai:a:3","sets":[],"records":{"oai_dc":[]}}
+200
+ok 2024-01-01T00:00:00Z
+> 1704067200 POST /deposit/a {"deposit":"oai:a:4","sets":[],"records":{"oai_dc":[]}}
+200
+ok 2024-01-01T00:00:00Z
+> 1704067200 POST /deposit/a {"deposit":"oai:a:5","sets":[],"records":{"oai_dc":[]}}
+200
+ok 2024-01-01T00:00:00Z
+> 1704067200 GET /oai/a?verb=ListIdentifiers&metadataPrefix=oai_dc
+200
+DOC <responseDate>2024-01-01T00:00:00Z</responseDate><request verb="ListIdentifiers" metadataPrefix="oai_dc">http://host.example/oai/a</request><ListIdentifiers><header><identifier>oai:a:1</identifier><datestamp>2024-01-01T00:00:00Z</datestamp></header><header><identifier>oai:a:2</identifier><datestamp>2024-01-01T00:00:00Z</datestamp></header><resumptionToken expirationDate="2024-01-01T00:01:00Z" completeListSize="5" cursor="0">1.2</resumptionToken></ListIdentifiers></OAI-PMH>
+> 1704067200 GET /oai/a?verb=ListIdentifiers&resumptionToken=1.2
+200
+DOC <responseDate>2024-01-01T00:00:00Z</responseDate><request verb="ListIdentifiers" resumptionToken="1.2">http://host.example/oai/a</request><ListIdentifiers><header><identifier>oai:a:3</identifier><datestamp>2024-01-01T00:00:00Z</datestamp></header><header><identifier>oai:a:4</identifier><datestamp>2024-01-01T00:00:00Z</datestamp></header><resumptionToken expirationDate="2024-01-01T00:01:00Z" completeListSize="5" cursor="2">1.4</resumptionToken></ListIdentifiers></OAI-PMH>
+> 1704067200 GET /oai/a?verb=ListIdentifiers&resumptionToken=1.2
+200
+DOC <responseDate>2024-01-01T00:00:00Z</responseDate><request verb="ListIdentifiers" resumptionToken="1.2">http://host.example/oai/a</request><ListIdentifiers><header><identifier>oai:a:3</identifier><datestamp>2024-01-01T00:00:00Z</datestamp></header><header><identifier>oai:a:4</identifier><datestamp>2024-01-01T00:00:00Z</datestamp></header><resumptionToken expirationDate="2024-01-01T00:01:00Z" completeListSize="5" cursor="2">1.4</resumptionToken></ListIdentifiers></OAI-PMH>
+> 1704067200 GET /oai/a?verb=ListIdentifiers&resumptionToken=1.4
+200
+DOC <responseDate>2024-01-01T00:00:00Z</responseDate><request verb="ListIdentifiers" resumptionToken="1.4">http://host.example/oai/a</request><ListIdentifiers><header><identifier>oai:a:5</identifier><datestamp>2024-01-01T00:00:00Z</datestamp></header><resumptionToken completeListSize="5" cursor="4"></resumptionToken></ListIdentifiers></OAI-PMH>
+> 1704067200 GET /oai/a?verb=ListIdentifiers&resumptionToken=1.4
+200
+DOC <responseDate>2024-01-01T00:00:00Z</responseDate><request verb="ListIdentifiers" resumptionToken="1.4">http://host.example/oai/a</request><ListIdentifiers><header><identifier>oai:a:5</identifier><datestamp>2024-01-01T00:00:00Z</datestamp></header><resumptionToken completeListSize="5" cursor="4"></resumptionToken></ListIdentifiers></OAI-PMH>
+> 1704067200 GET /oai/a?verb=ListIdentifiers&resumptionToken=1.2
+200
+DOC <responseDate>2024-01-01T00:00:00Z</responseDate><request verb="ListIdentifiers" resumptionToken="1.2">http://host.example/oai/a</request><ListIdentifiers><header><identifier>oai:a:3</identifier><datestamp>2024-01-01T00:00:00Z</datestamp></header><header><identifier>oai:a:4</identifier><datestamp>2024-01-01T00:00:00Z</datestamp></header><resumptionToken expirationDate="2024-01-01T00:01:00Z" completeListSize="5" cursor="2">1.4</resumptionToken></ListIdentifiers></OAI-PMH>
+> 1704067201 POST /deposit/a {"deposit":"oai:a:4","sets":[],"records":{"oai_dc":[]}}
+200
+ok 2024-01-01T00:00:01Z
+> 1704067201 GET /oai/a?verb=ListIdentifiers&resumptionToken=1.4
+200
+DOC <responseDate>2024-01-01T00:00:01Z</responseDate><request verb="ListIdentifiers" resumptionToken="1.4">http://host.example/oai/a</request><ListIdentifiers><header><identifier>oai:a:5</identifier><datestamp>2024-01-01T00:00:00Z</datestamp></header><resumptionToken completeListSize="5" cursor="4"></resumptionToken></ListIdentifiers></OAI-PMH>
+> 1704067201 GET /oai/a?verb=ListIdentifiers&resumptionToken=1.2
+200
+DOC <responseDate>2024-01-01T00:00:01Z</responseDate><request verb="ListIdentifiers" resumptionToken="1.2">http://host.example/oai/a</request><ListIdentifiers><header><identifier>oai:a:3</identifier><datestamp>2024-01-01T00:00:00Z</datestamp></header><header><identifier>oai:a:4</identifier><datestamp>2024-01-01T00:00:00Z</datestamp></header><resumptionToken expirationDate="2024-01-01T00:01:01Z" completeListSize="5" cursor="2">1.4</resumptionToken></ListIdentifiers></OAI-PMH>
+> 1704067202 POST /deposit/a {"deposit":"oai:a:2","sets":[],"records":{"oai_dc":[]}}
+200
+ok 2024-01-01T00:00:02Z
+> 1704067202 GET /oai/a?verb=ListIdentifiers&resumptionToken=1.2
+200
+DOC <responseDate>2024-01-01T00:00:02Z</responseDate><request verb="ListIdentifiers" resumptionToken="1.2">http://host.example/oai/a</request><ListIdentifiers><header><identifier>oai:a:3</identifier><datestamp>2024-01-01T00:00:00Z</datestamp></header><header><identifier>oai:a:4</identifier><datestamp>2024-01-01T00:00:00Z</datestamp></header><resumptionToken expirationDate="2024-01-01T00:01:02Z" completeListSize="5" cursor="2">1.4</resumptionToken></ListIdentifiers></OAI-PMH>
+> 1704067202 GET /oai/a?verb=ListIdentifiers&resumptionToken=1.4
+200
+DOC <responseDate>2024-01-01T00:00:02Z</responseDate><request verb="ListIdentifiers" resumptionToken="1.4">http://host.example/oai/a</request><ListIdentifiers><header><identifier>oai:a:5</identifier><datestamp>2024-01-01T00:00:00Z</datestamp></header><resumptionToken completeListSize="5" cursor="4"></resumptionToken></ListIdentifiers></OAI-PMH>"#
+}
+
+#[test]
+fn parts_asked_again(rt: HostRuntime) {
+    assert_transcript(&rt, rt.alloc(), parts_asked_again_asked());
 }

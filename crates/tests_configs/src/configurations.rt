@@ -1,13 +1,13 @@
 //! What texts tell, and how many repositories they may tell of.
 use crate::answers::answer_to;
 use crate::assertions::{assert_same, assert_same_at};
-use crate::worked::{assert_table, worked_with};
+use crate::samples::{assert_table, worked_with};
 use oai_config::{Config, fault_law, shape_law};
 use oai_http::path_law;
 use std::alloc::Global;
 use std::panic::Expect;
 use std::process::Abort;
-use tests_worked::worked_configuration;
+use tests_fixtures::worked_configuration;
 
 #[test]
 fn what_is_read(rt: HostRuntime) {

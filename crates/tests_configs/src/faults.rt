@@ -1,7 +1,7 @@
 //! Why texts are no configurations: one cause, and of several the one of the lowest number.
 use crate::answers::answer_to;
 use crate::assertions::{assert_same, assert_same_at, assert_shown};
-use crate::worked::{assert_table, repeated, worked_with};
+use crate::samples::{assert_table, repeated, worked_with};
 use oai_config::ReadFault;
 use std::alloc::Global;
 use std::panic::Expect;

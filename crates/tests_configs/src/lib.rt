@@ -10,8 +10,8 @@ mod configurations;
 #[cfg(test)]
 mod faults;
 #[cfg(test)]
-mod settings;
+mod samples;
 #[cfg(test)]
-mod worked;
+mod settings;
 
 pub use answers::answer_to;

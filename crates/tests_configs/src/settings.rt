@@ -6,7 +6,7 @@ use oai_time::Granularity;
 use std::alloc::Global;
 use std::panic::Expect;
 use std::process::Abort;
-use tests_archives::{Told, archive_a, archive_b, settings_of};
+use tests_fixtures::{Told, archive_a, archive_b, settings_of};
 
 /// The configuration of Archive A.
 fn config_of_a(rt: &impl Abort, alloc: Global) -> RepoConfig {

@@ -1,5 +1,5 @@
 //! The head of each answer, by its whole bytes, and the faults of a connection.
-use crate::teller::assert_answered;
+use crate::recording_handler::assert_answered;
 use std::alloc::Global;
 use std::panic::Expect;
 use std::process::Abort;

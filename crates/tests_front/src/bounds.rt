@@ -1,6 +1,6 @@
 //! The longest heads and bodies, and those that are longer by one.
 use crate::assertions::assert_same;
-use crate::teller::answered;
+use crate::recording_handler::answered;
 use std::alloc::Global;
 use std::panic::Expect;
 use std::process::Abort;

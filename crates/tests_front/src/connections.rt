@@ -1,6 +1,6 @@
 //! Connections beside each other, their ends and their numbers.
 use crate::assertions::{assert_same, assert_shown};
-use crate::teller::{Teller, assert_waits, front, two_opened};
+use crate::recording_handler::{Teller, assert_waits, front, two_opened};
 use oai_front::{ConnId, Front, NoSuchConnection, OpenFault, PieceFault};
 use std::alloc::Global;
 use std::panic::Expect;

@@ -1,13 +1,13 @@
 //! A host of two repositories behind connections.
 use crate::assertions::assert_same;
-use crate::teller::{take_all, two_opened};
+use crate::recording_handler::{take_all, two_opened};
 use oai_catalogue::PlainVersions;
 use oai_front::{ConnId, Front};
 use oai_host::{Config, Host};
 use std::alloc::{AllocError, Global};
 use std::panic::Expect;
 use std::process::Abort;
-use tests_worked::document_head;
+use tests_fixtures::document_head;
 
 /// The first second of 2024.
 const START: i64 = 1_704_067_200;

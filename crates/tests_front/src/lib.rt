@@ -15,4 +15,4 @@ mod hosts;
 #[cfg(test)]
 mod pieces;
 #[cfg(test)]
-mod teller;
+mod recording_handler;

@@ -1,6 +1,6 @@
 //! Bytes that come in pieces.
 use crate::assertions::assert_same;
-use crate::teller::{Teller, answered, assert_waits, front, hand_on, take_all};
+use crate::recording_handler::{Teller, answered, assert_waits, front, hand_on, take_all};
 use oai_front::{ConnId, Front};
 use std::alloc::Global;
 use std::panic::Expect;

@@ -1,7 +1,7 @@
 //! The store of a host, as the host shows it: it counts its calls.
 use crate::assertions::assert_same_at;
+use crate::sample_host::host;
 use crate::transcripts::assert_answers;
-use crate::worked::host;
 use oai_catalogue::{PlainVersions, Versions};
 use oai_host::Host;
 use std::alloc::Global;

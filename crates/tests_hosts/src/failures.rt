@@ -1,8 +1,8 @@
 //! Stores that fail, want room or are damaged: what the exchange that meets it is answered, and that the
 //! next is answered as if what failed had not come.
 use crate::assertions::assert_same;
+use crate::sample_host::config;
 use crate::transcripts::assert_transcript_over;
-use crate::worked::config;
 use oai_catalogue::PlainVersions;
 use oai_host::Host;
 use oai_item::Fault;

@@ -10,14 +10,16 @@ mod deposits;
 #[cfg(test)]
 mod failures;
 #[cfg(test)]
+mod limits;
+#[cfg(test)]
 mod neighbours;
+#[cfg(test)]
+mod pages;
 #[cfg(test)]
 mod refusals;
 #[cfg(test)]
 mod runs;
 #[cfg(test)]
-mod thousand;
+mod sample_host;
 #[cfg(test)]
 mod transcripts;
-#[cfg(test)]
-mod worked;

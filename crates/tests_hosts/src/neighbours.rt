@@ -1,11 +1,13 @@
-//! Three repositories whose exchanges come in turns: each answers byte for byte as it does where the
-//! others get none.
+//! Three repositories whose exchanges come in turns, over pages behind a cache of one page: each answers byte for byte
+//! as it does over plain lists where the others get none.
 ghost use Rattle.std.specs.Prelude.{◌≤◌};
 
 use crate::assertions::assert_same;
 use crate::runs::{answers_to, call};
+use crate::sample_host::paged;
 use crate::transcripts::write_answer;
 use oai_catalogue::PlainVersions;
+use oai_device::MemoryDevice;
 use oai_host::{Answer, Call};
 use std::alloc::{AllocError, Global};
 use std::panic::Expect;
@@ -106,15 +108,16 @@ fn written(rt: &impl Abort, alloc: Global, answers: &[Answer], of: usize, by: us
     output
 }
 
-/// What the repository answers where the others are asked too.
+/// What the repository answers over pages where the others are asked too.
 fn beside(rt: &impl Abort, alloc: Global, of: u8) -> Vec<u8> {
     let calls = calls(rt, alloc, None);
-    let answers = answers_to(rt, alloc, PlainVersions::new(alloc), &calls);
+    let store = paged(rt, alloc, MemoryDevice::new(alloc));
+    let answers = answers_to(rt, alloc, store, &calls);
     assert_same(rt, answers.as_slice().len(), 200);
     written(rt, alloc, answers.as_slice(), usize::from(of), 3)
 }
 
-/// What it answers where they are not.
+/// What it answers over plain lists where they are not.
 fn alone(rt: &impl Abort, alloc: Global, of: u8) -> Vec<u8> {
     let calls = calls(rt, alloc, Some(of));
     let answers = answers_to(rt, alloc, PlainVersions::new(alloc), &calls);

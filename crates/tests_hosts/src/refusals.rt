@@ -1,14 +1,14 @@
 //! Exchanges that are not performed, and why: of the causes that apply the first of 400, 404, 405 and
 //! 415 is told. None of them has a body, nor moves a clock.
 use crate::assertions::assert_same;
+use crate::sample_host::host;
 use crate::transcripts::assert_transcript;
-use crate::worked::host;
 use oai_catalogue::{PlainVersions, Versions};
 use oai_host::{Answer, Exchange, Host, Status};
 use std::alloc::Global;
 use std::panic::Expect;
 use std::process::Abort;
-use tests_worked::wanted_in;
+use tests_fixtures::wanted_in;
 
 /// A request in the body of a POST is a form, by its type: what stands before any `;`, without spaces
 /// and tabs around it, in letters of either case.

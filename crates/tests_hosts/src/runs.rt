@@ -1,15 +1,16 @@
 //! Exchanges one after the other, as one call.
 use crate::assertions::{assert_same, assert_same_at};
+use crate::sample_host::{host, paged};
 use crate::transcripts::{Told, body_of, told_in, write_answer};
-use crate::worked::host;
 use oai_catalogue::{PlainVersions, Versions};
+use oai_device::MemoryDevice;
 use oai_host::{Answer, Call, Host};
 use oai_names::Sequence;
 use std::alloc::Global;
 use std::panic::Expect;
 use std::process::Abort;
+use tests_fixtures::wanted_in;
 use tests_stores::failing;
-use tests_worked::wanted_in;
 
 // ---- calls
 
@@ -168,11 +169,17 @@ DOC <responseDate>2024-01-01T00:00:02Z</responseDate><request verb="ListIdentifi
 404"#
 }
 
+/// New hosts over plain lists and over pages in memory do so.
+fn assert_runs(rt: &impl Abort, alloc: Global, transcript: &str) {
+    assert_run(rt, alloc, PlainVersions::new(alloc), transcript);
+    let store = paged(rt, alloc, MemoryDevice::new(alloc));
+    assert_run(rt, alloc, store, transcript);
+}
+
 #[test]
 fn runs(rt: HostRuntime) {
-    let alloc = rt.alloc();
-    assert_run(&rt, alloc, PlainVersions::new(alloc), first_deposit());
-    assert_run(&rt, alloc, PlainVersions::new(alloc), token());
+    assert_runs(&rt, rt.alloc(), first_deposit());
+    assert_runs(&rt, rt.alloc(), token());
 }
 
 /// A run goes on after an exchange that failed, of which nothing is seen.
@@ -218,7 +225,8 @@ refused 14 already-deleted"#
 #[test]
 fn runs_in_turn(rt: HostRuntime) {
     let alloc = rt.alloc();
-    let mut host = host(&rt, alloc, PlainVersions::new(alloc));
+    let store = paged(&rt, alloc, MemoryDevice::new(alloc));
+    let mut host = host(&rt, alloc, store);
     assert_runs_in_turn(&rt, alloc, &mut host);
 }
 

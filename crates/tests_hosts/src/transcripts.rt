@@ -4,15 +4,16 @@
 //! its status, what else it has, each with a word before it, a line end, and its body. 1704067200 is
 //! 2024-01-01T00:00:00Z.
 use crate::assertions::assert_same_at;
-use crate::worked::host;
+use crate::sample_host::{host, paged};
 use oai_catalogue::{PlainVersions, Versions};
+use oai_device::MemoryDevice;
 use oai_host::{Answer, Exchange, Host};
 use oai_item::Fault;
 use std::alloc::{AllocError, Global};
 use std::io::{self, Write};
 use std::panic::Expect;
 use std::process::Abort;
-use tests_worked::wanted_in;
+use tests_fixtures::wanted_in;
 
 // ---- exchanges
 
@@ -152,7 +153,9 @@ pub(crate) fn assert_transcript_over<V: Versions + Drop>(
     assert_answers(rt, alloc, &mut host, transcript);
 }
 
-/// The same over a store of plain lists.
+/// The same over plain lists, and over pages in memory.
 pub(crate) fn assert_transcript(rt: &impl Abort, alloc: Global, transcript: &str) {
     assert_transcript_over(rt, alloc, PlainVersions::new(alloc), transcript);
+    let store = paged(rt, alloc, MemoryDevice::new(alloc));
+    assert_transcript_over(rt, alloc, store, transcript);
 }

@@ -1,8 +1,8 @@
 //! Items as bytes: the spelling of an item, and bytes that are none. The bytes are typed from the
 //! description of the spelling, and not taken from the program.
 use crate::assertions::assert_same;
+use crate::item_assertions::{assert_title, assert_told};
 use crate::samples::item;
-use crate::told::{assert_title, assert_told};
 use oai_item::{DecodeFault, Item, MAX_ITEM_BYTES, encoding_law};
 use std::alloc::Global;
 use std::panic::Expect;

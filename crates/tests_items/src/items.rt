@@ -4,8 +4,8 @@ ghost use Rattle.std.specs.Prelude.{◌≡◌, true};
 ghost use Rattle.oai_item.specs.Order.{are_in_order};
 
 use crate::assertions::{assert_same, assert_shown};
+use crate::item_assertions::{assert_title, assert_title_field, assert_told};
 use crate::samples::{STAMP, item, letters, title_field};
-use crate::told::{assert_title, assert_title_field, assert_told};
 use oai_item::{Fault, Item, TooLarge, is_in, order_law, place_of, selection_law, set_law};
 use oai_names::SetSpec;
 use std::alloc::Global;

@@ -5,24 +5,24 @@
 #[cfg(test)]
 mod assertions;
 #[cfg(test)]
-mod behind;
-#[cfg(test)]
 mod encodings;
+#[cfg(test)]
+mod filled_stores;
 #[cfg(test)]
 mod formats;
 #[cfg(test)]
 mod in_place;
 #[cfg(test)]
+mod item_assertions;
+#[cfg(test)]
 mod items;
 #[cfg(test)]
 mod open_lists;
 #[cfg(test)]
-mod replaced;
+mod part_after;
+#[cfg(test)]
+mod replacements;
 #[cfg(test)]
 mod samples;
 #[cfg(test)]
-mod stored;
-#[cfg(test)]
-mod stores;
-#[cfg(test)]
-mod told;
+mod versions;

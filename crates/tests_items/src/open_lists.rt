@@ -1,8 +1,8 @@
 //! The texts of resumption tokens, and the table of the lists that are open.
 use crate::assertions::{assert_same, assert_shown};
 use oai_catalogue::Filter;
-use oai_lists::{LAST_NUMBER, Lists, OpenFault, Token};
-use oai_names::{ListVerb, Prefix};
+use oai_lists::{LAST_NUMBER, Lists, Mark, OpenFault, OpenList, Token};
+use oai_names::{Identifier, ListVerb, Prefix};
 use std::alloc::Global;
 use std::panic::Expect;
 use std::process::Abort;
@@ -23,7 +23,7 @@ fn assert_opened(
         9,
         None,
     );
-    let opened = lists.open(now, ListVerb::Records, filter, version, 3, end);
+    let opened = lists.open(now, ListVerb::Records, filter, version, 3, end, 2);
     assert_same(rt, opened, answer);
 }
 
@@ -98,7 +98,7 @@ fn empty_list_is_opened(rt: HostRuntime) {
         9,
         None,
     );
-    let opened = lists.open(0, ListVerb::Records, filter, 1, 0, 60);
+    let opened = lists.open(0, ListVerb::Records, filter, 1, 0, 60, 2);
     assert_same(&rt, opened, Ok(1));
 }
 
@@ -173,6 +173,75 @@ fn assert_three_lists(rt: &impl Abort, alloc: Global, lists: &mut Lists) {
 fn lists_that_ended_are_dropped_one_by_one(rt: HostRuntime) {
     let mut lists = Lists::new(rt.alloc(), 3, 1);
     assert_three_lists(&rt, rt.alloc(), &mut lists);
+}
+
+/// What the list of that number keeps: the highest cursor that was given, and the cursor of its mark.
+fn assert_kept(rt: &impl Abort, lists: &Lists, number: u64, kept: (u64, Option<u64>)) {
+    match lists.find(number, 0) {
+        Some(list) => assert_same(rt, (list.given, cursor_marked(list)), kept),
+        None => panic!(rt; "no list"),
+    }
+}
+
+fn cursor_marked(list: &OpenList) -> Option<u64> {
+    match &list.mark {
+        Some(mark) => Some(mark.cursor),
+        None => None,
+    }
+}
+
+/// A token of the list with that cursor is given.
+fn give(rt: &impl Abort, lists: &mut Lists, number: u64, cursor: u64) {
+    assert!(rt; lists.find(number, 0).is_some());
+    lists.give(number, cursor);
+}
+
+/// The list is marked at that cursor.
+fn mark(rt: &impl Abort, alloc: Global, lists: &mut Lists, number: u64, cursor: u64) {
+    let identifier = Identifier::read(alloc, "oai:a:4").expect(rt, "Identifier::read");
+    assert!(rt; lists.find(number, 0).is_some());
+    lists.set_mark(
+        number,
+        Some(Mark {
+            cursor,
+            stamp: 0,
+            identifier,
+        }),
+    );
+}
+
+fn forget_mark(rt: &impl Abort, lists: &mut Lists, number: u64) {
+    assert!(rt; lists.find(number, 0).is_some());
+    lists.set_mark(number, None);
+}
+
+/// A cursor counts for one list, and where it is higher.
+fn assert_given(rt: &impl Abort, lists: &mut Lists) {
+    give(rt, lists, 1, 4);
+    assert_kept(rt, lists, 1, (4, None));
+    assert_kept(rt, lists, 2, (2, None));
+    give(rt, lists, 1, 3);
+    assert_kept(rt, lists, 1, (4, None));
+}
+
+/// A mark is one list's, until another takes its place or it is let go.
+fn assert_marked(rt: &impl Abort, alloc: Global, lists: &mut Lists) {
+    mark(rt, alloc, lists, 2, 4);
+    assert_kept(rt, lists, 1, (4, None));
+    assert_kept(rt, lists, 2, (2, Some(4)));
+    mark(rt, alloc, lists, 2, 2);
+    assert_kept(rt, lists, 2, (2, Some(2)));
+    forget_mark(rt, lists, 2);
+    assert_kept(rt, lists, 2, (2, None));
+}
+
+#[test]
+fn cursors_given_and_marks(rt: HostRuntime) {
+    let mut lists = Lists::new(rt.alloc(), 2, 1);
+    assert_opened(&rt, rt.alloc(), &mut lists, 0, 60, 11, Ok(1));
+    assert_opened(&rt, rt.alloc(), &mut lists, 0, 60, 12, Ok(2));
+    assert_given(&rt, &mut lists);
+    assert_marked(&rt, rt.alloc(), &mut lists);
 }
 
 fn text_of(fault: OpenFault) -> &'static str {

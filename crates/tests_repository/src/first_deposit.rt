@@ -9,8 +9,7 @@ use oai_settings::RepoConfig;
 use std::alloc::Global;
 use std::panic::Expect;
 use std::process::Abort;
-use tests_archives::{archive_a, settings_of};
-use tests_worked::wanted_in;
+use tests_fixtures::{archive_a, settings_of, wanted_in};
 
 /// The first second of 2024.
 const MIDNIGHT: i64 = 1_704_067_200;

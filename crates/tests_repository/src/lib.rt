@@ -5,22 +5,26 @@
 #[cfg(test)]
 mod assertions;
 #[cfg(test)]
-mod chains;
-#[cfg(test)]
 mod first_deposit;
 #[cfg(test)]
-mod lies;
+mod full_store;
+#[cfg(test)]
+mod handed_out;
+#[cfg(test)]
+mod lists;
+#[cfg(test)]
+mod lying_store;
 #[cfg(test)]
 mod neighbours;
 #[cfg(test)]
 mod outcomes;
+#[cfg(test)]
+mod page_reads;
 #[cfg(test)]
 mod purges;
 #[cfg(test)]
 mod repository;
 #[cfg(test)]
 mod samples;
-#[cfg(test)]
-mod shortages;
 #[cfg(test)]
 mod transcripts;

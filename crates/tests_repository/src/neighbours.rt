@@ -12,7 +12,7 @@ use std::alloc::Global;
 use std::io::Write;
 use std::panic::Expect;
 use std::process::Abort;
-use tests_archives::{Shared, Stocked, Which, archive_a, archive_b, settings_of};
+use tests_fixtures::{Shared, Stocked, Which, archive_a, archive_b, settings_of};
 
 /// The configuration of Archive A, which keeps what is deleted, or of Archive B, which does not.
 fn config_of(rt: &impl Abort, alloc: Global, which: Which) -> RepoConfig {

@@ -9,7 +9,7 @@ use oai_settings::RepoConfig;
 use std::alloc::Global;
 use std::panic::Expect;
 use std::process::Abort;
-use tests_archives::{Stocked, archive_a, settings_of};
+use tests_fixtures::{Stocked, archive_a, settings_of};
 
 /// Archive A over the store.
 pub(crate) fn archive<V: Versions + Drop>(rt: &impl Abort, alloc: Global, store: V) -> Stocked<V> {

@@ -2,7 +2,7 @@
 use crate::transcripts::{assert_transcript, assert_transcript_over};
 use oai_catalogue::PlainVersions;
 use oai_item::DeletedRecord;
-use tests_archives::{Told, archive_a, archive_b, archive_c};
+use tests_fixtures::{Told, archive_a, archive_b, archive_c};
 use tests_stores::failing;
 
 /// Of two items, the most that there may be, one is deleted, and forgotten a second later: below the

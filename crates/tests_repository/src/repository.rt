@@ -8,7 +8,7 @@ use oai_settings::RepoConfig;
 use std::alloc::Global;
 use std::panic::Expect;
 use std::process::Abort;
-use tests_archives::{Stocked, Told, archive_b, settings_of};
+use tests_fixtures::{Stocked, Told, archive_b, settings_of};
 
 /// A repository over a store of plain lists.
 type Archive = Stocked<PlainVersions>;

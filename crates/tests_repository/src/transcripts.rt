@@ -11,8 +11,7 @@ use std::alloc::Global;
 use std::io::Write;
 use std::panic::Expect;
 use std::process::Abort;
-use tests_archives::{Stocked, Told, settings_of};
-use tests_worked::wanted_in;
+use tests_fixtures::{Stocked, Told, settings_of, wanted_in};
 
 /// The repository of which that is told, over the store, with room for two open lists.
 fn repository<V: Versions + Drop>(

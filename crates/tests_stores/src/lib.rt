@@ -5,12 +5,12 @@
 mod countdown;
 mod counts;
 mod failures;
+mod full_store;
 mod hooked;
-mod lies;
-mod shortages;
+mod lying_store;
 
 pub use counts::{CountingHook, counting};
 pub use failures::{FailingHook, failing};
+pub use full_store::{CrampedHook, Want, cramped};
 pub use hooked::{CallKind, Hook, HookedVersions};
-pub use lies::{LyingHook, lying};
-pub use shortages::{CrampedHook, Want, cramped};
+pub use lying_store::{LyingHook, lying};

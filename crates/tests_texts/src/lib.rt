@@ -8,8 +8,8 @@ mod arguments;
 #[cfg(test)]
 mod assertions;
 #[cfg(test)]
-mod lines;
-#[cfg(test)]
 mod names;
+#[cfg(test)]
+mod read_line;
 #[cfg(test)]
 mod times;

@@ -1,0 +1,49 @@
+//! A repository with a store of its own.
+ghost use Rattle.oai_repo.specs.Fields.{Owns};
+
+use oai_catalogue::Versions;
+use oai_item::{Change, Fault};
+use oai_repo::{Refusal, Reply, Repo};
+use oai_settings::RepoConfig;
+use std::alloc::Global;
+
+/// A repository, and the store that has its items.
+#[derive(Drop)]
+pub struct Stocked<V: Versions + Drop> {
+    store: V,
+    repo: Repo,
+    ghost owned: { Owns (V.honest store) repo (V.lists store) },
+}
+
+impl<V: Versions + Drop> Stocked<V> {
+    /// A repository without items and sets.
+    pub fn new(alloc: Global, config: RepoConfig, mut store: V) -> Result<Stocked<V>, Fault> {
+        let repo = Repo::new(alloc, config, &mut store)?;
+        Ok(Stocked { store, repo })
+    }
+
+    /// What it answers a request at the moment.
+    pub fn ask(&mut self, moment: i64, query: &[u8]) -> Result<Reply, Fault> {
+        self.repo.ask(&mut self.store, moment, query)
+    }
+
+    /// What it answers a change at the moment.
+    pub fn change(&mut self, moment: i64, change: &Change) -> Result<i64, Refusal> {
+        self.repo.change(&mut self.store, moment, change)
+    }
+
+    /// Moves its clock to the moment.
+    pub fn advance(&mut self, moment: i64) {
+        self.repo.advance(&mut self.store, moment);
+    }
+
+    /// The store.
+    pub fn store(&self) -> &V {
+        &self.store
+    }
+
+    /// Its clock, in seconds from 1970 on.
+    pub fn clock(&self) -> i64 {
+        self.repo.clock()
+    }
+}
