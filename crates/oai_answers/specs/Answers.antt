@@ -20,7 +20,7 @@ pub record Attributes : Type 0 where
   pub set : Option (List ℕ)
   pub token : Option (List ℕ)
 
--- nothing was asked, or nothing of it is told
+-- nothing was asked, or nothing of it is repeated
 abbrev pub no_arguments : Attributes
 no_arguments = record {
   verb = None;
@@ -32,7 +32,7 @@ no_arguments = record {
   token = None;
 }
 
--- what Identify tells of a repository beside its base URL: its name, the addresses of its administrators, the lower
+-- what Identify returns of a repository beside its base URL: its name, the addresses of its administrators, the lower
 -- limit of its datestamps in seconds from 1970 on, what it keeps of deleted records, how fine its datestamps are (section 4.2)
 pub record Description : Type 0 where
   pub name : List ℕ
@@ -41,7 +41,7 @@ pub record Description : Type 0 where
   pub deleted : DeletedRecord
   pub granularity : Granularity
 
--- an item in a format: its record there is told, with datestamps of that granularity (section 2.5)
+-- an item in a format: its record there is written, with datestamps of that granularity (section 2.5)
 pub record Dissemination : Type 0 where
   pub item : ItemState
   pub granularity : Granularity

@@ -62,7 +62,7 @@ code_of NoRecordsMatch = codes "noRecordsMatch"
 code_of NoMetadataFormats = codes "noMetadataFormats"
 code_of NoSetHierarchy = codes "noSetHierarchy"
 
--- what is told to a person beside it
+-- the message for a person beside the code
 abbrev pub message_of : ErrorCode → List ℕ
 message_of BadVerb = codes "The verb is missing, repeated or illegal."
 message_of BadArgument = codes "An argument is illegal, missing, repeated or of illegal syntax."

@@ -47,7 +47,7 @@ pub data SeenToken : Type 0 where
   seen_token : List ℕ → List ℕ → List ℕ → List ℕ → SeenToken
   empty_token : List ℕ → List ℕ → SeenToken
 
--- of Identify (section 4.2): all that it tells, the earliest datestamp as it is printed
+-- of Identify (section 4.2): all that it returns, the earliest datestamp as it is printed
 pub record SeenIdentity : Type 0 where
   pub name : List ℕ
   pub base : List ℕ
@@ -72,7 +72,7 @@ pub data SeenAnswer : Type 0 where
   seen_headers : List SeenHeader → SeenToken → SeenAnswer
   seen_records : List SeenRecord → SeenToken → SeenAnswer
 
--- of a document: its date as it is printed, the base URL, the arguments as they are told, and the answer
+-- of a document: its date as it is printed, the base URL, the arguments as they are written, and the answer
 pub record SeenDocument : Type 0 where
   pub date : List ℕ
   pub base : List ℕ
@@ -151,7 +151,7 @@ IsGoodFormat format = (format ≡ dublin_core) ⊎ (is_allowed format ≡ true)
 abbrev pub has_own_fields : Format → ItemState → Bool
 has_own_fields format item = are_fields_of (Some format) (fields_in format.prefix item.formats)
 
--- the records that an answer tells are such
+-- the records of an answer are such
 abbrev pub IsRegular : Answer → Type 0
 IsRegular (fails code) = Unit {0}
 IsRegular (identifies d) = Unit {0}

@@ -37,7 +37,7 @@ pub enum Body<'a> {
     ListRecords(&'a Format, Listed<'a>),
 }
 
-/// An answer with what a document tells beside it (OAI-PMH 2.0, section 3.2).
+/// An answer with what a document has beside it (OAI-PMH 2.0, section 3.2).
 #[derive(Clone, Copy, Debug)]
 pub struct Doc<'a> {
     /// When the answer is given, in seconds from 1970 on.

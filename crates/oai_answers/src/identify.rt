@@ -11,7 +11,7 @@ use oai_names::Text;
 use oai_time::Granularity;
 use std::alloc::AllocError;
 
-/// What Identify tells of a repository beside its base URL (OAI-PMH 2.0, section 4.2).
+/// What Identify returns beside the base URL of a repository (OAI-PMH 2.0, section 4.2).
 #[derive(Clone, Copy, Debug)]
 pub struct Identity<'a> {
     /// The name for people.

@@ -1,4 +1,4 @@
-//! What the bytes of a document tell of what was answered.
+//! What the bytes of a document show of what was answered.
 
 ghost use Rattle.std.specs.Prelude.{◌≡◌};
 ghost use Rattle.oai_answers.specs.Answers.{Document};

@@ -12,7 +12,7 @@ use oai_item::{Format, Item};
 use oai_time::Granularity;
 use std::alloc::AllocError;
 
-/// A list of items, whole or a part of it, as ListIdentifiers and ListRecords tell it (OAI-PMH 2.0,
+/// A list of items, whole or a part of it, as ListIdentifiers and ListRecords return it (OAI-PMH 2.0,
 /// section 3.5).
 #[derive(Clone, Copy, Debug)]
 pub struct Listed<'a> {

@@ -12,7 +12,7 @@ use std::alloc::AllocError;
 const DUBLIN_CORE_START: &str =
     "<oai_dc:dc xmlns:oai_dc=\"http://www.openarchives.org/OAI/2.0/oai_dc/\" xmlns:dc=\"http://purl.org/dc/elements/1.1/\" xmlns:xsi=\"http://www.w3.org/2001/XMLSchema-instance\" xsi:schemaLocation=\"http://www.openarchives.org/OAI/2.0/oai_dc/ http://www.openarchives.org/OAI/2.0/oai_dc.xsd\">";
 
-/// The namespace of the attributes that tell where a schema lies.
+/// The namespace of the attributes that say where a schema lies.
 const SCHEMA_INSTANCE: &str = "http://www.w3.org/2001/XMLSchema-instance";
 
 /// Appends the metadata in its format.
@@ -76,7 +76,7 @@ fn write_declared_start(format: &Format, out: &mut Vec<u8>) -> Result<(), AllocE
     Ok(())
 }
 
-/// Appends the attribute that tells where the schema of the format lies.
+/// Appends the attribute that says where the schema of the format lies.
 #[tactic(auto, unfolding(crate::specs::Documents::schema_location, crate::specs::Markup::spelled_attribute))]
 fn write_schema_location(format: &Format, out: &mut Vec<u8>) -> Result<(), AllocError>
     ensures { OnOk result (Appends out.old.items out.new.items (schema_location format.now)) }

@@ -12,7 +12,7 @@ use oai_item::{Format, Item};
 use oai_time::Granularity;
 use std::alloc::AllocError;
 
-/// An item in a format: a document tells the fields of the item's record of the format's prefix
+/// An item in a format: a document has the fields of the item's record of the format's prefix
 /// (OAI-PMH 2.0, section 2.5).
 #[derive(Clone, Copy, Debug)]
 pub struct Record<'a> {

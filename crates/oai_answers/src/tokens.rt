@@ -14,7 +14,7 @@ use std::alloc::AllocError;
 /// How a list goes on behind the items that an answer holds (OAI-PMH 2.0, section 3.5).
 #[derive(Clone, Copy, Debug)]
 pub enum Resumption<'a> {
-    /// The list is whole in this answer: no token is told.
+    /// The list is whole in this answer: no token is written.
     Whole,
     /// Records remain, and a token asks for them.
     More(Remaining<'a>),
@@ -25,7 +25,7 @@ pub enum Resumption<'a> {
 /// The token for the records that remain of a list (OAI-PMH 2.0, section 3.5).
 #[derive(Clone, Copy, Debug)]
 pub struct Remaining<'a> {
-    /// When the token expires, in seconds from 1970 on. A document tells it in seconds, also where
+    /// When the token expires, in seconds from 1970 on. A document has it in seconds, also where
     /// datestamps are days.
     pub expires: i64,
     /// Where the answer stands in its list.

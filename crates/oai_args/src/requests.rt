@@ -65,8 +65,8 @@ pub enum ArgFault {
 
 /// Reads the arguments of a request from the bytes of a query, in the type
 /// `application/x-www-form-urlencoded` (OAI-PMH 2.0, section 3.1.1), for a repository of that
-/// granularity. `NoMemory` is told while the arguments are stored, before their meaning is looked at,
-/// and never of an empty query; then `BadVerb` comes before `BadArgument`.
+/// granularity. `NoMemory` is returned while the arguments are stored, before their meaning is looked
+/// at, and never for an empty query; then `BadVerb` comes before `BadArgument`.
 pub fn read_request(alloc: Global, query: &[u8], granularity: Granularity) -> Result<Ask, ArgFault>
     ensures { IsReadFrom granularity (decoded_pairs query.now) result }
 {
@@ -78,8 +78,8 @@ pub fn read_request(alloc: Global, query: &[u8], granularity: Granularity) -> Re
 
 /// The law of requests, which holds of every granularity and every list of arguments: reading them
 /// gives a request exactly where they are of its form, `BadVerb` exactly where `verb` is not given
-/// once with the name of a verb, and `BadArgument` exactly in all other cases. It does nothing at
-/// run time.
+/// once with the name of a verb, and `BadArgument` exactly in all other cases. A theorem,
+/// proved by an empty function.
 #[tactic(auto, using(crate::proofs::RequestLemmas::gives_the_answer))]
 pub fn request_law()
     ensures { GivesTheAnswer }

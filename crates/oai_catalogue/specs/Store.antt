@@ -19,11 +19,11 @@ Lists = ℕ → Option (List ItemState)
 abbrev pub no_lists : Lists
 no_lists v = None
 
--- the same, with that list under the number
+-- these lists, with that list under the number
 abbrev pub with_list : ℕ → List ItemState → Lists → Lists
 with_list v items lists n = if n == v then Some items else lists n
 
--- the same, without that number
+-- these lists, without that number
 abbrev pub without_list : ℕ → Lists → Lists
 without_list v lists n = if n == v then None else lists n
 

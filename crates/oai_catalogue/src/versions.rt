@@ -20,7 +20,7 @@ pub const MAX_FAILURES: u64 = 18_446_744_073_709_551_615;
 ///
 /// A call that fails leaves every list as it was. Where the device is not honest, and gives back other
 /// bytes than were written, what a call answers, and the list that it puts an item in or takes one out
-/// of, are not told; all else holds still.
+/// of, are not specified; all else holds still.
 pub trait Versions {
     /// The lists, by their numbers.
     ghost lists: { Self → ℕ → Option (List ItemState) };

@@ -1,4 +1,4 @@
--- What may be wrong with what a text tells. The causes and their numbers are this repository's own.
+-- What may be wrong with the settings that a text has. The causes and their numbers are this repository's own.
 use Rattle.std.specs.Prelude.{ℕ, Bool, true, false, ◌==◌, ◌||◌, not, nat_lt, List, map, length, Option, is_none}
 use Rattle.std.specs.List.{list_any}
 use Rattle.std.specs.Option.{option_map_or}
@@ -22,7 +22,7 @@ is_wrong_alone BadDate s = is_none (earliest_of s.granularity s.earliest)
 is_wrong_alone BadNumber s = not (are_numbers s.chunk s.lifetime s.lists s.items)
 is_wrong_alone fault s = false
 
--- the names that are told
+-- the names of the repositories
 abbrev pub names_told : List Settings → List (List ℕ)
 names_told repositories = map (λ s. s.name) repositories
 
@@ -34,12 +34,12 @@ is_wrong_together BadNumber cache repositories = not (passes_number is_cache cac
 is_wrong_together TooMany cache repositories = nat_lt 1_000 (length repositories)
 is_wrong_together fault cache repositories = false
 
--- a cause that lies anywhere in what is told: in the whole, or in any repository
+-- a cause that lies anywhere in the settings: in the whole, or in any repository
 abbrev pub is_wrong : ReadFault → HostSettings → Bool
 is_wrong fault told =
     is_wrong_together fault told.cache told.repositories || list_any (is_wrong_alone fault) told.repositories
 
--- a cause that applies to a text; one that is no JSON, or not of the shape, tells nothing: then 1 or 2 applies, and of the others none
+-- a cause that applies to a text; one that is no JSON, or not of the shape, has no settings: then 1 or 2 applies, and of the others none
 abbrev pub applies : ReadFault → List ℕ → Bool
 applies BadJson text = is_none (json_in text)
 applies BadShape text = option_map_or (is_wrong BadShape) (told_in text) true

@@ -11,7 +11,7 @@ use Rattle.oai_config.specs.Configs.{NamedConfig, HostConfig}
 use Rattle.oai_config.specs.Causes.{applies, fault_number}
 use Rattle.oai_config.specs.Shapes.{told_in}
 
--- the repository is of that name, and configured as is told
+-- the repository is of that name, and configured by the settings
 pub record HasSettings (settings : Settings) (entry : NamedConfig) : Type 0 where
   pub name : entry.name ≡ settings.name
   pub config : Configures settings entry.config
@@ -20,7 +20,7 @@ pub record HasSettings (settings : Settings) (entry : NamedConfig) : Type 0 wher
 abbrev pub HaveSettings : List Settings → List NamedConfig → Type 0
 HaveSettings settings entries = AllZip HasSettings settings entries
 
--- the text tells something to which no cause applies, and the configuration is that
+-- the text has settings to which no cause applies, and the configuration is of these
 pub record IsConfigOf (text : List ℕ) (config : HostConfig) : Type 0 where
   pub told : HostSettings
   pub tells : told_in text ≡ Some told

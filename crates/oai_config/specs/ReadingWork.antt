@@ -29,7 +29,7 @@ GivesRead (Err BadShape) reading = reading ≡ None
 GivesRead (Err NoMemory) reading = Unit {0}
 GivesRead (Err fault) reading = ⊥
 
--- what the text tells
+-- the settings that the text has, or why it has none
 abbrev pub IsJsonText : List ℕ → Result HostSettings ReadFault → Type 0
 IsJsonText text (Ok told) = told_in text ≡ Some told
 IsJsonText text (Err BadJson) = json_in text ≡ None
@@ -72,7 +72,7 @@ abbrev pub lower : Option ReadFault → ReadFault → ReadFault
 lower None fault = fault
 lower (Some lowest) fault = if nat_le (fault_number lowest) (fault_number fault) then lowest else fault
 
--- the repository that is told, or the lowest fault in it
+-- the repository of the settings, or the lowest fault in them
 abbrev pub HasSettingsOr : Settings → Result NamedConfig ReadFault → Type 0
 HasSettingsOr settings (Ok entry) = HasSettings settings entry
 HasSettingsOr settings (Err NoMemory) = Unit {0}
@@ -82,13 +82,13 @@ HasSettingsOr settings (Err fault) = IsLowest (λ cause. is_wrong_alone cause se
 abbrev pub or_alone : (ReadFault → Bool) → List Settings → ReadFault → Bool
 or_alone causes settings cause = causes cause || list_any (is_wrong_alone cause) settings
 
--- the repositories that are told, where there are no causes; or the lowest of those and of the faults in any repository
+-- the repositories of the settings, where there are no causes; or the lowest of those and of the faults in any repository
 abbrev pub AreMade : (ReadFault → Bool) → List Settings → Result (List NamedConfig) ReadFault → Type 0
 AreMade causes settings (Ok entries) = ((fault : ReadFault) → or_alone causes settings fault ≡ false) × HaveSettings settings entries
 AreMade causes settings (Err NoMemory) = Unit {0}
 AreMade causes settings (Err fault) = IsLowest (or_alone causes settings) fault
 
--- the configuration that is told, or the lowest fault
+-- the configuration of the settings, or the lowest fault
 abbrev pub IsMade : HostSettings → Result HostConfig ReadFault → Type 0
 IsMade told (Ok config) =
     ((fault : ReadFault) → is_wrong fault told ≡ false)

@@ -1,4 +1,4 @@
--- What the JSON object of a configuration tells, where its members are of their kinds (RFC 8259, sections 3 to 7). The members are this
+-- The settings that the JSON object of a configuration has, where its members are of their kinds (RFC 8259, sections 3 to 7). The members are this
 -- repository's own.
 use Rattle.std.specs.Prelude.{ℕ, List, [], ◌∷◌, codes, Option, Some}
 use Rattle.std.specs.List.{find}
@@ -22,7 +22,7 @@ use Rattle.oai_names.specs.Optional.{◌>>=◌, each_of, tested}
 abbrev pub format_members : List (List ℕ)
 format_members = codes "prefix" ∷ codes "schema" ∷ codes "namespace" ∷ codes "root" ∷ codes "fields" ∷ []
 
--- what they tell
+-- the settings of a format, from these members
 abbrev pub format_from : Data → Option FormatSettings
 format_from d = do
   prefix ← text_at (codes "prefix") d
@@ -42,7 +42,7 @@ format_in d = tested (has_members format_members) d >>= format_from
 unfoldable pub deleted_of : List ℕ → Option DeletedRecord
 deleted_of text = find (λ (deleted : DeletedRecord). bytes_eq text (deleted_text deleted)) (No ∷ Transient ∷ Persistent ∷ [])
 
--- .. as the member of it tells
+-- what is kept of deleted records, from the member `deletedRecord`
 unfoldable pub deleted_at : Data → Option DeletedRecord
 deleted_at d = text_at (codes "deletedRecord") d >>= deleted_of
 
@@ -55,11 +55,11 @@ granularity_word Second = codes "seconds"
 unfoldable pub granularity_of : List ℕ → Option Granularity
 granularity_of text = find (λ (granularity : Granularity). bytes_eq text (granularity_word granularity)) (Day ∷ Second ∷ [])
 
--- .. as the member of it tells
+-- how fine the datestamps are, from the member `granularity`
 unfoldable pub granularity_at : Data → Option Granularity
 granularity_at d = text_at (codes "granularity") d >>= granularity_of
 
--- the formats, as the member of them tells
+-- the formats, from the member `formats`
 unfoldable pub formats_at : Data → Option (List FormatSettings)
 formats_at d = elements_at (codes "formats") d >>= each_of format_in
 
@@ -69,7 +69,7 @@ repository_members =
     codes "name" ∷ codes "repositoryName" ∷ codes "adminEmail" ∷ codes "earliestDatestamp" ∷ codes "deletedRecord"
     ∷ codes "granularity" ∷ codes "chunk" ∷ codes "lifetime" ∷ codes "lists" ∷ codes "items" ∷ codes "formats" ∷ []
 
--- what they tell of a repository below the base
+-- the settings of a repository below the base, from these members
 abbrev pub settings_from : List ℕ → Data → Option Settings
 settings_from base d = do
   name ← text_at (codes "name") d
@@ -116,7 +116,7 @@ repositories_at base d = elements_at (codes "repositories") d >>= each_of (setti
 abbrev pub host_members : List (List ℕ)
 host_members = codes "base" ∷ codes "cache" ∷ codes "repositories" ∷ []
 
--- what they tell
+-- the settings of a host, from these members
 abbrev pub told_from : Data → Option HostSettings
 told_from d = do
   base ← base_at d
@@ -130,6 +130,6 @@ told_of d = tested (has_members host_members) d >>= told_from
 
 -- ---- the text
 
--- what the text tells, where it is JSON of the shape
+-- the settings that the text has, where it is JSON of the shape
 unfoldable pub told_in : List ℕ → Option HostSettings
 told_in text = json_in text >>= told_of

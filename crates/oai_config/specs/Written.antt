@@ -62,6 +62,6 @@ pub record IsHost (base : List ℕ) (told : HostSettings) (d : Data) : Type 0 wh
   pub repositories : HasList (codes "repositories") (IsRepository base) told.repositories d
   pub no_other : size d ≡ 3
 
--- the law of the shape: a value tells this exactly where it is the object that this is written as, on some base
+-- the law of the shape: a value has these settings exactly where it is the object that they are written as, on some base
 abbrev pub ConfigShapeLaw : Type 0
 ConfigShapeLaw = (d : Data) (told : HostSettings) → (told_of d ≡ Some told) ↔ ((base : List ℕ) × IsHost base told d)

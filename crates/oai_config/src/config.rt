@@ -49,7 +49,7 @@ impl Model for Config {
 }
 
 impl Config {
-    /// The configuration that the text tells, a JSON object (RFC 8259) of just its members. Of the
+    /// Parses the configuration, a JSON object (RFC 8259) of just its members. Of the
     /// faults 1 to 8 that apply anywhere in the text the lowest is the error; or it is `NoMemory`,
     /// which may come in place of any other, but not for a text that is empty or not in UTF-8. Of
     /// two members of one name the last counts.
@@ -61,7 +61,7 @@ impl Config {
         Config::of(alloc, told)
     }
 
-    /// The configuration of what is told.
+    /// The configuration of these settings.
     fn of(alloc: Global, told: HostSettings) -> Result<Config, ReadFault>
         ensures { IsMade told result }
     {

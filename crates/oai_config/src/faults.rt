@@ -11,7 +11,7 @@ use std::error::Error;
 use std::fmt;
 
 /// Why a text is no configuration. Each cause is looked for in the whole text, and of those that
-/// apply the one of the lowest number is told; out of memory apart, which may come wherever
+/// apply the one of the lowest number is returned; out of memory apart, which may come wherever
 /// memory is taken.
 #[derive(Clone, Copy, Debug, PartialEq, Eq)]
 pub enum ReadFault {
@@ -37,7 +37,7 @@ pub enum ReadFault {
     BadNumber,
     /// There are more than 1,000 repositories. Number 8.
     TooMany,
-    /// What the text tells could not be stored. Number 9.
+    /// What the text has could not be stored. Number 9.
     NoMemory,
 }
 
@@ -90,8 +90,8 @@ impl fmt::Display for ReadFault {
 
 impl Error for ReadFault {}
 
-/// A fault of a repository alone has in a whole text the number and the name that it has by itself. The
-/// contract is the law; the call does nothing.
+/// A fault of a repository alone has in a whole text the number and the name that it has by itself. A
+/// theorem, proved by an empty function.
 pub fn fault_law()
     ensures { (fault : alone.ConfigFault) → settings.fault_text fault ≡ read_fault_text (read_fault_of fault) }
 {}

@@ -12,7 +12,7 @@ use oai_settings::FormatSettings;
 use serde_json::Value;
 use std::alloc::Global;
 
-/// The format that each value tells, in order; `BadShape` at the first that tells none.
+/// The format that each value has, in order; `BadShape` at the first that has none.
 #[tactic(auto, using(oai_deposit::proofs::ReadingLemmas::starts))]
 pub(crate) fn each_format(
     alloc: Global,
@@ -27,7 +27,7 @@ pub(crate) fn each_format(
     Ok(Sequence::new(formats))
 }
 
-/// The format that an object of exactly its members tells; `BadShape` at any other value.
+/// The format that an object of exactly its members has; `BadShape` at any other value.
 #[tactic(auto, unfolding(crate::specs::Shapes::format_in))]
 fn read_format(alloc: Global, value: &Value) -> Result<FormatSettings, ReadFault>
     ensures { GivesRead result (shape.format_in (view value.now)) }

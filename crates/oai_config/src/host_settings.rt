@@ -13,23 +13,23 @@ use oai_settings::Settings;
 use serde_json::Value;
 use std::alloc::Global;
 
-/// What is told of a host, before it is looked at.
+/// The settings of a host, before they are checked.
 #[derive(Drop)]
 pub(crate) struct HostSettings {
-    /// The pages that the cache holds: 1 to 65,536. None where a number is told that is none of 64
-    /// bits, whole and not negative.
+    /// The pages that the cache holds: 1 to 65,536. None where a number was given that does not fit 64
+    /// bits, is not whole, or is negative.
     pub cache: Option<u64>,
-    /// What is told of each repository, in the order of the text: 1 to 1,000 of them.
+    /// The settings of each repository, in the order of the text: 1 to 1,000 of them.
     pub repositories: Sequence<Settings>,
 }
 
-/// The law of the shape: what is told of a host is told by the JSON object that it is written as, on
-/// some base, and by no other value. The contract is the law; the call does nothing.
+/// The law of the shape: the settings of a host are parsed from the JSON object that they are written as,
+/// on some base, and from no other value. A theorem, proved by an empty function.
 pub fn shape_law()
     ensures { ConfigShapeLaw }
 {}
 
-/// What the text tells: `BadJson` where it is no JSON text, `BadShape` where that is not of the
+/// The settings that the text has: `BadJson` where it is no JSON text, `BadShape` where that is not of the
 /// shape of a configuration.
 pub(crate) fn told_in(alloc: Global, text: &[u8]) -> Result<HostSettings, ReadFault>
     ensures { IsJsonText text.now result }
@@ -40,7 +40,8 @@ pub(crate) fn told_in(alloc: Global, text: &[u8]) -> Result<HostSettings, ReadFa
     }
 }
 
-/// What an object of exactly the members of a configuration tells; `BadShape` at any other value.
+/// The settings that an object of exactly the members of a configuration has; `BadShape` at any other
+/// value.
 #[tactic(auto, unfolding(crate::specs::Shapes::told_of))]
 fn told_of(alloc: Global, value: &Value) -> Result<HostSettings, ReadFault>
     ensures { GivesRead result (shape.told_of (view value.now)) }
@@ -55,7 +56,7 @@ fn told_of(alloc: Global, value: &Value) -> Result<HostSettings, ReadFault>
     })
 }
 
-/// The base, as the member of it tells: it is tested before it is copied for each repository.
+/// The base, from the member `base`: it is tested before it is copied for each repository.
 #[tactic(auto, unfolding(crate::specs::Shapes::base_at))]
 fn base_at(value: &Value) -> Result<&str, ReadFault>
     ensures { GivesView (λ base. base.now) result (shape.base_at (view value.now)) }

@@ -1,4 +1,4 @@
-//! The configuration of a host: what a text tells of it, and why a text is none.
+//! The configuration of a host: how it is parsed from a text, and why a text is none.
 #![tactic(auto)]
 
 mod causes;

@@ -16,7 +16,7 @@ use oai_time::Granularity;
 use serde_json::Value;
 use std::alloc::Global;
 
-/// The settings of the repositories below the base, as the member of them tells.
+/// The settings of the repositories below the base, from the member `repositories`.
 #[tactic(auto, unfolding(crate::specs::Shapes::repositories_at))]
 pub(crate) fn repositories_at(
     alloc: Global,
@@ -31,8 +31,8 @@ pub(crate) fn repositories_at(
     }
 }
 
-/// The settings that each value tells of a repository below the base, in order; `BadShape` at the
-/// first that tells none.
+/// The settings that each value has of a repository below the base, in order; `BadShape` at the
+/// first that has none.
 #[tactic(auto, using(oai_deposit::proofs::ReadingLemmas::starts))]
 fn each_repository(
     alloc: Global,
@@ -48,7 +48,7 @@ fn each_repository(
     Ok(Sequence::new(repositories))
 }
 
-/// The settings that an object of exactly the members of a repository tells; `BadShape` at any
+/// The settings that an object of exactly the members of a repository has; `BadShape` at any
 /// other value.
 #[tactic(auto, unfolding(crate::specs::Shapes::settings_of))]
 fn settings_of(alloc: Global, base: &str, value: &Value) -> Result<Settings, ReadFault>
@@ -101,7 +101,7 @@ fn is_repository(value: &Value) -> bool
     )
 }
 
-/// What is kept of deleted records, as the member of it tells.
+/// What is kept of deleted records, from the member `deletedRecord`.
 #[tactic(auto, unfolding(crate::specs::Shapes::deleted_at))]
 fn deleted_at(value: &Value) -> Result<DeletedRecord, ReadFault>
     ensures { GivesView (λ deleted. deleted) result (shape.deleted_at (view value.now)) }
@@ -124,7 +124,7 @@ fn deleted_of(text: &str) -> Result<DeletedRecord, ReadFault>
     }
 }
 
-/// How fine the datestamps are, as the member of it tells.
+/// How fine the datestamps are, from the member `granularity`.
 #[tactic(auto, unfolding(crate::specs::Shapes::granularity_at))]
 fn granularity_at(value: &Value) -> Result<Granularity, ReadFault>
     ensures { GivesView (λ granularity. granularity) result (shape.granularity_at (view value.now)) }
@@ -146,7 +146,7 @@ fn granularity_of(text: &str) -> Result<Granularity, ReadFault>
     }
 }
 
-/// The formats, as the member of them tells.
+/// The formats, from the member `formats`.
 #[tactic(auto, unfolding(crate::specs::Shapes::formats_at))]
 fn formats_at(alloc: Global, value: &Value) -> Result<Sequence<FormatSettings>, ReadFault>
     ensures { GivesRead result (shape.formats_at (view value.now)) }

@@ -16,7 +16,7 @@ GivesBy view condition (Ok x) reading = reading ≡ Ok (view x)
 GivesBy view condition (Err (Refused refusal)) reading = reading ≡ Err refusal
 GivesBy view condition (Err NoMemory) reading = condition
 
--- the same of an answer that is seen as it is
+-- a call answered the reading itself; or that memory was refused, and then the condition is true
 abbrev pub Gives : {A : Type 0} → Type 0 → Result A LineFault → Result A LineRefusal → Type 0
 Gives condition result reading = GivesBy (λ x. x) condition result reading
 
@@ -27,6 +27,7 @@ FindsBy refusal view condition (Ok x) reading = reading ≡ Some (view x)
 FindsBy refusal view condition (Err (Refused cause)) reading = (reading ≡ None) × (cause ≡ refusal)
 FindsBy refusal view condition (Err NoMemory) reading = condition
 
--- the same of an answer that is seen as it is, and of what is no command
+-- a call gave what the reading gives; or, where that is nothing, the refusal of what is no command; or memory was refused, and then the
+-- condition is true
 abbrev pub Finds : {A : Type 0} → Type 0 → Result A LineFault → Option A → Type 0
 Finds condition result reading = FindsBy BadCommand (λ x. x) condition result reading

@@ -1,5 +1,5 @@
 //! Deposit lines: which change a line of JSON asks a repository for, or why the line is refused. And
-//! what a JSON value has, for whatever else is told in JSON.
+//! what a JSON value has, for whatever else is read from JSON.
 #![tactic(auto)]
 
 mod faults;

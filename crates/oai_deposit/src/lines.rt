@@ -38,7 +38,7 @@ pub fn read_line(alloc: Global, line: &[u8]) -> Result<Change, LineFault>
 
 /// The law of the shapes: a value has the shape of a command exactly where it is the JSON object
 /// that the command is written as, and is refused as no command exactly where it is none of these
-/// objects. The contract is the law; the call does nothing.
+/// objects. A theorem, proved by an empty function.
 pub fn shape_law()
     ensures { ShapeLaw }
 {}
@@ -175,7 +175,7 @@ fn set_specs_of(alloc: Global, texts: &[&str]) -> Result<Sequence<SetSpec>, Line
     each_set_spec(alloc, texts)
 }
 
-/// The same, up to the first that is none.
+/// The setSpec that each text is, in order, up to the first text that is none.
 #[tactic(auto, using(crate::proofs::ReadingLemmas::starts))]
 fn each_set_spec(alloc: Global, texts: &[&str]) -> Result<Sequence<SetSpec>, LineFault>
     ensures { FindsBy BadSetSpec (λ specs. specs) Anywhere result

@@ -61,7 +61,7 @@ pub record IsTable (connections : List Connection) (last : ℕ) : Type 0 where
 -- ---- the calls
 
 -- opening: the connection gets the number after the one that was given last, and nothing has come on it; or the first cause that applies is
--- told, out of memory, where it is refused, ahead of the last
+-- returned, out of memory, where it is refused, ahead of the last
 abbrev pub IsOpening : {H : Type 0} → State H → Result ConnId OpenFault → State H → Type 0
 IsOpening old (Ok conn) new =
     (length old.connections < old.limit) × (conn.number ≡ old.last + 1) × (conn.number < LAST_NUMBER)

@@ -71,7 +71,7 @@ answer_head head =
     ++ length_field head.size
     ++ plain (codes "\r\n")
 
--- what the head of an answer to that target tells, where the connection is closed after it or not
+-- what stands in the head of an answer to that target, where the connection is closed after it or not
 abbrev pub head_told : List ℕ → Bool → Answer → AnswerHead
 head_told target last answer = record {
   endpoint = endpoint_of target;

@@ -6,7 +6,7 @@ use Rattle.std.specs.List.{list_all}
 abbrev pub is_filled : List ℕ → Bool
 is_filled bytes = nat_lt 0 (length bytes)
 
--- each does
+-- each of the buffers holds something
 abbrev pub AreFilled : List (List ℕ) → Type 0
 AreFilled buffers = list_all is_filled buffers ≡ true
 

@@ -5,7 +5,7 @@ ghost use Rattle.oai_front.specs.Heads as spec;
 use itoa::Buffer;
 use oai_http::{Endpoint, Status};
 
-/// What the head of an answer tells.
+/// What stands in the head of an answer.
 #[derive(Clone, Copy)]
 pub struct AnswerHead {
     /// What the target is for that was asked.
@@ -126,7 +126,7 @@ fn write_retry(seconds: Option<i64>, out: &mut Vec<u8>)
     }
 }
 
-/// Writes how many lines of a deposit were done before it failed, where it is told.
+/// Writes how many lines of a deposit were done before it failed, where the answer has it.
 #[tactic(auto, unfolding(crate::specs::Heads::done_field))]
 fn write_done(endpoint: Option<Endpoint>, done: Option<u64>, out: &mut Vec<u8>)
     requires { vec_len out.old + LINE_ROOM ≤ vec_capacity out.old }

@@ -12,8 +12,8 @@ use crate::numbers::LAST_NUMBER;
 use crate::request_heads::{MAX_HEAD_BYTES, MAX_HEAD_FIELDS};
 use oai_http::Handler;
 
-/// The messages of bytes are these and no others, however many there are, and all that is told of their end
-/// is alike. It does nothing.
+/// The messages of bytes are these and no others, however many there are, and all that is known of their end
+/// is alike. A theorem, proved by an empty function.
 pub fn split_law()
     ensures alike { (bytes : List ℕ) (messages others : List Message) (end other : End)
         → Stream bytes messages end → Stream bytes others other
@@ -23,7 +23,7 @@ pub fn split_law()
 /// It does not matter how bytes are cut into pieces: the messages that a piece completes, and those that
 /// the next one completes with what was left, are those of both together; once a connection is closed,
 /// nothing comes of what follows. What was performed before memory was refused is the beginning of what
-/// was completed. It does nothing.
+/// was completed. A theorem, proved by an empty function.
 pub fn cut_law()
     ensures joined { (first second rest : List ℕ) (messages others : List Message) (end : End)
         → Stream first messages (waits rest) → Stream (rest ++ second) others end
@@ -41,7 +41,7 @@ pub fn cut_law()
 /// with the piece that brings its last byte, or, where memory was refused, with a later one; their answers,
 /// and the answer to a fault, are what is put behind its output, and what is taken is taken from the front.
 /// It is said of each connection that reads and on which nothing whole waits, and of each that is opened
-/// among the calls. It does nothing.
+/// among the calls. A theorem, proved by an empty function.
 pub fn run_law<H: Handler>()
     ensures served { (old new : State H) (calls : List FrontCall)
         → Comes H.step old calls new → AreServed H.step old new calls }
@@ -50,7 +50,7 @@ pub fn run_law<H: Handler>()
 
 /// What a client reads of an answer, by the grammar of `httparse` and whatever comes behind it: the status,
 /// one length, which is the body's, and whether the connection is closed. So it knows where the next answer
-/// begins. It does nothing.
+/// begins. A theorem, proved by an empty function.
 pub fn head_law()
     ensures answers { (target : List ℕ) (last : Bool) (answer : Given) (others : List ℕ)
         → IsReadBack (answer_bytes target last answer ++ others) answer.status last answer.body others }
@@ -58,7 +58,8 @@ pub fn head_law()
         → IsReadBack (fault_bytes status ++ others) status true [] others }
 {}
 
-/// The limits in numbers, since definitions read them by their names. It does nothing.
+/// The limits in numbers, since definitions read them by their names. A theorem, proved
+/// by an empty function.
 pub fn limit_law()
     ensures head { MAX_HEAD_BYTES ≡ 16_384 }
     ensures fields { MAX_HEAD_FIELDS ≡ 64 }

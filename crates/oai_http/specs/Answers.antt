@@ -18,7 +18,7 @@ answered_with body = record { status = status.Ok; seconds = None; done = None; b
 abbrev pub asked_to_wait : ℤ → Answer
 asked_to_wait seconds = record { status = status.ServiceUnavailable; seconds = Some seconds; done = None; body = []; fault = None }
 
--- it failed for want of room, and may be made again after a minute: OAI-PMH 2.0, section 3.1.2.2
+-- it failed since memory or room ran out, and may be made again after a minute: OAI-PMH 2.0, section 3.1.2.2
 abbrev pub without_room : Fault → Option ℕ → Answer
 without_room fault done = record { status = status.ServiceUnavailable; seconds = Some (pos 60); done = done; body = []; fault = Some fault }
 

@@ -10,8 +10,8 @@ pub trait Handler {
     /// then is.
     ghost step: { Self → ℤ → Asked → Given → Self → Type 0 };
 
-    /// Performs a message at the moment, in seconds from 1970 on, and answers it. Want of memory and other
-    /// faults are told in the answer.
+    /// Performs a message at the moment, in seconds from 1970 on, and answers it. Out of memory and other
+    /// faults stand in the answer.
     fn exchange(&mut self, moment: i64, exchange: &Exchange<'_>) -> Answer
         ensures { step self.old moment (asked_by exchange.now) result self.new };
 }

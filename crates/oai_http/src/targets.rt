@@ -61,7 +61,7 @@ pub fn query_of(target: &[u8]) -> &[u8]
 }
 
 /// What a target is for is what its path leads to, at whatever repository; and no target leads to two
-/// repositories. The contract is the law; the call does nothing.
+/// repositories. A theorem, proved by an empty function.
 pub fn path_law()
     ensures endpoint { (endpoint : Endpoint) (name target : List ℕ)
         → spec.leads_to endpoint name target ≡ true → spec.endpoint_of target ≡ Some endpoint }

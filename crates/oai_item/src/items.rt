@@ -66,7 +66,7 @@ impl Item {
         Item::with_prefixed(alloc, identifier, stamp, sets, formats)
     }
 
-    /// The same, of records whose prefixes are known to be of their grammar and length.
+    /// A live item, of records whose prefixes are known to be of their grammar and length.
     pub(crate) fn with_prefixed(
         alloc: Global,
         identifier: Identifier,
@@ -187,7 +187,7 @@ impl Item {
     }
 
     /// Writes the item's spelling at the front of the bytes, and leaves those behind it alone. The
-    /// answer is how many bytes it is, as `encoded_len` tells it; there must be room for so many. The
+    /// answer is how many bytes it is, as `encoded_len` returns it; there must be room for so many. The
     /// error: they are more than 16,000, and nothing is written. It takes no memory.
     pub fn encode_into(&self, out: &mut [u8]) -> Result<usize, TooLarge>
         requires { length (encoded self.now) ≤ MAX_ITEM_BYTES

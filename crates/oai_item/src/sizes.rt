@@ -17,7 +17,8 @@ const COUNT_BYTES: usize = 4;
 #[error("the encoded item has more than 16,000 bytes")]
 pub struct TooLarge;
 
-/// The limits in numbers, since definitions read them by their names. It does nothing at run time.
+/// The limits in numbers, since definitions read them by their names. A theorem, proved by an
+/// empty function.
 pub fn limit_law()
     ensures item { MAX_ITEM_BYTES ≡ 16_000 }
     ensures short_text { MAX_SHORT_TEXT_BYTES ≡ 512 }

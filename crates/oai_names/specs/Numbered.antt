@@ -1,5 +1,5 @@
--- Things that have numbers, in the order of their numbers, as lists that are open and connections are. This repository's own. What the number
--- of a thing is, is told by the function `number_of`.
+-- Things that have numbers, in the order of their numbers, as lists that are open and connections are. This repository's own. The function
+-- `number_of` gives the number of a thing.
 use Rattle.std.specs.Prelude.{◌≡◌, ◌+◌, ◌<◌, ℕ, Bool, true, not, ◌&&◌, ◌==◌, nat_lt, List, [], ◌∷◌, length, take, drop, Option, MatchOption}
 use Rattle.std.specs.List.{HoldsAt, list_all}
 

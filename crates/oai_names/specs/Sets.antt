@@ -59,7 +59,7 @@ HasParentsBefore sets = (i : ℕ) (parent last name : List ℕ)
 abbrev pub HasSetsAbove : List (List ℕ × List ℕ) → Type 0
 HasSetsAbove sets = (above spec : List ℕ) → has_set sets spec ≡ true → Covers above spec → has_set sets above ≡ true
 
--- what adding a set answers, and the sets then: it is the last one, or the first cause that applies is told and they are as they were
+-- the result of adding a set, and the sets then: it is the last one; or the first cause that applies is returned, and they are as they were
 abbrev pub IsAdding : List (List ℕ × List ℕ) → List ℕ → List ℕ
     → Result (Unit {0}) SetFault → List (List ℕ × List ℕ) → Type 0
 IsAdding old spec name (Ok _) new =

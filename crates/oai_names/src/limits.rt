@@ -14,7 +14,8 @@ pub const MAX_IDENTIFIER_BYTES: usize = 512;
 /// The most sets of a repository.
 pub const MAX_SETS: usize = 10_000;
 
-/// The limits in numbers, since definitions read them by their names. It does nothing at run time.
+/// The limits in numbers, since definitions read them by their names. A theorem, proved by an
+/// empty function.
 pub fn limit_law()
     ensures prefix { MAX_PREFIX_BYTES ≡ 64 }
     ensures set_spec { MAX_SET_SPEC_BYTES ≡ 256 }

@@ -12,7 +12,7 @@ use Rattle.oai_item.specs.ShortTexts.{is_short_text}
 use Rattle.oai_item.specs.declared.formats.Format.{Format}
 use Rattle.oai_item.specs.declared.deleted_record.DeletedRecord.{DeletedRecord}
 
--- what Identify tells of a repository (OAI-PMH 2.0, section 4.2), the most that it holds, and its metadata formats
+-- what Identify returns of a repository (OAI-PMH 2.0, section 4.2), the most that it holds, and its metadata formats
 pub record Config : Type 0 where
   pub base : List ℕ
   pub repository_name : List ℕ

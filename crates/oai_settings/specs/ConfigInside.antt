@@ -2,7 +2,7 @@
 use Rattle.oai_settings.specs.Config.{Config}
 use Rattle.oai_settings.specs.declared.config.RepoConfig.TheInside.{Inside}
 
--- what Identify tells of it, its limits, and its formats
+-- what Identify returns of a repository, its limits, and its formats
 abbrev pub config_in : Inside → Config
 config_in c = record {
   base = c.base;

@@ -1,5 +1,5 @@
--- What is told of a repository: what Identify tells of it (OAI-PMH 2.0, section 4.2), its formats and its limits; why it makes no
--- configuration, and the configuration that it makes.
+-- The settings of a repository: what Identify returns of it (OAI-PMH 2.0, section 4.2), its formats and its limits; why they make no
+-- configuration, and the configuration that they make.
 use Rattle.std.specs.Prelude.{◌≡◌, ℕ, ℤ, Bool, true, false, ◌&&◌, not, nat_le, List, ◌∷◌, ◌++◌, map, length, codes, Option, Some, None, is_none, option_and_then, if◌then◌else◌, Result, Ok, Err}
 use Rattle.std.specs.List.{list_all}
 use Rattle.oai_names.specs.Names.{is_among, may_be_prefix}
@@ -32,7 +32,7 @@ format_of s = record { prefix = s.prefix; schema = s.schema; namespace = s.names
 abbrev pub is_good_format : FormatSettings → Bool
 is_good_format s = may_be_prefix s.prefix && is_allowed (format_of s)
 
--- the metadataPrefixes that are told
+-- the metadataPrefixes of the formats
 abbrev pub prefixes_of : List FormatSettings → List (List ℕ)
 prefixes_of settings = map (λ s. s.prefix) settings
 
@@ -90,7 +90,7 @@ config_fault s =
     else (if not (are_numbers s.chunk s.lifetime s.lists s.items) then Some BadNumber
     else None))))
 
--- the settings have no fault, and each part of the configuration is what they tell; the base URL is the base, `/oai/` and the name
+-- the settings have no fault, and each part of the configuration is what they say; the base URL is the base, `/oai/` and the name
 pub record Configures (settings : Settings) (config : Config) : Type 0 where
   pub faultless : config_fault settings ≡ None
   pub base : config.base ≡ settings.base ++ codes "/oai/" ++ settings.name

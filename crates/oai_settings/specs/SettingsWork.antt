@@ -1,4 +1,4 @@
--- The calls behind making a configuration: each answers its value, or that what was told is bad, or that memory was refused.
+-- The calls behind making a configuration: each returns its value, or that the settings are bad, or that memory was refused.
 use Rattle.std.specs.Prelude.{◌≡◌, ℕ, true, false, List, ◌∷◌, [], ◌++◌, Option, Some, None, is_none, Result, Ok, Err}
 use Rattle.std.specs.Int.{is_in_range}
 use Rattle.oai_names.specs.Names.{may_be_prefix}
@@ -41,7 +41,7 @@ abbrev pub IsLimit : ℕ → Option ℕ → Option ℕ → Type 0
 IsLimit most number (Some n) = (number ≡ Some n) × (is_in_range 1 most n ≡ true)
 IsLimit most number None = passes_number (is_in_range 1 most) number ≡ false
 
--- the limits that are told, where each is a number in its range
+-- the limits of the settings, where each is a number in its range
 abbrev pub AreLimits : Option ℕ → Option ℕ → Option ℕ → Option ℕ → Option Limits → Type 0
 AreLimits chunk lifetime lists items (Some limits) =
     (chunk ≡ Some limits.chunk) × (lifetime ≡ Some limits.lifetime) × (lists ≡ Some limits.lists) × (items ≡ Some limits.items)

@@ -1,4 +1,4 @@
-//! What is told of a repository, and the configuration that it makes: the rules of its names, its limits
+//! The settings of a repository, and the configuration that they make: the rules of its names, its limits
 //! and its metadata formats.
 #![tactic(auto)]
 

@@ -18,7 +18,7 @@ const MAX_NAME_BYTES: usize = 32;
 /// The most addresses of administrators.
 const MAX_ADDRESSES: usize = 16;
 
-/// What is told of a metadata format (OAI-PMH 2.0, section 3.4), before it is looked at.
+/// The settings of a metadata format (OAI-PMH 2.0, section 3.4), before they are checked.
 #[derive(Debug, Drop)]
 pub struct FormatSettings {
     /// The metadataPrefix.
@@ -33,8 +33,8 @@ pub struct FormatSettings {
     pub fields: Sequence<Text>,
 }
 
-/// What is told of a repository, before it is looked at. A number is None where what was told is a
-/// number, and none of 64 bits that is whole and not negative.
+/// The settings of a repository, before they are checked. A number is None where a number was given that
+/// does not fit 64 bits, is not whole, or is negative.
 #[derive(Debug, Drop)]
 pub struct Settings {
     /// What the base URLs of all repositories begin with: 1 to 512 bytes.

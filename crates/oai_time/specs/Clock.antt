@@ -4,6 +4,6 @@ use Rattle.std.specs.Prelude.{ℤ}
 use Rattle.std.specs.Int.{int_max, int_min}
 use Rattle.oai_time.specs.declared.clock.TheConstants.{LAST_TICK}
 
--- the clock after it is told a moment: it never goes back, and where it starts no later than 9998-12-31T23:59:59Z it never passes that
+-- the clock after a moment: it never goes back, and where it starts no later than 9998-12-31T23:59:59Z it never passes that
 abbrev pub tick : ℤ → ℤ → ℤ
 tick clock moment = int_max clock (int_min moment LAST_TICK)

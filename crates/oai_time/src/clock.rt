@@ -8,7 +8,7 @@ use std::marker::Model;
 pub const LAST_TICK: i64 = 253_370_764_799;
 
 /// A clock of whole seconds that never goes back and, where it starts no later than
-/// 9998-12-31T23:59:59Z, never passes that second, whatever moments it is told. What is added to it
+/// 9998-12-31T23:59:59Z, never passes that second, whatever moments come. What is added to it
 /// for an end, up to a year, then still has a date of four digits.
 #[derive(Clone, Copy, Debug, PartialEq, Eq)]
 pub struct Clock(i64);
