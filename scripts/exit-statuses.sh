@@ -167,7 +167,7 @@ for number in 1 2; do
     deposit=$(printf 'POST /deposit/a HTTP/1.0\r\nContent-Length: %s\r\n\r\n%s' "${#line}" "$line")
     answered "$port" "$deposit" "deposit $number of a page" '200 OK'
 done
-has_bytes "$folder/cut" 32768 'two pages'
+has_bytes "$folder/cut" 49152 'two pages that are named, and one that was'
 truncate -s 100 "$folder/cut"
 record='GET /oai/a?verb=GetRecord&metadataPrefix=oai_dc&identifier=oai:a:'
 answered "$port" "$record"$'1 HTTP/1.0\r\n\r\n' 'a record of a file that was cut' '500 Internal Server Error'

@@ -1,4 +1,4 @@
-"""What interop.py, bench.py and idle.py share: a configuration, texts and items that are generated, and the lines that deposit them.
+"""What interop.py, bench.py, idle.py and fuzz.py share: a configuration, texts and items that are generated, and the lines that deposit them.
 
 What is generated comes from a generator of random numbers that the caller makes from a fixed seed, so it is the same in each run.
 """

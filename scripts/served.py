@@ -1,4 +1,4 @@
-"""What interop.py, bench.py and idle.py share: a server of the program, and what is asked of it."""
+"""What interop.py, bench.py, idle.py and fuzz.py share: a server of the program, and what is asked of it."""
 
 import http.client
 import json
