@@ -53,7 +53,7 @@ pub trait Versions {
         ensures store { Spends room failures honest 1 result self.old self.new };
 
     /// Puts the item into the list, in place of the one of its datestamp and identifier where there is
-    /// one. Its spelling has at most 16,000 bytes. Any fault may come.
+    /// one. Its spelling has at most 1,048,576 bytes. Any fault may come.
     fn put(&mut self, v: u64, item: &Item) -> Result<(), Fault>
         requires stands { IsSome (lists self.old v) }
         requires fits { length (encoded item.now) ≤ MAX_ITEM_BYTES }
@@ -79,7 +79,7 @@ pub trait Versions {
 
     /// Takes the item of that datestamp, in seconds from 1970 on, and identifier out of the list and puts
     /// the other item in, as `remove` and then `put` do, and answers whether there was one to take out. A
-    /// call that fails has done neither. The spelling of the item has at most 16,000 bytes. Any fault may
+    /// call that fails has done neither. The spelling of the item has at most 1,048,576 bytes. Any fault may
     /// come.
     fn replace(
         &mut self,

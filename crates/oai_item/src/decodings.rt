@@ -26,7 +26,7 @@ const PAIR_BYTES: usize = 8;
 /// Why bytes were not read as an item.
 #[derive(Clone, Copy, Debug, PartialEq, Eq, Error)]
 pub enum DecodeFault {
-    /// The bytes are not the spelling of an item, or are more than 16,000.
+    /// The bytes are not the spelling of an item, or are more than 1,048,576.
     #[error("the bytes are not those of an item")]
     Damaged,
     /// The item could not be stored.

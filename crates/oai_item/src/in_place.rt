@@ -70,7 +70,7 @@ impl<'a> Spelling<'a> {
         }
     }
 
-    /// The bytes, all of the spelling: 1 to 16,000.
+    /// The bytes, all of the spelling: 1 to 1,048,576.
     pub fn bytes(&self) -> &'a [u8]
         ensures spells { Spells result.now self.now }
         ensures read { item_in result.now ≡ Some self.now }

@@ -177,7 +177,7 @@ impl Item {
     }
 
     /// The number of bytes of the item's spelling, where it is stored. The error: they are more than
-    /// 16,000. It takes no memory.
+    /// 1,048,576. It takes no memory.
     pub fn encoded_len(&self) -> Result<usize, TooLarge>
         ensures { IsMeasure (length (encoded self.now)) result }
     {
@@ -188,7 +188,7 @@ impl Item {
 
     /// Writes the item's spelling at the front of the bytes, and leaves those behind it alone. The
     /// answer is how many bytes it is, as `encoded_len` returns it; there must be room for so many. The
-    /// error: they are more than 16,000, and nothing is written. It takes no memory.
+    /// error: they are more than 1,048,576, and nothing is written. It takes no memory.
     pub fn encode_into(&self, out: &mut [u8]) -> Result<usize, TooLarge>
         requires { length (encoded self.now) ≤ MAX_ITEM_BYTES
             → length (encoded self.now) ≤ length out.old }
@@ -203,7 +203,7 @@ impl Item {
 
     /// The item that the bytes spell, all of them, as `encode_into` writes it; each item has one
     /// spelling. The errors: `Damaged` where they spell none, as with bytes left over, or are more
-    /// than 16,000; `NoMemory`. Memory is asked for once it is known that the bytes spell an item.
+    /// than 1,048,576; `NoMemory`. Memory is asked for once it is known that the bytes spell an item.
     pub fn decode(alloc: Global, bytes: &[u8]) -> Result<Item, DecodeFault>
         ensures { IsDecoding bytes.now result }
     {

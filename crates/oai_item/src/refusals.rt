@@ -63,7 +63,7 @@ pub enum ChangeRefusal {
     /// The item has a format, or had it when it was deleted, of which there is no record. Number 10.
     #[error("the item has a format of which there is no record")]
     DropsFormat,
-    /// The encoded item would have more than 16,000 bytes. Number 11.
+    /// The encoded item would have more than 1,048,576 bytes. Number 11.
     #[error("the item is too large")]
     TooLarge,
     /// The identifier is a new one, and as many items stand as the repository may have. Number 12.

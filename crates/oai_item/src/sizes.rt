@@ -7,24 +7,24 @@ use oai_names::{Prefix, Sequence, SetSpec};
 use thiserror::Error;
 
 /// The most bytes that the spelling of an item has.
-pub const MAX_ITEM_BYTES: usize = 16_000;
+pub const MAX_ITEM_BYTES: usize = 1_048_576;
 
 /// The bytes of a count in the spelling of an item.
 const COUNT_BYTES: usize = 4;
 
-/// The spelling of an item has more than 16,000 bytes.
+/// The spelling of an item has more than 1,048,576 bytes.
 #[derive(Clone, Copy, Debug, PartialEq, Eq, Error)]
-#[error("the encoded item has more than 16,000 bytes")]
+#[error("the encoded item has more than 1,048,576 bytes")]
 pub struct TooLarge;
 
 /// The limits in numbers, since definitions read them by their names. A theorem, proved by an
 /// empty function.
 pub fn limit_law()
-    ensures item { MAX_ITEM_BYTES ≡ 16_000 }
+    ensures item { MAX_ITEM_BYTES ≡ 1_048_576 }
     ensures short_text { MAX_SHORT_TEXT_BYTES ≡ 512 }
 {}
 
-/// The sum, where it is at most 16,000.
+/// The sum, where it is at most `MAX_ITEM_BYTES`.
 fn plus(size: usize, more: usize) -> Result<usize, TooLarge>
     ensures { IsMeasure (size + more) result }
 {

@@ -1,61 +1,116 @@
--- A page added for items, and its place.
-use Rattle.std.proofs.Common.{◌≡◌, ◌∙◌, ◌+◌, ◌≤◌, if◌then◌else◌, ◌==◌, ℕ, List, [], ◌∷◌, ◌++◌, Some, IsSome, length, refl, sym, ap, subst, arith, append-nil, unwrap_or, get_or, Bool, true, false}
-use Rattle.std.proofs.lemmas.Bool.{eqb-true, false_from_ne_true}
+-- Pages added for items, and their place.
+use Rattle.std.proofs.Common.{◌≡◌, ◌∙◌, ◌+◌, ◌≤◌, ◌<◌, if◌then◌else◌, ◌==◌, ℕ, List, [], ◌∷◌, ◌++◌, Some, length, refl, sym, ap, subst, arith, append-nil, unwrap_or, Bool, true, false, inl, inr}
+use Rattle.std.specs.Prelude.{map}
+use Rattle.std.specs.Cmp.{nat_eq_equiv}
+use Rattle.std.proofs.lemmas.Bool.{cases_eq, cases_lt, ne_eqb}
+use Rattle.std.proofs.lemmas.List.{map-append}
 use Rattle.oai_item.specs.Item.{ItemState}
 use Rattle.oai_pool.specs.Counts.{AddsName, KeepsNamed, count_of}
 use Rattle.oai_pool.specs.Names.{times}
 use Rattle.oai_pool.specs.declared.pools.PagePool.{Ghosts}
 use Rattle.oai_paged.specs.Calls.{Adds}
-use Rattle.oai_paged.specs.Pages.{FitPage, IsPage, begins_at, items_in, page_spelling}
-use Rattle.oai_paged.specs.Places.{IsSoundPlace, Pages, PlaceState, have_records, items_at, named_in, page_at, page_no}
-use Rattle.oai_paged.proofs.NameLemmas.{named_in-cons, named_in-nil, times-page}
+use Rattle.oai_paged.specs.Pages.{FitAlone, FitPage, begins_at, items_in, pages_of}
+use Rattle.oai_paged.specs.Places.{IsSoundPlace, Pages, PlaceState, bytes_on, have_records, items_at, named_in, page_at}
+use Rattle.oai_paged.specs.Recounts.{AddsNumbers, Recounts}
+use Rattle.oai_paged.proofs.NameLemmas.{named_in-cons, named_in-nil, times-append, times-nil, times-one}
+use Rattle.oai_paged.proofs.OverflowLemmas.{fit_pages, page_on}
 use Rattle.oai_paged.proofs.PageLemmas.{items_in-page}
-use Rattle.oai_paged.proofs.PlaceLemmas.{items_on-cons, items_on-nil}
+use Rattle.oai_paged.proofs.PlaceLemmas.{items_on-cons, items_on-nil, pages_under-same}
+use Rattle.oai_paged.proofs.RecountLemmas.{recounts_then}
 
--- what a place of one page names
-pub named_once : (n : ℕ) (place : PlaceState) → length place.pages ≡ 1 → named_in (place ∷ []) n ≡ (if n == page_no place then 1 else 0)
-named_once n place one = named_in-cons n place [] ∙ ap (λ m. times n place.pages + m) (named_in-nil n) ∙ plus_none (times n place.pages) ∙ times-page n place one where
-  plus_none : (m : ℕ) → m + 0 ≡ m
-  plus_none m = omega arith
+-- ---- pages added one after the other
 
--- a place of the page of items has these
-pub items_at-page : (pages : Pages) (items : List ItemState) (place : PlaceState) → pages (page_no place) ≡ Some (page_spelling items) → FitPage items → items_at pages place ≡ items
+module _ {P : Type 0} (g : Ghosts P) where
+  pub adds_no_number : (p : P) → AddsNumbers g [] [] p p
+  adds_no_number p = record {
+    pages = refl;
+    once = λ n. omega (arith, times-nil n);
+    fresh = λ n _. times-nil n;
+    names = record { counts = λ n. refl; kept = λ n _. refl };
+  }
+
+  -- one more, under a number that nobody named
+  pub adds_number : (added : List (List ℕ)) (numbers : List ℕ) (k : ℕ) (page : List ℕ) (p q r : P) → AddsNumbers g added numbers p q
+      → count_of (g.counts q) k ≡ 0 → AddsName k (g.counts q) (g.counts r) → KeepsNamed (g.counts q) (g.pages q) (g.pages r) → g.pages r k ≡ Some page
+      → AddsNumbers g (added ++ page ∷ []) (numbers ++ k ∷ []) p r
+  adds_number added numbers k page p q r h free adds kept is = record {
+    pages =
+        let here : page_at (g.pages r) k ≡ page = ap (λ o. unwrap_or o []) is in
+        let before : map (page_at (g.pages r)) numbers ≡ added =
+        pages_under-same (g.pages q) (g.pages r) numbers (λ n named. kept n (omega (arith, named, h.names.counts n, times-nil n))) ∙ h.pages in
+        map-append (page_at (g.pages r)) numbers (k ∷ []) ∙ (λ i. before i ++ here i ∷ []);
+    once = λ n. elim (cases_eq n k) [
+      | inl same ↦
+          let none : count_of (g.counts q) n ≡ 0 = ap (count_of (g.counts q)) same ∙ free in
+          omega (arith, none, h.names.counts n, times-nil n, times-append n numbers (k ∷ []), most_one n)
+      | inr apart ↦ omega (arith, h.once n, times-append n numbers (k ∷ []), other n apart)
+    ];
+    fresh = λ n named. elim (cases_eq n k) [
+      | inl same ↦
+          let none : count_of (g.counts q) n ≡ 0 = ap (count_of (g.counts q)) same ∙ free in
+          absurd (omega (arith, none, named, h.names.counts n, times-nil n))
+      | inr apart ↦ omega (arith, h.fresh n named, times-append n numbers (k ∷ []), other n apart)
+    ];
+    names = recounts_then g [] numbers [] (k ∷ []) p q r h.names (record {
+      counts = λ n. omega (arith, adds n, times-one n k, times-nil n);
+      kept = λ n named. kept n (omega (arith, named, times-nil n));
+    });
+  } where
+    other : (n : ℕ) → (n ≡ k → ⊥) → times n (k ∷ []) ≡ 0
+    other n apart = times-one n k ∙ ap (λ b. if b then 1 else 0) (ne_eqb n k apart)
+
+    at_most : (b : Bool) → (if b then 1 else 0) ≤ 1
+    at_most true = omega arith
+    at_most false = omega arith
+
+    most_one : (n : ℕ) → times n (k ∷ []) ≤ 1
+    most_one n = omega (arith, times-one n k, at_most (n == k))
+
+  -- a page that could not be added: the others are as they were
+  pub recounts_kept : (p q : P) → g.counts q ≡ g.counts p → KeepsNamed (g.counts p) (g.pages p) (g.pages q) → Recounts g [] [] p q
+  recounts_kept p q counts kept = record {
+    counts = λ n. ap (λ all. count_of all n + times n []) counts;
+    kept = λ n named. kept n (omega (arith, named, times-nil n));
+  }
+
+-- ---- the place of pages that were added for items
+
+pub items_at-pages : (pages : Pages) (items : List ItemState) (place : PlaceState) → map (page_at pages) place.pages ≡ pages_of items → FitPage items → FitAlone items → items_at pages place ≡ items
 unfolding items_at
-items_at-page pages items place is fit =
-    ap (λ o. items_in (unwrap_or o [])) is ∙ items_in-page (page_spelling items) items (record { spelling = refl; fit = fit })
+items_at-pages pages items place is fit alone = items_in-page (bytes_on pages place.pages) items (page_on pages place.pages items is fit alone)
 
-placed_page : (pages : Pages) (items : List ItemState) (place : PlaceState) → pages (page_no place) ≡ Some (page_spelling items) → FitPage items → length place.pages ≡ 1
+placed_pages : (pages : Pages) (items : List ItemState) (place : PlaceState) → map (page_at pages) place.pages ≡ pages_of items → FitPage items → FitAlone items
     → begins_at place.stamp place.identifier items ≡ true → place.len ≡ length items → have_records place.prefixes items ≡ true → IsSoundPlace pages place
-placed_page pages items place is fit one begins counted common =
-    let same = items_at-page pages items place is fit in
-    let page : page_at pages place ≡ page_spelling items = ap (λ o. unwrap_or o []) is in
+placed_pages pages items place is fit alone begins counted common =
+    let same = items_at-pages pages items place is fit alone in
     record {
-      one = one;
-      added = subst IsSome (sym is) refl;
-      page = subst (λ (b : List ℕ). IsPage b (items_at pages place)) (sym page) (subst (λ (xs : List ItemState). IsPage (page_spelling items) xs) (sym same) (record { spelling = refl; fit = fit }));
+      page = rw same (page_on pages place.pages items is fit alone);
+      many = rw same (fit_pages pages place.pages items is fit.storable alone);
       begins = ap (begins_at place.stamp place.identifier) same ∙ begins;
       counted = ap length same ∙ sym counted;
       common = ap (have_records place.prefixes) same ∙ common;
     }
 
--- the place of a page that was added for items
-pub adds_page : {P : Type 0} (g : Ghosts P) (items : List ItemState) (place : PlaceState) (k : ℕ) (old new : P) → count_of (g.counts old) k ≡ 0 → AddsName k (g.counts old) (g.counts new)
-    → KeepsNamed (g.counts old) (g.pages old) (g.pages new) → g.pages new k ≡ Some (page_spelling items) → FitPage items → place.pages ≡ k ∷ []
+own_numbers : (place : PlaceState) (numbers : List ℕ) (n : ℕ) → place.pages ≡ numbers → named_in (place ∷ []) n ≡ times n numbers
+own_numbers place numbers n own =
+    let all = named_in-cons n place [] in
+    let same : times n place.pages ≡ times n numbers = ap (times n) own in
+    omega (arith, all, named_in-nil n, same)
+
+pub adds_page : {P : Type 0} (g : Ghosts P) (items : List ItemState) (place : PlaceState) (numbers : List ℕ) (old new : P) → AddsNumbers g (pages_of items) numbers old new
+    → FitPage items → FitAlone items → place.pages ≡ numbers
     → begins_at place.stamp place.identifier items ≡ true → place.len ≡ length items → have_records place.prefixes items ≡ true → Adds g items (place ∷ []) old new
-adds_page g items place k old new free adds kept is fit own begins counted common =
-    let one : length place.pages ≡ 1 = ap length own in
-    let number : page_no place ≡ k = ap (λ (numbers : List ℕ). get_or numbers 0 0) own in
-    let here : g.pages new (page_no place) ≡ Some (page_spelling items) = ap (g.pages new) number ∙ is in
-    let names : (n : ℕ) → named_in (place ∷ []) n ≡ (if n == k then 1 else 0) = λ n. named_once n place one ∙ ap (λ m. if n == m then 1 else 0) number in
+adds_page g items place numbers old new h fit alone own begins counted common =
+    let is : map (page_at (g.pages new)) place.pages ≡ pages_of items = ap (map (page_at (g.pages new))) own ∙ h.pages in
     record {
-      placed = (placed_page (g.pages new) items place here fit one begins counted common, tt);
+      placed = (placed_pages (g.pages new) items place is fit alone begins counted common, tt);
       items =
           items_on-cons (g.pages new) place [] ∙ ap (λ zs. items_at (g.pages new) place ++ zs) (items_on-nil (g.pages new))
-          ∙ append-nil (items_at (g.pages new) place) ∙ items_at-page (g.pages new) items place here fit;
-      once = λ n. omega (arith, names n, at_most_one (n == k));
-      fresh = λ n named. names n ∙ ap (λ b. if b then 1 else 0) (false_from_ne_true (n == k) (λ same. omega (arith, named, free, ap (count_of (g.counts old)) (eqb-true n k same))));
-      names = record { counts = λ n. omega (arith, names n, adds n, named_in-nil n); kept = λ n named. kept n (omega (arith, named, named_in-nil n)) };
-    } where
-      at_most_one : (b : Bool) → (if b then 1 else 0) ≤ 1
-      at_most_one true = omega arith
-      at_most_one false = omega arith
+          ∙ append-nil (items_at (g.pages new) place) ∙ items_at-pages (g.pages new) items place is fit alone;
+      once = λ n. omega (arith, own_numbers place numbers n own, h.once n);
+      fresh = λ n named. own_numbers place numbers n own ∙ h.fresh n named;
+      names = record {
+        counts = λ n. omega (arith, own_numbers place numbers n own, h.names.counts n, named_in-nil n, times-nil n);
+        kept = λ n named. h.names.kept n (omega (arith, named, named_in-nil n, times-nil n));
+      };
+    }

@@ -1,5 +1,5 @@
 -- The items from one place up to another.
-use Rattle.std.proofs.Common.{◌≡◌, ◌∙◌, ◌+◌, ◌-◌, ◌<◌, ◌≤◌, ℕ, ℤ, suc, zero, true, List, [], ◌∷◌, ◌++◌, length, take, drop, get_or, sym, ap, arith, length-drop}
+use Rattle.std.proofs.Common.{◌≡◌, ◌∙◌, ◌+◌, ◌-◌, ◌^◌, ◌<◌, ◌≤◌, ℕ, ℤ, suc, zero, true, List, [], ◌∷◌, ◌++◌, length, take, drop, get_or, sym, ap, arith, length-drop}
 use Rattle.std.proofs.lemmas.List.{drop_all, drop_more, get_or-take, length-take-le, take-append-drop, take-take, take_all}
 use Rattle.oai_item.specs.Item.{ItemState}
 use Rattle.oai_item.specs.Order.{are_in_order}
@@ -8,8 +8,7 @@ use Rattle.std.proofs.lemmas.Cmp.{tied_itself}
 use Rattle.oai_item.specs.Items.{is_at}
 use Rattle.oai_item.proofs.Around.{in_order-append}
 use Rattle.oai_item.proofs.OrderLemmas.{is_at-Equal, total}
-use Rattle.oai_paged.specs.Pages.{AreStorable, FitPage, begins_at, between, size_of}
-use Rattle.oai_paged.specs.declared.sizes.TheConstants.{MAX_ENTRY_BYTES}
+use Rattle.oai_paged.specs.Pages.{AreStorable, FitPage, begins_at, between}
 
 pub between-none : (n : ℕ) (items : List ItemState) → between n n items ≡ []
 unfolding between
@@ -63,11 +62,11 @@ in_order-between from to items h =
     (in_order-append (take from (take to items)) (drop from (take to items)) (ap are_in_order (take-append-drop from (take to items)) ∙ front)).1
 
 -- so they may be a page
-pub fit-between : (from to : ℕ) (items : List ItemState) → from < to → to ≤ length items → size_of (between from to items) ≤ MAX_ENTRY_BYTES → AreStorable items → are_in_order items ≡ true
+pub fit-between : (from to : ℕ) (items : List ItemState) → from < to → to ≤ length items → to - from < 2 ^ 32 → AreStorable items → are_in_order items ≡ true
     → FitPage (between from to items)
-fit-between from to items below within fits stored rising = record {
+fit-between from to items below within few stored rising = record {
   some = omega (arith, length-between from to items within, below);
-  fits = fits;
+  few = omega (arith, length-between from to items within, few);
   storable = storable-between from to items stored;
   rising = in_order-between from to items rising;
 }

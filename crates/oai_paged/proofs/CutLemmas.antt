@@ -1,16 +1,16 @@
 -- Where entries are cut, and the page of some of them.
-use Rattle.std.proofs.Common.{◌≡◌, ◌∙◌, ◌+◌, ◌-◌, ◌*◌, ◌^◌, ◌<◌, ◌≤◌, ℕ, List, [], ◌++◌, length, take, drop, pos, sym, ap, arith, inl, inr}
+use Rattle.std.proofs.Common.{◌≡◌, ◌∙◌, ◌+◌, ◌-◌, ◌*◌, ◌^◌, ◌<◌, ◌≤◌, ℕ, List, [], ◌++◌, length, take, drop, true, refl, sym, ap, arith, inl, inr, append_assoc, length-append}
 use Rattle.std.specs.Prelude.{replicate}
 use Rattle.std.proofs.lemmas.Bool.{cases_lt}
 use Rattle.std.proofs.lemmas.List.{drop-drop, drop_at, length-drop, length-replicate, length-take-le, replicate-append-replicate, take_all, take_at}
-use Rattle.oai_item.specs.Encoding.{encoded_count}
 use Rattle.oai_item.specs.Item.{ItemState}
-use Rattle.oai_item.proofs.Lengths.{length-encoded_count}
-use Rattle.oai_item.proofs.Around.{only_place}
-use Rattle.oai_paged.specs.Pages.{AreStorable, between, entries_of, page_spelling, size_of}
+use Rattle.oai_device.specs.declared.devices.TheConstants.{PAGE_BYTES}
+use Rattle.oai_paged.specs.Pages.{AreStorable, FitAlone, between, filled, size_of}
 use Rattle.oai_paged.specs.declared.sizes.TheConstants.{MAX_ENTRY_BYTES}
-use Rattle.oai_paged.proofs.EntryLemmas.{size_is, size_of-between, size_of-more, storable_at}
-use Rattle.oai_paged.proofs.PageLemmas.{page_parts, size_of-least, size_of-nil}
+use Rattle.oai_paged.proofs.BetweenLemmas.{length-between}
+use Rattle.oai_paged.proofs.EntryLemmas.{size_of-between}
+use Rattle.oai_paged.proofs.PageLemmas.{size_of-least, size_of-nil}
+use Rattle.oai_paged.proofs.ShortLemmas.{fit_parts}
 
 -- ---- how many bytes are between two places
 
@@ -25,12 +25,6 @@ more_left items from less =
       | inl lt ↦ lt
       | inr le ↦ absurd (omega (arith, less, ap size_of (take_all from items le)))
     ]
-
--- one entry has room on a page
-pub one_fits : (items : List ItemState) (from : ℕ) → AreStorable items → from < length items → size_of (between from (from + 1) items) ≤ MAX_ENTRY_BYTES
-one_fits items from storable within =
-    let d : ItemState = only_place (pos 0) [] in
-    omega (arith, size_of-between items from (from + 1) (omega arith), size_of-more items from d within, (storable_at items from d storable within).few)
 
 -- what is left behind two cuts has room on a page
 pub third_fits : (items : List ItemState) (first second goal : ℕ) → size_of items ≤ 2 * MAX_ENTRY_BYTES → size_of items ≤ 2 * goal + 1
@@ -59,25 +53,27 @@ drop-zeros n m le =
     ap (λ (bytes : List ℕ). drop n bytes) parts ∙ drop_at (zeros n) (zeros (m - n)) n (length-replicate n 0)
 
 -- a number is as many bytes as four
-pub few_between : (items : List ItemState) (from to : ℕ) → from ≤ to → to ≤ length items → size_of (between from to items) ≤ MAX_ENTRY_BYTES → (length (between from to items) ≡ to - from) × (to - from < 2 ^ 32)
+pub few_between : (items : List ItemState) (from to : ℕ) → from ≤ to → to ≤ length items → AreStorable items → FitAlone (between from to items) → (length (between from to items) ≡ to - from) × (to - from < 2 ^ 32)
 unfolding between
-few_between items from to order within fits =
+few_between items from to order within storable alone =
     let long : length (between from to items) ≡ to - from = length-drop from (take to items) ∙ ap (λ n. n - from) (length-take-le to items within) in
-    (long, omega (arith, long, fits, size_of-least (between from to items)))
+    (long, few alone) where
+      few : FitAlone (between from to items) → to - from < 2 ^ 32
+      few (inl fits) = omega (arith, length-between from to items within, (fit_parts (between from to items) fits).0, size_of-least (between from to items))
+      few (inr one) = omega (arith, length-between from to items within, one)
 
-pub page_written : (number entries : List ℕ) (items : List ItemState) (first second : List ℕ) → number ≡ encoded_count (length items) → entries ≡ entries_of items → size_of items ≤ MAX_ENTRY_BYTES
-    → first ≡ take 0 (zeros (MAX_ENTRY_BYTES + 4)) ++ (number ++ drop (0 + length number) (zeros (MAX_ENTRY_BYTES + 4)))
-    → second ≡ take 4 first ++ (entries ++ drop (4 + length entries) first) → second ≡ page_spelling items
-page_written number entries items first second n e fits f g =
-    let four : length number ≡ 4 = ap length n ∙ length-encoded_count (length items) in
-    let size : length entries ≡ size_of items = size_is entries items e in
-    let rest : drop (0 + length number) (zeros (MAX_ENTRY_BYTES + 4)) ≡ zeros MAX_ENTRY_BYTES =
-    ap (λ k. drop (0 + k) (zeros (MAX_ENTRY_BYTES + 4))) four ∙ drop-zeros 4 (MAX_ENTRY_BYTES + 4) (omega arith)
+-- a page of two parts, and zeros behind them
+pub page_filled : (front back first second : List ℕ) → length front + length back ≤ PAGE_BYTES
+    → first ≡ take 0 (zeros PAGE_BYTES) ++ (front ++ drop (0 + length front) (zeros PAGE_BYTES))
+    → second ≡ take (length front) first ++ (back ++ drop (length front + length back) first) → second ≡ filled (front ++ back)
+unfolding filled
+page_filled front back first second fits f g =
+    let none : PAGE_BYTES - (0 + length front) ≡ PAGE_BYTES - length front = omega arith in
+    let half : first ≡ front ++ zeros (PAGE_BYTES - length front) = f ∙ ap (λ bytes. front ++ bytes) (drop-zeros (0 + length front) PAGE_BYTES (omega (arith, fits)) ∙ ap zeros none) in
+    let head : take (length front) first ≡ front = ap (take (length front)) half ∙ take_at front (zeros (PAGE_BYTES - length front)) (length front) refl in
+    let behind : drop (length front) first ≡ zeros (PAGE_BYTES - length front) = ap (drop (length front)) half ∙ drop_at front (zeros (PAGE_BYTES - length front)) (length front) refl in
+    let left : PAGE_BYTES - length front - length back ≡ PAGE_BYTES - length (front ++ back) = omega (arith, length-append front back) in
+    let rest : drop (length front + length back) first ≡ zeros (PAGE_BYTES - length (front ++ back)) =
+    sym (drop-drop (length back) (length front) first) ∙ ap (drop (length back)) behind ∙ drop-zeros (length back) (PAGE_BYTES - length front) (omega (arith, fits)) ∙ ap zeros left
     in
-    let half : first ≡ number ++ zeros MAX_ENTRY_BYTES = f ∙ ap (λ bytes. number ++ bytes) rest in
-    let front : take 4 first ≡ number = ap (take 4) half ∙ take_at number (zeros MAX_ENTRY_BYTES) 4 four in
-    let back : drop 4 first ≡ zeros MAX_ENTRY_BYTES = ap (drop 4) half ∙ drop_at number (zeros MAX_ENTRY_BYTES) 4 four in
-    let left : drop (4 + length entries) first ≡ zeros (MAX_ENTRY_BYTES - size_of items) =
-    sym (drop-drop (length entries) 4 first) ∙ (λ k. drop (size k) (back k)) ∙ drop-zeros (size_of items) MAX_ENTRY_BYTES fits
-    in
-    g ∙ (λ k. (front ∙ n) k ++ (e k ++ left k)) ∙ sym (page_parts items)
+    g ∙ (λ k. head k ++ (back ++ rest k)) ∙ sym (append_assoc front back (zeros (PAGE_BYTES - length (front ++ back))))

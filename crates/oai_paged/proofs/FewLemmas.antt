@@ -10,20 +10,13 @@ use Rattle.oai_pool.specs.declared.pools.PagePool.{Ghosts}
 use Rattle.oai_pool.specs.declared.pools.TheConstants.{MAX_PAGES}
 use Rattle.oai_paged.specs.Directory.{StandsIn}
 use Rattle.oai_paged.specs.Places.{IsSoundPlace, Pages, PlaceState, page_numbers}
-use Rattle.oai_paged.proofs.NameLemmas.{times-nil}
+use Rattle.oai_paged.proofs.NameLemmas.{times-cons, times-here, times-nil}
 
 -- ---- one number taken out of others
 
 abbrev without : ℕ → List ℕ → List ℕ
 without n [] = []
 without n (k ∷ ks) = cond (nat_eq n k) (without n ks) (k ∷ without n ks)
-
-times-cons : (n k : ℕ) (ks : List ℕ) → times n (k ∷ ks) ≡ cond (nat_eq n k) 1 0 + times n ks
-unfolding times
-times-cons n k ks = sum_by-cons (λ m. cond (nat_eq n m) 1 0) k ks
-
-times-here : (k : ℕ) (ks : List ℕ) → times k (k ∷ ks) ≡ 1 + times k ks
-times-here k ks = times-cons k k ks ∙ ap (λ b. cond b 1 0 + times k ks) (nat_eq_equiv.refl k)
 
 times-there : (n k : ℕ) (ks : List ℕ) → n ≢ k → times n (k ∷ ks) ≡ times n ks
 times-there n k ks apart =
@@ -139,16 +132,17 @@ used_few counts ks named = used_from counts 0 ks (λ n. subst (λ (m : ℕ). cou
 -- ---- the places of a directory
 
 pub length-numbers : (pages : Pages) (places : List PlaceState) → AllByRecursion (IsSoundPlace pages) places
-    → length (page_numbers places) ≡ length places
+    → length places ≤ length (page_numbers places)
 unfolding page_numbers
-length-numbers pages [] h = refl
+length-numbers pages [] h = omega arith
 length-numbers pages (place ∷ places) h =
-    omega (arith, length-append place.pages (page_numbers places), h.0.one, length-numbers pages places h.1)
+    let some = h.0.many.some in
+    omega (arith, length-append place.pages (page_numbers places), some, length-numbers pages places h.1)
 
 pub few_places : {P : Type 0} (g : Ghosts P) (pool : P) (places : List PlaceState)
     → ((n : ℕ) → MAX_PAGES ≤ n → count_of (g.counts pool) n ≡ 0) → StandsIn g pool places → length places ≤ MAX_PAGES
 few_places g pool places limited stands =
     let few : length (page_numbers places) ≤ MAX_PAGES = few_numbers MAX_PAGES (page_numbers places) stands.directory.once
     (λ n above. let none = limited n above in let most = stands.named n in omega (arith, none, most)) in
-    let same = length-numbers (g.pages pool) places stands.directory.placed in
-    omega (arith, few, same)
+    let more = length-numbers (g.pages pool) places stands.directory.placed in
+    omega (arith, few, more)

@@ -1,5 +1,5 @@
 -- What the pool of a store holds: no more pages than all lists have items, and each item on one of them.
-use Rattle.std.proofs.Common.{◌≡◌, ◌∙◌, ◌+◌, ◌<◌, ◌≤◌, ℕ, suc, zero, List, [], ◌∷◌, ◌++◌, Option, None, Some, length, length-append, take, min, refl, sym, ap, subst, arith, inl, inr, Contains, unwrap_or}
+use Rattle.std.proofs.Common.{◌≡◌, ◌∙◌, ◌+◌, ◌*◌, ◌<◌, ◌≤◌, ℕ, suc, zero, List, [], ◌∷◌, ◌++◌, Option, None, Some, length, length-append, take, min, refl, sym, ap, subst, arith, inl, inr, Contains, unwrap_or}
 use Rattle.std.specs.Prelude.{option_map, sum_by}
 use Rattle.std.specs.List.{AllByRecursion}
 use Rattle.std.proofs.lemmas.List.Elements.{Contains-append_cases}
@@ -11,11 +11,11 @@ use Rattle.oai_pool.specs.Counts.{count_of, used_of}
 use Rattle.oai_pool.specs.Names.{times}
 use Rattle.oai_pool.specs.declared.pools.TheConstants.{MAX_PAGES}
 use Rattle.oai_paged.specs.Directory.{IsDirectory}
-use Rattle.oai_paged.specs.Places.{IsSoundPlace, Pages, PlaceState, items_at, items_on, named_in, page_numbers, page_no}
-use Rattle.oai_paged.specs.Shelves.{AreShelved, Directories, StandsOnPage, calls_left, directory_at, items_below, lists_on, most_of, named_at, named_by_all}
+use Rattle.oai_paged.specs.Places.{IsSoundPlace, Pages, PlaceState, items_at, items_on, named_in, page_numbers}
+use Rattle.oai_paged.specs.Shelves.{AreShelved, Directories, StandsOnPages, calls_left, directory_at, items_below, lists_on, most_of, named_at, named_by_all}
 use Rattle.oai_paged.proofs.FewLemmas.{used_few}
-use Rattle.oai_paged.proofs.NameLemmas.{named_in-cons, times-append, times-nil}
-use Rattle.oai_paged.proofs.PlaceLemmas.{items_on-cons, items_on-nil, names_own}
+use Rattle.oai_paged.proofs.NameLemmas.{named_in-cons, named_own, times-append, times-nil}
+use Rattle.oai_paged.proofs.PlaceLemmas.{items_on-cons, items_on-nil}
 use Rattle.oai_paged.proofs.RoomLemmas.{most_of-le}
 use Rattle.oai_paged.proofs.ShelfLemmas.{shelved_named}
 use Rattle.oai_paged.proofs.SlotLemmas.{sum-all, sum-first}
@@ -52,26 +52,26 @@ times-all n (slot ∷ slots) =
 abbrev items_in_slot : Pages → Option (List PlaceState) → ℕ
 items_in_slot pages slot = length (unwrap_or (option_map (items_on pages) slot) [])
 
--- a place has an item at least
+-- a place has an item at least, and 65 pages at most
 numbers-le-items : (pages : Pages) (places : List PlaceState) → AllByRecursion (IsSoundPlace pages) places
-    → length (page_numbers places) ≤ length (items_on pages places)
+    → length (page_numbers places) ≤ 65 * length (items_on pages places)
 unfolding page_numbers
 numbers-le-items pages [] h = omega arith
 numbers-le-items pages (place ∷ places) h =
     let items : length (items_on pages (place ∷ places)) ≡ length (items_at pages place) + length (items_on pages places)
     = ap length (items_on-cons pages place places) ∙ length-append (items_at pages place) (items_on pages places) in
-    let one = h.0.one in
+    let few = h.0.many.few in
     let some = h.0.page.fit.some in
-    omega (arith, items, one, some, length-append place.pages (page_numbers places), numbers-le-items pages places h.1)
+    omega (arith, items, few, some, length-append place.pages (page_numbers places), numbers-le-items pages places h.1)
 
 slot-le : (pages : Pages) (slot : Option (List PlaceState)) → ((places : List PlaceState) → slot ≡ Some places → IsDirectory pages places)
-    → length (numbers_in slot) ≤ items_in_slot pages slot
+    → length (numbers_in slot) ≤ 65 * items_in_slot pages slot
 slot-le pages None h = omega arith
 slot-le pages (Some places) h = numbers-le-items pages places (h places refl).placed
 
 all-le : (pages : Pages) (slots : Directories)
     → ((v : ℕ) (places : List PlaceState) → directory_at slots v ≡ Some places → IsDirectory pages places)
-    → length (all_numbers slots) ≤ sum_by (items_in_slot pages) slots
+    → length (all_numbers slots) ≤ 65 * sum_by (items_in_slot pages) slots
 all-le pages [] h = omega arith
 all-le pages (slot ∷ slots) h =
     omega (
@@ -94,7 +94,7 @@ no_directory pages (Some places) h = absurd (none-some (items_on pages places) (
 
 pub used_below : (counts : List ℕ) (pages : Pages) (slots : Directories) (limit : ℕ) → AreShelved counts pages slots
     → ((v : ℕ) → limit ≤ v → lists_on pages slots v ≡ None)
-    → used_of counts ≤ items_below limit (lists_on pages slots)
+    → used_of counts ≤ 65 * items_below limit (lists_on pages slots)
 used_below counts pages slots limit h empty =
     let used : used_of counts ≤ length (all_numbers slots) = used_few counts (all_numbers slots)
     (λ n. let all = times-all n slots in let counted = h.counted n in omega (arith, all, counted)) in
@@ -107,7 +107,7 @@ used_below counts pages slots limit h empty =
 -- it stands at one of the places
 record IsHeld (pages : Pages) (places : List PlaceState) (item : ItemState) : Type 0 where
   pub place : PlaceState
-  pub named : 0 < named_in places (page_no place)
+  pub named : (n : ℕ) → 0 < times n place.pages → 0 < named_in places n
   pub placed : IsSoundPlace pages place
   pub among : Contains (items_at pages place) item
 
@@ -118,12 +118,12 @@ held_at pages [] item h among = absurd (let within = (subst (λ (items : List It
 held_at pages (place ∷ places) item h among =
     elim (Contains-append_cases (items_at pages place) (items_on pages places) item
     (subst (λ (items : List ItemState). Contains items item) (items_on-cons pages place places) among)) [
-      | inl here ↦ record { place = place; named = names_own place places h.0.one; placed = h.0; among = here }
+      | inl here ↦ record { place = place; named = λ n own. named_own n place places own; placed = h.0; among = here }
       | inr there ↦
           let rest = held_at pages places item h.1 there in
           record {
             place = rest.place;
-            named = let more = named_in-cons (page_no rest.place) place places in let some = rest.named in omega (arith, more, some);
+            named = λ n own. omega (arith, named_in-cons n place places, rest.named n own);
             placed = rest.placed;
             among = rest.among;
           }
@@ -131,21 +131,20 @@ held_at pages (place ∷ places) item h among =
 
 held_in : (counts : List ℕ) (pages : Pages) (slots : Directories) (v : ℕ) (item : ItemState) → AreShelved counts pages slots
     → (slot : Option (List PlaceState)) → directory_at slots v ≡ slot
-    → Contains (unwrap_or (option_map (items_on pages) slot) []) item → StandsOnPage counts pages item
+    → Contains (unwrap_or (option_map (items_on pages) slot) []) item → StandsOnPages counts pages item
 held_in counts pages slots v item h None is among = absurd (let within = among.1 in omega (arith, within))
 held_in counts pages slots v item h (Some places) is among =
     let held = held_at pages places item (h.directories v places is).placed among in
     record {
-      page = page_no held.place;
+      numbers = held.place.pages;
       items = items_at pages held.place;
-      named = let most = shelved_named counts pages slots h v places is (page_no held.place) in let some = held.named in omega
-          (arith, most, some);
+      named = λ n own. omega (arith, shelved_named counts pages slots h v places is n, held.named n own);
       spelled = held.placed.page;
       among = held.among;
     }
 
 pub held : (counts : List ℕ) (pages : Pages) (slots : Directories) (v : ℕ) (item : ItemState) → AreShelved counts pages slots
-    → Contains (list_at (lists_on pages slots) v) item → StandsOnPage counts pages item
+    → Contains (list_at (lists_on pages slots) v) item → StandsOnPages counts pages item
 held counts pages slots v item h among = held_in counts pages slots v item h (directory_at slots v) refl among
 
 -- ---- a store of no version
@@ -162,7 +161,7 @@ shelved_none counts pages none = record {
   directories = λ v places is. absurd (none-some places is);
 }
 
-pub all_left : (a : ℕ) (counts : List ℕ) → used_of counts ≡ 0 → MAX_PAGES ≤ a → 1_073_741_823 ≤ calls_left a counts
+pub all_left : (a : ℕ) (counts : List ℕ) → used_of counts ≡ 0 → MAX_PAGES ≤ a → 63_161_283 ≤ calls_left a counts
 all_left a counts none most =
     let least : most_of counts ≤ 0 = most_of-le counts 0 (λ n. let zero_times = none_named counts none n in omega (arith, zero_times)) in
     omega (arith, least)

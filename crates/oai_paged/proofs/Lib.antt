@@ -15,6 +15,8 @@ mod HeldLemmas
 pub mod PageLemmas
 mod EntryLemmas
 mod ReadLemmas
+mod ShortLemmas
+mod OverflowLemmas
 mod RisingItems
 mod PutLemmas
 mod CutLemmas

@@ -1,10 +1,10 @@
 -- How often numbers and places name a page.
-use Rattle.std.proofs.Common.{◌≡◌, ◌∙◌, ◌+◌, ℕ, cond, if◌then◌else◌, ◌==◌, nat_eq, List, [], ◌∷◌, ◌++◌, length, refl, ap, arith, get_or}
+use Rattle.std.proofs.Common.{◌≡◌, ◌∙◌, ◌+◌, ◌<◌, ℕ, cond, if◌then◌else◌, ◌==◌, nat_eq, List, [], ◌∷◌, ◌++◌, length, refl, ap, arith, get_or}
 use Rattle.std.proofs.lemmas.Grind.{flat_map-append}
-use Rattle.std.proofs.lemmas.List.Sums.{sum_by-append}
+use Rattle.std.proofs.lemmas.List.Sums.{sum_by-append, sum_by-cons}
 use Rattle.std.specs.Cmp.{nat_eq_equiv}
 use Rattle.oai_pool.specs.Names.{times}
-use Rattle.oai_paged.specs.Places.{PlaceState, named_in, page_numbers, page_no}
+use Rattle.oai_paged.specs.Places.{PlaceState, named_in, page_numbers}
 
 -- numbers one after the other
 pub times-append : (n : ℕ) (a b : List ℕ) → times n (a ++ b) ≡ times n a + times n b
@@ -38,18 +38,19 @@ pub named_in-cons : (n : ℕ) (place : PlaceState) (places : List PlaceState) �
 unfolding page_numbers
 named_in-cons n place places = times-append n place.pages (page_numbers places)
 
--- a place of one page names that page alone
-only_one : (pages : List ℕ) (n : ℕ) → length pages ≡ 1 → pages ≡ get_or pages 0 0 ∷ []
-only_one [] n h = absurd (omega arith)
-only_one (k ∷ []) n h = refl
-only_one (k ∷ m ∷ pages) n h = absurd (omega arith)
-
-pub times-page : (n : ℕ) (place : PlaceState) → length place.pages ≡ 1 → times n place.pages ≡ (if n == page_no place then 1 else 0)
-times-page n place one = ap (times n) (only_one place.pages n one) ∙ times-one n (page_no place)
-
-times-own : (k : ℕ) → times k (k ∷ []) ≡ 1
+-- a number before others
+pub times-cons : (n k : ℕ) (ks : List ℕ) → times n (k ∷ ks) ≡ cond (nat_eq n k) 1 0 + times n ks
 unfolding times
-times-own k = rw (nat_eq_equiv.refl k) refl
+times-cons n k ks = sum_by-cons (λ m. cond (nat_eq n m) 1 0) k ks
 
-pub times-own_page : (place : PlaceState) → length place.pages ≡ 1 → times (page_no place) place.pages ≡ 1
-times-own_page place one = ap (times (page_no place)) (only_one place.pages 0 one) ∙ times-own (page_no place)
+pub times-here : (k : ℕ) (ks : List ℕ) → times k (k ∷ ks) ≡ 1 + times k ks
+times-here k ks = times-cons k k ks ∙ ap (λ b. cond b 1 0 + times k ks) (nat_eq_equiv.refl k)
+
+-- the first of numbers is one of them
+pub times-first : (numbers : List ℕ) → 0 < length numbers → 0 < times (get_or numbers 0 0) numbers
+times-first [] some = absurd (omega arith)
+times-first (k ∷ numbers) some = omega (arith, times-here k numbers)
+
+-- a number of a place is one of its directory
+pub named_own : (n : ℕ) (place : PlaceState) (places : List PlaceState) → 0 < times n place.pages → 0 < named_in (place ∷ places) n
+named_own n place places named = omega (arith, named, named_in-cons n place places)

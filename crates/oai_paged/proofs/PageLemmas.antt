@@ -2,14 +2,13 @@
 use Rattle.std.proofs.Common.{◌≡◌, ◌∙◌, ◌+◌, ◌-◌, ◌*◌, ◌^◌, ◌<◌, ◌≤◌, ℕ, suc, List, [], ◌∷◌, ◌++◌, Some, length, take, drop, refl, sym, ap, arith, w32, append_assoc, length-append}
 use Rattle.std.specs.Prelude.{replicate}
 use Rattle.std.specs.Int.{from_be_bytes, to_be_bytes}
-use Rattle.std.proofs.lemmas.List.{drop-drop, drop_at, take_at}
+use Rattle.std.proofs.lemmas.List.{drop-drop, drop_at, length-replicate, take_at}
 use Rattle.std.proofs.lemmas.Nat.{from_be_bytes-to_be_bytes_4}
 use Rattle.oai_item.specs.Encoding.{Spells, encoded, encoded_count, encoded_text}
 use Rattle.oai_item.specs.Item.{ItemState}
-use Rattle.oai_item.proofs.Lengths.{length-encoded_text}
+use Rattle.oai_item.proofs.Lengths.{length-encoded_count, length-encoded_text}
 use Rattle.oai_item.specs.Decoding.{item_in}
-use Rattle.oai_paged.specs.Pages.{AreStorable, IsPage, as_list, entries_of, entry_of, first_number, items_of_entries, items_in, page_spelling, size_of}
-use Rattle.oai_paged.specs.declared.sizes.TheConstants.{MAX_ENTRY_BYTES}
+use Rattle.oai_paged.specs.Pages.{AreStorable, IsPage, as_list, entries_of, entry_of, first_number, items_of_entries, items_in, page_spelling, size_of, written}
 use Rattle.oai_item.proofs.Decoded.{item_in-spelled}
 
 -- ---- numbers
@@ -86,15 +85,31 @@ items_back (item ∷ items) rest h =
 
 -- ---- the items of a page
 
-pub page_parts : (items : List ItemState) → page_spelling items ≡ encoded_count (length items) ++ (entries_of items ++ replicate (MAX_ENTRY_BYTES - size_of items) 0)
+pub written_parts : (items : List ItemState) → written items ≡ encoded_count (length items) ++ entries_of items
+unfolding written
+written_parts items = refl
+
+pub length-written : (items : List ItemState) → length (written items) ≡ 4 + size_of items
+unfolding written size_of
+length-written items = omega (arith, length-append (encoded_count (length items)) (entries_of items), length-encoded_count (length items))
+
+pub page_parts : (room : ℕ) (items : List ItemState) → page_spelling room items ≡ encoded_count (length items) ++ (entries_of items ++ replicate (room - size_of items) 0)
+unfolding page_spelling written
+page_parts room items = append_assoc (encoded_count (length items)) (entries_of items) (replicate (room - size_of items) 0)
+
+-- a page has room for its items
+pub page_size : (bytes : List ℕ) (items : List ItemState) → IsPage bytes items → 4 + size_of items ≤ length bytes
 unfolding page_spelling
-page_parts items = append_assoc (encoded_count (length items)) (entries_of items) (replicate (MAX_ENTRY_BYTES - size_of items) 0)
+page_size bytes items page =
+    let zeros : List ℕ = replicate (length bytes - 4 - size_of items) 0 in
+    let long : length zeros ≡ length bytes - 4 - size_of items = length-replicate (length bytes - 4 - size_of items) 0 in
+    omega (arith, ap length page.spelling, length-append (written items) zeros, length-written items, long)
 
 pub items_in-page : (bytes : List ℕ) (items : List ItemState) → IsPage bytes items → items_in bytes ≡ items
 unfolding items_in
 items_in-page bytes items page =
-    let behind : List ℕ = entries_of items ++ replicate (MAX_ENTRY_BYTES - size_of items) 0 in
-    let few : length items < 2 ^ 32 = omega (arith, size_of-least items, page.fit.fits) in
-    ap items_in (page.spelling ∙ page_parts items)
+    let behind : List ℕ = entries_of items ++ replicate (length bytes - 4 - size_of items) 0 in
+    let few : length items < 2 ^ 32 = page.fit.few in
+    ap items_in (page.spelling ∙ page_parts (length bytes - 4) items)
     ∙ (λ k. items_of_entries (number_back (length items) behind few k) (behind_number (length items) behind k))
-    ∙ items_back items (replicate (MAX_ENTRY_BYTES - size_of items) 0) page.fit.storable
+    ∙ items_back items (replicate (length bytes - 4 - size_of items) 0) page.fit.storable

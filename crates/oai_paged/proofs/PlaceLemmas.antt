@@ -1,11 +1,14 @@
 -- The items of places, over pages that change elsewhere.
-use Rattle.std.proofs.Common.{◌≡◌, ◌∙◌, ◌<◌, ℕ, List, [], ◌∷◌, ◌++◌, IsSome, length, refl, sym, ap, subst, arith, unwrap_or}
-use Rattle.std.specs.List.{AllByRecursion}
+use Rattle.std.proofs.Common.{◌≡◌, ◌∙◌, ◌==◌, ◌<◌, ◌≤◌, ℕ, List, [], ◌∷◌, ◌++◌, drop, get_or, length, refl, sym, ap, subst, arith, unwrap_or}
+use Rattle.std.specs.Prelude.{map}
+use Rattle.std.specs.List.{AllByRecursion, list_all}
 use Rattle.std.proofs.lemmas.Grind.{flat_map-append}
 use Rattle.oai_item.specs.Item.{ItemState}
-use Rattle.oai_paged.specs.Pages.{IsPage, begins_at, items_in}
-use Rattle.oai_paged.specs.Places.{IsSoundPlace, Pages, PlaceState, have_records, items_at, items_on, named_in, page_at, page_no}
-use Rattle.oai_paged.proofs.NameLemmas.{named_in-cons, times-own_page}
+use Rattle.oai_pool.specs.Names.{times}
+use Rattle.oai_paged.specs.Pages.{IsPage, begins_at, fit_one, items_in, joined}
+use Rattle.oai_paged.specs.Places.{FitPages, IsSoundPlace, Pages, PlaceState, bytes_on, have_records, items_at, items_on, named_in, page_at}
+use Rattle.oai_paged.specs.declared.sizes.TheConstants.{FRONT_BYTES}
+use Rattle.oai_paged.proofs.NameLemmas.{named_in-cons, named_own, times-cons, times-first, times-here}
 
 -- ---- items of places one after the other
 
@@ -33,32 +36,51 @@ placed-parts pages (p ∷ a) b h = let rest = placed-parts pages a b h.1 in ((h.
 
 -- ---- pages that are kept
 
--- the page of this place is as it was
-pub items_at-same : (old new : Pages) (place : PlaceState) → new (page_no place) ≡ old (page_no place) → items_at new place ≡ items_at old place
-unfolding items_at
-items_at-same old new place same = ap (λ o. items_in (unwrap_or o [])) same
+-- each page of these numbers is as it was
+abbrev pub StayUnder : Pages → Pages → List ℕ → Type 0
+StayUnder old new numbers = (n : ℕ) → 0 < times n numbers → new n ≡ old n
 
-pub placed-same : (old new : Pages) (place : PlaceState) → new (page_no place) ≡ old (page_no place) → IsSoundPlace old place → IsSoundPlace new place
-placed-same old new place same h =
-    let page : page_at new place ≡ page_at old place = ap (λ o. unwrap_or o []) same in
-    let items = items_at-same old new place same in
+pub pages_under-same : (old new : Pages) (numbers : List ℕ) → StayUnder old new numbers → map (page_at new) numbers ≡ map (page_at old) numbers
+pages_under-same old new [] kept = refl
+pages_under-same old new (k ∷ numbers) kept =
+    let here : page_at new k ≡ page_at old k = ap (λ o. unwrap_or o []) (kept k (omega (arith, times-here k numbers))) in
+    let others = pages_under-same old new numbers (λ n named. kept n (omega (arith, named, times-cons n k numbers))) in
+    λ i. here i ∷ others i
+
+pub bytes_on-same : (old new : Pages) (numbers : List ℕ) → StayUnder old new numbers → bytes_on new numbers ≡ bytes_on old numbers
+unfolding bytes_on
+bytes_on-same old new numbers kept = ap joined (pages_under-same old new numbers kept)
+
+pub items_at-same : (old new : Pages) (place : PlaceState) → StayUnder old new place.pages → items_at new place ≡ items_at old place
+unfolding items_at
+items_at-same old new place kept = ap items_in (bytes_on-same old new place.pages kept)
+
+fit-same : (old new : Pages) (numbers : List ℕ) (a b : List ItemState) → StayUnder old new numbers → b ≡ a → FitPages old numbers a → FitPages new numbers b
+fit-same old new numbers a b kept same h = record {
+  some = h.some;
+  few = h.few;
+  one = λ few. ap fit_one same ∙ h.one few;
+  alone = λ long. ap length same ∙ h.alone long;
+  zeros = λ long. ap (λ o. list_all (λ byte. byte == 0) (drop FRONT_BYTES (unwrap_or o []))) (kept (get_or numbers 0 0) (times-first numbers h.some)) ∙ h.zeros long;
+}
+
+pub placed-same : (old new : Pages) (place : PlaceState) → StayUnder old new place.pages → IsSoundPlace old place → IsSoundPlace new place
+placed-same old new place kept h =
+    let items = items_at-same old new place kept in
     record {
-      one = h.one;
-      added = subst IsSome (sym same) h.added;
-      page = subst (λ (b : List ℕ). IsPage b (items_at new place)) (sym page) (subst (λ (xs : List ItemState). IsPage (page_at old place) xs) (sym items) h.page);
+      page = subst (λ (b : List ℕ). IsPage b (items_at new place)) (sym (bytes_on-same old new place.pages kept)) (subst (λ (xs : List ItemState). IsPage (bytes_on old place.pages) xs) (sym items) h.page);
+      many = fit-same old new place.pages (items_at old place) (items_at new place) kept items h.many;
       begins = ap (begins_at place.stamp place.identifier) items ∙ h.begins;
       counted = ap length items ∙ h.counted;
       common = ap (have_records place.prefixes) items ∙ h.common;
     }
 
--- a place names its page
-pub names_own : (place : PlaceState) (places : List PlaceState) → length place.pages ≡ 1 → 0 < named_in (place ∷ places) (page_no place)
-names_own place places one =
-    omega (arith, named_in-cons (page_no place) place places, times-own_page place one)
-
 -- each page that the places name is as it was
 abbrev pub AreKept : Pages → Pages → List PlaceState → Type 0
 AreKept old new places = (n : ℕ) → 0 < named_in places n → new n ≡ old n
+
+kept-own : (old new : Pages) (place : PlaceState) (places : List PlaceState) → AreKept old new (place ∷ places) → StayUnder old new place.pages
+kept-own old new place places kept n named = kept n (named_own n place places named)
 
 pub kept-rest : (old new : Pages) (place : PlaceState) (places : List PlaceState) → AreKept old new (place ∷ places) → AreKept old new places
 kept-rest old new place places kept n named = kept n (omega (arith, named_in-cons n place places))
@@ -67,11 +89,11 @@ pub items_on-same : (old new : Pages) (places : List PlaceState) → AllByRecurs
 items_on-same old new [] h kept = items_on-nil new ∙ sym (items_on-nil old)
 items_on-same old new (place ∷ places) h kept =
     items_on-cons new place places
-    ∙ ap (λ xs. xs ++ items_on new places) (items_at-same old new place (kept (page_no place) (names_own place places h.0.one)))
+    ∙ ap (λ xs. xs ++ items_on new places) (items_at-same old new place (kept-own old new place places kept))
     ∙ ap (λ xs. items_at old place ++ xs) (items_on-same old new places h.1 (kept-rest old new place places kept))
     ∙ sym (items_on-cons old place places)
 
 pub all_placed-same : (old new : Pages) (places : List PlaceState) → AllByRecursion (IsSoundPlace old) places → AreKept old new places → AllByRecursion (IsSoundPlace new) places
 all_placed-same old new [] h kept = tt
 all_placed-same old new (place ∷ places) h kept =
-    (placed-same old new place (kept (page_no place) (names_own place places h.0.one)) h.0, all_placed-same old new places h.1 (kept-rest old new place places kept))
+    (placed-same old new place (kept-own old new place places kept) h.0, all_placed-same old new places h.1 (kept-rest old new place places kept))

@@ -133,38 +133,10 @@ put_missing item items at stamp identifier s i place =
     let same : at + 0 ≡ at = omega arith in
     ap (λ n. take at items ++ (item ∷ drop n items)) same ∙ sym (with_item-missing item items at here)
 
--- it has as many bytes more as the entry at most
-pub size_of-with : (items : List ItemState) (from to : ℕ) (item : ItemState) → from ≤ to → length (encoded item) ≤ MAX_ITEM_BYTES
-    → size_of (take from items ++ (item ∷ drop to items)) ≤ size_of items + (MAX_ITEM_BYTES + 4)
-size_of-with items from to item order fits =
-    omega (
-      arith,
-      fits,
-      size_of-append (take from items) (item ∷ drop to items),
-      size_of-cons item (drop to items),
-      length-entry item,
-      size_of-cut items to,
-      size_of-between items from to order,
-    )
-
--- without one it has no more bytes
-pub size_of-without : (items : List ItemState) (at : ℕ) → size_of (take at items ++ drop (at + 1) items) ≤ size_of items
-size_of-without items at =
-    let order : at ≤ at + 1 = omega arith in
-    omega (
-      arith,
-      size_of-append (take at items) (drop (at + 1) items),
-      size_of-cut items (at + 1),
-      size_of-between items at (at + 1) order,
-    )
-
-pub size_where : {E : Type 0} (result : Result (List ItemState) E) (items : List ItemState) (most : ℕ) → IfOk result (λ made. made ≡ items) → size_of items ≤ most → IfOk result (λ made. size_of made ≤ most)
-size_where (Ok made) items most is h = omega (arith, ap size_of is, h)
-size_where (Err e) items most is h = tt
-
-pub same_where : {E : Type 0} (result : Result (List ItemState) E) (a b : List ItemState) → a ≡ b → IfOk result (λ made. made ≡ a) → IfOk result (λ made. made ≡ b)
-same_where (Ok made) a b e is = is ∙ e
-same_where (Err fault) a b e is = tt
+-- where there are items and the places where they are cut, the items are these
+pub put_where : {A E : Type 0} (result : Result (List ItemState × A) E) (a b : List ItemState) → a ≡ b → IfOk result (λ put. put.0 ≡ a) → IfOk result (λ put. put.0 ≡ b)
+put_where (Ok put) a b e is = is ∙ e
+put_where (Err fault) a b e is = tt
 
 pub removed : (items left : List ItemState) (at : ℕ) (stamp : ℤ) (identifier : List ℕ) → IsPlace items stamp identifier (Ok at)
     → left ≡ take at items ++ drop (at + 1) items → IsRemoval stamp identifier items (Some left)

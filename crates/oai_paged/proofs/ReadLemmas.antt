@@ -1,5 +1,5 @@
 -- What stands in front of bytes that are read, and that nothing else does.
-use Rattle.std.proofs.Common.{◌≡◌, ◌∙◌, ◌==◌, ◌+◌, ◌-◌, ◌<◌, ◌≤◌, ℕ, suc, zero, Bool, true, false, List, [], ◌∷◌, ◌++◌, Option, None, Some, is_some, length, take, drop, get_or, pos, Err, refl, sym, ap, subst, arith, inl, inr, append_assoc, length-append, length-take, length-drop}
+use Rattle.std.proofs.Common.{◌≡◌, ◌∙◌, ◌==◌, ◌+◌, ◌-◌, ◌^◌, ◌<◌, ◌≤◌, ℕ, suc, zero, Bool, true, false, List, [], ◌∷◌, ◌++◌, Option, None, Some, is_some, length, take, drop, get_or, pos, Err, refl, sym, ap, subst, arith, inl, inr, append_assoc, length-append, length-take, length-drop}
 use Rattle.std.specs.Prelude.{replicate}
 use Rattle.std.specs.List.{list_all}
 use Rattle.std.proofs.lemmas.Bool.{and_parts, cases_lt, eqb-true, false≢true}
@@ -15,7 +15,6 @@ use Rattle.oai_item.proofs.Numbers.{AreBytes}
 use Rattle.oai_item.specs.Decoding.{item_in}
 use Rattle.oai_paged.specs.Entries.{AreEntries, HasEntries, HasEntry, IsEntryReading, items_with}
 use Rattle.oai_paged.specs.Pages.{AreStorable, IsPage, IsPageReading, entries_of, entry_of, first_number, items_of_entries, size_of}
-use Rattle.oai_paged.specs.declared.sizes.TheConstants.{MAX_ENTRY_BYTES}
 use Rattle.oai_item.proofs.Decoded.{item_in-spelled, spelled-item_in}
 use Rattle.oai_paged.proofs.EntryLemmas.{are_entries, ends_from-append, entries_cut, entries_of-append, size_is, size_of-append, size_of-one, storable-append, storable-take, storable_at}
 use Rattle.oai_paged.proofs.PageLemmas.{behind_number, entries_of-cons, entries_of-nil, entry_parts, items_back, length-entry, number_back, page_parts, size_of-least, size_of-nil}
@@ -173,17 +172,13 @@ all_zeros (suc n) = all_zeros n
 -- ---- a page
 
 page_read : (bytes : List ℕ) (items : List ItemState) → IsPage bytes items
-    → (first_number bytes ≡ length items) × (drop 4 bytes ≡ entries_of items ++ replicate (MAX_ENTRY_BYTES - size_of items) 0)
+    → (first_number bytes ≡ length items) × (drop 4 bytes ≡ entries_of items ++ replicate (length bytes - 4 - size_of items) 0)
 page_read bytes items page =
-    let behind : List ℕ = entries_of items ++ replicate (MAX_ENTRY_BYTES - size_of items) 0 in
-    let parts : bytes ≡ encoded_count (length items) ++ behind = page.spelling ∙ page_parts items in (
-      ap first_number parts ∙ number_back (length items) behind (omega (arith, size_of-least items, page.fit.fits)),
+    let behind : List ℕ = entries_of items ++ replicate (length bytes - 4 - size_of items) 0 in
+    let parts : bytes ≡ encoded_count (length items) ++ behind = page.spelling ∙ page_parts (length bytes - 4) items in (
+      ap first_number parts ∙ number_back (length items) behind page.fit.few,
       ap (drop 4) parts ∙ behind_number (length items) behind,
     )
-
--- the bytes of a page behind the number
-pub rest_of : (bytes : List ℕ) → length bytes ≡ MAX_ENTRY_BYTES + 4 → take MAX_ENTRY_BYTES (drop 4 bytes) ≡ drop 4 bytes
-rest_of bytes long = take_all MAX_ENTRY_BYTES (drop 4 bytes) (omega (arith, long, length-drop 4 bytes))
 
 pub entries_seen : (bytes rest ends : List ℕ) (count size : ℕ) → rest ≡ drop 4 bytes → count ≡ first_number bytes → HasEntries rest ends count size → HasEntries (drop 4 bytes) ends (first_number bytes) size
 entries_seen bytes rest ends count size r e h = record {
@@ -215,13 +210,13 @@ pub no_page-entries : (bytes : List ℕ) → ((items : List ItemState) (behind :
     → (items : List ItemState) → IsPage bytes items → ⊥
 no_page-entries bytes none items page =
     let read = page_read bytes items page in
-    none items (replicate (MAX_ENTRY_BYTES - size_of items) 0) page.fit.storable (sym read.0) read.1
+    none items (replicate (length bytes - 4 - size_of items) 0) page.fit.storable (sym read.0) read.1
 
 -- its items are those of the entries
 page_items : (bytes ends : List ℕ) (size : ℕ) (so_far : HasEntries (drop 4 bytes) ends (first_number bytes) size) (items : List ItemState) → IsPage bytes items → so_far.items ≡ items
 page_items bytes ends size so_far items page =
     let read = page_read bytes items page in
-    same_items (drop 4 bytes) so_far.items items (drop size (drop 4 bytes)) (replicate (MAX_ENTRY_BYTES - size_of items) 0) so_far.storable page.fit.storable (so_far.many ∙ read.0) so_far.parts read.1
+    same_items (drop 4 bytes) so_far.items items (drop size (drop 4 bytes)) (replicate (length bytes - 4 - size_of items) 0) so_far.storable page.fit.storable (so_far.many ∙ read.0) so_far.parts read.1
 
 -- and zeros behind them
 pub no_page-zeros : (bytes ends : List ℕ) (size : ℕ) → HasEntries (drop 4 bytes) ends (first_number bytes) size → list_all is_zero (drop size (drop 4 bytes)) ≡ false
@@ -229,11 +224,11 @@ pub no_page-zeros : (bytes ends : List ℕ) (size : ℕ) → HasEntries (drop 4 
 no_page-zeros bytes ends size so_far other items page =
     let read = page_read bytes items page in
     let same = page_items bytes ends size so_far items page in
-    let zeros : List ℕ = replicate (MAX_ENTRY_BYTES - size_of items) 0 in
+    let zeros : List ℕ = replicate (length bytes - 4 - size_of items) 0 in
     let are : drop size (drop 4 bytes) ≡ zeros =
     append_cancel_left (entries_of items) (drop size (drop 4 bytes)) zeros (ap (λ (xs : List ItemState). entries_of xs ++ drop size (drop 4 bytes)) (sym same) ∙ sym so_far.parts ∙ read.1)
     in
-    false≢true (sym other ∙ ap (list_all is_zero) are ∙ all_zeros (MAX_ENTRY_BYTES - size_of items))
+    false≢true (sym other ∙ ap (list_all is_zero) are ∙ all_zeros (length bytes - 4 - size_of items))
 
 -- and they rise
 pub no_page-rising : (bytes ends : List ℕ) (size : ℕ) (so_far : HasEntries (drop 4 bytes) ends (first_number bytes) size) → are_in_order so_far.items ≡ false
@@ -242,23 +237,25 @@ no_page-rising bytes ends size so_far falls items page =
     false≢true (sym falls ∙ ap are_in_order (page_items bytes ends size so_far items page) ∙ page.fit.rising)
 
 -- bytes that have all of this are a page
-pub is_page : (bytes ends : List ℕ) (size : ℕ) (so_far : HasEntries (drop 4 bytes) ends (first_number bytes) size) → AreBytes bytes → length bytes ≡ MAX_ENTRY_BYTES + 4
+pub is_page : (bytes ends : List ℕ) (size : ℕ) (so_far : HasEntries (drop 4 bytes) ends (first_number bytes) size) → AreBytes bytes → 4 ≤ length bytes
     → 0 < first_number bytes → list_all is_zero (drop size (drop 4 bytes)) ≡ true → are_in_order so_far.items ≡ true → IsPage bytes so_far.items
 is_page bytes ends size so_far fits long some zeros rising =
+    let four = bytes_taken 4 bytes fits in
+    let few : first_number bytes < 2 ^ 32 = omega (arith, four 0, four 1, four 2, four 3) in
     let items : List ItemState = so_far.items in
     let rest : List ℕ = drop size (drop 4 bytes) in
-    let front : take 4 bytes ≡ encoded_count (length items) = number_written bytes fits (omega (arith, long)) ∙ ap encoded_count (sym so_far.many) in
-    let sizes : size_of items + length rest ≡ MAX_ENTRY_BYTES =
+    let front : take 4 bytes ≡ encoded_count (length items) = number_written bytes fits long ∙ ap encoded_count (sym so_far.many) in
+    let sizes : size_of items + length rest ≡ length bytes - 4 =
     omega (arith, long, ap length so_far.parts, length-append (entries_of items) rest, size_is (entries_of items) items refl, length-drop 4 bytes)
     in
-    let left : length rest ≡ MAX_ENTRY_BYTES - size_of items = omega (arith, sizes) in
-    let behind : rest ≡ replicate (MAX_ENTRY_BYTES - size_of items) 0 = zeros_are rest zeros ∙ ap (λ n. replicate n 0) left in
-    let back : drop 4 bytes ≡ entries_of items ++ replicate (MAX_ENTRY_BYTES - size_of items) 0 = so_far.parts ∙ ap (λ bs. entries_of items ++ bs) behind in
+    let left : length rest ≡ length bytes - 4 - size_of items = omega (arith, sizes) in
+    let behind : rest ≡ replicate (length bytes - 4 - size_of items) 0 = zeros_are rest zeros ∙ ap (λ n. replicate n 0) left in
+    let back : drop 4 bytes ≡ entries_of items ++ replicate (length bytes - 4 - size_of items) 0 = so_far.parts ∙ ap (λ bs. entries_of items ++ bs) behind in
     record {
-      spelling = sym (take-append-drop 4 bytes) ∙ (λ k. front k ++ back k) ∙ sym (page_parts items);
+      spelling = sym (take-append-drop 4 bytes) ∙ (λ k. front k ++ back k) ∙ sym (page_parts (length bytes - 4) items);
       fit = record {
         some = omega (arith, some, so_far.many);
-        fits = omega (arith, sizes);
+        few = omega (arith, few, so_far.many);
         storable = so_far.storable;
         rising = rising;
       };

@@ -8,7 +8,7 @@ use Rattle.oai_paged.specs.Directory.{IsDirectory, StandsIn}
 use Rattle.oai_paged.specs.Places.{PlaceState, named_in}
 use Rattle.oai_paged.proofs.NameLemmas.{named_in-nil}
 use Rattle.oai_paged.proofs.RenamedLemmas.{IsSettled, directory-same, gone_replaced, renames_undone, settled, settled_twice}
-use Rattle.oai_paged.proofs.TakenLemmas.{err_of, ok_of, takes_both, takes_freed_err}
+use Rattle.oai_paged.proofs.TakenLemmas.{err_of, ok_of, takes_both, takes_freed_err, takes_ok}
 
 -- where nothing is renamed, a directory stands as it stood
 pub stands_same : {P : Type 0} (g : Ghosts P) (places : List PlaceState) (old new : P) → StandsIn g old places → Renames g [] [] old new → StandsIn g new places
@@ -43,14 +43,6 @@ first_gone_named g at len gone dropped next_at next_len next_gone next_dropped b
     omega (arith, ap (λ ps. named_in ps n) same, gone_replaced g at len gone before between after old mid late h s one.names n)
 
 -- ---- a call that changed nothing
-
--- it takes no more where it answers another value
-pub takes_ok : {P A B : Type 0} (g : Ghosts P) (numbers : ℕ) (x : A) (y : B) (old new : P) → Takes g numbers (ok_of x) old new → Takes g numbers (ok_of y) old new
-takes_ok g numbers x y old new h = record {
-  room = record { enough = tt; used = h.room.used };
-  device = record { count = h.device.count; device = tt };
-  honesty = record { same = h.honesty.same; damaged = tt };
-}
 
 pub changed_nothing : {P A B : Type 0} (g : Ghosts P) (numbers : ℕ) (x : A) (y : B) (before after : List PlaceState) (old new : P) → StandsIn g old before → after ≡ before
     → Renames g [] [] old new → Takes g numbers (ok_of x) old new → Changes g numbers (ok_of y) before after old new

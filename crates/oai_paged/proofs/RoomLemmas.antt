@@ -33,13 +33,13 @@ most_of-more old new k h = most_of-le new (most_of old + k) (λ n. omega (arith,
 
 -- ---- calls that are left
 
-left_less : (a b most x y numbers : ℕ) → numbers ≤ 4 → a ≤ b + numbers → y ≤ x + 1 → min (a / 4) (most - x) ≤ min (b / 4) (most - y) + 1
+left_less : (a b most x y numbers : ℕ) → numbers ≤ 68 → a ≤ b + numbers → y ≤ x + 1 → min (a / 68) (most - x) ≤ min (b / 68) (most - y) + 1
 left_less a b most x y numbers few pages names = omega arith
 
-left_same : (a b most x y : ℕ) → a ≤ b → y ≤ x → min (a / 4) (most - x) ≤ min (b / 4) (most - y)
+left_same : (a b most x y : ℕ) → a ≤ b → y ≤ x → min (a / 68) (most - x) ≤ min (b / 68) (most - y)
 left_same a b most x y pages names = omega arith
 
-pub calls_left-less : (a b numbers : ℕ) (old new : List ℕ) → numbers ≤ 4 → a ≤ b + numbers
+pub calls_left-less : (a b numbers : ℕ) (old new : List ℕ) → numbers ≤ 68 → a ≤ b + numbers
     → ((n : ℕ) → count_of new n ≤ count_of old n + 1) → calls_left a old ≤ calls_left b new + 1
 calls_left-less a b numbers old new few pages names = left_less a b MAX_PAGES (most_of old) (most_of new) numbers few pages
     (most_of-more old new 1 names)
@@ -49,13 +49,13 @@ pub calls_left-same : (a b : ℕ) (old new : List ℕ) → a ≤ b → ((n : ℕ
 calls_left-same a b old new pages names = left_same a b MAX_PAGES (most_of old) (most_of new) pages
     (most_of-le new (most_of old) (λ n. omega (arith, names n, count_of-le-most old n)))
 
-few_left : (a most x numbers : ℕ) → numbers ≤ 4 → a < numbers → min (a / 4) (most - x) < 1
+few_left : (a most x numbers : ℕ) → numbers ≤ 68 → a < numbers → min (a / 68) (most - x) < 1
 few_left a most x numbers few less = omega arith
 
-none_left : (a most x : ℕ) → most ≤ x → min (a / 4) (most - x) < 1
+none_left : (a most x : ℕ) → most ≤ x → min (a / 68) (most - x) < 1
 none_left a most x full = omega arith
 
-pub calls_left-few : (a numbers : ℕ) (counts : List ℕ) → numbers ≤ 4 → a < numbers → calls_left a counts < 1
+pub calls_left-few : (a numbers : ℕ) (counts : List ℕ) → numbers ≤ 68 → a < numbers → calls_left a counts < 1
 calls_left-few a numbers counts few less = few_left a MAX_PAGES (most_of counts) numbers few less
 
 -- ---- by the calls of a pool
@@ -68,7 +68,7 @@ module _ {P A : Type 0} (g : Ghosts P) where
   change_names numbers (Ok x) before after p q changes n = omega (arith, changes.names.counts n, changes.directory.once n)
   change_names numbers (Err x) before after p q changes n = omega (arith, changes.err.names.counts n, named_in-nil n)
 
-  pub change_room : (numbers : ℕ) (result : Result A Fault) (before after : List PlaceState) (p q : P) → numbers ≤ 4
+  pub change_room : (numbers : ℕ) (result : Result A Fault) (before after : List PlaceState) (p q : P) → numbers ≤ 68
       → Changes g numbers result before after p q
       → NeedsRoom 1 result (calls_left (g.room p) (g.counts p)) (calls_left (g.room q) (g.counts q))
   change_room numbers result before after p q few changes = record {

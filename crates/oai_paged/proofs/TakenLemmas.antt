@@ -1,5 +1,5 @@
 -- What calls one after another take of a pool, and which fault they tell.
-use Rattle.std.proofs.Common.{◌≡◌, ◌∙◌, ◌⊎◌, ◌+◌, ◌<◌, ◌≤◌, ℕ, inl, inr, Result, Ok, Err, refl, sym, arith}
+use Rattle.std.proofs.Common.{◌≡◌, ◌∙◌, ◌⊎◌, ◌+◌, ◌<◌, ◌≤◌, ℕ, inl, inr, Result, Ok, Err, refl, sym, subst, arith}
 use Rattle.std.proofs.lemmas.Bool.{cases_lt}
 use Rattle.oai_item.specs.declared.faults.Fault.{Fault}
 use Rattle.oai_item.specs.declared.faults.Fault.TheVariants as told
@@ -15,6 +15,9 @@ ok_of a = Ok a
 
 abbrev pub err_of : (A : Type 0) → Fault → Result A Fault
 err_of A fault = Err fault
+
+abbrev pub pool_ok_of : {A : Type 0} → A → Result A PoolFault
+pool_ok_of a = Ok a
 
 abbrev pub pool_err_of : (A : Type 0) → PoolFault → Result A PoolFault
 pool_err_of A fault = Err fault
@@ -37,6 +40,49 @@ takes_fault g numbers TooManyPages p q h = record {
   device = record { count = h.device.count; device = λ same. cc };
   honesty = record { same = h.honesty; damaged = λ same. cc };
 }
+
+-- no call
+pub takes_none : {P A : Type 0} (g : Ghosts P) (x : A) (p : P) → Takes g 0 (ok_of x) p p
+takes_none g x p = record {
+  room = record { enough = tt; used = omega arith };
+  device = record { count = omega arith; device = tt };
+  honesty = record { same = refl; damaged = tt };
+}
+
+-- a call of a pool
+pub takes_call : {P A B : Type 0} (g : Ghosts P) (numbers : ℕ) (x : A) (y : B) (p q : P)
+    → pool.SpendsPool g.room g.failures g.cache_size g.honest numbers (pool_ok_of x) p q → Takes g numbers (ok_of y) p q
+takes_call g numbers x y p q h = record {
+  room = record { enough = tt; used = h.room };
+  device = record { count = h.device.count; device = tt };
+  honesty = record { same = h.honesty; damaged = tt };
+}
+
+-- it takes no more where it answers another value
+pub takes_ok : {P A B : Type 0} (g : Ghosts P) (numbers : ℕ) (x : A) (y : B) (old new : P) → Takes g numbers (ok_of x) old new → Takes g numbers (ok_of y) old new
+takes_ok g numbers x y old new h = record {
+  room = record { enough = tt; used = h.room.used };
+  device = record { count = h.device.count; device = tt };
+  honesty = record { same = h.honesty.same; damaged = tt };
+}
+
+pub takes_err : {P A B : Type 0} (g : Ghosts P) (numbers : ℕ) (fault : Fault) (p q : P) → Takes g numbers (err_of A fault) p q → Takes g numbers (err_of B fault) p q
+takes_err g numbers fault p q h = record {
+  room = record { enough = h.room.enough; used = h.room.used };
+  device = record { count = h.device.count; device = h.device.device };
+  honesty = record { same = h.honesty.same; damaged = h.honesty.damaged };
+}
+
+-- more is enough too
+pub takes_more : {P A : Type 0} (g : Ghosts P) (a b : ℕ) (r : Result A Fault) (p q : P) → a ≤ b → Takes g a r p q → Takes g b r p q
+takes_more g a b (Ok x) p q le h = record { room = record { enough = tt; used = let used = h.room.used in omega (arith, used, le) }; device = h.device; honesty = h.honesty }
+takes_more g a b (Err f) p q le h =
+    record { room = record { enough = λ full. omega (arith, h.room.enough full, le); used = let used = h.room.used in omega (arith, used, le) }; device = h.device; honesty = h.honesty }
+
+-- a fault that is passed on
+pub takes_failed : {P A B : Type 0} (g : Ghosts P) (a b : ℕ) (fault : Fault) (result : Result B Fault) (p q : P) → result ≡ err_of B fault → a ≤ b → Takes g a (err_of A fault) p q → Takes g b result p q
+takes_failed {B = B} g a b fault result p q is less h =
+    subst (λ (r : Result B Fault). Takes g b r p q) (sym is) (takes_more g a b (err_of B fault) p q less (takes_err g a fault p q h))
 
 -- a call after one that succeeded
 pub takes_both : {P A B : Type 0} (g : Ghosts P) (a b : ℕ) (x : A) (r : Result B Fault) (p q s : P) → Takes g a (ok_of x) p q → Takes g b r q s → Takes g (a + b) r p s
@@ -66,12 +112,6 @@ takes_both g a b x (Err f) p q s h k =
         top_of : (g.failures p < g.failures s) ⊎ (g.failures s ≤ g.failures p) → (g.failures p < g.failures s) ⊎ (g.failures p ≡ 18446744073709551615)
         top_of (inl up) = inl up
         top_of (inr no_more) = inr (omega (arith, top, no_more, h.device.count, k.device.count))
-
--- more is enough too
-pub takes_more : {P A : Type 0} (g : Ghosts P) (a b : ℕ) (r : Result A Fault) (p q : P) → a ≤ b → Takes g a r p q → Takes g b r p q
-takes_more g a b (Ok x) p q le h = record { room = record { enough = tt; used = let used = h.room.used in omega (arith, used, le) }; device = h.device; honesty = h.honesty }
-takes_more g a b (Err f) p q le h =
-    record { room = record { enough = λ full. omega (arith, h.room.enough full, le); used = let used = h.room.used in omega (arith, used, le) }; device = h.device; honesty = h.honesty }
 
 -- names dropped after a call
 pub takes_freed_ok : {P A B : Type 0} (g : Ghosts P) (a : ℕ) (x : A) (y : B) (p q s : P) → Takes g a (ok_of x) p q → FreesPages g q s → Takes g a (ok_of y) p s

@@ -1,5 +1,5 @@
 -- What a call does to the pool of pages and to a directory.
-use Rattle.std.specs.Prelude.{◌≡◌, ◌+◌, ◌<◌, ◌≤◌, ℕ, ℤ, Bool, List, [], ◌++◌, take, drop, is_some, Result, OnErr, OnOk}
+use Rattle.std.specs.Prelude.{◌≡◌, ◌+◌, ◌<◌, ◌≤◌, ℕ, ℤ, Bool, true, List, [], ◌++◌, take, drop, is_some, Result, OnErr, OnOk}
 use Rattle.oai_catalogue.specs.Store.{Spares, Spends}
 use Rattle.oai_item.specs.Item.{ItemState}
 use Rattle.oai_item.specs.Items.{item_at, without_at}
@@ -11,9 +11,9 @@ use Rattle.oai_pool.specs.declared.pools.TheConstants.{MAX_PAGES}
 use Rattle.oai_pool.specs.Counts.{count_of}
 use Rattle.oai_pool.specs.declared.pools.PagePool.{Ghosts}
 use Rattle.oai_paged.specs.Directory.{IsDirectory, StandsIn}
-use Rattle.oai_paged.specs.Pages.{size_of}
+use Rattle.oai_paged.specs.Pages.{fit_one}
 use Rattle.oai_paged.specs.Places.{IsSoundPlace, PlaceState, items_on, named_in}
-use Rattle.oai_paged.specs.declared.sizes.TheConstants.{MAX_ENTRY_BYTES}
+use Rattle.oai_paged.specs.declared.sizes.TheConstants.{MAX_OVERFLOW_PAGES}
 use Rattle.std.specs.List.{AllByRecursion}
 
 -- it takes at most so many numbers of the pool, and may reach the device
@@ -44,10 +44,10 @@ pub record Changes {P A : Type 0} (g : Ghosts P) (numbers : ℕ) (result : Resul
   pub err : OnErr result (ChangesNothing g before after old new)
   pub pool : Takes g numbers result old new
 
--- it adds the pages of entries: three at most, and one at most where all of them fit on one
+-- it adds the pages of entries: three and the overflow pages of one item at most, and one at most where all of them fit on one
 pub record AddsPages {P A : Type 0} (g : Ghosts P) (entries : List ItemState) (result : Result A Fault) (old new : P) : Type 0 where
-  pub pool : Takes g 3 result old new
-  pub few : size_of entries ≤ MAX_ENTRY_BYTES → Takes g 1 result old new
+  pub pool : Takes g (3 + MAX_OVERFLOW_PAGES) result old new
+  pub few : fit_one entries ≡ true → Takes g 1 result old new
 
 -- it takes no number, and does not reach the device
 abbrev pub FreesPages : {P : Type 0} → Ghosts P → P → P → Type 0

@@ -1,5 +1,5 @@
 -- Places of a directory: where items stand in a pool of pages, and what is known of them.
-use Rattle.std.specs.Prelude.{◌≡◌, ◌&&◌, ℕ, ℤ, Bool, true, List, [], ◌∷◌, length, Option, IsSome, unwrap_or, slice_index}
+use Rattle.std.specs.Prelude.{◌≡◌, ◌==◌, ◌&&◌, ◌+◌, ◌<◌, ◌≤◌, ℕ, ℤ, Bool, true, List, [], ◌∷◌, length, drop, map, Option, unwrap_or, slice_index}
 use Rattle.std.specs.List.{flat_map, list_all}
 use Rattle.std.specs.Ordering.{nat_cmp, int_cmp, ordering_then, is_gt, is_lt}
 use Rattle.std.specs.declared.cmp.Ordering.{Ordering}
@@ -8,7 +8,8 @@ use Rattle.oai_item.specs.Item.{ItemState, has_record}
 use Rattle.oai_item.specs.Order.{place_cmp}
 use Rattle.oai_item.specs.Selection.{Filter, passes}
 use Rattle.oai_pool.specs.Names.{times}
-use Rattle.oai_paged.specs.Pages.{IsPage, begins_at, items_in}
+use Rattle.oai_paged.specs.Pages.{IsPage, begins_at, fit_one, items_in, joined}
+use Rattle.oai_paged.specs.declared.sizes.TheConstants.{FRONT_BYTES, MAX_OVERFLOW_PAGES}
 
 -- a place: the numbers of its pages, the datestamp and the identifier of its first item, how many items there are, and prefixes of which each
 -- of them has a record
@@ -25,17 +26,17 @@ Pages = ℕ → Option (List ℕ)
 
 -- ---- the items
 
--- the number of the page that its entries are on
-abbrev pub page_no : PlaceState → ℕ
-page_no place = slice_index place.pages 0
+-- the page under a number
+abbrev pub page_at : Pages → ℕ → List ℕ
+page_at pages n = unwrap_or (pages n) []
 
--- that page
-abbrev pub page_at : Pages → PlaceState → List ℕ
-page_at pages place = unwrap_or (pages (page_no place)) []
+-- the bytes of the pages under these numbers, of which the first has the entries, and the others are its overflow pages
+unfoldable pub bytes_on : Pages → List ℕ → List ℕ
+bytes_on pages numbers = joined (map (page_at pages) numbers)
 
 -- the items of a place
 unfoldable pub items_at : Pages → PlaceState → List ItemState
-items_at pages place = items_in (page_at pages place)
+items_at pages place = items_in (bytes_on pages place.pages)
 
 -- the items of places, one after the other
 unfoldable pub items_on : Pages → List PlaceState → List ItemState
@@ -46,12 +47,20 @@ unfoldable pub have_records : List (List ℕ) → List ItemState → Bool
 have_records prefixes items =
     list_all (λ (item : ItemState). list_all (λ prefix. has_record prefix item.formats) prefixes) items
 
--- what is so of a place: it has one page, that is the page of its items, the first of these is the one it names, and of all of them is so
--- what it says
+-- how many pages items may have: one where they fit on it; one item may have overflow pages besides, and then nothing but zeros stands
+-- behind the front of the first page
+pub record FitPages (pages : Pages) (numbers : List ℕ) (items : List ItemState) : Type 0 where
+  pub some : 0 < length numbers
+  pub few : length numbers ≤ MAX_OVERFLOW_PAGES + 1
+  pub one : length numbers ≤ 1 → fit_one items ≡ true
+  pub alone : 1 < length numbers → length items ≡ 1
+  pub zeros : 1 < length numbers → list_all (λ byte. byte == 0) (drop FRONT_BYTES (page_at pages (slice_index numbers 0))) ≡ true
+
+-- what is so of a place: its pages are those of its items, and as many as these may have; the first item is the one that the place names,
+-- and of all of them is so what it says
 pub record IsSoundPlace (pages : Pages) (place : PlaceState) : Type 0 where
-  pub one : length place.pages ≡ 1
-  pub added : IsSome (pages (page_no place))
-  pub page : IsPage (page_at pages place) (items_at pages place)
+  pub page : IsPage (bytes_on pages place.pages) (items_at pages place)
+  pub many : FitPages pages place.pages (items_at pages place)
   pub begins : begins_at place.stamp place.identifier (items_at pages place) ≡ true
   pub counted : length (items_at pages place) ≡ place.len
   pub common : have_records place.prefixes (items_at pages place) ≡ true

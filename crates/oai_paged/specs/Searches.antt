@@ -1,9 +1,9 @@
 -- Where in a directory an item is, or would be.
-use Rattle.std.specs.Prelude.{◌≡◌, ◌⊎◌, ◌+◌, ◌<◌, ℕ, ℤ, true, false, List, [], length, drop, HoldsAt}
+use Rattle.std.specs.Prelude.{◌≡◌, ◌⊎◌, ◌+◌, ◌<◌, ◌≤◌, ℕ, ℤ, true, false, List, [], length, drop, HoldsAt}
 use Rattle.std.specs.Ordering.{is_gt}
 use Rattle.oai_item.specs.Item.{ItemState}
 use Rattle.oai_item.specs.Selection.{Filter}
-use Rattle.oai_paged.specs.Pages.{FitPage, begins_at}
+use Rattle.oai_paged.specs.Pages.{FitPage, begins_at, fit_one}
 use Rattle.oai_paged.specs.Places.{PlaceState, are_below, first_cmp}
 
 -- that datestamp and identifier belong to this place: no place before it begins behind them, and the next one does. Where no place is there,
@@ -15,9 +15,10 @@ pub record BelongsAt (places : List PlaceState) (stamp : ℤ) (identifier : List
   pub below : at + 1 < length places → HoldsAt (λ place. is_gt (first_cmp place stamp identifier) ≡ true) places (at + 1)
 
 -- items that may have been read at this place: those of a page, of which the first is the one that the place names, and the last stands before
--- the first of the next place
+-- the first of the next place; those of a place of one page fit on it
 pub record MayBeAt (places : List PlaceState) (at : ℕ) (items : List ItemState) : Type 0 where
   pub page : FitPage items
+  pub fits : HoldsAt (λ place. length place.pages ≤ 1 → fit_one items ≡ true) places at
   pub begins : HoldsAt (λ place. begins_at place.stamp place.identifier items ≡ true) places at
   pub below : are_below items (drop (at + 1) places) ≡ true
 

@@ -4,10 +4,11 @@ use Rattle.std.specs.List.{Contains}
 use Rattle.oai_catalogue.specs.Store.{Lists, list_at}
 use Rattle.oai_item.specs.Item.{ItemState}
 use Rattle.oai_pool.specs.Counts.{count_of}
+use Rattle.oai_pool.specs.Names.{times}
 use Rattle.oai_pool.specs.declared.pools.TheConstants.{MAX_PAGES}
 use Rattle.oai_paged.specs.Directory.{IsDirectory}
 use Rattle.oai_paged.specs.Pages.{IsPage}
-use Rattle.oai_paged.specs.Places.{Pages, PlaceState, items_on, named_in}
+use Rattle.oai_paged.specs.Places.{Pages, PlaceState, bytes_on, items_on, named_in}
 
 -- a directory at each number that is in use
 abbrev pub Directories : Type 0
@@ -42,7 +43,7 @@ most_of (count ∷ counts) = max count (most_of counts)
 
 -- the most pages that one call adds
 abbrev pub MAX_ADDED : ℕ
-MAX_ADDED = 4
+MAX_ADDED = 68
 
 -- how many calls are sure to find room: pages, and further names of each page
 abbrev pub calls_left : ℕ → List ℕ → ℕ
@@ -53,10 +54,10 @@ unfoldable pub items_below : ℕ → Lists → ℕ
 items_below zero lists = 0
 items_below (suc v) lists = length (list_at lists v) + items_below v lists
 
--- the item stands, spelled, on a page that is named
-pub record StandsOnPage (counts : List ℕ) (pages : Pages) (item : ItemState) : Type 0 where
-  pub page : ℕ
+-- the item stands, spelled, on pages that are named: on one, or on one and its overflow pages
+pub record StandsOnPages (counts : List ℕ) (pages : Pages) (item : ItemState) : Type 0 where
+  pub numbers : List ℕ
   pub items : List ItemState
-  pub named : 0 < count_of counts page
-  pub spelled : IsPage (unwrap_or (pages page) []) items
+  pub named : (n : ℕ) → 0 < times n numbers → 0 < count_of counts n
+  pub spelled : IsPage (bytes_on pages numbers) items
   pub among : Contains items item

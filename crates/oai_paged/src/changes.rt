@@ -6,17 +6,18 @@ ghost use Rattle.oai_item.specs.Order.{are_in_order};
 ghost use Rattle.oai_pool.specs.Counts.{count_of};
 ghost use Rattle.oai_paged.specs.Calls.{Adds, AddsPages, ChangesNothing, FreesPages, HasWayBack, IsDirectoryChanged, Renames, Takes};
 ghost use Rattle.oai_paged.specs.Directory.{MayStand, StandsIn};
-ghost use Rattle.oai_paged.specs.Pages.{AreCuts, between, size_of};
+ghost use Rattle.oai_paged.specs.Pages.{AreCuts, FitAlone, between, fit_one, overflow_of, pages_of};
 ghost use Rattle.oai_paged.specs.Places.{named_in};
-ghost use Rattle.oai_paged.specs.declared.sizes.TheConstants.{MAX_ENTRY_BYTES};
+ghost use Rattle.oai_paged.specs.Recounts.{AddsNumbers, Recounts};
+ghost use Rattle.oai_paged.specs.declared.sizes.TheConstants.{MAX_OVERFLOW_PAGES};
 
 use crate::entries::{Cuts, Entries};
 use crate::exchanges::{exchange, reserve};
 use crate::faults::fault_of;
-use crate::names::drop_all;
+use crate::names::{drop_all, drop_numbers};
 use crate::places::SharedPlace;
 use oai_item::Fault;
-use oai_pool::PagePool;
+use oai_pool::{PageNo, PagePool};
 use std::alloc::Global;
 
 /// To how many pages the entries of one go at most where one more is put among them.
@@ -33,9 +34,8 @@ pub(crate) struct Changed {
     pub(crate) gone: Vec<SharedPlace>,
 }
 
-/// Puts pages of the entries in the place of so many places from `at` on, at most one: three pages at most, and one at most where they fit on one.
-/// `fills` says that a page which is cut is filled before the next one is begun. Any fault but `Damaged` may come; directory and pages are then as
-/// before.
+/// Puts pages of the entries, which are cut at these places, in the place of so many places from `at` on, at most one: three pages and the overflow
+/// pages of one item at most, and one at most where the entries fit on one. Any fault but `Damaged` may come; directory and pages are then as before.
 pub(crate) fn change<P: PagePool>(
     alloc: Global,
     pages: &mut P,
@@ -43,12 +43,12 @@ pub(crate) fn change<P: PagePool>(
     at: usize,
     len: usize,
     entries: &Entries,
-    fills: bool,
+    cuts: Cuts,
 ) -> Result<Changed, Fault>
     requires within { at + len ≤ vec_len places.old }
     requires one { len ≤ 1 }
     requires stands { StandsIn P.PagePool pages.old places.old.items }
-    requires size { size_of entries.now ≤ 2 * MAX_ENTRY_BYTES }
+    requires cuts { AreCuts entries.now cuts.first cuts.second }
     requires may_stand { MayStand (P.pages pages.old) places.old.items at len entries.now }
     ensures ok { IfOk result (λ changed. IsDirectoryChanged P.PagePool entries.now at len changed.at changed.len changed.gone.items
         places.old.items places.new.items pages.old pages.new) }
@@ -58,7 +58,7 @@ pub(crate) fn change<P: PagePool>(
     ensures err { OnErr result (ChangesNothing P.PagePool places.old.items places.new.items pages.old pages.new) }
     ensures pool { AddsPages P.PagePool entries.now result pages.old pages.new }
 {
-    let mut others = add_all(alloc, pages, entries, fills)?;
+    let mut others = add_all(alloc, pages, entries, cuts)?;
     match reserve(places, &mut others) {
         Ok(()) => {
             let count = others.len();
@@ -92,21 +92,20 @@ pub(crate) fn undo<P: PagePool>(pages: &mut P, places: &mut Vec<SharedPlace>, ch
     drop_all(pages, others.as_slice());
 }
 
-/// Adds the pages of the entries, three at most, or one at most where they fit on one, and answers their places. Any fault but `Damaged` may come; the
-/// pages are then as before.
+/// Adds the pages of the entries, which are cut at these places, and returns their places. Any fault but `Damaged` may come; the pages are then as
+/// before.
 fn add_all<P: PagePool>(
     alloc: Global,
     pages: &mut P,
     entries: &Entries,
-    fills: bool,
+    cuts: Cuts,
 ) -> Result<Vec<SharedPlace>, Fault>
-    requires size { size_of entries.now ≤ 2 * MAX_ENTRY_BYTES }
+    requires cuts { AreCuts entries.now cuts.first cuts.second }
     requires rising { are_in_order entries.now ≡ true }
     ensures added { IfOk result (λ added. Adds P.PagePool entries.now added.items pages.old pages.new) }
     ensures undone { OnErr result (Renames P.PagePool [] [] pages.old pages.new) }
     ensures pool { AddsPages P.PagePool entries.now result pages.old pages.new }
 {
-    let cuts = entries.cuts(fills);
     let mut added = Vec::with_capacity(alloc, MAX_PARTS)?;
     match add_parts(alloc, pages, entries, cuts, &mut added) {
         Ok(()) => Ok(added),
@@ -139,7 +138,7 @@ fn add_parts<P: PagePool>(
     add_part(alloc, pages, entries, cuts.second, entries.len(), added)
 }
 
-/// Adds the page of the entries from the one place up to the other, where there are any, and puts its place behind the others. Any fault but
+/// Adds the pages of the entries from the one place up to the other, where there are any, and puts their place behind the others. Any fault but
 /// `Damaged` may come.
 fn add_part<P: PagePool>(
     alloc: Global,
@@ -151,7 +150,7 @@ fn add_part<P: PagePool>(
 ) -> Result<(), Fault>
     requires order { from ≤ to }
     requires within { to ≤ length entries.now }
-    requires fits { size_of (between from to entries.now) ≤ MAX_ENTRY_BYTES }
+    requires alone { FitAlone (between from to entries.now) }
     requires rising { are_in_order entries.now ≡ true }
     requires room { vec_len added.old < vec_capacity added.old }
     ensures ok { (items : List ItemState) (first : P) → Adds P.PagePool items added.old.items first pages.old
@@ -160,17 +159,19 @@ fn add_part<P: PagePool>(
         → OnErr result (Adds P.PagePool items added.new.items first pages.new) }
     ensures left { vec_capacity added.old + vec_len added.new ≤ vec_capacity added.new + vec_len added.old + 1 }
     ensures none { from ≡ to → Takes P.PagePool 0 result pages.old pages.new }
-    ensures pool { Takes P.PagePool 1 result pages.old pages.new }
+    ensures one { fit_one (between from to entries.now) ≡ true → Takes P.PagePool 1 result pages.old pages.new }
+    ensures pool { Takes P.PagePool (1 + MAX_OVERFLOW_PAGES) result pages.old pages.new }
 {
     if from == to {
         return Ok(());
     }
+    let _all = entries.len();
     let place = add_page(alloc, pages, entries, from, to)?;
     added.push(place).unwrap();
     Ok(())
 }
 
-/// Adds the page of the entries from the one place up to the other, and answers its place. Any fault but `Damaged` may come; the pages are then as
+/// Adds the pages of the entries from the one place up to the other, and returns their place. Any fault but `Damaged` may come; the pages are then as
 /// before.
 fn add_page<P: PagePool>(
     alloc: Global,
@@ -181,25 +182,53 @@ fn add_page<P: PagePool>(
 ) -> Result<SharedPlace, Fault>
     requires order { from < to }
     requires within { to ≤ length entries.now }
-    requires fits { size_of (between from to entries.now) ≤ MAX_ENTRY_BYTES }
+    requires alone { FitAlone (between from to entries.now) }
     requires rising { are_in_order entries.now ≡ true }
     ensures added { IfOk result (λ place. Adds P.PagePool (between from to entries.now) (place ∷ []) pages.old pages.new) }
     ensures undone { OnErr result (Renames P.PagePool [] [] pages.old pages.new) }
-    ensures pool { Takes P.PagePool 1 result pages.old pages.new }
+    ensures pool { Takes P.PagePool (1 + overflow_of (between from to entries.now)) result pages.old pages.new }
 {
     let _all = entries.len();
     let stamp = entries.stamp(from);
     let identifier = entries.identifier(alloc, from)?;
     let prefixes = entries.prefixes(alloc, from, to)?;
-    let no = match pages.add(&entries.page(from, to)) {
-        Ok(no) => no,
-        Err(fault) => return Err(fault_of(fault)),
-    };
-    match SharedPlace::new(alloc, no, stamp, identifier, to - from, prefixes) {
+    let numbers = add_numbers(alloc, pages, entries, from, to)?;
+    match SharedPlace::new(alloc, numbers.as_slice(), stamp, identifier, to - from, prefixes) {
         Ok(place) => Ok(place),
         Err(_) => {
-            pages.drop_ref(no);
+            drop_numbers(pages, numbers.as_slice());
             Err(Fault::NoMemory)
         }
     }
+}
+
+/// Adds the pages of the entries from the one place up to the other, and returns their numbers. Any fault but `Damaged` may come; the pages are then
+/// as before.
+fn add_numbers<P: PagePool>(
+    alloc: Global,
+    pages: &mut P,
+    entries: &Entries,
+    from: usize,
+    to: usize,
+) -> Result<Vec<PageNo>, Fault>
+    requires order { from < to }
+    requires within { to ≤ length entries.now }
+    requires alone { FitAlone (between from to entries.now) }
+    ensures added { IfOk result (λ numbers. AddsNumbers P.PagePool (pages_of (between from to entries.now)) numbers.items pages.old pages.new) }
+    ensures undone { OnErr result (Recounts P.PagePool [] [] pages.old pages.new) }
+    ensures pool { Takes P.PagePool (1 + overflow_of (between from to entries.now)) result pages.old pages.new }
+{
+    let _all = entries.len();
+    let overflow = entries.overflow(from, to);
+    let mut numbers = Vec::with_capacity(alloc, 1 + overflow)?;
+    for at in 0..1 + overflow {
+        match pages.add(&entries.page_at(from, to, at)) {
+            Ok(number) => numbers.push(number).unwrap(),
+            Err(fault) => {
+                drop_numbers(pages, numbers.as_slice());
+                return Err(fault_of(fault));
+            }
+        }
+    }
+    Ok(numbers)
 }

@@ -1,4 +1,4 @@
-ghost use Rattle.std.specs.Prelude.{◌≡◌, ◌==◌, ◌+◌, ◌-◌, ◌*◌, ◌^◌, ◌<◌, ◌≤◌, ℕ, List, [], true, ◌++◌, ◌∷◌, length, take, drop, filter, map, All, HoldsAt, IfOk, IfSome, IsErrOf, OnOk};
+ghost use Rattle.std.specs.Prelude.{◌≡◌, ◌==◌, ◌+◌, ◌-◌, ◌*◌, ◌^◌, ◌<◌, ◌≤◌, nat_lt, ℕ, List, [], true, ◌++◌, ◌∷◌, length, take, drop, filter, map, All, HoldsAt, IfOk, IfSome, IsErrOf, IsTrue, OnOk};
 ghost use Rattle.std.specs.List.{list_all};
 ghost use Rattle.std.specs.Ordering.{is_lt};
 ghost use Rattle.oai_device.specs.declared.devices.TheConstants.{PAGE_BYTES};
@@ -9,11 +9,11 @@ ghost use Rattle.oai_item.specs.Order.{IsPlace, are_in_order, place_cmp};
 ghost use Rattle.oai_item.specs.Selection.{passes};
 ghost use Rattle.oai_item.specs.declared.sizes.TheConstants.{MAX_ITEM_BYTES};
 ghost use Rattle.oai_paged.specs.Entries.{HasEntries, IsEntryReading};
-ghost use Rattle.oai_paged.specs.Pages.{AreCuts, AreStorable, IsPageReading, IsRemoval, begins_at, between, entries_of, entry_of, first_number, page_spelling, size_of};
+ghost use Rattle.oai_paged.specs.Pages.{AreCuts, AreStorable, FitAlone, IsPageReading, IsRemoval, are_short, begins_at, between, entries_of, entry_of, filled, first_number, fit_one, overflow_of, pages_of, size_of};
 ghost use Rattle.oai_paged.specs.Places.{have_records};
-ghost use Rattle.oai_paged.specs.declared.sizes.TheConstants.{MAX_ENTRY_BYTES};
+ghost use Rattle.oai_paged.specs.declared.sizes.TheConstants.{MAX_ENTRY_BYTES, MAX_WHOLE_BYTES};
 
-use crate::sizes::{FULL_BYTES, MAX_ENTRY_BYTES, NUMBER_BYTES};
+use crate::sizes::{FRONT_BYTES, FULL_BYTES, MAX_ENTRY_BYTES, MAX_WHOLE_BYTES, NUMBER_BYTES};
 use oai_catalogue::Filter;
 use oai_device::PAGE_BYTES;
 use oai_item::{DecodeFault, Item, Spelling, is_spelling};
@@ -52,6 +52,18 @@ pub(crate) struct Cuts {
     pub(crate) second: usize,
 }
 
+impl Cuts {
+    /// Where no entries are cut.
+    pub(crate) fn none() -> Cuts
+        ensures { AreCuts [] result.first result.second }
+    {
+        Cuts {
+            first: 0,
+            second: 0,
+        }
+    }
+}
+
 impl Entries {
     /// No entries. It takes no memory.
     pub(crate) fn new(alloc: Global) -> Entries
@@ -63,8 +75,10 @@ impl Entries {
         }
     }
 
-    /// The entries of a page. `Damaged` where the bytes are not the page of any items; `NoMemory`.
-    pub(crate) fn read(alloc: Global, page: &Page) -> Result<Entries, DecodeFault>
+    /// The entries of a page, which with its overflow pages may be longer than one. `Damaged` where the bytes are not
+    /// the page of any items; `NoMemory`.
+    pub(crate) fn read(alloc: Global, page: &[u8]) -> Result<Entries, DecodeFault>
+        requires { 4 ≤ length page.now }
         ensures { IsPageReading page.now result }
     {
         let count = first_number(page);
@@ -164,18 +178,24 @@ impl Entries {
         Ok(item)
     }
 
-    /// The items with that one, in place of the one of its datestamp and identifier where there is one. Its spelling
-    /// has at most 16,000 bytes. The error is out of memory.
-    pub(crate) fn put(&self, alloc: Global, item: &Item) -> Result<Entries, AllocError>
+    /// The items, which fit on one page, with that one, in place of the one of its datestamp and identifier where there
+    /// is one; and where the entries are cut: around the item, where it needs overflow pages, or else as `cuts` says.
+    /// The error is out of memory.
+    pub(crate) fn put(
+        &self,
+        alloc: Global,
+        item: &Item,
+        fills: bool,
+    ) -> Result<(Entries, Cuts), AllocError>
         requires rising { are_in_order self.now ≡ true }
+        requires one_page { fit_one self.now ≡ true }
         requires fits { length (encoded item.now) ≤ MAX_ITEM_BYTES }
-        ensures with { IfOk result (λ entries. entries ≡ with_item item.now self.now) }
-        ensures size { IfOk result
-            (λ entries. size_of entries ≤ size_of self.now + (MAX_ITEM_BYTES + 4)) }
+        ensures with { IfOk result (λ put. put.0 ≡ with_item item.now self.now) }
+        ensures cuts { IfOk result (λ put. AreCuts put.0 put.1.first put.1.second) }
     {
         match self.place_of(item.stamp(), item.identifier().as_str()) {
-            Ok(at) => self.with(alloc, at, 1, item),
-            Err(at) => self.with(alloc, at, 0, item),
+            Ok(at) => self.put_at(alloc, at, 1, item, fills),
+            Err(at) => self.put_at(alloc, at, 0, item, fills),
         }
     }
 
@@ -189,8 +209,8 @@ impl Entries {
     ) -> Result<Option<Entries>, AllocError>
         requires { are_in_order self.now ≡ true }
         ensures removal { IfOk result (λ entries. IsRemoval stamp identifier.now self.now entries) }
-        ensures size { IfOk result
-            (λ entries. IfSome entries (λ left. size_of left ≤ size_of self.now)) }
+        ensures one_page { IfOk result
+            (λ entries. IfSome entries (λ left. IsTrue (fit_one self.now) → IsTrue (fit_one left))) }
     {
         match self.place_of(stamp, identifier) {
             Ok(at) => Ok(Some(self.without(alloc, at)?)),
@@ -201,7 +221,8 @@ impl Entries {
     /// Where the entries are cut, to be put on pages: nowhere, where they fit on one; else in halves or, if `fills`
     /// says so, after a page that is filled to nine tenths; and again, where the rest does not fit on one page.
     pub(crate) fn cuts(&self, fills: bool) -> Cuts
-        requires { size_of self.now ≤ 2 * MAX_ENTRY_BYTES }
+        requires size { size_of self.now ≤ 2 * MAX_ENTRY_BYTES }
+        requires short { are_short self.now ≡ true }
         ensures { AreCuts self.now result.first result.second }
     {
         let half = self.size() / 2;
@@ -211,17 +232,49 @@ impl Entries {
         Cuts { first, second }
     }
 
-    /// The page of the entries from the one place up to the other.
-    pub(crate) fn page(&self, from: usize, to: usize) -> Page
+    /// Whether all of them stand on one page, without overflow pages.
+    pub(crate) fn fit_one(&self) -> bool
+        ensures { result ≡ fit_one self.now }
+    {
+        self.size() <= MAX_ENTRY_BYTES && self.are_short()
+    }
+
+    /// How many overflow pages the entries from the one place up to the other need, which stand on one page, or are one.
+    pub(crate) fn overflow(&self, from: usize, to: usize) -> usize
         requires some { from < to }
         requires within { to ≤ length self.now }
-        requires fits { size_of (between from to self.now) ≤ MAX_ENTRY_BYTES }
-        ensures { result ≡ page_spelling (between from to self.now) }
+        requires alone { FitAlone (between from to self.now) }
+        ensures { result ≡ overflow_of (between from to self.now) }
     {
-        let mut page = [0; PAGE_BYTES];
-        put_at(&mut page, 0, &((to - from) as u32).to_be_bytes());
-        put_at(&mut page, NUMBER_BYTES, self.entries(from, to));
-        page
+        let _all = self.len();
+        if !self.is_long(from) {
+            return 0;
+        }
+        let size = self.entries(from, to).len();
+        (size + NUMBER_BYTES - FRONT_BYTES + (PAGE_BYTES - 1)) / PAGE_BYTES
+    }
+
+    /// The page at that place among the pages of the entries from the one place up to the other, which stand on one page,
+    /// or are one: the page of the entries, and behind it the overflow pages.
+    pub(crate) fn page_at(&self, from: usize, to: usize, at: usize) -> Page
+        requires some { from < to }
+        requires within { to ≤ length self.now }
+        requires alone { FitAlone (between from to self.now) }
+        requires there { at < length (pages_of (between from to self.now)) }
+        ensures { HoldsAt (λ page. result ≡ page) (pages_of (between from to self.now)) at }
+    {
+        let _all = self.len();
+        let entries = self.entries(from, to);
+        let number = ((to - from) as u32).to_be_bytes();
+        if !self.is_long(from) {
+            return page_of(&number, entries);
+        }
+        if at == 0 {
+            return page_of(&number, &entries[..FRONT_BYTES - NUMBER_BYTES]);
+        }
+        let start = FRONT_BYTES - NUMBER_BYTES + (at - 1) * PAGE_BYTES;
+        let end = entries.len().min(start + PAGE_BYTES);
+        page_of(&[], &entries[start..end])
     }
 
     /// The datestamp of the item at that place, in seconds from 1970 on.
@@ -328,6 +381,7 @@ impl Entries {
     fn front(&self, from: usize, goal: usize) -> usize
         requires within { from ≤ length self.now }
         requires goal { goal ≤ MAX_ENTRY_BYTES }
+        requires short { are_short self.now ≡ true }
         ensures above { from ≤ result }
         ensures within { result ≤ length self.now }
         ensures some { from < length self.now → from < result }
@@ -346,6 +400,55 @@ impl Entries {
             to += 1;
         }
         to
+    }
+
+    /// The items, which fit on one page, with that one in place of so many from the place on, and where they are cut.
+    fn put_at(
+        &self,
+        alloc: Global,
+        at: usize,
+        count: usize,
+        item: &Item,
+        fills: bool,
+    ) -> Result<(Entries, Cuts), AllocError>
+        requires within { at + count ≤ length self.now }
+        requires one_page { fit_one self.now ≡ true }
+        requires fits { length (encoded item.now) ≤ MAX_ITEM_BYTES }
+        ensures with { IfOk result
+            (λ put. put.0 ≡ take at self.now ++ (item.now ∷ drop (at + count) self.now)) }
+        ensures cuts { IfOk result (λ put. AreCuts put.0 put.1.first put.1.second) }
+    {
+        let entries = self.with(alloc, at, count, item)?;
+        let _all = entries.len();
+        if entries.is_long(at) {
+            let around = Cuts {
+                first: at,
+                second: at + 1,
+            };
+            return Ok((entries, around));
+        }
+        let cuts = entries.cuts(fills);
+        Ok((entries, cuts))
+    }
+
+    /// Whether the spelling of the item at that place is too long to stand whole in its entry.
+    fn is_long(&self, at: usize) -> bool
+        requires { at < length self.now }
+        ensures { HoldsAt (λ item. result ≡ nat_lt MAX_WHOLE_BYTES (length (encoded item))) self.now at }
+    {
+        self.spelling(at).len() > MAX_WHOLE_BYTES
+    }
+
+    /// Whether the spelling of each item is short enough to stand whole in its entry.
+    fn are_short(&self) -> bool
+        ensures { result ≡ are_short self.now }
+    {
+        for at in 0..self.len() {
+            if self.is_long(at) {
+                return false;
+            }
+        }
+        true
     }
 
     /// The items with that one in place of so many from the place on.
@@ -410,6 +513,17 @@ fn common(prefixes: Vec<Prefix>, item: &Spelling<'_>) -> Vec<Prefix>
     let mut kept = prefixes;
     kept.retain(|prefix| item.has_record(prefix.as_str()));
     kept
+}
+
+/// The page of the two, one behind the other, and zeros behind them.
+fn page_of(front: &[u8], back: &[u8]) -> Page
+    requires { length front.now + length back.now ≤ PAGE_BYTES }
+    ensures { result ≡ filled (front.now ++ back.now) }
+{
+    let mut page = [0; PAGE_BYTES];
+    put_at(&mut page, 0, front);
+    put_at(&mut page, front.len(), back);
+    page
 }
 
 /// Writes the bytes into the page, from that place on.
@@ -478,7 +592,7 @@ fn push_end(ends: &mut Vec<usize>, end: usize) -> Result<(), AllocError>
 }
 
 /// Whether each of the bytes is 0.
-fn are_zeros(bytes: &[u8]) -> bool
+pub(crate) fn are_zeros(bytes: &[u8]) -> bool
     ensures { result ≡ list_all (λ byte. byte == 0) bytes.now }
 {
     bytes.iter().all(|byte| *byte == 0)
@@ -512,7 +626,7 @@ fn joined(alloc: Global, front: &[u8], middle: &[u8], back: &[u8]) -> Result<Vec
     Ok(copy)
 }
 
-/// The entry of the item, whose spelling has at most 16,000 bytes.
+/// The entry of the item.
 fn entry_of(alloc: Global, item: &Item) -> Result<Vec<u8>, AllocError>
     requires { length (encoded item.now) ≤ MAX_ITEM_BYTES }
     ensures entry { IfOk result (λ bytes. bytes.items ≡ entry_of item.now) }
@@ -524,7 +638,7 @@ fn entry_of(alloc: Global, item: &Item) -> Result<Vec<u8>, AllocError>
     Ok(entry)
 }
 
-/// The spelling of the item, which has at most 16,000 bytes.
+/// The spelling of the item.
 fn spelling_of(alloc: Global, item: &Item) -> Result<Vec<u8>, AllocError>
     requires { length (encoded item.now) ≤ MAX_ITEM_BYTES }
     ensures spelling { IfOk result (λ bytes. bytes.items ≡ encoded item.now) }

@@ -24,8 +24,8 @@ pub(crate) fn drop_all<P: PagePool>(pages: &mut P, places: &[SharedPlace])
     }
 }
 
-/// Names each of the pages once less.
-fn drop_numbers<P: PagePool>(pages: &mut P, numbers: &[PageNo])
+/// Names each of the pages once less. It takes no memory and cannot fail.
+pub(crate) fn drop_numbers<P: PagePool>(pages: &mut P, numbers: &[PageNo])
     requires { (n : ℕ) → times n numbers.now ≤ count_of (P.counts pages.old) n }
     ensures names { Recounts P.PagePool numbers.now [] pages.old pages.new }
     ensures pool { FreesPages P.PagePool pages.old pages.new }

@@ -1,4 +1,4 @@
-ghost use Rattle.std.specs.Prelude.{◌≡◌, [], ◌∷◌, ℕ, length, IfOk};
+ghost use Rattle.std.specs.Prelude.{◌≡◌, nat_lt, ℕ, length, IfOk};
 ghost use Rattle.oai_names.specs.Names.{is_among};
 ghost use Rattle.oai_paged.specs.Places.{first_cmp};
 
@@ -48,28 +48,28 @@ impl Model for SharedPlace {
 }
 
 impl SharedPlace {
-    /// The place of so many items on that page, of which the first has this datestamp, in seconds from 1970 on, and
-    /// identifier, and each has a record of each of the prefixes. The error is out of memory.
+    /// The place of so many items on the pages of these numbers, of which the first item has this datestamp, in seconds
+    /// from 1970 on, and identifier, and each has a record of each of the prefixes. The error is out of memory.
     pub(crate) fn new(
         alloc: Global,
-        page: PageNo,
+        pages: &[PageNo],
         stamp: i64,
         identifier: Identifier,
         len: usize,
         prefixes: Sequence<Prefix>,
     ) -> Result<SharedPlace, AllocError>
         ensures { IfOk result (λ place. place ≡ record {
-          pages = page ∷ [];
+          pages = pages.now;
           stamp = stamp;
           identifier = identifier;
           len = len;
           prefixes = prefixes;
         }) }
     {
-        let mut pages = Vec::with_capacity(alloc, 1)?;
-        pages.push(page)?;
+        let mut own = Vec::with_capacity(alloc, pages.len())?;
+        own.extend_from_slice(pages)?;
         let place = Place {
-            pages: Sequence::new(pages),
+            pages: Sequence::new(own),
             stamp,
             identifier,
             len,
@@ -89,11 +89,18 @@ impl SharedPlace {
         })
     }
 
-    /// The numbers of its pages.
+    /// The numbers of its pages: that of the page of its entries, and behind it those of its overflow pages.
     pub(crate) fn pages(&self) -> &[PageNo]
         ensures { result.now ≡ self.now.pages }
     {
         self.place.pages.as_slice()
+    }
+
+    /// Whether it has overflow pages, and so one item alone.
+    pub(crate) fn is_long(&self) -> bool
+        ensures { result ≡ nat_lt 1 (length self.now.pages) }
+    {
+        self.pages().len() > 1
     }
 
     /// The datestamp of the first item, in seconds from 1970 on.

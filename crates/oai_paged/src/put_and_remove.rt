@@ -1,14 +1,15 @@
 //! Items put into a directory, and taken out.
-ghost use Rattle.std.specs.Prelude.{◌≡◌, ◌+◌, ◌<◌, ◌≤◌, ℕ, [], true, length, take, drop, is_some, vec_capacity, vec_len, IfNone, IfOk, IfSome, IsTrue, OnErr, OnOk};
+ghost use Rattle.std.specs.Prelude.{◌≡◌, ◌+◌, ◌<◌, ◌≤◌, ℕ, [], ◌∷◌, true, length, take, drop, is_some, vec_capacity, vec_len, IfNone, IfOk, IfSome, IsTrue, OnErr, OnOk};
 ghost use Rattle.oai_item.specs.Encoding.{encoded};
 ghost use Rattle.oai_item.specs.Items.{item_at, with_item, without_at};
 ghost use Rattle.oai_item.specs.declared.sizes.TheConstants.{MAX_ITEM_BYTES};
-ghost use Rattle.oai_paged.specs.Calls.{Changes, ChangesNothing, HasWayBack, IsRemoved, Stages, Takes};
-ghost use Rattle.oai_paged.specs.Directory.{StandsIn};
+ghost use Rattle.oai_paged.specs.Calls.{Changes, ChangesNothing, HasWayBack, IsDirectoryChanged, IsRemoved, Stages, Takes};
+ghost use Rattle.oai_paged.specs.Directory.{MayStand, StandsIn};
 ghost use Rattle.oai_paged.specs.Places.{items_on};
+ghost use Rattle.oai_paged.specs.declared.sizes.TheConstants.{MAX_OVERFLOW_PAGES};
 
 use crate::changes::{Changed, change, undo};
-use crate::entries::Entries;
+use crate::entries::{Cuts, Entries};
 use crate::names::drop_all;
 use crate::places::SharedPlace;
 use crate::reading::read_place;
@@ -16,9 +17,10 @@ use crate::searches::place_of;
 use oai_item::{Fault, Item};
 use oai_pool::PagePool;
 use std::alloc::Global;
+use std::cmp::Ordering;
 
-/// Puts the item in, in place of the one of its datestamp and identifier where there is one. Its spelling has at most 16,000 bytes. It reads one page
-/// and adds three at most. Any fault may come; directory and pages are then as before.
+/// Puts the item in, in place of the one of its datestamp and identifier where there is one. Its spelling has at most `MAX_ITEM_BYTES`. It reads one page
+/// at most and adds three, and the overflow pages of the item, at most. Any fault may come; directory and pages are then as before.
 pub(crate) fn put<P: PagePool>(
     alloc: Global,
     pages: &mut P,
@@ -29,7 +31,7 @@ pub(crate) fn put<P: PagePool>(
     requires fits { length (encoded item.now) ≤ MAX_ITEM_BYTES }
     ensures list { OnOk result (IsTrue (P.honest pages.old) → items_on (P.pages pages.new) places.new.items
         ≡ with_item item.now (items_on (P.pages pages.old) places.old.items)) }
-    ensures changes { Changes P.PagePool 3 result places.old.items places.new.items pages.old pages.new }
+    ensures changes { Changes P.PagePool (3 + MAX_OVERFLOW_PAGES) result places.old.items places.new.items pages.old pages.new }
 {
     let changed = put_in(alloc, pages, places, item)?;
     drop_all(pages, changed.gone.as_slice());
@@ -62,8 +64,8 @@ pub(crate) fn remove<P: PagePool>(
 }
 
 /// Takes the item of that datestamp, in seconds from 1970 on, and identifier out and puts the other item in, as `remove` and then `put` do, and answers
-/// whether there was one to take out. The spelling of the item has at most 16,000 bytes. It reads two pages and adds four at most. Any fault may
-/// come; directory and pages are then as before.
+/// whether there was one to take out. The spelling of the item has at most `MAX_ITEM_BYTES`. It reads two pages and adds four, and the overflow pages of
+/// the item, at most. Any fault may come; directory and pages are then as before.
 pub(crate) fn replace<P: PagePool>(
     alloc: Global,
     pages: &mut P,
@@ -78,7 +80,7 @@ pub(crate) fn replace<P: PagePool>(
         → found ≡ is_some (item_at stamp identifier.now (items_on (P.pages pages.old) places.old.items))) }
     ensures list { OnOk result (IsTrue (P.honest pages.old) → items_on (P.pages pages.new) places.new.items
         ≡ with_item item.now (without_at stamp identifier.now (items_on (P.pages pages.old) places.old.items))) }
-    ensures changes { Changes P.PagePool 4 result places.old.items places.new.items pages.old pages.new }
+    ensures changes { Changes P.PagePool (4 + MAX_OVERFLOW_PAGES) result places.old.items places.new.items pages.old pages.new }
 {
     let Some(first) = take_out(alloc, pages, places, stamp, identifier)? else {
         put(alloc, pages, places, item)?;
@@ -112,19 +114,50 @@ fn put_in<P: PagePool>(
         places.old.items places.new.items pages.old pages.new) }
     ensures capacity { vec_capacity places.old ≤ vec_capacity places.new }
     ensures err { OnErr result (ChangesNothing P.PagePool places.old.items places.new.items pages.old pages.new) }
-    ensures pool { Takes P.PagePool 3 result pages.old pages.new }
+    ensures pool { Takes P.PagePool (3 + MAX_OVERFLOW_PAGES) result pages.old pages.new }
 {
     if places.is_empty() {
-        let entries = Entries::new(alloc).put(alloc, item)?;
-        return change(alloc, pages, places, 0, 0, &entries, false);
+        return put_beside(alloc, pages, places, 0, 0, item);
     }
     let stamp = item.stamp();
     let identifier = item.identifier().as_str();
     let at = place_of(places.as_slice(), stamp, identifier);
+    if places[at].is_long() {
+        return match places[at].order_to(stamp, identifier) {
+            Ordering::Less => put_beside(alloc, pages, places, at + 1, 0, item),
+            Ordering::Equal => put_beside(alloc, pages, places, at, 1, item),
+            Ordering::Greater => put_beside(alloc, pages, places, at, 0, item),
+        };
+    }
     let old = read_place(alloc, pages, places.as_slice(), at)?;
-    let entries = old.put(alloc, item)?;
     let comes_last = at + 1 == places.len() && old.are_before(stamp, identifier);
-    change(alloc, pages, places, at, 1, &entries, comes_last)
+    let (entries, cuts) = old.put(alloc, item, comes_last)?;
+    change(alloc, pages, places, at, 1, &entries, cuts)
+}
+
+/// Puts pages of the item alone in the place of so many places from `at` on, at most one. Any fault but `Damaged` may come; directory and pages are
+/// then as before.
+fn put_beside<P: PagePool>(
+    alloc: Global,
+    pages: &mut P,
+    places: &mut Vec<SharedPlace>,
+    at: usize,
+    len: usize,
+    item: &Item,
+) -> Result<Changed, Fault>
+    requires within { at + len ≤ vec_len places.old }
+    requires one { len ≤ 1 }
+    requires stands { StandsIn P.PagePool pages.old places.old.items }
+    requires fits { length (encoded item.now) ≤ MAX_ITEM_BYTES }
+    requires may_stand { MayStand (P.pages pages.old) places.old.items at len (item.now ∷ []) }
+    ensures ok { IfOk result (λ changed. IsDirectoryChanged P.PagePool (item.now ∷ []) at len changed.at changed.len changed.gone.items
+        places.old.items places.new.items pages.old pages.new) }
+    ensures capacity { vec_capacity places.old ≤ vec_capacity places.new }
+    ensures err { OnErr result (ChangesNothing P.PagePool places.old.items places.new.items pages.old pages.new) }
+    ensures pool { Takes P.PagePool (3 + MAX_OVERFLOW_PAGES) result pages.old pages.new }
+{
+    let (entries, cuts) = Entries::new(alloc).put(alloc, item, false)?;
+    change(alloc, pages, places, at, len, &entries, cuts)
 }
 
 /// Takes the item of that datestamp, in seconds from 1970 on, and identifier out, if there is one; the page that it was on is still named. It adds one page
@@ -151,10 +184,19 @@ fn take_out<P: PagePool>(
         return Ok(None);
     }
     let at = place_of(places.as_slice(), stamp, identifier);
+    if places[at].is_long() {
+        if places[at].order_to(stamp, identifier) != Ordering::Equal {
+            return Ok(None);
+        }
+        let none = Entries::new(alloc);
+        let changed = change(alloc, pages, places, at, 1, &none, Cuts::none())?;
+        return Ok(Some(changed));
+    }
     let old = read_place(alloc, pages, places.as_slice(), at)?;
     match old.remove(alloc, stamp, identifier)? {
         Some(entries) => {
-            let changed = change(alloc, pages, places, at, 1, &entries, false)?;
+            let cuts = entries.cuts(false);
+            let changed = change(alloc, pages, places, at, 1, &entries, cuts)?;
             Ok(Some(changed))
         }
         None => Ok(None),

@@ -1,25 +1,29 @@
 //! What is read of a directory: which items it has.
-ghost use Rattle.std.specs.Prelude.{◌≡◌, ◌+◌, ◌<◌, ◌≤◌, ◌++◌, ℕ, [], true, false, length, take, drop, unwrap_or, filter, HoldsAt, IfErr, IfOk, IsSome, IsTrue, OnOk};
-ghost use Rattle.std.specs.List.{list_all};
+ghost use Rattle.std.specs.Prelude.{◌≡◌, ◌+◌, ◌<◌, ◌≤◌, ◌++◌, ℕ, [], true, false, length, take, drop, filter, HoldsAt, IfErr, IfOk, IsSome, IsTrue, OnOk};
+ghost use Rattle.std.specs.List.{flat_map, list_all};
+ghost use Rattle.std.specs.Ordering.{is_eq};
 ghost use Rattle.oai_item.specs.Items.{item_at, items_after};
 ghost use Rattle.oai_item.specs.Item.{IsStamp, ItemState};
 ghost use Rattle.oai_item.specs.Order.{are_in_order};
 ghost use Rattle.oai_item.specs.Selection.{passes, selected};
 ghost use Rattle.oai_pool.specs.Counts.{count_of};
+ghost use Rattle.oai_pool.specs.Names.{times};
 ghost use Rattle.oai_pool.specs.declared.pools.TheConstants.{MAX_PAGES};
 ghost use Rattle.oai_paged.specs.Calls.{ReadsPages};
 ghost use Rattle.oai_paged.specs.Directory.{StandsIn};
-ghost use Rattle.oai_paged.specs.Pages.{FitPage, IsPage, items_in};
+ghost use Rattle.oai_paged.specs.Pages.{FitPage, IsPage, fit_one, items_in};
 ghost use Rattle.oai_paged.specs.Parts.{EndsBy, IsInside, IsPartTaken};
-ghost use Rattle.oai_paged.specs.Places.{are_below, first_cmp, is_wanted, items_at, items_on};
+ghost use Rattle.oai_paged.specs.Places.{FitPages, are_below, bytes_on, first_cmp, is_wanted, items_at, items_on, page_at};
 ghost use Rattle.oai_paged.specs.Searches.{MayBeAt, StartsAt};
 ghost use Rattle.oai_paged.specs.declared.sizes.TheConstants.{MAX_ENTRY_BYTES};
 
-use crate::entries::Entries;
+use crate::entries::{Entries, are_zeros};
 use crate::faults::fault_of;
 use crate::places::SharedPlace;
 use crate::searches::place_of;
+use crate::sizes::FRONT_BYTES;
 use oai_catalogue::Filter;
+use oai_device::PAGE_BYTES;
 use oai_item::{DecodeFault, Fault, Item};
 use oai_names::Sequence;
 use oai_pool::{PageNo, PagePool};
@@ -40,22 +44,94 @@ pub(crate) struct Wanted<'a> {
 }
 
 /// The entries of the page of that number, which is named, and the page of its items. Any fault but `TooManyPages`.
-fn read_entries<P: PagePool>(alloc: Global, pages: &mut P, no: PageNo) -> Result<Entries, Fault>
+fn read_page<P: PagePool>(alloc: Global, pages: &mut P, no: PageNo) -> Result<Entries, Fault>
     requires named { 0 < count_of (P.counts pages.old) no }
-    requires page { let page = unwrap_or (P.pages pages.old no) [] in IsPage page (items_in page) }
-    ensures items { IfOk result (λ entries. IsTrue (P.honest pages.old)
-        → entries ≡ items_in (unwrap_or (P.pages pages.old no) [])) }
-    ensures fits { IfOk result (λ entries. FitPage entries) }
+    requires page { IsPage (page_at (P.pages pages.old) no) (items_in (page_at (P.pages pages.old) no)) }
+    requires one { fit_one (items_in (page_at (P.pages pages.old) no)) ≡ true }
+    ensures items { IfOk result (λ entries. IsTrue (P.honest pages.old) → entries ≡ items_in (page_at (P.pages pages.old) no)) }
+    ensures page { IfOk result (λ entries. FitPage entries) }
+    ensures fits { IfOk result (λ entries. fit_one entries ≡ true) }
     ensures pages { ReadsPages P.PagePool result pages.old pages.new }
 {
     match pages.read(no) {
-        Ok(page) => match Entries::read(alloc, &page) {
-            Ok(entries) => Ok(entries),
+        Ok(page) => match Entries::read(alloc, &page[..]) {
+            Ok(entries) if entries.fit_one() => Ok(entries),
+            Ok(_) => Err(Fault::Damaged),
             Err(DecodeFault::Damaged) => Err(Fault::Damaged),
             Err(DecodeFault::NoMemory) => Err(Fault::NoMemory),
         },
         Err(fault) => Err(fault_of(fault)),
     }
+}
+
+/// The entry that goes on on overflow pages, of which these are the numbers, the first that of the page of the entry. All are named. Any fault but
+/// `TooManyPages`.
+fn read_long<P: PagePool>(alloc: Global, pages: &mut P, numbers: &[PageNo]) -> Result<Entries, Fault>
+    requires long { 1 < length numbers.now }
+    requires named { (n : ℕ) → 0 < times n numbers.now → 0 < count_of (P.counts pages.old) n }
+    requires page { IsPage (bytes_on (P.pages pages.old) numbers.now) (items_in (bytes_on (P.pages pages.old) numbers.now)) }
+    requires many { FitPages (P.pages pages.old) numbers.now (items_in (bytes_on (P.pages pages.old) numbers.now)) }
+    ensures items { IfOk result (λ entries. IsTrue (P.honest pages.old) → entries ≡ items_in (bytes_on (P.pages pages.old) numbers.now)) }
+    ensures page { IfOk result (λ entries. FitPage entries) }
+    ensures pages { ReadsPages P.PagePool result pages.old pages.new }
+{
+    let first = match pages.read(numbers[0]) {
+        Ok(page) => page,
+        Err(fault) => return Err(fault_of(fault)),
+    };
+    if !are_zeros(&first[FRONT_BYTES..]) {
+        return Err(Fault::Damaged);
+    }
+    let mut bytes = Vec::with_capacity(alloc, FRONT_BYTES + (numbers.len() - 1) * PAGE_BYTES)?;
+    bytes.extend_from_slice(&first[..FRONT_BYTES])?;
+    read_overflow(pages, &numbers[1..], &mut bytes)?;
+    match Entries::read(alloc, bytes.as_slice()) {
+        Ok(entries) => Ok(entries),
+        Err(DecodeFault::Damaged) => Err(Fault::Damaged),
+        Err(DecodeFault::NoMemory) => Err(Fault::NoMemory),
+    }
+}
+
+/// Adds the bytes of the pages of these numbers, which are named. Any fault but `Damaged` and `TooManyPages`.
+fn read_overflow<P: PagePool>(
+    pages: &mut P,
+    numbers: &[PageNo],
+    bytes: &mut Vec<u8>,
+) -> Result<(), Fault>
+    requires { (n : ℕ) → 0 < times n numbers.now → 0 < count_of (P.counts pages.old) n }
+    ensures bytes { OnOk result (IsTrue (P.honest pages.old)
+        → bytes.new.items ≡ bytes.old.items ++ flat_map (page_at (P.pages pages.old)) numbers.now) }
+    ensures more { OnOk result (length bytes.old.items ≤ length bytes.new.items) }
+    ensures pages { ReadsPages P.PagePool result pages.old pages.new }
+{
+    for at in 0..numbers.len() {
+        match pages.read(numbers[at]) {
+            Ok(page) => bytes.extend_from_slice(&page[..])?,
+            Err(fault) => return Err(fault_of(fault)),
+        }
+    }
+    Ok(())
+}
+
+/// The entries on the pages of these numbers, which are named: those of a page, or the one that goes on on overflow pages. Any fault but
+/// `TooManyPages`.
+fn read_entries<P: PagePool>(
+    alloc: Global,
+    pages: &mut P,
+    numbers: &[PageNo],
+) -> Result<Entries, Fault>
+    requires named { (n : ℕ) → 0 < times n numbers.now → 0 < count_of (P.counts pages.old) n }
+    requires page { IsPage (bytes_on (P.pages pages.old) numbers.now) (items_in (bytes_on (P.pages pages.old) numbers.now)) }
+    requires many { FitPages (P.pages pages.old) numbers.now (items_in (bytes_on (P.pages pages.old) numbers.now)) }
+    ensures items { IfOk result (λ entries. IsTrue (P.honest pages.old) → entries ≡ items_in (bytes_on (P.pages pages.old) numbers.now)) }
+    ensures page { IfOk result (λ entries. FitPage entries) }
+    ensures fits { IfOk result (λ entries. length numbers.now ≤ 1 → fit_one entries ≡ true) }
+    ensures pages { ReadsPages P.PagePool result pages.old pages.new }
+{
+    if numbers.len() > 1 {
+        return read_long(alloc, pages, numbers);
+    }
+    read_page(alloc, pages, numbers[0])
 }
 
 /// The entries of a place. Any fault but `TooManyPages`.
@@ -73,7 +149,7 @@ pub(crate) fn read_place<P: PagePool>(
     ensures pages { ReadsPages P.PagePool result pages.old pages.new }
 {
     let place = &places[at];
-    let entries = read_entries(alloc, pages, place.pages()[0])?;
+    let entries = read_entries(alloc, pages, place.pages())?;
     if !entries.begins_at(place.stamp(), place.identifier()) {
         return Err(Fault::Damaged);
     }
@@ -94,8 +170,8 @@ fn are_below(entries: &Entries, places: &[SharedPlace]) -> bool
     }
 }
 
-/// The item of that datestamp, in seconds from 1970 on, and identifier, or None. It reads one page. Any fault but
-/// `TooManyPages`.
+/// The item of that datestamp, in seconds from 1970 on, and identifier, or None. It reads one page, and the overflow pages of an item that it
+/// returns. Any fault but `TooManyPages`.
 pub(crate) fn find<P: PagePool>(
     alloc: Global,
     pages: &mut P,
@@ -112,11 +188,25 @@ pub(crate) fn find<P: PagePool>(
         return Ok(None);
     }
     let at = place_of(places, stamp, identifier);
+    if is_other(&places[at], stamp, identifier) {
+        return Ok(None);
+    }
     let entries = read_place(alloc, pages, places, at)?;
     match entries.place_of(stamp, identifier) {
         Ok(at) => Ok(Some(entries.item(alloc, at)?)),
         Err(_) => Ok(None),
     }
+}
+
+/// Whether the place has one item alone, which goes on on overflow pages, and that is not the one of this datestamp, in seconds from 1970 on, and
+/// identifier.
+fn is_other(place: &SharedPlace, stamp: i64, identifier: &str) -> bool
+    ensures { IsTrue result → (1 < length place.now.pages) × (is_eq (first_cmp place.now stamp identifier.now) ≡ false) }
+{
+    if place.is_long() {
+        return place.order_to(stamp, identifier) != Ordering::Equal;
+    }
+    false
 }
 
 /// How many items pass the filter. It reads the pages of those places only that are partly within the bounds, or of whose items it is not known that they

@@ -1,11 +1,11 @@
-ghost use Rattle.std.specs.Prelude.{◌≡◌, ◌≢◌, ◌+◌, ◌/◌, ◌≤◌, ◌<◌, ℕ, List, [], None, Some, IsSome, IsTrue, IfErr, IfOk, OnErr, OnOk, option_copied, length};
+ghost use Rattle.std.specs.Prelude.{◌≡◌, ◌≢◌, ◌+◌, ◌*◌, ◌/◌, ◌≤◌, ◌<◌, ℕ, List, [], None, Some, IsSome, IsTrue, IfErr, IfOk, OnErr, OnOk, option_copied, length};
 ghost use Rattle.std.specs.List.{Contains};
 ghost use Rattle.oai_catalogue.specs.Store.{list_at, no_lists};
 ghost use Rattle.oai_item.specs.Item.{ItemState};
 ghost use Rattle.oai_pool.specs.Counts.{used_of};
 ghost use Rattle.oai_pool.specs.declared.pools.TheConstants.{MAX_PAGES};
 ghost use Rattle.oai_paged.specs.Props.{shelved_props};
-ghost use Rattle.oai_paged.specs.Shelves.{AreShelved, StandsOnPage, calls_left, directory_at, items_below};
+ghost use Rattle.oai_paged.specs.Shelves.{AreShelved, StandsOnPages, calls_left, directory_at, items_below};
 
 use crate::directories::Directory;
 use crate::names::{drop_all, share_all};
@@ -174,14 +174,14 @@ impl<P: PagePool + Drop> Versions for VersionsOver<P> {
 impl<P: PagePool + Drop> VersionsOver<P> {
     ghost use Rattle.oai_paged.specs.Store.{directories_of, pool_of};
 
-    /// A store of no version over a pool of no page. It takes no memory, and has room for a quarter as many calls as the pool has room for pages.
+    /// A store of no version over a pool in which no page is named. It takes no memory, and has room for a call for each 68 pages that the pool has room for.
     pub fn new(alloc: Global, pool: P) -> VersionsOver<P>
         requires { used_of (P.counts pool) ≡ 0 }
         ensures lists { ⟦<VersionsOver<P> as Versions>⟧.lists result ≡ no_lists }
         ensures failures { ⟦<VersionsOver<P> as Versions>⟧.failures result ≡ P.failures pool }
         ensures honest { ⟦<VersionsOver<P> as Versions>⟧.honest result ≡ P.honest pool }
         ensures room { MAX_PAGES ≤ P.room pool
-            → 1_073_741_823 ≤ ⟦<VersionsOver<P> as Versions>⟧.room result }
+            → 63_161_283 ≤ ⟦<VersionsOver<P> as Versions>⟧.room result }
         ensures pool { pool_of result ≡ pool }
     {
         VersionsOver {
@@ -191,16 +191,16 @@ impl<P: PagePool + Drop> VersionsOver<P> {
         }
     }
 
-    /// The pool. No more of its pages are named than all versions hold items together, and each item stands, spelled, on one of these.
-    /// The store has room for a quarter as many calls as the pool has room for pages, or as many as the page that is named most often can be named
-    /// more often still, where these are fewer.
+    /// The pool. At most 65 times as many of its pages are named as all versions hold items together, and each item stands, spelled, on one of these, or on
+    /// one and its overflow pages. The store has room for a call for each 68 pages that the pool has room for, or for as many as the page that is named most
+    /// often can be named more often still, where these are fewer.
     pub fn pool(&self) -> &P
         ensures pool { result.now ≡ pool_of self.now }
         ensures room { ⟦<VersionsOver<P> as Versions>⟧.room self.now ≡ calls_left (P.room result.now) (P.counts result.now) }
         ensures used { (limit : ℕ) → ((v : ℕ) → limit ≤ v → ⟦<VersionsOver<P> as Versions>⟧.lists self.now v ≡ None)
-            → used_of (P.counts result.now) ≤ items_below limit (⟦<VersionsOver<P> as Versions>⟧.lists self.now) }
+            → used_of (P.counts result.now) ≤ 65 * items_below limit (⟦<VersionsOver<P> as Versions>⟧.lists self.now) }
         ensures stands { (v : ℕ) (item : ItemState) → Contains (list_at (⟦<VersionsOver<P> as Versions>⟧.lists self.now) v) item
-            → StandsOnPage (P.counts result.now) (P.pages result.now) item }
+            → StandsOnPages (P.counts result.now) (P.pages result.now) item }
     {
         &self.pool
     }

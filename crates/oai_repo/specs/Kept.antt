@@ -12,7 +12,7 @@ use Rattle.oai_item.specs.declared.sizes.TheConstants.{MAX_ITEM_BYTES}
 use Rattle.oai_settings.specs.Config.{Config}
 use Rattle.oai_repo.specs.State.{Holdings, NamedSet}
 
--- its spelling has more than 16,000 bytes
+-- its spelling has more than 1,048,576 bytes
 abbrev pub is_too_large : ItemState → Bool
 is_too_large item = nat_lt MAX_ITEM_BYTES (length (encoded item))
 

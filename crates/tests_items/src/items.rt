@@ -73,9 +73,9 @@ fn bytes_of_an_item(rt: HostRuntime) {
     let alloc = rt.alloc();
     assert_length(&rt, alloc, &[], "T", Ok(56));
     assert_length(&rt, alloc, &["x:y"], "T", Ok(63));
-    let most = letters(&rt, alloc, 15_945);
-    assert_length(&rt, alloc, &[], most.as_str(), Ok(16_000));
-    let long = letters(&rt, alloc, 15_946);
+    let most = letters(&rt, alloc, 1_048_521);
+    assert_length(&rt, alloc, &[], most.as_str(), Ok(1_048_576));
+    let long = letters(&rt, alloc, 1_048_522);
     assert_length(&rt, alloc, &[], long.as_str(), Err(TooLarge));
 }
 
@@ -194,6 +194,6 @@ fn text_of_an_item_too_large(rt: HostRuntime) {
     assert_same(
         &rt,
         large.as_str(),
-        "the encoded item has more than 16,000 bytes",
+        "the encoded item has more than 1,048,576 bytes",
     );
 }

@@ -32,5 +32,5 @@ returns-clause-changes g c =
       directory = end.directory;
       names = end.names;
       err = tt;
-      pool = takes_freed_ok g.P.PagePool 3 changed tt c.args.pages.now c.put_in.new.pages c.drop_all.new.pages c.in_ok-changed.ensures.pool c.drop_all.ensures.pool;
+      pool = takes_freed_ok g.P.PagePool 67 changed tt c.args.pages.now c.put_in.new.pages c.drop_all.new.pages c.in_ok-changed.ensures.pool c.drop_all.ensures.pool;
     }

@@ -26,7 +26,7 @@ returns-in_default-clause-changes g c =
     let before : List PlaceState = c.args.places.now.items in
     let between : List PlaceState = c.take_out.new.places.items in
     let same = rw c.in_default.is at c.in_ok-first.ensures.none in
-    changes_after G 1 3 c.in_ok-first.field-0 tt false before between c.put.new.places.items old mid c.put.new.pages same.places same.names c.in_ok-first.ensures.pool c.in_ok-put.ensures.changes
+    changes_after G 1 67 c.in_ok-first.field-0 tt false before between c.put.new.places.items old mid c.put.new.pages same.places same.names c.in_ok-first.ensures.pool c.in_ok-put.ensures.changes
 
 pub drop_all-requires : goal.drop_all-requires
 drop_all-requires g c =
@@ -104,13 +104,13 @@ returns-in-Ok-clause-changes g c =
     let new = c.drop_all-in-Ok.new.pages in
     let end = replaced G first.at first.len first.gone.items c.as_slice-in-Ok.result.now second.at second.len second.gone.items c.as_slice.result.now before between after old mid made late new
     c.requires.stands s t c.as_slice.ensures.value c.drop_all.ensures.names c.as_slice-in-Ok.ensures.value c.drop_all-in-Ok.ensures.names in
-    let both = takes_both G 1 3 c.in_ok-first.field-0 (ok_of second) old mid made c.in_ok-first.ensures.pool c.in-Ok.ensures.pool in
-    let freed = takes_freed_ok G 4 second true old made late both c.drop_all.ensures.pool in
+    let both = takes_both G 1 67 c.in_ok-first.field-0 (ok_of second) old mid made c.in_ok-first.ensures.pool c.in-Ok.ensures.pool in
+    let freed = takes_freed_ok G 68 second true old made late both c.drop_all.ensures.pool in
     record {
       directory = end.directory;
       names = end.names;
       err = tt;
-      pool = takes_freed_ok G 4 true true old late new freed c.drop_all-in-Ok.ensures.pool;
+      pool = takes_freed_ok G 68 true true old late new freed c.drop_all-in-Ok.ensures.pool;
     }
 
 pub returns-in-Err-clause-changes : goal.returns-in-Err-clause-changes
@@ -124,5 +124,5 @@ returns-in-Err-clause-changes g c =
     let s = rw c.in-Some.is at c.in_ok-first.ensures.staged in
     let late = c.put_in.new.pages in
     let stood : List PlaceState = c.put_in.new.places.items in
-    taken_back G 1 3 first.at first.len c.in_ok-first.field-0 c.in-Err.fault first.gone.items before between stood c.undo.new.places.items old mid late c.undo.new.pages
+    taken_back G 1 67 first.at first.len c.in_ok-first.field-0 c.in-Err.fault first.gone.items before between stood c.undo.new.places.items old mid late c.undo.new.pages
     s c.in-Err.ensures.err.places c.in-Err.ensures.err.names c.undo.ensures.places c.undo.ensures.names c.in_ok-first.ensures.pool c.in-Err.ensures.pool c.undo.ensures.pool

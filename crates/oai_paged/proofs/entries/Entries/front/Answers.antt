@@ -1,6 +1,7 @@
 use Rattle.std.proofs.Common.{◌+◌, ◌<◌, length, ap, arith}
 use Rattle.oai_paged.specs.Pages.{between, size_of}
-use Rattle.oai_paged.proofs.CutLemmas.{more_left, one_fits, size_of-rest}
+use Rattle.oai_paged.proofs.CutLemmas.{more_left, size_of-rest}
+use Rattle.oai_paged.proofs.ShortLemmas.{one_fits}
 use Rattle.oai_paged.proofs.EntryLemmas.{size_of-between, size_of-cut}
 use Rattle.oai_paged.proofs.entries.Entries.front.Goals as goal
 
@@ -23,7 +24,7 @@ loop-to-init c =
     let left : c.args.from < length c.args.self.now =
     more_left c.args.self.now c.args.from (omega (arith, c.start-start.ensures, c.size.ensures, c.if-size-start-le-MAX_ENTRY_BYTES.false))
     in
-    record { above = omega arith; within = omega (arith, left); fits = one_fits c.args.self.now c.args.from c.len-len.ensures.storable left }
+    record { above = omega arith; within = omega (arith, left); fits = one_fits c.args.self.now c.args.from c.requires.short left }
 
 pub overflow_sub-end : goal.overflow_sub-end
 overflow_sub-end c =

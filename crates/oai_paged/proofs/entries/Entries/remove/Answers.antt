@@ -1,9 +1,10 @@
-use Rattle.std.proofs.Common.{ℤ, Ok, Err, ap, arith, subst, w64}
+use Rattle.std.proofs.Common.{◌∙◌, ℤ, Ok, Err, ap, subst, w64}
 use Rattle.std.proofs.lemmas.Int.{to_z-of_z}
 use Rattle.oai_item.specs.Order.{IsPlace}
 use Rattle.oai_item.proofs.Around.{item_at-missing}
-use Rattle.oai_paged.specs.Pages.{size_of}
-use Rattle.oai_paged.proofs.PutLemmas.{removed, size_of-without}
+use Rattle.oai_paged.specs.Pages.{fit_one}
+use Rattle.oai_paged.proofs.PutLemmas.{removed}
+use Rattle.oai_paged.proofs.ShortLemmas.{fit-without}
 use Rattle.oai_paged.proofs.entries.Entries.remove.Goals as goal
 
 pub returns-in_ok-without-in-Ok-clause-removal : goal.returns-in_ok-without-in-Ok-clause-removal
@@ -16,6 +17,6 @@ returns-in-Err-clause-removal c =
     item_at-missing c.args.stamp c.args.identifier.now c.args.self.now c.in-Err.field-0
     (subst (λ (stamp : ℤ). IsPlace c.args.self.now stamp c.args.identifier.now (Err c.in-Err.field-0)) (to_z-of_z w64 c.args.stamp c.ranges.stamp) c.in-Err.ensures)
 
-pub returns-in_ok-without-in-Ok-clause-size : goal.returns-in_ok-without-in-Ok-clause-size
-returns-in_ok-without-in-Ok-clause-size c =
-    omega (arith, ap size_of c.in_ok-without-in-Ok.ensures, size_of-without c.args.self.now c.in-Ok.at)
+pub returns-in_ok-without-in-Ok-clause-one_page : goal.returns-in_ok-without-in-Ok-clause-one_page
+returns-in_ok-without-in-Ok-clause-one_page c =
+    λ fits. ap fit_one c.in_ok-without-in-Ok.ensures ∙ fit-without c.in-Ok.at c.args.self.now fits

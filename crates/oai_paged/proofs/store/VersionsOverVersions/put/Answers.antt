@@ -22,7 +22,7 @@ invariant_of-self g c =
     let found : Some c.in-Some.directory.now ≡ directory_at self.directories.slots c.args.v = c.in-Some.ensures.value in
     let was : directory_at self.directories.slots c.args.v ≡ Some before = sym found ∙ ap Some (cc (c.directory.view_is)) in
     record {
-      shelved = set_shelved G 3 c.args.v self.directories.slots before c.put.new.places.items self.pool c.put.new.pages self.shelved
+      shelved = set_shelved G 67 c.args.v self.directories.slots before c.put.new.places.items self.pool c.put.new.pages self.shelved
           was c.put.result c.put.ensures.changes;
     }
 
@@ -33,7 +33,7 @@ returns-clause-ok g c =
     let before : List PlaceState = c.directory.inside.places.items in
     let found : Some c.in-Some.directory.now ≡ directory_at self.directories.slots c.args.v = c.in-Some.ensures.value in
     let was : directory_at self.directories.slots c.args.v ≡ Some before = sym found ∙ ap Some (cc (c.directory.view_is)) in
-    (set_turned G 3 c.args.v self.directories.slots before c.put.new.places.items self.pool c.put.new.pages self.shelved was c.put.result
+    (set_turned G 67 c.args.v self.directories.slots before c.put.new.places.items self.pool c.put.new.pages self.shelved was c.put.result
     c.put.ensures.changes).ok
 
 pub returns-clause-err : goal.returns-clause-err
@@ -43,7 +43,7 @@ returns-clause-err g c =
     let before : List PlaceState = c.directory.inside.places.items in
     let found : Some c.in-Some.directory.now ≡ directory_at self.directories.slots c.args.v = c.in-Some.ensures.value in
     let was : directory_at self.directories.slots c.args.v ≡ Some before = sym found ∙ ap Some (cc (c.directory.view_is)) in
-    (set_turned G 3 c.args.v self.directories.slots before c.put.new.places.items self.pool c.put.new.pages self.shelved was c.put.result
+    (set_turned G 67 c.args.v self.directories.slots before c.put.new.places.items self.pool c.put.new.pages self.shelved was c.put.result
     c.put.ensures.changes).err
 
 pub returns-clause-rising : goal.returns-clause-rising
@@ -53,14 +53,14 @@ returns-clause-rising g c =
     let before : List PlaceState = c.directory.inside.places.items in
     let found : Some c.in-Some.directory.now ≡ directory_at self.directories.slots c.args.v = c.in-Some.ensures.value in
     let was : directory_at self.directories.slots c.args.v ≡ Some before = sym found ∙ ap Some (cc (c.directory.view_is)) in
-    (set_turned G 3 c.args.v self.directories.slots before c.put.new.places.items self.pool c.put.new.pages self.shelved was c.put.result
+    (set_turned G 67 c.args.v self.directories.slots before c.put.new.places.items self.pool c.put.new.pages self.shelved was c.put.result
     c.put.ensures.changes).rising
 
 pub returns-clause-store : goal.returns-clause-store
 returns-clause-store g c =
     let changes = c.put.ensures.changes in
     record {
-      room = change_room g.P.PagePool 3 c.put.result c.directory.inside.places.items c.put.new.places.items c.args.self.now.pool
+      room = change_room g.P.PagePool 67 c.put.result c.directory.inside.places.items c.put.new.places.items c.args.self.now.pool
           c.put.new.pages (omega arith) changes;
       device = changes.pool.device;
       honesty = changes.pool.honesty;

@@ -22,7 +22,7 @@ invariant_of-self g c =
     let found : Some c.in-Some.directory.now ≡ directory_at self.directories.slots c.args.v = c.in-Some.ensures.value in
     let was : directory_at self.directories.slots c.args.v ≡ Some before = sym found ∙ ap Some (cc (c.directory.view_is)) in
     record {
-      shelved = set_shelved G 4 c.args.v self.directories.slots before c.replace.new.places.items self.pool c.replace.new.pages
+      shelved = set_shelved G 68 c.args.v self.directories.slots before c.replace.new.places.items self.pool c.replace.new.pages
           self.shelved was c.replace.result c.replace.ensures.changes;
     }
 
@@ -33,7 +33,7 @@ returns-clause-ok g c =
     let before : List PlaceState = c.directory.inside.places.items in
     let found : Some c.in-Some.directory.now ≡ directory_at self.directories.slots c.args.v = c.in-Some.ensures.value in
     let was : directory_at self.directories.slots c.args.v ≡ Some before = sym found ∙ ap Some (cc (c.directory.view_is)) in
-    (set_turned G 4 c.args.v self.directories.slots before c.replace.new.places.items self.pool c.replace.new.pages self.shelved was
+    (set_turned G 68 c.args.v self.directories.slots before c.replace.new.places.items self.pool c.replace.new.pages self.shelved was
     c.replace.result c.replace.ensures.changes).ok
 
 pub returns-clause-err : goal.returns-clause-err
@@ -43,7 +43,7 @@ returns-clause-err g c =
     let before : List PlaceState = c.directory.inside.places.items in
     let found : Some c.in-Some.directory.now ≡ directory_at self.directories.slots c.args.v = c.in-Some.ensures.value in
     let was : directory_at self.directories.slots c.args.v ≡ Some before = sym found ∙ ap Some (cc (c.directory.view_is)) in
-    (set_turned G 4 c.args.v self.directories.slots before c.replace.new.places.items self.pool c.replace.new.pages self.shelved was
+    (set_turned G 68 c.args.v self.directories.slots before c.replace.new.places.items self.pool c.replace.new.pages self.shelved was
     c.replace.result c.replace.ensures.changes).err
 
 pub returns-clause-rising : goal.returns-clause-rising
@@ -53,14 +53,14 @@ returns-clause-rising g c =
     let before : List PlaceState = c.directory.inside.places.items in
     let found : Some c.in-Some.directory.now ≡ directory_at self.directories.slots c.args.v = c.in-Some.ensures.value in
     let was : directory_at self.directories.slots c.args.v ≡ Some before = sym found ∙ ap Some (cc (c.directory.view_is)) in
-    (set_turned G 4 c.args.v self.directories.slots before c.replace.new.places.items self.pool c.replace.new.pages self.shelved was
+    (set_turned G 68 c.args.v self.directories.slots before c.replace.new.places.items self.pool c.replace.new.pages self.shelved was
     c.replace.result c.replace.ensures.changes).rising
 
 pub returns-clause-store : goal.returns-clause-store
 returns-clause-store g c =
     let changes = c.replace.ensures.changes in
     record {
-      room = change_room g.P.PagePool 4 c.replace.result c.directory.inside.places.items c.replace.new.places.items c.args.self.now.pool
+      room = change_room g.P.PagePool 68 c.replace.result c.directory.inside.places.items c.replace.new.places.items c.args.self.now.pool
           c.replace.new.pages (omega arith) changes;
       device = changes.pool.device;
       honesty = changes.pool.honesty;
