@@ -3,7 +3,9 @@ use Rattle.std.proofs.Common.{◌≡◌, ◌∙◌, ◌⊎◌, ◌<◌, ◌≤�
 use Rattle.std.proofs.lemmas.Bool.{cases_lt}
 use Rattle.oai_item.specs.declared.faults.Fault.{Fault}
 use Rattle.oai_pool.specs.Counts.{count_of}
+use Rattle.oai_pool.specs.Calls as pools
 use Rattle.oai_pool.specs.declared.pools.PagePool.{Ghosts}
+use Rattle.oai_pool.specs.declared.pools.PoolFault.{PoolFault}
 use Rattle.oai_paged.specs.Calls.{ReadsPages}
 use Rattle.oai_paged.specs.Directory.{IsDirectory, StandsIn}
 use Rattle.oai_paged.specs.Places.{Pages, PlaceState}
@@ -37,6 +39,17 @@ read_more g result p q r h k =
       count = omega (arith, more, h.count);
       honesty = k.pool.honesty.same ∙ h.honesty;
     }
+
+-- a page was read
+pub read_page : {P A : Type 0} (g : Ghosts P) (result : Result A PoolFault) (p q : P) → g.counts q ≡ g.counts p → g.pages q ≡ g.pages p
+    → pools.SpendsPool g.room g.failures g.cache_size g.honest 0 result p q → HaveRead g p q
+read_page g result p q counts same pool = record {
+  counts = counts;
+  same = same;
+  room = let room = pool.room in omega (arith, room);
+  count = pool.device.count;
+  honesty = pool.honesty;
+}
 
 pub read_ok : {P A : Type 0} (g : Ghosts P) (a : A) (p q : P) → HaveRead g p q → ReadsPages g (ok_of a) p q
 read_ok g a p q h = record {

@@ -1,6 +1,7 @@
 -- Places of which all items are wanted: they are counted and passed over by their number.
-use Rattle.std.proofs.Common.{◌≡◌, ◌∙◌, ◌==◌, false, ◌∷◌, ◌-◌, ◌<◌, ◌≤◌, ℕ, ℤ, Bool, List, [], Option, None, length, get_or, refl, sym, ap, subst, arith}
+use Rattle.std.proofs.Common.{◌≡◌, ◌∙◌, ◌==◌, false, ◌∷◌, ◌-◌, ◌<◌, ◌≤◌, ℕ, ℤ, Bool, List, [], Option, None, length, get_or, refl, sym, ap, subst, arith, true, inl, inr}
 use Rattle.std.specs.Prelude.{filter}
+use Rattle.std.proofs.lemmas.Bool.{cases_lt}
 use Rattle.std.proofs.lemmas.List.{get_or_read}
 use Rattle.std.specs.List.{AllByRecursion}
 use Rattle.std.specs.Ordering.{is_gt}
@@ -9,7 +10,7 @@ use Rattle.oai_item.specs.Items.{item_at, items_after}
 use Rattle.oai_item.specs.Order.{place_cmp}
 use Rattle.oai_item.specs.Selection.{Filter, passes, selected}
 use Rattle.oai_paged.specs.Directory.{IsDirectory}
-use Rattle.oai_paged.specs.Pages.{size_of}
+use Rattle.oai_paged.specs.Pages.{fit_one}
 use Rattle.oai_paged.specs.Parts.{IsInside, IsPartTaken}
 use Rattle.oai_paged.specs.Places.{IsSoundPlace, Pages, PlaceState, is_wanted, items_at, items_on}
 use Rattle.oai_paged.specs.Searches.{BelongsAt}
@@ -19,17 +20,23 @@ use Rattle.oai_paged.proofs.PageLemmas.{size_of-least}
 use Rattle.oai_paged.proofs.PartLemmas.{filter_alike, filter_both, taken_past}
 use Rattle.oai_paged.proofs.PlaceLemmas.{items_on-nil}
 use Rattle.oai_paged.proofs.ReadPlaces.{placed_at}
+use Rattle.oai_paged.proofs.ShortLemmas.{fit_parts}
 use Rattle.oai_paged.proofs.WantedPlaces.{inside_all, stored_items}
 
--- items that a page may have are not more than its bytes
-pub few_items : (items : List ItemState) → size_of items ≤ MAX_ENTRY_BYTES → length items ≤ MAX_ENTRY_BYTES
-few_items items fits = omega (arith, size_of-least items, fits)
+-- items on one page are not more than its bytes
+pub few_items : (items : List ItemState) → fit_one items ≡ true → length items ≤ MAX_ENTRY_BYTES
+few_items items fits = omega (arith, size_of-least items, (fit_parts items fits).0)
 
--- a place has not more items than its page has bytes
+-- and so a place has not more items
+few_in : (pages : Pages) (p : PlaceState) → IsSoundPlace pages p → p.len ≤ MAX_ENTRY_BYTES
+few_in pages p placed =
+    elim (cases_lt 1 (length p.pages)) [
+      | inl long ↦ omega (arith, placed.counted, placed.many.alone long)
+      | inr one ↦ omega (arith, placed.counted, few_items (items_at pages p) (placed.many.one one))
+    ]
+
 pub few_placed : (pages : Pages) (places : List PlaceState) (at n : ℕ) (p : PlaceState) → IsDirectory pages places → at < length places → p ≡ get_or places at p → n ≡ p.len → n ≤ MAX_ENTRY_BYTES
-few_placed pages places at n p h within is many =
-    let placed = placed_at pages places at p h within is in
-    omega (arith, many, placed.counted, few_items (items_at pages p) placed.page.fit.fits)
+few_placed pages places at n p h within is many = omega (arith, many, few_in pages p (placed_at pages places at p h within is))
 
 -- the number of items that a place tells is that of its items
 counted_at : (pages : Pages) (places : List PlaceState) (at n : ℕ) (p : PlaceState) → IsDirectory pages places → at < length places → p ≡ get_or places at p → n ≡ p.len

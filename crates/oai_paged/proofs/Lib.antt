@@ -17,6 +17,7 @@ mod EntryLemmas
 mod ReadLemmas
 mod ShortLemmas
 mod OverflowLemmas
+mod JoinedLemmas
 mod RisingItems
 mod PutLemmas
 mod CutLemmas
@@ -27,6 +28,7 @@ mod WantedPlaces
 mod ChangedLemmas
 mod DirectoryChanges
 mod ReplaceLemmas
+mod LoneLemmas
 mod HaveReadLemmas
 mod TakenLemmas
 mod ReadPlaces

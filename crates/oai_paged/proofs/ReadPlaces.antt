@@ -1,5 +1,5 @@
 -- What is so of a place of a directory that is read.
-use Rattle.std.proofs.Common.{◌≡◌, ◌∙◌, ◌+◌, ◌<◌, ℕ, ℤ, Bool, true, false, List, [], ◌∷◌, ◌++◌, length, take, drop, get_or, sym, ap, subst, arith, unwrap_or, IsTrue}
+use Rattle.std.proofs.Common.{◌≡◌, ◌∙◌, ◌+◌, ◌<◌, ◌≤◌, ℕ, ℤ, Bool, true, false, List, [], ◌∷◌, ◌++◌, length, take, drop, get_or, sym, ap, subst, arith, IsTrue}
 use Rattle.std.proofs.lemmas.Bool.{both_ways, false_from_ne_true}
 use Rattle.std.proofs.lemmas.List.{get_or_read}
 use Rattle.oai_names.proofs.Lists.{cut}
@@ -10,33 +10,37 @@ use Rattle.oai_item.proofs.Around.{in_order-append}
 use Rattle.oai_pool.specs.declared.pools.PagePool.{Ghosts}
 use Rattle.oai_paged.specs.Calls.{ReadsPages}
 use Rattle.oai_paged.specs.Directory.{IsDirectory}
-use Rattle.oai_paged.specs.Pages.{FitPage, IsPage, begins_at, items_in}
-use Rattle.oai_paged.specs.Places.{IsSoundPlace, Pages, PlaceState, are_below, items_at, items_on, named_in, page_no}
+use Rattle.oai_pool.specs.Names.{times}
+use Rattle.oai_paged.specs.Pages.{FitPage, IsPage, begins_at, fit_one, items_in}
+use Rattle.oai_paged.specs.Places.{FitPages, IsSoundPlace, Pages, PlaceState, are_below, bytes_on, items_at, items_on, named_in}
 use Rattle.oai_paged.specs.Searches.{MayBeAt}
 use Rattle.oai_paged.proofs.DirectoryLemmas.{goes_on, items-cut, no_place, placed-cut}
 use Rattle.oai_paged.proofs.OrderedPlaces.{own_below}
 use Rattle.oai_paged.proofs.HaveReadLemmas.{HaveRead, err_of}
-use Rattle.oai_paged.proofs.NameLemmas.{named_in-append}
-use Rattle.oai_paged.proofs.PlaceLemmas.{names_own}
+use Rattle.oai_paged.proofs.NameLemmas.{named_in-append, named_own}
 
 -- a place of a directory stands on its page
 pub placed_at : (pages : Pages) (places : List PlaceState) (at : ℕ) (p : PlaceState) → IsDirectory pages places → at < length places → p ≡ get_or places at p → IsSoundPlace pages p
 placed_at pages places at p h within is =
     subst (λ (q : PlaceState). IsSoundPlace pages q) (sym (get_or_read places at p within is no_place)) (placed-cut pages places at no_place within h.placed).0
 
--- and its directory names that
-pub named_at_place : (pages : Pages) (places : List PlaceState) (at : ℕ) (p : PlaceState) → IsDirectory pages places → at < length places → p ≡ get_or places at p → 0 < named_in places (page_no p)
-named_at_place pages places at p h within is =
-    let one = (placed_at pages places at p h within is).one in
-    let whole : named_in places (page_no p) ≡ named_in (take at places) (page_no p) + named_in (get_or places at p ∷ drop (at + 1) places) (page_no p) =
-    ap (λ ps. named_in ps (page_no p)) (cut places at p within) ∙ named_in-append (page_no p) (take at places) (get_or places at p ∷ drop (at + 1) places) in
-    let own : named_in (get_or places at p ∷ drop (at + 1) places) (page_no p) ≡ named_in (p ∷ drop (at + 1) places) (page_no p) = ap (λ q. named_in (q ∷ drop (at + 1) places) (page_no p)) (sym is) in
-    omega (arith, whole, own, names_own p (drop (at + 1) places) one)
+-- and its directory names these
+pub named_at_place : (pages : Pages) (places : List PlaceState) (at : ℕ) (p : PlaceState) → at < length places → p ≡ get_or places at p → (n : ℕ) → 0 < times n p.pages → 0 < named_in places n
+named_at_place pages places at p within is n named =
+    let whole : named_in places n ≡ named_in (take at places) n + named_in (get_or places at p ∷ drop (at + 1) places) n =
+    ap (λ ps. named_in ps n) (cut places at p within) ∙ named_in-append n (take at places) (get_or places at p ∷ drop (at + 1) places) in
+    let own : named_in (get_or places at p ∷ drop (at + 1) places) n ≡ named_in (p ∷ drop (at + 1) places) n = ap (λ q. named_in (q ∷ drop (at + 1) places) n) (sym is) in
+    omega (arith, whole, own, named_own n p (drop (at + 1) places) named)
 
-pub page_of_place : (pages : Pages) (p : PlaceState) (k : ℕ) → k ≡ page_no p → IsSoundPlace pages p → IsPage (unwrap_or (pages k) []) (items_in (unwrap_or (pages k) []))
+pub page_of_place : (pages : Pages) (p : PlaceState) (numbers : List ℕ) → numbers ≡ p.pages → IsSoundPlace pages p → IsPage (bytes_on pages numbers) (items_in (bytes_on pages numbers))
 unfolding items_at
-page_of_place pages p k same h =
-    subst (λ (n : ℕ). IsPage (unwrap_or (pages n) []) (items_in (unwrap_or (pages n) []))) (sym same) h.page
+page_of_place pages p numbers same h =
+    subst (λ (ns : List ℕ). IsPage (bytes_on pages ns) (items_in (bytes_on pages ns))) (sym same) h.page
+
+pub fit_of_place : (pages : Pages) (p : PlaceState) (numbers : List ℕ) → numbers ≡ p.pages → IsSoundPlace pages p → FitPages pages numbers (items_in (bytes_on pages numbers))
+unfolding items_at
+fit_of_place pages p numbers same h =
+    subst (λ (ns : List ℕ). FitPages pages ns (items_in (bytes_on pages ns))) (sym same) h.many
 
 -- damage is found only over a device that is not honest
 pub reads_damaged : {P A : Type 0} (g : Ghosts P) (p q : P) → HaveRead g p q → g.honest p ≡ false → ReadsPages g (err_of A Damaged) p q
@@ -54,42 +58,44 @@ pub not_honest_from : (honest test : Bool) → (IsTrue honest → test ≡ true)
 not_honest_from honest test h fails = false_from_ne_true honest (λ is. both_ways test fails (h is))
 
 -- what was read at a place, over a device that is honest
-pub items_read : (pages : Pages) (places : List PlaceState) (at k : ℕ) (p : PlaceState) (entries : List ItemState) → entries ≡ items_in (unwrap_or (pages k) []) → k ≡ page_no p → at < length places
+pub items_read : (pages : Pages) (places : List PlaceState) (at : ℕ) (numbers : List ℕ) (p : PlaceState) (entries : List ItemState) → entries ≡ items_in (bytes_on pages numbers) → numbers ≡ p.pages → at < length places
     → p ≡ get_or places at p → (d : PlaceState) → entries ≡ items_at pages (get_or places at d)
 unfolding items_at
-items_read pages places at k p entries read same within is d =
-    read ∙ ap (λ n. items_in (unwrap_or (pages n) [])) (same ∙ ap page_no (get_or_read places at p within is d))
+items_read pages places at numbers p entries read same within is d =
+    read ∙ ap (λ (ns : List ℕ). items_in (bytes_on pages ns)) (same ∙ ap (λ (q : PlaceState). q.pages) (get_or_read places at p within is d))
 
 -- ---- over a device that is honest, the tests of what was read hold
 
-read_is : (pages : Pages) (k : ℕ) (p : PlaceState) (entries : List ItemState) → entries ≡ items_in (unwrap_or (pages k) []) → k ≡ page_no p → entries ≡ items_at pages p
+read_is : (pages : Pages) (numbers : List ℕ) (p : PlaceState) (entries : List ItemState) → entries ≡ items_in (bytes_on pages numbers) → numbers ≡ p.pages → entries ≡ items_at pages p
 unfolding items_at
-read_is pages k p entries read same = read ∙ ap (λ n. items_in (unwrap_or (pages n) [])) same
+read_is pages numbers p entries read same = read ∙ ap (λ (ns : List ℕ). items_in (bytes_on pages ns)) same
 
 -- it begins as the place says
-pub read_begins : (pages : Pages) (places : List PlaceState) (at k : ℕ) (p : PlaceState) (entries : List ItemState) (stamp : ℤ) (identifier : List ℕ) → IsDirectory pages places → at < length places
-    → p ≡ get_or places at p → entries ≡ items_in (unwrap_or (pages k) []) → k ≡ page_no p → stamp ≡ p.stamp → identifier ≡ p.identifier → begins_at stamp identifier entries ≡ true
-read_begins pages places at k p entries stamp identifier h within is read same dated named =
-    (λ i. begins_at (dated i) (named i) (read_is pages k p entries read same i)) ∙ (placed_at pages places at p h within is).begins
+pub read_begins : (pages : Pages) (places : List PlaceState) (at : ℕ) (numbers : List ℕ) (p : PlaceState) (entries : List ItemState) (stamp : ℤ) (identifier : List ℕ) → IsDirectory pages places → at < length places
+    → p ≡ get_or places at p → entries ≡ items_in (bytes_on pages numbers) → numbers ≡ p.pages → stamp ≡ p.stamp → identifier ≡ p.identifier → begins_at stamp identifier entries ≡ true
+read_begins pages places at numbers p entries stamp identifier h within is read same dated named =
+    (λ i. begins_at (dated i) (named i) (read_is pages numbers p entries read same i)) ∙ (placed_at pages places at p h within is).begins
 
 -- and ends before the next one
-pub read_below : (pages : Pages) (places : List PlaceState) (at k : ℕ) (p : PlaceState) (entries : List ItemState) → IsDirectory pages places → at < length places
-    → p ≡ get_or places at p → entries ≡ items_in (unwrap_or (pages k) []) → k ≡ page_no p → are_below entries (drop (at + 1) places) ≡ true
-read_below pages places at k p entries h within is read same =
+pub read_below : (pages : Pages) (places : List PlaceState) (at : ℕ) (numbers : List ℕ) (p : PlaceState) (entries : List ItemState) → IsDirectory pages places → at < length places
+    → p ≡ get_or places at p → entries ≡ items_in (bytes_on pages numbers) → numbers ≡ p.pages → are_below entries (drop (at + 1) places) ≡ true
+read_below pages places at numbers p entries h within is read same =
     let own : List ItemState = items_at pages (get_or places at p) in
     let next : List PlaceState = drop (at + 1) places in
     let before : List ItemState = items_on pages (take at places) in
     let behind : List ItemState = items_on pages next in
     let parts = placed-cut pages places at p within h.placed in
     let rising : are_in_order (before ++ (own ++ behind)) ≡ true = sym (ap are_in_order (items-cut pages places at p within)) ∙ h.rising in
-    ap (λ xs. are_below xs next) (read_is pages k p entries read same ∙ ap (items_at pages) is)
+    ap (λ xs. are_below xs next) (read_is pages numbers p entries read same ∙ ap (items_at pages) is)
     ∙ own_below next own behind (in_order-append before (own ++ behind) rising).1 (goes_on pages next parts.1)
 
 -- items that were read, and seen to begin and to end so
-pub may_be_read : (places : List PlaceState) (at : ℕ) (p : PlaceState) (entries : List ItemState) (stamp : ℤ) (identifier : List ℕ) → at < length places → p ≡ get_or places at p
-    → stamp ≡ p.stamp → identifier ≡ p.identifier → FitPage entries → begins_at stamp identifier entries ≡ true → are_below entries (drop (at + 1) places) ≡ true → MayBeAt places at entries
-may_be_read places at p entries stamp identifier within is dated named page begins below = record {
+pub may_be_read : (places : List PlaceState) (at : ℕ) (numbers : List ℕ) (p : PlaceState) (entries : List ItemState) (stamp : ℤ) (identifier : List ℕ) → at < length places → p ≡ get_or places at p
+    → numbers ≡ p.pages → stamp ≡ p.stamp → identifier ≡ p.identifier → FitPage entries → (length numbers ≤ 1 → fit_one entries ≡ true) → begins_at stamp identifier entries ≡ true
+    → are_below entries (drop (at + 1) places) ≡ true → MayBeAt places at entries
+may_be_read places at numbers p entries stamp identifier within is paged dated named page fits begins below = record {
   page = page;
+  fits = λ d few. fits (omega (arith, few, ap length (paged ∙ ap (λ (q : PlaceState). q.pages) (get_or_read places at p within is d))));
   begins = λ d. sym (λ i. begins_at ((dated ∙ ap (λ (q : PlaceState). q.stamp) (get_or_read places at p within is d)) i) ((named ∙ ap (λ (q : PlaceState). q.identifier) (get_or_read places at p within is d)) i) entries) ∙ begins;
   below = below;
 }

@@ -7,7 +7,7 @@ use Rattle.oai_pool.specs.Calls as pool
 use Rattle.oai_pool.specs.declared.pools.PagePool.{Ghosts}
 use Rattle.oai_pool.specs.declared.pools.PoolFault.{PoolFault}
 use Rattle.oai_pool.specs.declared.pools.PoolFault.TheVariants.{Device, NoMemory, TooManyPages}
-use Rattle.oai_paged.specs.Calls.{FreesPages, Takes, fault_of}
+use Rattle.oai_paged.specs.Calls.{FreesPages, ReadsPages, Takes, fault_of}
 
 -- results of a type that is told
 abbrev pub ok_of : {A : Type 0} → A → Result A Fault
@@ -146,3 +146,32 @@ takes_freed_err g a f p q s h k =
       kept : (g.failures p < g.failures q) ⊎ (g.failures p ≡ 18446744073709551615) → (g.failures p < g.failures s) ⊎ (g.failures p ≡ 18446744073709551615)
       kept (inl up) = inl (omega (arith, up, k.count))
       kept (inr top) = inr top
+
+-- a call after pages were read
+pub takes_read : {P A B : Type 0} (g : Ghosts P) (b : ℕ) (read : Result A Fault) (r : Result B Fault) (p q s : P) → ReadsPages g read p q → Takes g b r q s → Takes g b r p s
+takes_read g b read (Ok y) p q s h k =
+    let used = h.pool.room.used in
+    let more = k.room.used in
+    let first = h.pool.device.count in
+    let second = k.device.count in
+    record {
+      room = record { enough = tt; used = omega (arith, used, more) };
+      device = record { count = omega (arith, first, second); device = tt };
+      honesty = record { same = k.honesty.same ∙ h.pool.honesty.same; damaged = tt };
+    }
+takes_read g b read (Err f) p q s h k =
+    let used = h.pool.room.used in
+    let more = k.room.used in
+    let first = h.pool.device.count in
+    let second = k.device.count in
+    record {
+      room = record { enough = λ full. omega (arith, used, k.room.enough full); used = omega (arith, used, more) };
+      device = record { count = omega (arith, first, second); device = λ failed. rose (k.device.device failed) };
+      honesty = record { same = k.honesty.same ∙ h.pool.honesty.same; damaged = λ damage. sym h.pool.honesty.same ∙ k.honesty.damaged damage };
+    } where
+      rose : (g.failures q < g.failures s) ⊎ (g.failures q ≡ 18446744073709551615) → (g.failures p < g.failures s) ⊎ (g.failures p ≡ 18446744073709551615)
+      rose (inl up) = inl (omega (arith, up, h.pool.device.count))
+      rose (inr top) = top_of (cases_lt (g.failures p) (g.failures s)) where
+        top_of : (g.failures p < g.failures s) ⊎ (g.failures s ≤ g.failures p) → (g.failures p < g.failures s) ⊎ (g.failures p ≡ 18446744073709551615)
+        top_of (inl up) = inl up
+        top_of (inr no_more) = inr (omega (arith, top, no_more, h.pool.device.count, k.device.count))

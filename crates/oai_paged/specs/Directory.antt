@@ -1,7 +1,8 @@
 -- Directories: the places of the items of one version, in the order of the items.
-use Rattle.std.specs.Prelude.{◌≡◌, ◌+◌, ◌≤◌, ℕ, true, List, take, drop, ◌++◌}
+use Rattle.std.specs.Prelude.{◌≡◌, ◌+◌, ◌≤◌, ℕ, true, List, take, drop, ◌++◌, [], ◌∷◌}
 use Rattle.std.specs.List.{AllByRecursion}
 use Rattle.oai_item.specs.Item.{ItemState}
+use Rattle.oai_item.specs.Items.{with_item}
 use Rattle.oai_item.specs.Order.{are_in_order}
 use Rattle.oai_pool.specs.Counts.{count_of}
 use Rattle.oai_pool.specs.declared.pools.PagePool.{Ghosts}
@@ -22,3 +23,8 @@ pub record StandsIn {P : Type 0} (g : Ghosts P) (pool : P) (places : List PlaceS
 abbrev pub MayStand : Pages → List PlaceState → ℕ → ℕ → List ItemState → Type 0
 MayStand pages places at len items =
     are_in_order (items_on pages (take at places) ++ (items ++ items_on pages (drop (at + len) places))) ≡ true
+
+-- the item alone, in the place of so many places from `at` on, is the item put in among those of all places
+abbrev pub PutsAt : Pages → List PlaceState → ItemState → ℕ → ℕ → Type 0
+PutsAt pages places item at len =
+    items_on pages (take at places) ++ ((item ∷ []) ++ items_on pages (drop (at + len) places)) ≡ with_item item (items_on pages places)

@@ -1,11 +1,12 @@
 //! Items put into a directory, and taken out.
-ghost use Rattle.std.specs.Prelude.{◌≡◌, ◌+◌, ◌<◌, ◌≤◌, ℕ, [], ◌∷◌, true, length, take, drop, is_some, vec_capacity, vec_len, IfNone, IfOk, IfSome, IsTrue, OnErr, OnOk};
+ghost use Rattle.std.specs.Prelude.{◌≡◌, ◌+◌, ◌<◌, ◌≤◌, ℕ, [], true, length, take, drop, is_some, HoldsAt, vec_capacity, vec_len, IfNone, IfOk, IfSome, IsTrue, OnErr, OnOk};
 ghost use Rattle.oai_item.specs.Encoding.{encoded};
 ghost use Rattle.oai_item.specs.Items.{item_at, with_item, without_at};
 ghost use Rattle.oai_item.specs.declared.sizes.TheConstants.{MAX_ITEM_BYTES};
-ghost use Rattle.oai_paged.specs.Calls.{Changes, ChangesNothing, HasWayBack, IsDirectoryChanged, IsRemoved, Stages, Takes};
-ghost use Rattle.oai_paged.specs.Directory.{MayStand, StandsIn};
+ghost use Rattle.oai_paged.specs.Calls.{Changes, ChangesNothing, HasWayBack, IsRemoved, Stages, Takes};
+ghost use Rattle.oai_paged.specs.Directory.{PutsAt, StandsIn};
 ghost use Rattle.oai_paged.specs.Places.{items_on};
+ghost use Rattle.oai_paged.specs.Searches.{BelongsAt};
 ghost use Rattle.oai_paged.specs.declared.sizes.TheConstants.{MAX_OVERFLOW_PAGES};
 
 use crate::changes::{Changed, change, undo};
@@ -117,27 +118,75 @@ fn put_in<P: PagePool>(
     ensures pool { Takes P.PagePool (3 + MAX_OVERFLOW_PAGES) result pages.old pages.new }
 {
     if places.is_empty() {
-        return put_beside(alloc, pages, places, 0, 0, item);
+        return put_alone(alloc, pages, places, 0, 0, item);
     }
-    let stamp = item.stamp();
-    let identifier = item.identifier().as_str();
-    let at = place_of(places.as_slice(), stamp, identifier);
+    let at = place_of(places.as_slice(), item.stamp(), item.identifier().as_str());
     if places[at].is_long() {
-        return match places[at].order_to(stamp, identifier) {
-            Ordering::Less => put_beside(alloc, pages, places, at + 1, 0, item),
-            Ordering::Equal => put_beside(alloc, pages, places, at, 1, item),
-            Ordering::Greater => put_beside(alloc, pages, places, at, 0, item),
-        };
+        return put_by_long(alloc, pages, places, at, item);
     }
+    put_among(alloc, pages, places, at, item)
+}
+
+/// Puts the item in among those of the place at `at`, which has one page, and to which it belongs. Any fault may come; directory and pages are then as
+/// before.
+fn put_among<P: PagePool>(
+    alloc: Global,
+    pages: &mut P,
+    places: &mut Vec<SharedPlace>,
+    at: usize,
+    item: &Item,
+) -> Result<Changed, Fault>
+    requires within { at < vec_len places.old }
+    requires short { HoldsAt (λ place. length place.pages ≤ 1) places.old.items at }
+    requires belongs { BelongsAt places.old.items item.now.stamp item.now.identifier at }
+    requires stands { StandsIn P.PagePool pages.old places.old.items }
+    requires fits { length (encoded item.now) ≤ MAX_ITEM_BYTES }
+    ensures list { OnOk result (IsTrue (P.honest pages.old) → items_on (P.pages pages.new) places.new.items
+        ≡ with_item item.now (items_on (P.pages pages.old) places.old.items)) }
+    ensures staged { IfOk result (λ changed. Stages P.PagePool changed.at changed.len changed.gone.items
+        places.old.items places.new.items pages.old pages.new) }
+    ensures capacity { vec_capacity places.old ≤ vec_capacity places.new }
+    ensures err { OnErr result (ChangesNothing P.PagePool places.old.items places.new.items pages.old pages.new) }
+    ensures pool { Takes P.PagePool (3 + MAX_OVERFLOW_PAGES) result pages.old pages.new }
+{
     let old = read_place(alloc, pages, places.as_slice(), at)?;
-    let comes_last = at + 1 == places.len() && old.are_before(stamp, identifier);
+    let comes_last = at + 1 == places.len() && old.are_before(item.stamp(), item.identifier().as_str());
     let (entries, cuts) = old.put(alloc, item, comes_last)?;
     change(alloc, pages, places, at, 1, &entries, cuts)
 }
 
-/// Puts pages of the item alone in the place of so many places from `at` on, at most one. Any fault but `Damaged` may come; directory and pages are
-/// then as before.
-fn put_beside<P: PagePool>(
+/// Puts the item in beside the one of the place at `at`, which has overflow pages, and to which the item belongs, or in its place. Nothing is read. Any
+/// fault but `Damaged` may come; directory and pages are then as before.
+fn put_by_long<P: PagePool>(
+    alloc: Global,
+    pages: &mut P,
+    places: &mut Vec<SharedPlace>,
+    at: usize,
+    item: &Item,
+) -> Result<Changed, Fault>
+    requires within { at < vec_len places.old }
+    requires long { HoldsAt (λ place. 1 < length place.pages) places.old.items at }
+    requires belongs { BelongsAt places.old.items item.now.stamp item.now.identifier at }
+    requires stands { StandsIn P.PagePool pages.old places.old.items }
+    requires fits { length (encoded item.now) ≤ MAX_ITEM_BYTES }
+    ensures list { OnOk result (IsTrue (P.honest pages.old) → items_on (P.pages pages.new) places.new.items
+        ≡ with_item item.now (items_on (P.pages pages.old) places.old.items)) }
+    ensures staged { IfOk result (λ changed. Stages P.PagePool changed.at changed.len changed.gone.items
+        places.old.items places.new.items pages.old pages.new) }
+    ensures capacity { vec_capacity places.old ≤ vec_capacity places.new }
+    ensures err { OnErr result (ChangesNothing P.PagePool places.old.items places.new.items pages.old pages.new) }
+    ensures pool { Takes P.PagePool (3 + MAX_OVERFLOW_PAGES) result pages.old pages.new }
+{
+    match places[at].order_to(item.stamp(), item.identifier().as_str()) {
+        Ordering::Less => put_alone(alloc, pages, places, at + 1, 0, item),
+        Ordering::Equal => put_alone(alloc, pages, places, at, 1, item),
+        Ordering::Greater => put_alone(alloc, pages, places, at, 0, item),
+    }
+}
+
+/// Puts pages of the item alone in the place of so many places from `at` on, at most one, where it belongs. Any fault but `Damaged` may come; directory
+/// and pages are then as before.
+fn put_alone<P: PagePool>(
     alloc: Global,
     pages: &mut P,
     places: &mut Vec<SharedPlace>,
@@ -149,8 +198,10 @@ fn put_beside<P: PagePool>(
     requires one { len ≤ 1 }
     requires stands { StandsIn P.PagePool pages.old places.old.items }
     requires fits { length (encoded item.now) ≤ MAX_ITEM_BYTES }
-    requires may_stand { MayStand (P.pages pages.old) places.old.items at len (item.now ∷ []) }
-    ensures ok { IfOk result (λ changed. IsDirectoryChanged P.PagePool (item.now ∷ []) at len changed.at changed.len changed.gone.items
+    requires puts { PutsAt (P.pages pages.old) places.old.items item.now at len }
+    ensures list { OnOk result (IsTrue (P.honest pages.old) → items_on (P.pages pages.new) places.new.items
+        ≡ with_item item.now (items_on (P.pages pages.old) places.old.items)) }
+    ensures staged { IfOk result (λ changed. Stages P.PagePool changed.at changed.len changed.gone.items
         places.old.items places.new.items pages.old pages.new) }
     ensures capacity { vec_capacity places.old ≤ vec_capacity places.new }
     ensures err { OnErr result (ChangesNothing P.PagePool places.old.items places.new.items pages.old pages.new) }
@@ -160,8 +211,8 @@ fn put_beside<P: PagePool>(
     change(alloc, pages, places, at, len, &entries, cuts)
 }
 
-/// Takes the item of that datestamp, in seconds from 1970 on, and identifier out, if there is one; the page that it was on is still named. It adds one page
-/// at most. Any fault may come; directory and pages are then as before.
+/// Takes the item of that datestamp, in seconds from 1970 on, and identifier out, if there is one; the pages that it was on are still named. It adds one
+/// page at most. Any fault may come; directory and pages are then as before.
 fn take_out<P: PagePool>(
     alloc: Global,
     pages: &mut P,
@@ -185,13 +236,35 @@ fn take_out<P: PagePool>(
     }
     let at = place_of(places.as_slice(), stamp, identifier);
     if places[at].is_long() {
-        if places[at].order_to(stamp, identifier) != Ordering::Equal {
-            return Ok(None);
-        }
-        let none = Entries::new(alloc);
-        let changed = change(alloc, pages, places, at, 1, &none, Cuts::none())?;
-        return Ok(Some(changed));
+        return take_out_long(alloc, pages, places, at, stamp, identifier);
     }
+    take_out_among(alloc, pages, places, at, stamp, identifier)
+}
+
+/// Takes the item out of those of the place at `at`, which has one page, and to which its datestamp and identifier belong. Any fault may come; directory
+/// and pages are then as before.
+fn take_out_among<P: PagePool>(
+    alloc: Global,
+    pages: &mut P,
+    places: &mut Vec<SharedPlace>,
+    at: usize,
+    stamp: i64,
+    identifier: &str,
+) -> Result<Option<Changed>, Fault>
+    requires within { at < vec_len places.old }
+    requires short { HoldsAt (λ place. length place.pages ≤ 1) places.old.items at }
+    requires belongs { BelongsAt places.old.items stamp identifier.now at }
+    requires stands { StandsIn P.PagePool pages.old places.old.items }
+    ensures list { IfOk result (λ changed. IsTrue (P.honest pages.old) → IsRemoved stamp identifier.now
+        (is_some changed) (items_on (P.pages pages.old) places.old.items) (items_on (P.pages pages.new) places.new.items)) }
+    ensures staged { IfOk result (λ changed. IfSome changed (λ some. Stages P.PagePool some.at some.len some.gone.items
+        places.old.items places.new.items pages.old pages.new)) }
+    ensures back { IfOk result (λ changed. IfSome changed (λ some. HasWayBack some.at some.len
+        (vec_len places.new) (vec_capacity places.new) (vec_len some.gone) (vec_capacity some.gone))) }
+    ensures none { IfOk result (λ changed. IfNone changed (ChangesNothing P.PagePool places.old.items places.new.items pages.old pages.new)) }
+    ensures err { OnErr result (ChangesNothing P.PagePool places.old.items places.new.items pages.old pages.new) }
+    ensures pool { Takes P.PagePool 1 result pages.old pages.new }
+{
     let old = read_place(alloc, pages, places.as_slice(), at)?;
     match old.remove(alloc, stamp, identifier)? {
         Some(entries) => {
@@ -201,4 +274,36 @@ fn take_out<P: PagePool>(
         }
         None => Ok(None),
     }
+}
+
+/// Takes the place at `at` out, which has overflow pages, where its item is the one of that datestamp and identifier, which belong to it. Nothing is
+/// read. `NoMemory`; directory and pages are then as before.
+fn take_out_long<P: PagePool>(
+    alloc: Global,
+    pages: &mut P,
+    places: &mut Vec<SharedPlace>,
+    at: usize,
+    stamp: i64,
+    identifier: &str,
+) -> Result<Option<Changed>, Fault>
+    requires within { at < vec_len places.old }
+    requires long { HoldsAt (λ place. 1 < length place.pages) places.old.items at }
+    requires belongs { BelongsAt places.old.items stamp identifier.now at }
+    requires stands { StandsIn P.PagePool pages.old places.old.items }
+    ensures list { IfOk result (λ changed. IsTrue (P.honest pages.old) → IsRemoved stamp identifier.now
+        (is_some changed) (items_on (P.pages pages.old) places.old.items) (items_on (P.pages pages.new) places.new.items)) }
+    ensures staged { IfOk result (λ changed. IfSome changed (λ some. Stages P.PagePool some.at some.len some.gone.items
+        places.old.items places.new.items pages.old pages.new)) }
+    ensures back { IfOk result (λ changed. IfSome changed (λ some. HasWayBack some.at some.len
+        (vec_len places.new) (vec_capacity places.new) (vec_len some.gone) (vec_capacity some.gone))) }
+    ensures none { IfOk result (λ changed. IfNone changed (ChangesNothing P.PagePool places.old.items places.new.items pages.old pages.new)) }
+    ensures err { OnErr result (ChangesNothing P.PagePool places.old.items places.new.items pages.old pages.new) }
+    ensures pool { Takes P.PagePool 1 result pages.old pages.new }
+{
+    if places[at].order_to(stamp, identifier) != Ordering::Equal {
+        return Ok(None);
+    }
+    let none = Entries::new(alloc);
+    let changed = change(alloc, pages, places, at, 1, &none, Cuts::none())?;
+    Ok(Some(changed))
 }

@@ -1,5 +1,5 @@
 //! What is read of a directory: which items it has.
-ghost use Rattle.std.specs.Prelude.{◌≡◌, ◌+◌, ◌<◌, ◌≤◌, ◌++◌, ℕ, [], true, false, length, take, drop, filter, HoldsAt, IfErr, IfOk, IsSome, IsTrue, OnOk};
+ghost use Rattle.std.specs.Prelude.{◌≡◌, ◌+◌, ◌^◌, ◌<◌, ◌≤◌, ◌++◌, ℕ, [], true, false, length, take, drop, filter, HoldsAt, IfErr, IfOk, IsSome, IsTrue, OnOk};
 ghost use Rattle.std.specs.List.{flat_map, list_all};
 ghost use Rattle.std.specs.Ordering.{is_eq};
 ghost use Rattle.oai_item.specs.Items.{item_at, items_after};
@@ -15,7 +15,6 @@ ghost use Rattle.oai_paged.specs.Pages.{FitPage, IsPage, fit_one, items_in};
 ghost use Rattle.oai_paged.specs.Parts.{EndsBy, IsInside, IsPartTaken};
 ghost use Rattle.oai_paged.specs.Places.{FitPages, are_below, bytes_on, first_cmp, is_wanted, items_at, items_on, page_at};
 ghost use Rattle.oai_paged.specs.Searches.{MayBeAt, StartsAt};
-ghost use Rattle.oai_paged.specs.declared.sizes.TheConstants.{MAX_ENTRY_BYTES};
 
 use crate::entries::{Entries, are_zeros};
 use crate::faults::fault_of;
@@ -55,8 +54,12 @@ fn read_page<P: PagePool>(alloc: Global, pages: &mut P, no: PageNo) -> Result<En
 {
     match pages.read(no) {
         Ok(page) => match Entries::read(alloc, &page[..]) {
-            Ok(entries) if entries.fit_one() => Ok(entries),
-            Ok(_) => Err(Fault::Damaged),
+            Ok(entries) => {
+                if !entries.fit_one() {
+                    return Err(Fault::Damaged);
+                }
+                Ok(entries)
+            }
             Err(DecodeFault::Damaged) => Err(Fault::Damaged),
             Err(DecodeFault::NoMemory) => Err(Fault::NoMemory),
         },
@@ -105,12 +108,25 @@ fn read_overflow<P: PagePool>(
     ensures pages { ReadsPages P.PagePool result pages.old pages.new }
 {
     for at in 0..numbers.len() {
-        match pages.read(numbers[at]) {
-            Ok(page) => bytes.extend_from_slice(&page[..])?,
-            Err(fault) => return Err(fault_of(fault)),
-        }
+        read_more(pages, numbers[at], bytes)?;
     }
     Ok(())
+}
+
+/// Adds the bytes of the page of that number, which is named. Any fault but `Damaged` and `TooManyPages`.
+fn read_more<P: PagePool>(pages: &mut P, no: PageNo, bytes: &mut Vec<u8>) -> Result<(), Fault>
+    requires { 0 < count_of (P.counts pages.old) no }
+    ensures bytes { OnOk result (IsTrue (P.honest pages.old) → bytes.new.items ≡ bytes.old.items ++ page_at (P.pages pages.old) no) }
+    ensures more { OnOk result (length bytes.old.items ≤ length bytes.new.items) }
+    ensures pages { ReadsPages P.PagePool result pages.old pages.new }
+{
+    match pages.read(no) {
+        Ok(page) => match bytes.extend_from_slice(&page[..]) {
+            Ok(()) => Ok(()),
+            Err(_) => Err(Fault::NoMemory),
+        },
+        Err(fault) => Err(fault_of(fault)),
+    }
 }
 
 /// The entries on the pages of these numbers, which are named: those of a page, or the one that goes on on overflow pages. Any fault but
@@ -395,7 +411,7 @@ fn count_at<P: PagePool>(
     ensures number { IfOk result (λ n. IsTrue (P.honest pages.old)
         → HoldsAt (λ place. n ≡ length (filter (is_wanted wanted.entry.filter.now wanted.entry.stamp wanted.entry.identifier.now)
         (items_at (P.pages pages.old) place))) places.now at) }
-    ensures few { IfOk result (λ n. n ≤ MAX_ENTRY_BYTES) }
+    ensures few { IfOk result (λ n. n < 2 ^ 32) }
     ensures pages { ReadsPages P.PagePool result pages.old pages.new }
 {
     if is_inside(places, at, wanted) {

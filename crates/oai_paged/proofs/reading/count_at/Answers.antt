@@ -1,5 +1,5 @@
 use Rattle.std.proofs.Common.{arith}
-use Rattle.oai_paged.proofs.InsidePlaces.{few_items, few_placed, inside_counted}
+use Rattle.oai_paged.proofs.InsidePlaces.{few_placed, inside_counted}
 use Rattle.oai_paged.proofs.reading.count_at.Goals as goal
 
 pub returns-then-is_inside-clause-number : goal.returns-then-is_inside-clause-number
@@ -9,7 +9,7 @@ returns-then-is_inside-clause-number g c =
 
 pub returns-then-is_inside-clause-few : goal.returns-then-is_inside-clause-few
 returns-then-is_inside-clause-few g c =
-    few_placed (g.P.PagePool.pages c.args.pages.now) c.args.places.now c.args.at c.len.result c.index-places-at.result c.requires.stands.directory c.requires.within c.index-places-at.is c.len.ensures
+    omega (arith, few_placed (g.P.PagePool.pages c.args.pages.now) c.args.places.now c.args.at c.len.result c.index-places-at.result c.requires.stands.directory c.requires.within c.index-places-at.is c.len.ensures)
 
 pub returns-clause-few : goal.returns-clause-few
-returns-clause-few g c = omega (arith, c.count_in.ensures.few, few_items c.in_ok-entries.entries c.in_ok-entries.ensures.fits.page.fits)
+returns-clause-few g c = omega (arith, c.count_in.ensures.few, c.in_ok-entries.ensures.fits.page.few)

@@ -1,6 +1,5 @@
 use Rattle.std.specs.Prelude.{◌≡◌, ◌≤◌, ◌+◌, ◌*◌, IsTrue, filter, length, drop}
 use Rattle.oai_paged.specs.Places.{is_wanted, items_on}
-use Rattle.oai_paged.specs.declared.sizes.TheConstants.{MAX_ENTRY_BYTES}
 use Rattle.oai_paged.proofs.HaveReadLemmas.{HaveRead}
 use Rattle.oai_paged.proofs.reading.count_wanted.Given as goal
 
@@ -11,5 +10,5 @@ invariant-places g l =
       read : HaveRead P l.initial.pages l.pages;
       number : IsTrue (P.honest l.initial.pages) → l.total + length (filter (is_wanted l.wanted.filter.now l.wanted.stamp l.wanted.identifier.now) (items_on (P.pages l.initial.pages) (drop l.at l.places)))
           ≡ length (filter (is_wanted l.wanted.filter.now l.wanted.stamp l.wanted.identifier.now) (items_on (P.pages l.initial.pages) l.places));
-      few : l.total ≤ MAX_ENTRY_BYTES * l.at;
+      few : l.total ≤ 4_294_967_295 * l.at;
     }

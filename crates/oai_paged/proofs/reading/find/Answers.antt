@@ -1,13 +1,16 @@
-use Rattle.std.proofs.Common.{◌∙◌, ℤ, Ok, Err, Some, None, [], ap, length, pos, subst, sym, w64}
+use Rattle.std.specs.Ordering.{is_eq}
+use Rattle.std.proofs.Common.{◌≡◌, ◌∙◌, ℤ, Ok, Err, Some, None, [], ap, false, get_or, length, pos, refl, subst, sym, w64}
 use Rattle.std.proofs.lemmas.Int.{to_z-of_z}
 use Rattle.std.proofs.lemmas.Bool.{eqb-true}
-use Rattle.std.proofs.lemmas.List.{nil_from_length}
+use Rattle.std.proofs.lemmas.List.{get_or_read, nil_from_length}
 use Rattle.oai_item.specs.Item.{ItemState}
 use Rattle.oai_item.specs.Order.{IsPlace}
 use Rattle.oai_item.proofs.Around.{item_at-found, item_at-missing, only_place}
+use Rattle.oai_paged.specs.Places.{PlaceState, first_cmp, items_at}
 use Rattle.oai_paged.specs.Searches.{BelongsAt}
 use Rattle.oai_paged.proofs.DirectoryLemmas.{no_place}
 use Rattle.oai_paged.proofs.InsidePlaces.{found_read, none_found, some_places}
+use Rattle.oai_paged.proofs.LoneLemmas.{lone_at, lone_other}
 use Rattle.oai_paged.proofs.reading.find.Goals as goal
 
 pub returns-then-is_empty-clause-found : goal.returns-then-is_empty-clause-found
@@ -35,3 +38,19 @@ returns-clause-found g c =
     λ honest. found_read (g.P.PagePool.pages c.args.pages.now) c.args.places.now c.args.stamp c.args.identifier.now at c.in_ok-entries.entries None
     c.requires.directory (belongs.within (some_places c.args.places.now (sym c.is_empty.ensures ∙ c.if-is_empty.false))) belongs (c.in_ok-entries.ensures.items honest no_place)
     (item_at-missing c.args.stamp c.args.identifier.now c.in_ok-entries.entries c.in-Err.field-0 place)
+
+pub returns-then-is_other-clause-found : goal.returns-then-is_other-clause-found
+returns-then-is_other-clause-found g c =
+    let stamp = to_z-of_z w64 c.args.stamp c.ranges.stamp in
+    let pages = g.P.PagePool.pages c.args.pages.now in
+    let at = c.place_of-at.result in
+    let belongs : BelongsAt c.args.places.now c.args.stamp c.args.identifier.now at = subst (λ (s : ℤ). BelongsAt c.args.places.now s c.args.identifier.now at) stamp c.place_of-at.ensures in
+    let within = belongs.within (some_places c.args.places.now (sym c.is_empty.ensures ∙ c.if-is_empty.false)) in
+    let seen = c.is_other.ensures c.if-is_other.true in
+    let place : PlaceState = c.index-places-at.result in
+    let here : place ≡ get_or c.args.places.now at no_place = get_or_read c.args.places.now at place within c.index-places-at.is no_place in
+    let one = lone_at pages c.args.places.now at place c.requires.directory within c.index-places-at.is seen.0 in
+    let other : is_eq (first_cmp (get_or c.args.places.now at no_place) c.args.stamp c.args.identifier.now) ≡ false =
+    ap (λ (q : PlaceState). is_eq (first_cmp q c.args.stamp c.args.identifier.now)) (sym here) ∙ ap (λ (s : ℤ). is_eq (first_cmp place s c.args.identifier.now)) (sym stamp) ∙ seen.1 in
+    λ honest. found_read pages c.args.places.now c.args.stamp c.args.identifier.now at (items_at pages (get_or c.args.places.now at no_place)) None
+    c.requires.directory within belongs refl (lone_other pages c.args.places.now c.args.stamp c.args.identifier.now at c.requires.directory within belongs one other)

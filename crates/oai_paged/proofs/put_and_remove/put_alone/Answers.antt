@@ -1,0 +1,41 @@
+use Rattle.std.proofs.Common.{◌≡◌, ◌∙◌, [], ◌∷◌, IsTrue, List, ap, subst, sym}
+use Rattle.oai_item.specs.Item.{ItemState}
+use Rattle.oai_item.specs.Items.{with_item}
+use Rattle.oai_paged.specs.Calls.{IsDirectoryChanged}
+use Rattle.oai_paged.specs.Directory.{MayStand}
+use Rattle.oai_paged.specs.Pages.{fit_one}
+use Rattle.oai_paged.specs.Places.{PlaceState, items_on}
+use Rattle.oai_paged.specs.declared.changes.Changed.{Changed}
+use Rattle.oai_paged.proofs.ChangedLemmas.{on_ok_from}
+use Rattle.oai_paged.proofs.LoneLemmas.{items_beside, may_stand_put, put_none}
+use Rattle.oai_paged.proofs.ShortLemmas.{fit-nil}
+use Rattle.oai_paged.proofs.put_and_remove.put_alone.Goals as goal
+
+pub put-requires-clause-one_page : goal.put-requires-clause-one_page
+put-requires-clause-one_page g c = ap fit_one c.new.ensures ∙ fit-nil
+
+pub change-requires-clause-may_stand : goal.change-requires-clause-may_stand
+change-requires-clause-may_stand g c =
+    let pages = g.P.PagePool.pages c.args.pages.now in
+    let item : ItemState = c.args.item.now in
+    let places : List PlaceState = c.args.places.now.items in
+    let made : c.in_ok-entries.entries ≡ item ∷ [] = c.in_ok-entries.ensures.with ∙ ap (with_item item) c.new.ensures ∙ put_none item in
+    subst (λ (es : List ItemState). MayStand pages places c.args.at c.args.len es) (sym made) (may_stand_put pages places item c.args.at c.args.len c.requires.stands.directory c.requires.puts)
+
+pub returns-clause-list : goal.returns-clause-list
+returns-clause-list g c =
+    let G = g.P.PagePool in
+    let p = c.args.pages.now in
+    let q = c.change.new.pages in
+    let item : ItemState = c.args.item.now in
+    let at = c.args.at in
+    let len = c.args.len in
+    let before : List PlaceState = c.args.places.now.items in
+    let after : List PlaceState = c.change.new.places.items in
+    let entries : List ItemState = c.in_ok-entries.entries in
+    let made : entries ≡ item ∷ [] = c.in_ok-entries.ensures.with ∙ ap (with_item item) c.new.ensures ∙ put_none item in
+    on_ok_from (λ (changed : Changed). IsDirectoryChanged G entries at len changed.at changed.len changed.gone.items before after p q)
+    (IsTrue (G.honest p) → items_on (G.pages q) after ≡ with_item item (items_on (G.pages p) before)) c.change.result
+    (λ changed is honest. items_beside G item at len changed.at changed.len changed.gone.items before after p q c.requires.stands
+    (subst (λ (es : List ItemState). IsDirectoryChanged G es at len changed.at changed.len changed.gone.items before after p q) made is) c.requires.puts)
+    c.change.ensures.ok

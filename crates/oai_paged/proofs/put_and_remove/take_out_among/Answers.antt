@@ -1,0 +1,116 @@
+use Rattle.std.proofs.Common.{◌≡◌, ◌∙◌, ◌<◌, ◌≤◌, ◌*◌, ℕ, ℤ, Err, List, None, Option, Some, true, ap, arith, get_or, length, rules, subst, sym, w64}
+use Rattle.std.proofs.lemmas.Int.{to_z-of_z}
+use Rattle.oai_item.specs.Item.{ItemState}
+use Rattle.oai_paged.specs.Pages.{IsRemoval, fit_one}
+use Rattle.oai_paged.specs.Places.{PlaceState, items_at}
+use Rattle.oai_paged.specs.Searches.{MayBeAt}
+use Rattle.oai_paged.proofs.DirectoryChanges.{none_removed, one_removed, stands_read}
+use Rattle.oai_paged.proofs.DirectoryLemmas.{may_stand_without, no_place}
+use Rattle.oai_paged.proofs.ShortLemmas.{fit_parts}
+use Rattle.oai_paged.proofs.TakenLemmas.{err_of, ok_of, takes_failed, takes_ok, takes_read}
+use Rattle.oai_paged.specs.declared.changes.Changed.{Changed}
+use Rattle.oai_paged.proofs.put_and_remove.take_out_among.Goals as goal
+
+pub cuts-cuts-requires-clause-size : goal.cuts-cuts-requires-clause-size
+cuts-cuts-requires-clause-size g c =
+    let at = c.args.at in
+    let few = c.requires.short no_place in
+    let fits : fit_one c.in_ok-old.old ≡ true =
+    c.in_ok-old.ensures.fits.fits no_place (omega (arith, few, ap (λ (ps : List PlaceState). length (get_or ps at no_place).pages) c.as_slice.ensures.value)) in
+    let left = rw c.in-Some.is at c.in_ok-entries.ensures.one_page in
+    omega (arith, (fit_parts c.in-Some.entries (left fits)).0)
+
+pub cuts-cuts-requires-clause-short : goal.cuts-cuts-requires-clause-short
+cuts-cuts-requires-clause-short g c =
+    let at = c.args.at in
+    let few = c.requires.short no_place in
+    let fits : fit_one c.in_ok-old.old ≡ true =
+    c.in_ok-old.ensures.fits.fits no_place (omega (arith, few, ap (λ (ps : List PlaceState). length (get_or ps at no_place).pages) c.as_slice.ensures.value)) in
+    let left = rw c.in-Some.is at c.in_ok-entries.ensures.one_page in
+    (fit_parts c.in-Some.entries (left fits)).1
+
+pub change-requires-clause-may_stand : goal.change-requires-clause-may_stand
+change-requires-clause-may_stand g c =
+    let G = g.P.PagePool in
+    let p = c.args.pages.now in
+    let stamp : ℤ = c.args.stamp in
+    let identifier : List ℕ = c.args.identifier.now in
+    let before : List PlaceState = c.args.places.now.items in
+    let old : List ItemState = c.in_ok-old.old in
+    let at = c.args.at in
+    let within : at < length before = omega (arith, c.requires.within, c.args.places.now.ok.0) in
+    let taken : IsRemoval stamp identifier old c.in_ok-entries.field-0 =
+    subst (λ (z : ℤ). IsRemoval z identifier old c.in_ok-entries.field-0) (to_z-of_z w64 stamp c.ranges.stamp) c.in_ok-entries.ensures.removal in
+    let removal : IsRemoval stamp identifier old (Some c.in-Some.entries) = subst (λ (o : Option (List ItemState)). IsRemoval stamp identifier old o) c.in-Some.is taken in
+    let read : MayBeAt before at old = subst (λ (ps : List PlaceState). MayBeAt ps at old) c.as_slice.ensures.value c.in_ok-old.ensures.fits in
+    let stands = stands_read G c.read_place.result before p c.read_place.new.pages c.requires.stands c.read_place.ensures.pages in
+    rw removal.1 (may_stand_without (G.pages c.read_place.new.pages) before stamp identifier at old stands.directory within c.requires.belongs read)
+
+pub returns-in_err-changed-in-Some-clause-pool : goal.returns-in_err-changed-in-Some-clause-pool
+returns-in_err-changed-in-Some-clause-pool g c =
+    let at = c.args.at in
+    let few = c.requires.short no_place in
+    let fits : fit_one c.in_ok-old.old ≡ true =
+    c.in_ok-old.ensures.fits.fits no_place (omega (arith, few, ap (λ (ps : List PlaceState). length (get_or ps at no_place).pages) c.as_slice.ensures.value)) in
+    let left = rw c.in-Some.is at c.in_ok-entries.ensures.one_page in
+    let is : c.from_residual-in_err-changed-in-Some.result ≡ Err c.in_err-changed-in-Some.field-0.0 = search rules in
+    let G = g.P.PagePool in
+    let p = c.args.pages.now in
+    let mid = c.read_place.new.pages in
+    let q = c.change.new.pages in
+    let then = c.in_err-changed-in-Some.ensures.pool.few (left fits) in
+    takes_failed G 1 1 c.in_err-changed-in-Some.field-0.0 c.from_residual-in_err-changed-in-Some.result p q is (omega arith)
+    (takes_read G 1 c.read_place.result (err_of Changed c.in_err-changed-in-Some.field-0.0) p mid q c.read_place.ensures.pages then)
+
+pub returns-in-Some-clause-pool : goal.returns-in-Some-clause-pool
+returns-in-Some-clause-pool g c =
+    let at = c.args.at in
+    let few = c.requires.short no_place in
+    let fits : fit_one c.in_ok-old.old ≡ true =
+    c.in_ok-old.ensures.fits.fits no_place (omega (arith, few, ap (λ (ps : List PlaceState). length (get_or ps at no_place).pages) c.as_slice.ensures.value)) in
+    let left = rw c.in-Some.is at c.in_ok-entries.ensures.one_page in
+    let G = g.P.PagePool in
+    let p = c.args.pages.now in
+    let mid = c.read_place.new.pages in
+    let q = c.change.new.pages in
+    let changed = c.in_ok-changed-in-Some.changed in
+    let then = c.in_ok-changed-in-Some.ensures.pool.few (left fits) in
+    takes_ok G 1 changed (Some changed) p q (takes_read G 1 c.read_place.result (ok_of changed) p mid q c.read_place.ensures.pages then)
+
+pub returns-in-Some-clause-list : goal.returns-in-Some-clause-list
+returns-in-Some-clause-list g c =
+    let G = g.P.PagePool in
+    let p = c.args.pages.now in
+    let stamp : ℤ = c.args.stamp in
+    let identifier : List ℕ = c.args.identifier.now in
+    let before : List PlaceState = c.args.places.now.items in
+    let old : List ItemState = c.in_ok-old.old in
+    let at = c.args.at in
+    let within : at < length before = omega (arith, c.requires.within, c.args.places.now.ok.0) in
+    let taken : IsRemoval stamp identifier old c.in_ok-entries.field-0 =
+    subst (λ (z : ℤ). IsRemoval z identifier old c.in_ok-entries.field-0) (to_z-of_z w64 stamp c.ranges.stamp) c.in_ok-entries.ensures.removal in
+    let removal : IsRemoval stamp identifier old (Some c.in-Some.entries) = subst (λ (o : Option (List ItemState)). IsRemoval stamp identifier old o) c.in-Some.is taken in
+    let changed = c.in_ok-changed-in-Some.changed in
+    λ honest.
+    let held : old ≡ items_at (G.pages p) (get_or c.as_slice.result.now at no_place) = c.in_ok-old.ensures.items honest no_place in
+    one_removed G c.read_place.result stamp identifier old c.in-Some.entries at changed.at changed.len changed.gone.items before c.change.new.places.items p c.read_place.new.pages c.change.new.pages
+    c.requires.stands c.read_place.ensures.pages within c.requires.belongs c.in_ok-changed-in-Some.ensures.ok (sym removal.0) removal.1
+    (held ∙ ap (λ (ps : List PlaceState). items_at (G.pages p) (get_or ps at no_place)) c.as_slice.ensures.value)
+
+pub returns-clause-list : goal.returns-clause-list
+returns-clause-list g c =
+    let G = g.P.PagePool in
+    let p = c.args.pages.now in
+    let stamp : ℤ = c.args.stamp in
+    let identifier : List ℕ = c.args.identifier.now in
+    let before : List PlaceState = c.args.places.now.items in
+    let old : List ItemState = c.in_ok-old.old in
+    let at = c.args.at in
+    let within : at < length before = omega (arith, c.requires.within, c.args.places.now.ok.0) in
+    let taken : IsRemoval stamp identifier old c.in_ok-entries.field-0 =
+    subst (λ (z : ℤ). IsRemoval z identifier old c.in_ok-entries.field-0) (to_z-of_z w64 stamp c.ranges.stamp) c.in_ok-entries.ensures.removal in
+    let removal : IsRemoval stamp identifier old None = subst (λ (o : Option (List ItemState)). IsRemoval stamp identifier old o) c.in-None.is taken in
+    λ honest.
+    let held : old ≡ items_at (G.pages p) (get_or c.as_slice.result.now at no_place) = c.in_ok-old.ensures.items honest no_place in
+    none_removed (G.pages p) (G.pages c.read_place.new.pages) stamp identifier old at before c.requires.stands.directory within c.requires.belongs removal
+    (held ∙ ap (λ (ps : List PlaceState). items_at (G.pages p) (get_or ps at no_place)) c.as_slice.ensures.value) c.read_place.ensures.pages.same

@@ -1,0 +1,86 @@
+use Rattle.std.proofs.Common.{◌≡◌, ◌∙◌, ◌<◌, ℕ, ℤ, [], Err, List, Some, Equal, false, not, ap, arith, get_or, length, refl, rules, subst, sym, w64}
+use Rattle.std.specs.Ordering.{is_eq}
+use Rattle.std.specs.declared.cmp.Ordering.{Ordering}
+use Rattle.std.proofs.lemmas.Int.{to_z-of_z}
+use Rattle.std.proofs.lemmas.List.{get_or_read}
+use Rattle.oai_item.specs.Item.{ItemState}
+use Rattle.oai_paged.specs.Calls.{IsDirectoryChanged}
+use Rattle.oai_paged.specs.Directory.{MayStand}
+use Rattle.oai_paged.specs.Places.{PlaceState, first_cmp, items_at}
+use Rattle.oai_paged.proofs.DirectoryChanges.{none_removed}
+use Rattle.oai_paged.proofs.DirectoryLemmas.{no_place, placed-cut}
+use Rattle.oai_paged.proofs.LoneLemmas.{equal_from, lone, lone_other, lone_removed, may_stand_left, unequal_from}
+use Rattle.oai_paged.proofs.ShortLemmas.{fit-nil}
+use Rattle.oai_paged.proofs.TakenLemmas.{takes_failed, takes_ok}
+use Rattle.oai_paged.specs.Pages.{fit_one}
+use Rattle.oai_paged.proofs.put_and_remove.take_out_long.Goals as goal
+
+pub returns-then-ne-clause-list : goal.returns-then-ne-clause-list
+returns-then-ne-clause-list g c =
+    let G = g.P.PagePool in
+    let p = c.args.pages.now in
+    let pages = G.pages p in
+    let places : List PlaceState = c.args.places.now.items in
+    let at = c.args.at in
+    let stamp : ℤ = c.args.stamp in
+    let identifier : List ℕ = c.args.identifier.now in
+    let within : at < length places = omega (arith, c.requires.within, c.args.places.now.ok.0) in
+    let place : PlaceState = get_or places at no_place in
+    let here : c.index.result.now ≡ place = get_or_read places at c.index.result.now within c.index.ensures no_place in
+    let one = lone pages place (placed-cut pages places at no_place within c.requires.stands.directory.placed).0 (c.requires.long no_place) in
+    let seen : c.order_to.result ≡ first_cmp place stamp identifier =
+    c.order_to.ensures ∙ (λ i. first_cmp (here i) (to_z-of_z w64 stamp c.ranges.stamp i) identifier) in
+    let other : is_eq (first_cmp place stamp identifier) ≡ false = ap is_eq (sym seen) ∙ unequal_from c.order_to.result (sym c.ne.ensures ∙ c.if-ne.true) in
+    λ honest. none_removed pages pages stamp identifier (items_at pages place) at places c.requires.stands.directory within c.requires.belongs
+    (lone_other pages places stamp identifier at c.requires.stands.directory within c.requires.belongs one other) refl refl
+
+pub change-requires-clause-may_stand : goal.change-requires-clause-may_stand
+change-requires-clause-may_stand g c =
+    let G = g.P.PagePool in
+    let p = c.args.pages.now in
+    let pages = G.pages p in
+    let places : List PlaceState = c.args.places.now.items in
+    let at = c.args.at in
+    let stamp : ℤ = c.args.stamp in
+    let identifier : List ℕ = c.args.identifier.now in
+    let within : at < length places = omega (arith, c.requires.within, c.args.places.now.ok.0) in
+    let place : PlaceState = get_or places at no_place in
+    let here : c.index.result.now ≡ place = get_or_read places at c.index.result.now within c.index.ensures no_place in
+    let one = lone pages place (placed-cut pages places at no_place within c.requires.stands.directory.placed).0 (c.requires.long no_place) in
+    let seen : c.order_to.result ≡ first_cmp place stamp identifier =
+    c.order_to.ensures ∙ (λ i. first_cmp (here i) (to_z-of_z w64 stamp c.ranges.stamp i) identifier) in
+    let same : first_cmp place stamp identifier ≡ Equal = sym seen ∙ equal_from c.order_to.result (sym c.ne.ensures ∙ c.if-ne.false) in
+    subst (λ (es : List ItemState). MayStand pages places at 1 es) (sym c.new-none.ensures) (may_stand_left pages places stamp identifier at c.requires.stands.directory within c.requires.belongs one same)
+
+pub returns-in_err-changed-clause-pool : goal.returns-in_err-changed-clause-pool
+returns-in_err-changed-clause-pool g c =
+    let is : c.from_residual.result ≡ Err c.in_err-changed.field-0.0 = search rules in
+    takes_failed g.P.PagePool 1 1 c.in_err-changed.field-0.0 c.from_residual.result c.args.pages.now c.change.new.pages is (omega arith)
+    (c.in_err-changed.ensures.pool.few (ap fit_one c.new-none.ensures ∙ fit-nil))
+
+pub returns-clause-list : goal.returns-clause-list
+returns-clause-list g c =
+    let G = g.P.PagePool in
+    let p = c.args.pages.now in
+    let pages = G.pages p in
+    let places : List PlaceState = c.args.places.now.items in
+    let at = c.args.at in
+    let stamp : ℤ = c.args.stamp in
+    let identifier : List ℕ = c.args.identifier.now in
+    let within : at < length places = omega (arith, c.requires.within, c.args.places.now.ok.0) in
+    let place : PlaceState = get_or places at no_place in
+    let here : c.index.result.now ≡ place = get_or_read places at c.index.result.now within c.index.ensures no_place in
+    let one = lone pages place (placed-cut pages places at no_place within c.requires.stands.directory.placed).0 (c.requires.long no_place) in
+    let seen : c.order_to.result ≡ first_cmp place stamp identifier =
+    c.order_to.ensures ∙ (λ i. first_cmp (here i) (to_z-of_z w64 stamp c.ranges.stamp i) identifier) in
+    let same : first_cmp place stamp identifier ≡ Equal = sym seen ∙ equal_from c.order_to.result (sym c.ne.ensures ∙ c.if-ne.false) in
+    let q = c.change.new.pages in
+    let after : List PlaceState = c.change.new.places.items in
+    let changed = c.in_ok-changed.changed in
+    λ honest. lone_removed G stamp identifier at changed.at changed.len changed.gone.items places after p q c.requires.stands within c.requires.belongs one same
+    (subst (λ (es : List ItemState). IsDirectoryChanged G es at 1 changed.at changed.len changed.gone.items places after p q) c.new-none.ensures c.in_ok-changed.ensures.ok)
+
+pub returns-clause-pool : goal.returns-clause-pool
+returns-clause-pool g c =
+    let changed = c.in_ok-changed.changed in
+    takes_ok g.P.PagePool 1 changed (Some changed) c.args.pages.now c.change.new.pages (c.in_ok-changed.ensures.pool.few (ap fit_one c.new-none.ensures ∙ fit-nil))

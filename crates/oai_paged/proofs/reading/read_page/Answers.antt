@@ -1,0 +1,24 @@
+use Rattle.std.proofs.Common.{◌≡◌, ◌∙◌, [], ap, sym, unwrap_or}
+use Rattle.oai_paged.specs.Pages.{fit_one, items_in}
+use Rattle.oai_paged.proofs.HaveReadLemmas.{read_page}
+use Rattle.oai_paged.proofs.PageLemmas.{items_in-page}
+use Rattle.oai_paged.proofs.ReadPlaces.{not_honest_from, reads_damaged}
+use Rattle.oai_paged.proofs.reading.read_page.Goals as goal
+
+pub returns-in-Ok-read-clause-items : goal.returns-in-Ok-read-clause-items
+returns-in-Ok-read-clause-items g c =
+    λ honest. sym (items_in-page c.deref.result.now c.in-Ok-read.entries c.in-Ok-read.ensures)
+    ∙ ap items_in (c.deref.ensures ∙ sym (ap (λ o. unwrap_or o []) (c.in-Ok.ensures.value honest)))
+
+pub returns-then-not-fit_one-clause-pages : goal.returns-then-not-fit_one-clause-pages
+returns-then-not-fit_one-clause-pages g c =
+    let G = g.P.PagePool in
+    let p = c.args.pages.now in
+    let q = c.read.new.self in
+    reads_damaged G p q
+    (read_page G c.read.result p q c.read.ensures.counts c.read.ensures.same c.read.ensures.pool)
+    (not_honest_from (G.honest p) c.fit_one.result
+    (λ honest. c.fit_one.ensures
+    ∙ ap fit_one (sym (items_in-page c.deref.result.now c.in-Ok-read.entries c.in-Ok-read.ensures) ∙ ap items_in (c.deref.ensures ∙ sym (ap (λ o. unwrap_or o []) (c.in-Ok.ensures.value honest))))
+    ∙ c.requires.one)
+    c.if-not-fit_one.true)
