@@ -1,15 +1,14 @@
 -- Pages added for items, and their place.
-use Rattle.std.proofs.Common.{◌≡◌, ◌∙◌, ◌+◌, ◌≤◌, ◌<◌, if◌then◌else◌, ◌==◌, ℕ, List, [], ◌∷◌, ◌++◌, Some, length, refl, sym, ap, subst, arith, append-nil, unwrap_or, Bool, true, false, inl, inr}
+use Rattle.std.proofs.Common.{◌≡◌, ◌∙◌, ◌+◌, ◌≤◌, if◌then◌else◌, ◌==◌, ℕ, List, [], ◌∷◌, ◌++◌, Some, length, refl, sym, ap, arith, append-nil, unwrap_or, Bool, true, false, inl, inr}
 use Rattle.std.specs.Prelude.{map}
-use Rattle.std.specs.Cmp.{nat_eq_equiv}
-use Rattle.std.proofs.lemmas.Bool.{cases_eq, cases_lt, ne_eqb}
+use Rattle.std.proofs.lemmas.Bool.{cases_eq, ne_eqb}
 use Rattle.std.proofs.lemmas.List.{map-append}
 use Rattle.oai_item.specs.Item.{ItemState}
 use Rattle.oai_pool.specs.Counts.{AddsName, KeepsNamed, count_of}
 use Rattle.oai_pool.specs.Names.{times}
 use Rattle.oai_pool.specs.declared.pools.PagePool.{Ghosts}
 use Rattle.oai_paged.specs.Calls.{Adds}
-use Rattle.oai_paged.specs.Pages.{FitAlone, FitPage, begins_at, items_in, pages_of}
+use Rattle.oai_paged.specs.Pages.{FitAlone, FitPage, begins_at, pages_of}
 use Rattle.oai_paged.specs.Places.{IsSoundPlace, Pages, PlaceState, bytes_on, have_records, items_at, named_in, page_at}
 use Rattle.oai_paged.specs.Recounts.{AddsNumbers, Recounts}
 use Rattle.oai_paged.proofs.NameLemmas.{named_in-cons, named_in-nil, times-append, times-nil, times-one}

@@ -7,7 +7,6 @@ use Rattle.std.proofs.lemmas.List.Folds.{list_all-append}
 use Rattle.std.proofs.lemmas.Grind.{flat_map-append}
 use Rattle.std.proofs.lemmas.List.{take-append-drop, take_more}
 use Rattle.oai_pool.specs.Names.{times}
-use Rattle.oai_paged.specs.Pages.{joined}
 use Rattle.oai_paged.specs.Places.{Pages, bytes_on, page_at}
 use Rattle.oai_paged.specs.declared.sizes.TheConstants.{FRONT_BYTES}
 use Rattle.oai_paged.proofs.NameLemmas.{times-append, times-cons, times-here}

@@ -1,5 +1,5 @@
 -- The pages of items, joined again: one page, or one and its overflow pages.
-use Rattle.std.proofs.Common.{◌≡◌, ◌∙◌, ◌+◌, ◌-◌, ◌*◌, ◌/◌, ◌^◌, ◌<◌, ◌≤◌, ◌⊎◌, ◌==◌, if◌then◌else◌, inl, inr, ℕ, suc, zero, Bool, true, false, List, [], ◌∷◌, ◌++◌, length, take, drop, get_or, pos, refl, sym, ap, subst, arith, append-nil, append_assoc, length-append, length-take, length-drop, unwrap_or, min}
+use Rattle.std.proofs.Common.{◌≡◌, ◌∙◌, ◌+◌, ◌-◌, ◌*◌, ◌/◌, ◌<◌, ◌≤◌, ◌==◌, if◌then◌else◌, inl, inr, ℕ, suc, zero, Bool, true, false, List, [], ◌∷◌, ◌++◌, length, take, drop, get_or, refl, sym, ap, subst, arith, append-nil, append_assoc, length-append, length-drop, min}
 use Rattle.std.specs.Prelude.{map, replicate}
 use Rattle.std.specs.List.{flat_map, list_all}
 use Rattle.std.proofs.lemmas.Bool.{cases_lt, false≢true}
@@ -303,9 +303,9 @@ overflow_page items number entries at end d n e more some within fits is =
     ap (drop (i * PAGE_BYTES)) rest ∙ drop-drop (i * PAGE_BYTES) 604 entries in
     ap filled (part_is entries start end fits is ∙ ap (take PAGE_BYTES) (sym part))
     ∙ sym (
-      ap (λ (ps : List (List ℕ)). get_or ps at d) (pages-long items more)
-      ∙ behind_front (filled (take FRONT_BYTES (written items))) (spread (overflow_of items) (drop FRONT_BYTES (written items))) at d some
-      ∙ spread_at (overflow_of items) i (drop FRONT_BYTES (written items)) d (omega (arith, some, within))
+    ap (λ (ps : List (List ℕ)). get_or ps at d) (pages-long items more)
+    ∙ behind_front (filled (take FRONT_BYTES (written items))) (spread (overflow_of items) (drop FRONT_BYTES (written items))) at d some
+    ∙ spread_at (overflow_of items) i (drop FRONT_BYTES (written items)) d (omega (arith, some, within))
     )
 
 -- how many pages items need at most

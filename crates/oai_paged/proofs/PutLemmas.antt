@@ -6,13 +6,12 @@ use Rattle.oai_item.specs.Encoding.{Spells, encoded, encoded_count, encoded_text
 use Rattle.oai_item.specs.Item.{ItemState}
 use Rattle.oai_item.specs.Items.{with_item}
 use Rattle.oai_item.specs.Order.{IsPlace}
-use Rattle.oai_item.specs.declared.sizes.TheConstants.{MAX_ITEM_BYTES}
 use Rattle.oai_item.proofs.Around.{item_at-found, only_place, with_item-found, with_item-missing, without_at-found}
 use Rattle.oai_names.proofs.Lists.{set_cut}
 use Rattle.oai_paged.specs.Entries.{AreEntries, ends_from, items_with}
 use Rattle.oai_paged.specs.Pages.{AreStorable, IsRemoval, entries_of, entry_of, size_of}
-use Rattle.oai_paged.proofs.EntryLemmas.{are_entries, ends_from-append, ends_moved, ends_within, entries_of-append, length-ends_from, size_of-append, size_of-between, size_of-cut, storable-append, storable-drop, storable-take}
-use Rattle.oai_paged.proofs.PageLemmas.{entries_of-cons, length-entry, size_of-cons}
+use Rattle.oai_paged.proofs.EntryLemmas.{are_entries, ends_from-append, ends_moved, ends_within, entries_of-append, length-ends_from, storable-append, storable-drop, storable-take}
+use Rattle.oai_paged.proofs.PageLemmas.{entries_of-cons}
 
 -- ---- the ends before a place, and behind it
 

@@ -3,7 +3,7 @@ use Rattle.std.proofs.Common.{◌≡◌, ◌∙◌, ◌==◌, ◌+◌, ◌-◌, 
 use Rattle.std.specs.Prelude.{replicate}
 use Rattle.std.specs.List.{list_all}
 use Rattle.std.proofs.lemmas.Bool.{and_parts, cases_lt, eqb-true, false≢true}
-use Rattle.std.proofs.lemmas.List.{append-nil, append_cancel_left, drop-drop, drop_at, drop_more, get_or-take, get_or_past, length-take-le, length_push, take-append-drop, take_all, take_at}
+use Rattle.std.proofs.lemmas.List.{append-nil, append_cancel_left, drop-drop, drop_at, drop_more, get_or-take, get_or_past, length-take-le, length_push, take-append-drop, take_at}
 use Rattle.std.proofs.lemmas.Nat.{be_bytes_4}
 use Rattle.oai_item.specs.Encoding.{Spells, encoded, encoded_count}
 use Rattle.oai_item.specs.Item.{ItemState}
@@ -17,7 +17,7 @@ use Rattle.oai_paged.specs.Entries.{AreEntries, HasEntries, HasEntry, IsEntryRea
 use Rattle.oai_paged.specs.Pages.{AreStorable, IsPage, IsPageReading, entries_of, entry_of, first_number, items_of_entries, size_of}
 use Rattle.oai_item.proofs.Decoded.{item_in-spelled, spelled-item_in}
 use Rattle.oai_paged.proofs.EntryLemmas.{are_entries, ends_from-append, entries_cut, entries_of-append, size_is, size_of-append, size_of-one, storable-append, storable-take, storable_at}
-use Rattle.oai_paged.proofs.PageLemmas.{behind_number, entries_of-cons, entries_of-nil, entry_parts, items_back, length-entry, number_back, page_parts, size_of-least, size_of-nil}
+use Rattle.oai_paged.proofs.PageLemmas.{behind_number, entries_of-cons, entries_of-nil, entry_parts, items_back, length-entry, number_back, page_parts, size_of-nil}
 
 -- ---- a number
 

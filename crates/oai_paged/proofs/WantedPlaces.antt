@@ -134,6 +134,9 @@ greater_is Greater = refl
 pub greater_from : (o : Ordering) → not (ordering_index o == 2) ≡ false → is_gt o ≡ true
 greater_from o h = greater_is o ∙ ap not h
 
+pub not_greater_from : (o : Ordering) → not (ordering_index o == 2) ≡ true → is_gt o ≡ false
+not_greater_from o h = greater_is o ∙ ap not h
+
 pub not_lower : (a b : ℤ) → lt_z a b ≡ false → b ≤ℤ a
 not_lower a b h = grind (arith, ints)
 

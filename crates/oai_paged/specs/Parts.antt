@@ -1,5 +1,5 @@
 -- What is known of the items of a place without reading them, and parts of what is wanted.
-use Rattle.std.specs.Prelude.{◌≡◌, ◌+◌, ◌-◌, ◌≤ℤ◌, ◌++◌, ℕ, ℤ, Bool, true, List, [], ◌∷◌, None, length, take, drop, filter, HoldsAt}
+use Rattle.std.specs.Prelude.{◌≡◌, ◌⊎◌, ◌+◌, ◌-◌, ◌<◌, ◌≤ℤ◌, int_le, ◌++◌, ℕ, ℤ, Bool, true, false, List, [], ◌∷◌, None, length, take, drop, filter, HoldsAt}
 use Rattle.std.specs.Ordering.{is_gt}
 use Rattle.oai_item.specs.Item.{ItemState}
 use Rattle.oai_item.specs.Selection.{Filter}
@@ -19,6 +19,12 @@ pub record IsInside (places : List PlaceState) (at : ℕ) (asked : Filter) (stam
   pub behind : HoldsAt (λ place. is_gt (first_cmp place stamp identifier) ≡ true) places at
   pub prefix : HoldsAt (λ place. is_among place.prefixes asked.prefix ≡ true) places at
   pub upper : EndsBy (drop (at + 1) places) asked.upper
+
+-- the place has one item alone, which goes on on overflow pages, and that is not asked for, or does not stand behind that datestamp and
+-- identifier
+pub record IsOutside (places : List PlaceState) (at : ℕ) (asked : Filter) (stamp : ℤ) (identifier : List ℕ) : Type 0 where
+  pub long : HoldsAt (λ place. 1 < length place.pages) places at
+  pub out : HoldsAt (λ place. (int_le asked.lower place.stamp ≡ false) ⊎ (is_gt (first_cmp place stamp identifier) ≡ false)) places at
 
 -- of those of the items that pass, all but the first `skip` were added to the part, as far as it then has at most so many; whatever items come next, so
 -- many of these are still to be skipped

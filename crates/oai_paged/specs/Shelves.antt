@@ -1,5 +1,5 @@
 -- The directories of all versions of a store, over the pages of one pool.
-use Rattle.std.specs.Prelude.{◌≡◌, ◌+◌, ◌-◌, ◌<◌, ◌/◌, ℕ, zero, suc, List, [], ◌∷◌, Option, None, Some, length, max, min, option_map, unwrap_or, sum_by, slice_index_or}
+use Rattle.std.specs.Prelude.{◌≡◌, ◌+◌, ◌-◌, ◌<◌, ◌/◌, ℕ, zero, suc, List, [], ◌∷◌, Option, None, Some, length, max, min, option_map, sum_by, slice_index_or}
 use Rattle.std.specs.List.{Contains}
 use Rattle.oai_catalogue.specs.Store.{Lists, list_at}
 use Rattle.oai_item.specs.Item.{ItemState}

@@ -193,7 +193,14 @@ fn add_page<P: PagePool>(
     let identifier = entries.identifier(alloc, from)?;
     let prefixes = entries.prefixes(alloc, from, to)?;
     let numbers = add_numbers(alloc, pages, entries, from, to)?;
-    match SharedPlace::new(alloc, numbers.as_slice(), stamp, identifier, to - from, prefixes) {
+    match SharedPlace::new(
+        alloc,
+        numbers.as_slice(),
+        stamp,
+        identifier,
+        to - from,
+        prefixes,
+    ) {
         Ok(place) => Ok(place),
         Err(_) => {
             drop_numbers(pages, numbers.as_slice());

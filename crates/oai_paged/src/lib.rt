@@ -15,5 +15,8 @@ mod searches;
 mod sizes;
 mod store;
 
-pub use sizes::{FRONT_BYTES, HEAD_BYTES, MAX_ENTRY_BYTES, MAX_OVERFLOW_PAGES, MAX_WHOLE_BYTES, NUMBER_BYTES, size_law};
+pub use sizes::{
+    FRONT_BYTES, HEAD_BYTES, MAX_ENTRY_BYTES, MAX_OVERFLOW_PAGES, MAX_WHOLE_BYTES, NUMBER_BYTES,
+    size_law,
+};
 pub use store::{PagedVersions, VersionsOver};

@@ -150,7 +150,8 @@ fn put_among<P: PagePool>(
     ensures pool { Takes P.PagePool (3 + MAX_OVERFLOW_PAGES) result pages.old pages.new }
 {
     let old = read_place(alloc, pages, places.as_slice(), at)?;
-    let comes_last = at + 1 == places.len() && old.are_before(item.stamp(), item.identifier().as_str());
+    let comes_last = at + 1 == places.len()
+        && old.are_before(item.stamp(), item.identifier().as_str());
     let (entries, cuts) = old.put(alloc, item, comes_last)?;
     change(alloc, pages, places, at, 1, &entries, cuts)
 }

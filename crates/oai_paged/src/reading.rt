@@ -12,7 +12,7 @@ ghost use Rattle.oai_pool.specs.declared.pools.TheConstants.{MAX_PAGES};
 ghost use Rattle.oai_paged.specs.Calls.{ReadsPages};
 ghost use Rattle.oai_paged.specs.Directory.{StandsIn};
 ghost use Rattle.oai_paged.specs.Pages.{FitPage, IsPage, fit_one, items_in};
-ghost use Rattle.oai_paged.specs.Parts.{EndsBy, IsInside, IsPartTaken};
+ghost use Rattle.oai_paged.specs.Parts.{EndsBy, IsInside, IsOutside, IsPartTaken};
 ghost use Rattle.oai_paged.specs.Places.{FitPages, are_below, bytes_on, first_cmp, is_wanted, items_at, items_on, page_at};
 ghost use Rattle.oai_paged.specs.Searches.{MayBeAt, StartsAt};
 
@@ -69,7 +69,11 @@ fn read_page<P: PagePool>(alloc: Global, pages: &mut P, no: PageNo) -> Result<En
 
 /// The entry that goes on on overflow pages, of which these are the numbers, the first that of the page of the entry. All are named. Any fault but
 /// `TooManyPages`.
-fn read_long<P: PagePool>(alloc: Global, pages: &mut P, numbers: &[PageNo]) -> Result<Entries, Fault>
+fn read_long<P: PagePool>(
+    alloc: Global,
+    pages: &mut P,
+    numbers: &[PageNo],
+) -> Result<Entries, Fault>
     requires long { 1 < length numbers.now }
     requires named { (n : ℕ) → 0 < times n numbers.now → 0 < count_of (P.counts pages.old) n }
     requires page { IsPage (bytes_on (P.pages pages.old) numbers.now) (items_in (bytes_on (P.pages pages.old) numbers.now)) }
@@ -388,6 +392,23 @@ fn is_inside(places: &[SharedPlace], at: usize, wanted: Wanted<'_>) -> bool
     ends_by(&places[at + 1..], filter.upper)
 }
 
+/// Whether it is known without reading its pages that no item of the place is wanted: it has one alone, which goes on on overflow pages, and that stands
+/// before the lower bound, or not behind the datestamp and identifier.
+fn is_outside(places: &[SharedPlace], at: usize, wanted: Wanted<'_>) -> bool
+    requires { at < length places.now }
+    ensures { IsTrue result → IsOutside places.now at wanted.entry.filter.now wanted.entry.stamp wanted.entry.identifier.now }
+{
+    let place = &places[at];
+    let filter = wanted.filter;
+    if !place.is_long() {
+        return false;
+    }
+    if filter.lower > place.stamp() {
+        return true;
+    }
+    place.order_to(wanted.stamp, wanted.identifier) != Ordering::Greater
+}
+
 /// Whether all items before these places have a datestamp of at most `upper`, in seconds from 1970 on.
 fn ends_by(places: &[SharedPlace], upper: i64) -> bool
     ensures { IsTrue result → EndsBy places.now upper }
@@ -414,6 +435,9 @@ fn count_at<P: PagePool>(
     ensures few { IfOk result (λ n. n < 2 ^ 32) }
     ensures pages { ReadsPages P.PagePool result pages.old pages.new }
 {
+    if is_outside(places, at, wanted) {
+        return Ok(0);
+    }
     if is_inside(places, at, wanted) {
         return Ok(places[at].len());
     }
@@ -462,6 +486,9 @@ fn take_at<P: PagePool>(
         part.old.items part.new.items skip left (items_at (P.pages pages.old) place)) places.now at) }
     ensures pages { ReadsPages P.PagePool result pages.old pages.new }
 {
+    if is_outside(places, at, wanted) {
+        return Ok(skip);
+    }
     let len = places[at].len();
     if skip >= len && is_inside(places, at, wanted) {
         return Ok(skip - len);

@@ -4,7 +4,7 @@ ghost use Rattle.std.specs.List.{Contains};
 ghost use Rattle.oai_catalogue.specs.Store.{no_lists};
 ghost use Rattle.oai_host.specs.Hosts.{Repository};
 ghost use Rattle.oai_item.specs.Item.{ItemState};
-ghost use Rattle.oai_paged.specs.Shelves.{StandsOnPage, calls_left};
+ghost use Rattle.oai_paged.specs.Shelves.{StandsOnPages, calls_left};
 ghost use Rattle.oai_paged.specs.Store.{pool_of};
 ghost use Rattle.oai_pool.specs.Pool.{device_of};
 ghost use Rattle.oai_served.specs.Served.{all_calls};
@@ -37,13 +37,14 @@ pub fn store_on<D: PageDevice>(
     }
 }
 
-/// The pool of the pages on which the host's repositories keep their items: each item stands, spelled, on one of them.
+/// The pool of the pages on which the host's repositories keep their items: each item stands, spelled, on one of them, or on one and its
+/// overflow pages.
 pub fn pages_under<D: PageDevice>(host: &Host<PagedVersions<D>>) -> &Pool<D>
     ensures room { calls_left (⟦<Pool<D> as PagePool>⟧.room result.now) (⟦<Pool<D> as PagePool>⟧.counts result.now)
         ≡ host.now.room }
     ensures stands { (repository : Repository) (item : ItemState) → Contains host.now.repositories repository
         → Contains repository.state.holdings.items item
-        → StandsOnPage (⟦<Pool<D> as PagePool>⟧.counts result.now) (⟦<Pool<D> as PagePool>⟧.pages result.now) item }
+        → StandsOnPages (⟦<Pool<D> as PagePool>⟧.counts result.now) (⟦<Pool<D> as PagePool>⟧.pages result.now) item }
     ensures honesty { D.honest (device_of result.now) ≡ host.now.honest }
     ensures count { D.failures (device_of result.now) ≡ host.now.failures }
 {

@@ -1,4 +1,4 @@
-use Rattle.std.proofs.Common.{◌≡◌, ◌∙◌, FitsSigned, List, ap, arith, sym, [], pos, subst, w64}
+use Rattle.std.proofs.Common.{◌∙◌, FitsSigned, List, ap, arith, sym, [], pos, w64}
 use Rattle.std.proofs.lemmas.Int.{to_z-of_z}
 use Rattle.oai_item.specs.Item.{ItemState}
 use Rattle.oai_item.proofs.Around.{only_place}

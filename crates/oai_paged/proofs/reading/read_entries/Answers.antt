@@ -1,4 +1,4 @@
-use Rattle.std.proofs.Common.{◌≡◌, ◌∙◌, ◌≤◌, true, List, ℕ, IsTrue, ap, arith, get_or, length, subst, sym}
+use Rattle.std.proofs.Common.{◌≡◌, ◌∙◌, ◌≤◌, List, ℕ, IsTrue, ap, arith, get_or, length, subst, sym}
 use Rattle.oai_item.specs.Item.{ItemState}
 use Rattle.oai_paged.specs.Pages.{IsPage, fit_one, items_in}
 use Rattle.oai_paged.specs.Places.{bytes_on, page_at}

@@ -1,4 +1,4 @@
-use Rattle.std.proofs.Common.{◌≡◌, ◌∙◌, ◌==◌, ◌-◌, ◌<◌, ◌++◌, IsTrue, List, ℕ, [], ap, arith, drop, get_or, length, subst, sym, take, unwrap_or}
+use Rattle.std.proofs.Common.{◌≡◌, ◌∙◌, ◌==◌, ◌-◌, ◌++◌, IsTrue, List, ℕ, [], ap, arith, drop, get_or, length, subst, sym, take, unwrap_or}
 use Rattle.std.specs.List.{list_all}
 use Rattle.std.proofs.lemmas.Bool.{false_from_ne_true}
 use Rattle.std.proofs.lemmas.List.{take_rest}

@@ -1,7 +1,6 @@
-use Rattle.std.proofs.Common.{◌≡◌, ◌∙◌, ◌<◌, ◌++◌, Err, List, ℕ, ap, append-nil, arith, get_or, length, refl, rules, sym}
+use Rattle.std.proofs.Common.{◌≡◌, ◌∙◌, ◌++◌, Err, List, ℕ, ap, append-nil, arith, get_or, rules, sym}
 use Rattle.std.specs.List.{flat_map}
 use Rattle.std.proofs.lemmas.List.{take_all}
-use Rattle.oai_pool.specs.Names.{times}
 use Rattle.oai_paged.specs.Places.{page_at}
 use Rattle.oai_paged.proofs.HaveReadLemmas.{read_failed, read_more, read_none, read_ok}
 use Rattle.oai_paged.proofs.JoinedLemmas.{named_in_numbers, one_more}

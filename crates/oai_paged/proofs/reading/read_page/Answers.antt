@@ -1,4 +1,4 @@
-use Rattle.std.proofs.Common.{◌≡◌, ◌∙◌, [], ap, sym, unwrap_or}
+use Rattle.std.proofs.Common.{◌∙◌, [], ap, sym, unwrap_or}
 use Rattle.oai_paged.specs.Pages.{fit_one, items_in}
 use Rattle.oai_paged.proofs.HaveReadLemmas.{read_page}
 use Rattle.oai_paged.proofs.PageLemmas.{items_in-page}

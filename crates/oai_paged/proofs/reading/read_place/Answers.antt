@@ -1,4 +1,4 @@
-use Rattle.std.proofs.Common.{◌≡◌, ◌∙◌, ◌+◌, FitsSigned, ap, arith, sym, w64}
+use Rattle.std.proofs.Common.{◌∙◌, ◌+◌, FitsSigned, ap, arith, sym, w64}
 use Rattle.std.proofs.lemmas.Int.{to_z-of_z}
 use Rattle.std.proofs.lemmas.List.{take_rest}
 use Rattle.oai_paged.proofs.HaveReadLemmas.{read_more, read_none}

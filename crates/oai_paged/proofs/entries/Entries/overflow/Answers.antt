@@ -1,7 +1,7 @@
-use Rattle.std.proofs.Common.{◌≡◌, ◌∙◌, ◌+◌, ◌-◌, ◌/◌, false, true, List, [], ap, arith, pos, sym}
+use Rattle.std.proofs.Common.{◌∙◌, ◌+◌, ◌-◌, ◌/◌, false, true, List, [], ap, arith, pos, sym}
 use Rattle.oai_item.specs.Item.{ItemState}
 use Rattle.oai_item.proofs.Around.{only_place}
-use Rattle.oai_paged.specs.Pages.{between, fit_one}
+use Rattle.oai_paged.specs.Pages.{between}
 use Rattle.oai_paged.proofs.EntryLemmas.{size_is, storable-between}
 use Rattle.oai_paged.proofs.OverflowLemmas.{long_from, overflow-long, overflow-one}
 use Rattle.oai_paged.proofs.ShortLemmas.{fit_between}

@@ -1,4 +1,4 @@
-use Rattle.std.proofs.Common.{◌≡◌, ◌∙◌, ◌+◌, ◌-◌, ◌*◌, ◌<◌, ◌≤◌, false, true, ℕ, List, [], ◌++◌, ap, arith, length, length-take, pos, sym}
+use Rattle.std.proofs.Common.{◌≡◌, ◌∙◌, ◌+◌, ◌-◌, ◌*◌, ◌<◌, ◌≤◌, false, true, List, [], ap, arith, length, length-take, pos, sym}
 use Rattle.oai_item.specs.Encoding.{encoded_count}
 use Rattle.oai_item.specs.Item.{ItemState}
 use Rattle.oai_item.proofs.Around.{only_place}

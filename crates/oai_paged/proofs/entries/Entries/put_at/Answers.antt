@@ -1,5 +1,4 @@
-use Rattle.std.proofs.Common.{◌≡◌, ◌∙◌, ◌+◌, ◌≤◌, false, true, List, [], ◌++◌, ◌∷◌, arith, drop, length, pos, sym, take}
-use Rattle.oai_item.specs.Encoding.{encoded}
+use Rattle.std.proofs.Common.{◌∙◌, ◌+◌, [], arith, pos, sym}
 use Rattle.oai_item.specs.Item.{ItemState}
 use Rattle.oai_item.proofs.Around.{only_place}
 use Rattle.oai_paged.proofs.ShortLemmas.{cuts_around, length-with, short-with, size_of-with}
