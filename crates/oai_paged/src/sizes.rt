@@ -10,7 +10,7 @@ pub(crate) const NUMBER_BYTES: usize = 4;
 /// To how many bytes a page is filled at the end of a list, where items come in order: nine tenths.
 pub(crate) const FULL_BYTES: usize = 14_742;
 
-/// The sizes in numbers, since definitions read them by their names. It does nothing at run time.
+/// The sizes in numbers, since definitions read them by their names. It is a theorem: the function is empty.
 pub fn size_law()
     ensures entries { MAX_ENTRY_BYTES ≡ 16_380 }
     ensures page { MAX_ENTRY_BYTES + 4 ≡ PAGE_BYTES }
