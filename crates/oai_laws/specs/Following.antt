@@ -167,7 +167,7 @@ pub record IsFollowedThrough (config : Config) (list_request : ListRequest) (sel
   pub told : map (λ (exchange : Exchange). answer_in exchange.outcome) exchanges ≡ map (λ (page : Page). Some (answer_by_verb list_request.verb format page)) pages
   pub placed : ArePagesAt config (length selection) 0 pages
   pub lasting : AreLasting config exchanges pages
-  pub open_lists : BeginsList (joined pages) selection
+  pub begun : BeginsList (joined pages) selection
   pub complete : are_complete pages ≡ true → joined pages ≡ selection
   pub ordered : are_in_order (joined pages) ≡ true
   pub apart : are_apart (joined pages) ≡ true
