@@ -5,6 +5,7 @@ import glob
 import json
 import os
 import random
+import re
 import subprocess
 import sys
 import tempfile
@@ -23,6 +24,9 @@ CHANGES = 500
 # How many records an answer has.
 CHUNK = 100
 
+# How many harvests of what is new follow a whole one, for a copy.
+LATER = 3
+
 # The sets, each with its name. A set lies in that whose parts are its first ones. The library refuses to ask for one with a `~`.
 SETS = {
     "theses": "Theses & Dissertations",
@@ -32,6 +36,7 @@ SETS = {
     "a-z.(1)!": "A name that says ']]>' and 😀",
 }
 
+RESPONSE_DATE = re.compile("<responseDate>([^<]*)</responseDate>")
 DC_NAMESPACE = "http://purl.org/dc/elements/1.1/"
 DC_ROOT = "{http://www.openarchives.org/OAI/2.0/oai_dc/}dc"
 
@@ -167,6 +172,16 @@ class Harvest:
             self.differ(f"{len(lines)} lines are answered {[it for it in said if it != f'ok {stamp}'][:5]}, {len(said)} lines in all")
         for line in lines:
             self.archive.take(line, stamp)
+
+    def change(self):
+        """Deposits new items, and changes, deletes and revives others."""
+        self.deposit([self.author.new_item() for _ in range(3 * CHANGES // 10)])
+        self.deposit(self.author.changes(states=4 * CHANGES // 10, deletions=2 * CHANGES // 10, revivals=CHANGES // 10))
+
+    def began(self):
+        """The repository's datestamp at the first request of the last harvest: the responseDate of its first document."""
+        with open(f"{self.folder}/{self.count}/1.xml", encoding="utf-8") as it:
+            return RESPONSE_DATE.search(it.read())[1]
 
     def read(self, verb, meanwhile=None, **arguments):
         """What the harvester reads, and in how many documents; where there is something to do meanwhile, after the first one."""
@@ -309,19 +324,31 @@ def check_lists(harvest):
 
 def check_changes(harvest, whole):
     """Changes while a list is read, of which it must show nothing; then a harvest of what is new, which must complete the first one."""
-    author = harvest.author
-
-    def change():
-        harvest.deposit([author.new_item() for _ in range(3 * CHANGES // 10)])
-        harvest.deposit(author.changes(states=4 * CHANGES // 10, deletions=2 * CHANGES // 10, revivals=CHANGES // 10))
-
-    harvest.list("ListRecords", meanwhile=change, metadataPrefix="oai_dc")
+    harvest.list("ListRecords", meanwhile=harvest.change, metadataPrefix="oai_dc")
     newest = max(it["datestamp"] for it in whole)
     new = harvest.lists(metadataPrefix="oai_dc", **{"from": newest})
     copy = {it["identifier"]: it for it in whole + new}
     read = sorted(copy.values(), key=lambda it: (it["datestamp"], it["identifier"]))
     wanted = [record_of(it, "oai_dc") for it in harvest.archive.selected("oai_dc")]
     harvest.compare("the first harvest and the second one together", wanted, read)
+
+
+def check_copy(harvest):
+    """A copy that catches up with a whole harvest and then with later ones, each from the datestamp on at which the one before began. Between
+    them and while each but the last is read, items are deposited, changed and deleted. It must equal a whole harvest."""
+    copy = {}
+    since = {}
+    for later in range(LATER + 1):
+        meanwhile = harvest.change if later < LATER else None
+        for it in harvest.list("ListRecords", meanwhile, metadataPrefix="oai_dc", **since):
+            copy[it["identifier"]] = it
+        since = {"from": harvest.began()}
+        if later < LATER:
+            harvest.change()
+    whole = [{"identifier": it["identifier"], **it} for it in harvest.list("ListRecords", metadataPrefix="oai_dc")]
+    read = sorted(copy.values(), key=lambda it: (it["datestamp"], it["identifier"]))
+    print(f"a copy of a whole harvest and {LATER} later ones: {len(read)} items", flush=True)
+    harvest.compare("the copy and a whole harvest", whole, read)
 
 
 def main():
@@ -332,6 +359,7 @@ def main():
         load(harvest)
         check_others(harvest)
         check_changes(harvest, check_lists(harvest))
+        check_copy(harvest)
         documents = harvest.check_documents()
     differences = f"{harvest.differences} differences" if harvest.differences else "nothing differs"
     print(f"interop: {harvest.count} harvests of {len(harvest.archive.items)} items, {documents} documents: {differences}")

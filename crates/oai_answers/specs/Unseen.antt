@@ -41,7 +41,7 @@ item_document granularity prefix item = record {
 abbrev pub plain_issue : Document
 plain_issue = item_document Day (codes "jnl") (issue 62_167_219_200 (article (codes "jnl") ∷ []))
 
--- the same in a format of another prefix, with the same root, namespace and schema
+-- the article in a format of another prefix, with the same root, namespace and schema
 abbrev pub issue_by_prefix : Document
 issue_by_prefix = item_document Day (codes "art") (issue 62_167_219_200 (article (codes "art") ∷ []))
 

@@ -65,7 +65,7 @@ pub record Spends {V A : Type 0} (room_of failures_of : V → ℕ) (honest_of : 
   pub device : IsCounted result (failures_of old) (failures_of new)
   pub honesty : IsHonest result (honest_of old) (honest_of new)
 
--- the same of a call that cannot fail: it leaves no less room, the count of failures and the honesty as they were
+-- what a call that cannot fail spends: it leaves no less room, and the count of failures and the honesty as they were
 pub record Spares {V : Type 0} (room_of failures_of : V → ℕ) (honest_of : V → Bool) (old new : V) : Type 0 where
   pub room : room_of old ≤ room_of new
   pub count : failures_of new ≡ failures_of old

@@ -6,7 +6,7 @@ use Rattle.oai_config.specs.declared.faults.ReadFault.TheVariants as fault
 use Rattle.oai_cli.specs.declared.stop.Stop.{Stop}
 use Rattle.oai_cli.specs.declared.stop.Stop.TheVariants.{BadConfig, CannotRead, NoMemory, OutputFault}
 
--- the configuration that the text tells; or its fault; or memory was refused
+-- the configuration in the text; or its fault; or memory was refused
 abbrev pub IsConfigIn : List ℕ → Result HostConfig Stop → Type 0
 IsConfigIn text (Ok config) = IsRead text (Ok config)
 IsConfigIn text (Err (BadConfig cause)) = IsRead text (Err cause) × (cause ≢ fault.NoMemory)
@@ -20,7 +20,7 @@ IsConfigurationUnread stop = (stop ≡ CannotRead) ⊎ (stop ≡ NoMemory)
 abbrev pub checked_line : ℕ → List ℕ
 checked_line repositories = codes "ok " ++ decimal repositories ++ codes "\n"
 
--- the text tells a configuration, and the line of its repositories was written; or it does, and the output failed; or it has a fault, or
+-- the text is a configuration, and the line of its repositories was written; or it is one, and the output failed; or it has a fault, or
 -- memory was refused, and nothing was written
 abbrev pub IsChecked : List ℕ → Result Unit Stop → (List ℕ → Type 0) → Type 0
 IsChecked text (Ok done) Writes = (config : HostConfig) × IsRead text (Ok config) × Writes (checked_line (length config.repositories))

@@ -23,12 +23,12 @@ use Rattle.oai_cli.specs.declared.stop.Stop.TheVariants.{BadPiece, NoMemory}
 unfoldable pub coming : List ℕ → Option (Option (List ℕ))
 coming text = if bytes_eq text (codes "end") then Some None else option_map Some (result_ok (decode_of text))
 
--- what comes was read; or the text tells nothing; or memory was refused
+-- what comes was read; or the text is neither of the two; or memory was refused
 abbrev pub IsComing : List ℕ → Result (Option (List ℕ)) FromHexError → Type 0
 IsComing text (Ok piece) = coming text ≡ Some piece
 IsComing text (Err error) = (error ≡ OutOfMemory) ⊎ (coming text ≡ None)
 
--- why the line of that number tells nothing
+-- why the line of that number could not be parsed
 abbrev pub stop_at : ℕ → FromHexError → Stop
 stop_at number OutOfMemory = NoMemory
 stop_at number OddLength = BadPiece number
@@ -53,13 +53,13 @@ coming_text (Some bytes) = encode_lower bytes
 abbrev pub event_line : Event → List ℕ
 event_line event = signed_decimal event.moment ++ codes " " ++ decimal event.label ++ codes " " ++ coming_text event.piece
 
--- an event that a line can tell: a moment and a label of 64 bits, and bytes
+-- an event that a line can have: a moment and a label of 64 bits, and bytes
 pub record IsWritableEvent (event : Event) : Type 0 where
   pub moment : FitsSigned w64 event.moment
   pub label : event.label < 2 ^ 64
   pub piece : IfSome event.piece IsBytes
 
--- a line was read; it tells nothing, and is the line of that number; or memory was refused
+-- a line was parsed; or it is no event, and is the line of that number; or memory was refused
 abbrev pub IsParsedEvent : List ℕ → ℕ → Result Event Stop → Type 0
 IsParsedEvent line number (Ok event) = parse_event line ≡ Some event
 IsParsedEvent line number (Err (BadPiece at)) = (parse_event line ≡ None) × (at ≡ number)
@@ -76,7 +76,7 @@ shown_output label (b ∷ bytes) = decimal label ++ codes " " ++ encode_lower (b
 abbrev pub shown_close : ℕ → Bool → List ℕ
 shown_close label closing = if closing then decimal label ++ codes " close\n" else []
 
--- what is written of the bytes can be traced again: behind a moment it is one line, which tells that these bytes come on that label
+-- what is written of the bytes can be traced again: behind a moment it is one line, which is parsed as these bytes on that label
 pub record IsTraceable (at : ℤ) (number : ℕ) (bytes : List ℕ) : Type 0 where
   pub line : List ℕ
   pub alone : lines_of (signed_decimal at ++ codes " " ++ shown_output number bytes) ≡ line ∷ [] ∷ []

@@ -83,7 +83,7 @@ left_on c = if reads_no_more c then None else option_map (with_output []) c
 unfoldable pub name_on : ConnId → Option Connection → Option ConnId
 name_on conn c = if reads_no_more c then None else Some conn
 
--- what the event tells came on the connection, and what this put out was written under the label; no other connection was changed by that
+-- the piece or the end of the event came on the connection, and what this put out was written under the label; no other connection was changed by that
 pub record IsTraced {H : Type 0} (step : Steps H) (event : Event) (conn : ConnId) (old new : Tracing H) (Writes : List ℕ → Type 0) : Type 0 where
   pub mid : State H
   pub came : ComesOn step conn.number event.moment event.piece old.front true mid
@@ -112,7 +112,7 @@ pub record Shown : Type 0 where
   pub event : Event
   pub text : List ℕ
 
--- the lines that are not empty tell events; these were followed in order, and what was written for them stands in that order
+-- the lines that are not empty are events; these were followed in order, and what was written for them stands in that order
 pub record AreFollowed {H : Type 0} (step : Steps H) (lines : List (List ℕ)) (old : State H) (new : Tracing H) (Writes : List ℕ → Type 0) : Type 0 where
   pub events : List Shown
   pub read : map parse_event (filter is_line_filled lines) ≡ map (λ e. Some e.event) events
@@ -142,7 +142,7 @@ number_or next None = next
 number_or next (Some None) = next
 number_or next (Some (Some conn)) = conn.number
 
--- the line tells an event, and no connection but that of its label was changed
+-- the line is an event, and no connection but that of its label was changed
 pub record HasBegun {H : Type 0} (line : List ℕ) (old : Tracing H) (new : State H) : Type 0 where
   pub event : Event
   pub parsed_as : parse_event line ≡ Some event
@@ -193,7 +193,7 @@ pub record IsPassed {H : Type 0} (line : List ℕ) (old new : Tracing H) (Writes
   pub same : new ≡ old
   pub written : Writes []
 
--- a line that is not empty tells an event, which is followed
+-- a line that is not empty is an event, which is followed
 pub record IsEventLine {H : Type 0} (step : Steps H) (line : List ℕ) (old new : Tracing H) (Writes : List ℕ → Type 0) : Type 0 where
   pub filled : is_line_filled line ≡ true
   pub event : Event

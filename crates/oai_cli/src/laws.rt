@@ -13,7 +13,7 @@ use crate::input::limits::{MAX_READS, READ_BYTES};
 use crate::trace::MAX_CONNECTIONS;
 
 /// What is written of a moment, a number, a call and an event is read as that again, and what a trace writes
-/// of a connection can stand in a trace. It does nothing.
+/// of a connection can stand in a trace. It is a theorem: the function is empty.
 pub fn line_law()
     ensures moments { (moment : ℤ) → FitsSigned w64 moment
         → moment_of (signed_decimal moment) ≡ Some moment }
@@ -24,7 +24,7 @@ pub fn line_law()
         → label < 2 ^ 64 → IsBytes bytes → bytes ≢ [] → IsTraceable moment label bytes }
 {}
 
-/// The limits in numbers, since no other clause tells them. It does nothing.
+/// The limits in numbers, which no other clause has. It is a theorem: the function is empty.
 pub fn limit_law()
     ensures reads { MAX_READS ≡ 1_000_000 }
     ensures bytes { READ_BYTES ≡ 65_536 }

@@ -14,8 +14,8 @@ use std::fs::{File, OpenOptions};
 use std::io::ErrorKind;
 use std::rt::Files;
 
-/// The file at that path, open to be read and written, with no bytes in it: it is created, or emptied where
-/// it is there. The errors are `DeviceFault`, where it cannot be, and `NoMemory`.
+/// The file at that path, without bytes, opened to be read and written. It is created, or emptied where there
+/// is one. The errors are `DeviceFault`, where it cannot be opened so, and `NoMemory`.
 pub fn empty_file<R: Files<File = File>>(rt: &R, path: &str) -> Result<File, Stop> {
     let opened = OpenOptions::new()
         .read(true)
@@ -30,8 +30,8 @@ pub fn empty_file<R: Files<File = File>>(rt: &R, path: &str) -> Result<File, Sto
     }
 }
 
-/// The host of the configuration, each of its repositories without items and sets, over the pages of that
-/// device, with a cache of as many of them as the configuration tells. The error is `NoMemory`.
+/// The host of the configuration over the pages of that device. Its repositories have no items and no sets. The
+/// store is made by `store_on`, whose contract says how many pages the cache has. The error is `NoMemory`.
 pub fn host_on<D: PageDevice>(
     alloc: Global,
     config: Config,

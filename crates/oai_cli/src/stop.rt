@@ -17,7 +17,7 @@ pub enum Stop {
     BadConfig(ReadFault),
     /// The line of that number, counted from 1 over all lines, is no exchange.
     BadExchange(u64),
-    /// The line of that number, counted from 1 over all lines, tells no piece and no end.
+    /// The line of that number, counted from 1 over all lines, is no piece and no end.
     BadPiece(u64),
     /// For the label of the line of that number, counted from 1 over all lines, no connection can be opened.
     TooManyConnections(u64),

@@ -28,9 +28,10 @@ use std::io::{Read, Write};
 /// The most connections of a trace that are open at once.
 pub const MAX_CONNECTIONS: usize = 1_024;
 
-/// Takes the pieces and ends of connections that the lines of the input tell, in order, and writes what each
-/// connection puts out. A line is `<moment> <label> <hex>` or `<moment> <label> end`; an empty line is
-/// skipped. The moment is in seconds from 1970 on, and a new label, a number below 2^64, opens a connection.
+/// Performs the lines of the input in order: each is a piece that comes on a connection, or a connection's
+/// end. Writes what each connection puts out. A line is `<moment> <label> <hex>` or `<moment> <label> end`;
+/// an empty line is skipped. The moment is in seconds from 1970 on, and a new label, a number below 2^64,
+/// opens a connection.
 /// After each line the new output is written as `<label> <hex>`, and `<label> close` where the connection is
 /// closing; it is forgotten then, and later lines of its label do nothing.
 ///
@@ -56,7 +57,7 @@ pub fn trace_lines<H: Handler, R: Read, W: Write>(
     traced
 }
 
-/// Reads the input to its end, and does what each line tells.
+/// Reads the input to its end, and performs each line.
 fn trace_all<H: Handler, R: Read, W: Write>(
     alloc: Global,
     front: &mut Front<H>,
@@ -87,7 +88,7 @@ fn trace_all<H: Handler, R: Read, W: Write>(
     Err(Stop::InputFault)
 }
 
-/// Does what the line of that number tells, where it is not empty.
+/// Performs the line of that number, where it is not empty.
 fn trace_line<H: Handler, W: Write>(
     alloc: Global,
     front: &mut Front<H>,
@@ -111,7 +112,7 @@ fn trace_line<H: Handler, W: Write>(
     }
 }
 
-/// Does what a line tells of that connection, and writes what it puts out.
+/// Performs the event on that connection, and writes what the connection puts out.
 fn trace_event<H: Handler, W: Write>(
     alloc: Global,
     front: &mut Front<H>,

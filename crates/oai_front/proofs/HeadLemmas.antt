@@ -132,10 +132,13 @@ read_begins bytes headers spans h short few within at = record {
 }
 
 pub read_framing : (bytes : List ℕ) (headers : List HeaderSpan) (spans : RequestSpans) (h : RequestHead) (framing : Framing) → IsRequestAt bytes headers spans h
-    → framing ≡ framing_of spans.version (map (header_bytes bytes) (take spans.headers headers)) → framing_in h ≡ framing
+    → framing ≡ framing_of spans.version (span_bytes bytes spans.path) (map (header_bytes bytes) (take spans.headers headers)) → framing_in h ≡ framing
 unfolding framing_in
 read_framing bytes headers spans h framing at e =
-    ap₂ framing_of (sym at.version) (sym at.fields) ∙ sym e
+    let fields : List (List ℕ × List ℕ) = map (header_bytes bytes) (take spans.headers headers) in
+    ap₂ (λ (minor : ℕ) (given : List (List ℕ × List ℕ)). framing_of minor h.target given) (sym at.version) (sym at.fields)
+    ∙ ap (λ (target : List ℕ). framing_of spans.version target fields) (sym at.path)
+    ∙ sym e
 
 pub read_type : (bytes : List ℕ) (headers : List HeaderSpan) (spans : RequestSpans) (h : RequestHead) (value : Option (List ℕ)) → IsRequestAt bytes headers spans h
     → value ≡ first_value (values_named (codes "Content-Type") (map (header_bytes bytes) (take spans.headers headers)))

@@ -10,7 +10,10 @@ use Rattle.httparse.specs.Grammar.{trim_ows}
 use Rattle.oai_http.specs.declared.statuses.Status.TheVariants.{BadRequest, ContentTooLarge, NotImplemented}
 use Rattle.oai_front.specs.declared.framings.Framing.{Framing}
 use Rattle.oai_front.specs.declared.framings.Framing.TheVariants.{Refused, Body}
-use Rattle.oai_front.specs.declared.framings.TheConstants.{MAX_BODY_BYTES, MAX_LENGTH_DIGITS}
+use Rattle.oai_front.specs.declared.framings.TheConstants.{MAX_BODY_BYTES, MAX_DEPOSIT_BYTES, MAX_LENGTH_DIGITS}
+use Rattle.oai_http.specs.Targets.{endpoint_of}
+use Rattle.oai_http.specs.declared.targets.Endpoint.{Endpoint}
+use Rattle.oai_http.specs.declared.targets.Endpoint.TheVariants.{Deposits, Requests}
 
 -- the texts differ at most in the case of ASCII letters
 unfoldable pub is_alike : List ℕ → List ℕ → Bool
@@ -71,18 +74,28 @@ any_close fields = list_any lists_close (values_named (codes "Connection") field
 abbrev pub is_last : ℕ → List (List ℕ × List ℕ) → Bool
 is_last minor fields = minor == 0 || any_close fields
 
--- the framing where a body of that size is announced
-abbrev pub framing_sized : ℕ → Bool → Framing
-framing_sized size last = if nat_lt MAX_BODY_BYTES size then Refused ContentTooLarge else Body size last
+-- the longest body of a message, in bytes, by what its target is for, whatever its method. That a body may be too long is RFC 9110, section
+-- 15.5.14; the limits are this repository's own
+abbrev pub max_body_at : Option Endpoint → ℕ
+max_body_at (Some Deposits) = MAX_DEPOSIT_BYTES
+max_body_at (Some Requests) = MAX_BODY_BYTES
+max_body_at None = MAX_BODY_BYTES
 
-abbrev pub framing_by : Option ℕ → Bool → Framing
-framing_by None last = Refused BadRequest
-framing_by (Some size) last = framing_sized size last
+abbrev pub max_body_of : List ℕ → ℕ
+max_body_of target = max_body_at (endpoint_of target)
 
--- the framing behind a head of HTTP/1.minor with these fields: the first fault, or the body of a message. RFC 9112, sections 3.2, 6.1 and
--- 6.3
-unfoldable pub framing_of : ℕ → List (List ℕ × List ℕ) → Framing
-framing_of minor fields =
+-- the framing where a body of that size is announced, and may have `most` bytes
+abbrev pub framing_sized : ℕ → ℕ → Bool → Framing
+framing_sized most size last = if nat_lt most size then Refused ContentTooLarge else Body size last
+
+abbrev pub framing_by : ℕ → Option ℕ → Bool → Framing
+framing_by most None last = Refused BadRequest
+framing_by most (Some size) last = framing_sized most size last
+
+-- the framing behind a head of HTTP/1.minor with that target and these fields: the first fault, or the body of a message. RFC 9112, sections
+-- 3.2, 6.1 and 6.3
+unfoldable pub framing_of : ℕ → List ℕ → List (List ℕ × List ℕ) → Framing
+framing_of minor target fields =
     if not (is_host_count minor (length (values_named (codes "Host") fields))) then Refused BadRequest
     else (if nat_lt 0 (length (values_named (codes "Transfer-Encoding") fields)) then Refused NotImplemented
-    else framing_by (length_given (values_named (codes "Content-Length") fields)) (is_last minor fields))
+    else framing_by (max_body_of target) (length_given (values_named (codes "Content-Length") fields)) (is_last minor fields))

@@ -22,7 +22,7 @@ head_fields head = map name_and_value head.fields
 
 -- the framing of the body behind a head: RFC 9112, section 6
 unfoldable pub framing_in : RequestHead → Framing
-framing_in head = framing_of head.minor (head_fields head)
+framing_in head = framing_of head.minor head.target (head_fields head)
 
 -- the bytes are a head of at most so many bytes and fields, and then `behind`
 pub record Begins (bytes : List ℕ) (head : RequestHead) (behind : List ℕ) : Type 0 where

@@ -7,7 +7,7 @@ ghost use Rattle.oai_front.specs.Heads.{answer_bytes, fault_bytes};
 ghost use Rattle.oai_front.specs.Messages.{AreAlike, End, IsClosing, IsUnfinished, Message, Splits, Stream, waits};
 ghost use Rattle.oai_front.specs.Runs.{AreServed, Comes, FrontCall};
 
-use crate::framings::{MAX_BODY_BYTES, MAX_LENGTH_DIGITS};
+use crate::framings::{MAX_BODY_BYTES, MAX_DEPOSIT_BYTES, MAX_LENGTH_DIGITS};
 use crate::numbers::LAST_NUMBER;
 use crate::request_heads::{MAX_HEAD_BYTES, MAX_HEAD_FIELDS};
 use oai_http::Handler;
@@ -64,6 +64,7 @@ pub fn limit_law()
     ensures head { MAX_HEAD_BYTES ≡ 16_384 }
     ensures fields { MAX_HEAD_FIELDS ≡ 64 }
     ensures body { MAX_BODY_BYTES ≡ 1_048_576 }
+    ensures deposit { MAX_DEPOSIT_BYTES ≡ 2_097_152 }
     ensures digits { MAX_LENGTH_DIGITS ≡ 19 }
     ensures number { LAST_NUMBER ≡ 18_446_744_073_709_551_615 }
 {}

@@ -16,7 +16,7 @@ mod request_heads;
 mod stages;
 
 pub use faults::{NoSuchConnection, OpenFault, PieceFault};
-pub use framings::MAX_BODY_BYTES;
+pub use framings::{MAX_BODY_BYTES, MAX_DEPOSIT_BYTES};
 pub use fronts::Front;
 pub use laws::{cut_law, head_law, limit_law, run_law, split_law};
 pub use numbers::{ConnId, LAST_NUMBER};

@@ -98,7 +98,7 @@ fn kept_of(bytes: &[u8], spans: &RequestSpans, headers: &[HeaderSpan]) -> HeadPa
     ensures { IsKept bytes.now result }
 {
     let fields = &headers[..spans.headers];
-    match framing_of(bytes, spans.version, fields) {
+    match framing_of(bytes, spans.version, spans.path, fields) {
         Framing::Refused(status) => HeadParse::Fault(status),
         Framing::Body(size, last) => HeadParse::Whole(Head {
             method: spans.method,

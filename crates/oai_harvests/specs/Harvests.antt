@@ -28,12 +28,12 @@ pub record Harvest : Type 0 where
 abbrev pub requests_of : Harvest → List Exchange
 requests_of harvest = harvest.first ∷ harvest.others
 
--- the items that an answer tells, if it tells some
+-- the items that an answer lists, if it lists some
 abbrev pub items_told : Option Page → List ItemState
 items_told None = []
 items_told (Some page) = page.items
 
--- the items that a harvest was told, one answer after the other
+-- the items that a harvest got, one answer after the other
 abbrev pub harvested : Harvest → List ItemState
 harvested harvest = flat_map (λ (exchange : Exchange). items_told (page_shown exchange.outcome)) (requests_of harvest)
 
@@ -42,7 +42,7 @@ pub record IsEmptyHarvest (harvest : Harvest) : Type 0 where
   pub told : answer_in harvest.first.outcome ≡ Some (fails NoRecordsMatch)
   pub only : harvest.others ≡ []
 
--- one answer tells all, without a token
+-- one answer lists all items, without a token
 pub record IsWholeHarvest (harvest : Harvest) : Type 0 where
   pub page : Page
   pub told : page_shown harvest.first.outcome ≡ Some page

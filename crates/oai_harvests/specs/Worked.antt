@@ -38,11 +38,11 @@ worked_commands =
 abbrev pub worked_run : List Exchange
 worked_run = run worked_config (empty_state worked_config) worked_commands
 
--- what is told of items: the identifier of each, and whether it is live
+-- items in short: the identifier of each, and whether it is live
 abbrev pub told : List ItemState → List (List ℕ × Bool)
 told items = map (λ (item : ItemState). (item.identifier, item.live)) items
 
--- the three harvests of the run, what each was told, and what a copy holds that caught up with them
+-- the three harvests of the run, the items that each got, and what a copy holds that caught up with them
 pub record AreWorkedHarvests (first second third : Harvest) : Type 0 where
   pub successive : AreSuccessive worked_config worked_run prefix first (second ∷ third ∷ [])
   pub by_pages : told (harvested first) ≡ (codes "oai:a:1", true) ∷ (codes "oai:a:2", true) ∷ (codes "oai:a:3", true) ∷ []

@@ -13,7 +13,7 @@ ghost use Rattle.oai_harvests.specs.Worked.{AreWorkedHarvests};
 /// meanwhile: let a harvest of all records in a metadataPrefix be followed by any number of others, each
 /// begun later than the one before and asking for the records from the datestamp on at which that one
 /// began; a harvest is a list request with those that follow it by its tokens to the end, or with its one
-/// answer. Then a new copy that caught up with what each of them was told, one after the other, holds
+/// answer. Then a new copy that caught up with the items that each of them got, one after the other, holds
 /// just the items, live and deleted, that had a record in that metadataPrefix when the last one began.
 pub fn harvest_law()
     ensures copied { (config : Config) (commands : List Timed) (prefix : List ℕ) (first : Harvest)

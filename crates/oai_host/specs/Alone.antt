@@ -17,7 +17,7 @@ use Rattle.oai_http.specs.declared.statuses.Status.TheVariants.{InternalServerEr
 
 -- ---- the machine alone
 
--- a line of a deposit is answered a line: the same with its end; no line is told to wait
+-- the answer to a line of a deposit, with the end of a line behind it; no line is answered by a time to wait
 abbrev pub with_end : Output → List ℕ
 with_end (bytes text) = text ++ 10 ∷ []
 with_end (wait seconds) = []

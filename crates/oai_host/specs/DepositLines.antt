@@ -29,7 +29,7 @@ pub record IsLineAdded (old : RepoFields) (before : Lists) (moment : ℤ) (read 
   pub told : is ≡ was ++ with_end (step old.config (state_of old before) moment (line read)).0
   pub state : state_of new after ≡ (step old.config (state_of old before) moment (line read)).1
 
--- the same over every store
+-- a line was performed over any store, as it was read, and a line for it stands behind the others
 pub record IsLineWritten (old : RepoFields) (before : Lists) (moment : ℤ) (read : Result Change LineRefusal) (was : List ℕ) (new : RepoFields) (after : Lists) (is : List ℕ) : Type 0 where
   pub text : List ℕ
   pub told : is ≡ was ++ text

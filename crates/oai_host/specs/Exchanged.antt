@@ -11,8 +11,8 @@ use Rattle.oai_http.specs.declared.exchanges.Answer.{Answer}
 use Rattle.oai_http.specs.declared.exchanges.Call.{Call}
 
 -- over a store that gives back what was written to it, it is answered as `IsAnswered` says. Over every store the repositories of others
--- stay; the one whose it is has performed it, as `IsPerformed` says; an exchange of none is refused, and leaves the host as it was; of any
--- other only that is told which may be told of what it asks; what failed before anything was done left all repositories as they were; a
+-- stay; the one whose it is has performed it, as `IsPerformed` says; an exchange of none is refused, and leaves the host as it was; any
+-- other is answered by one of the answers to what it asks; what failed before anything was done left all repositories as they were; a
 -- fault has its cause; and no more room is used than was asked for
 pub record IsExchanged (call : Call) (answer : Answer) (before after : HostState) : Type 0 where
   pub answered : IsTrue before.honest → IsAnswered call answer before after
@@ -26,7 +26,7 @@ pub record IsExchanged (call : Call) (answer : Answer) (before after : HostState
   pub device : IsCounted (failure_in answer) before.failures after.failures
   pub honesty : IsHonest (failure_in answer) before.honest after.honest
 
--- the same of what is asked at a moment, as a front has its messages performed
+-- what is asked at a moment was exchanged, as a front has its messages performed
 abbrev pub IsHandled : HostState → ℤ → Asked → Answer → HostState → Type 0
 IsHandled before moment asked answer after = IsExchanged (call_at moment asked) answer before after
 

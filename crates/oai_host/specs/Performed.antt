@@ -64,7 +64,7 @@ IsCompleted config moment (asking arguments) before answer after =
 IsCompleted config moment (depositing lines) before answer after =
     (answer ≡ answered_with answer.body) × AreLinesPerformed config moment lines before answer.body after
 
--- it failed: a request has left all as it was; of a deposit so many lines were done as are told, the first ones, and no other
+-- it failed: a request has left all as it was; of a deposit as many lines were done as the answer says, the first ones, and no other
 abbrev pub HasStopped : Config → ℤ → Task → RepoState → Answer → RepoState → Type 0
 HasStopped config moment (refusing status) before answer after = ⊥
 HasStopped config moment (asking arguments) before answer after = (fault : Fault) × (answer ≡ failed fault None) × (after ≡ before)

@@ -85,7 +85,7 @@ impl<V: Versions + Drop> Host<V> {
     }
 
     /// Performs an exchange at the moment, in seconds from 1970 on, and answers it. Each fault, out of
-    /// memory too, is told inside the answer.
+    /// memory too, is reported in the answer.
     ///
     /// Over a store that does not give back what was written to it as well, an exchange leaves all
     /// repositories but its own as they were, and one that is no repository's is refused and leaves the host
@@ -93,7 +93,7 @@ impl<V: Versions + Drop> Host<V> {
     /// that is refused moves the clock and changes nothing else; of one that is accepted the datestamp, the
     /// clock, the sets and the open lists are those of the change, and nothing is said of the items. What
     /// fails leaves all as it was before that request or line, the clock included: the first `done` lines of a
-    /// deposit were performed, and no other. A fault is told as what it is.
+    /// deposit were performed, and no other. A fault is reported by its own status.
     pub fn exchange(&mut self, moment: i64, exchange: &Exchange<'_>) -> Answer
         ensures answered { IsTrue self.old.honest → IsAnswered (call_of moment exchange.now) result
             self.old self.new }
@@ -133,7 +133,7 @@ impl<V: Versions + Drop> Host<V> {
         &self.store
     }
 
-    /// The same of a call.
+    /// Performs a call, at its moment, as `exchange` does, and answers it.
     fn perform(&mut self, call: &Call) -> Answer
         ensures { IsExchanged call.now result self.old self.new }
     {

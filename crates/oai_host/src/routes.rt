@@ -28,8 +28,8 @@ impl Routes {
         Ok(Routes { router })
     }
 
-    /// What the path is for, and the name that it ends with; `None` where it is no path of a
-    /// repository. The name is told as it is spelled.
+    /// What the path is for, and the name that it ends with, byte for byte; `None` where it is no path of a
+    /// repository.
     pub(crate) fn find<'a>(&self, path: &'a [u8]) -> Option<(Endpoint, &'a str)>
         ensures found { IfSome result (λ route. path.now ≡ spec.front_of route.0 ++ route.1.now) }
         ensures only { (endpoint : Endpoint) (name : List ℕ) → is_repository_name name ≡ true
@@ -42,7 +42,8 @@ impl Routes {
         }
     }
 
-    /// The same of a path that is a text.
+    /// What a path that is a text is for, and the name that it ends with; `None` where it is no path of a
+    /// repository.
     fn find_text<'a>(&self, path: &'a str) -> Option<(Endpoint, &'a str)>
         ensures found { IfSome result (λ route. path.now ≡ spec.front_of route.0 ++ route.1.now) }
         ensures only { (endpoint : Endpoint) (name : List ℕ) → is_repository_name name ≡ true

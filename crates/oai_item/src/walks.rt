@@ -42,7 +42,7 @@ impl<'a> SpelledSets<'a> {
         self.left
     }
 
-    /// The same walk, from where this one is.
+    /// A copy of the walk, which begins where this one has come to.
     pub fn copy(&self) -> SpelledSets<'a>
         ensures { result ≡ self.now }
     {
@@ -185,7 +185,7 @@ impl<'a> SpelledRecords<'a> {
         self.len() == 0
     }
 
-    /// The same walk, from where this one is.
+    /// A copy of the walk, which begins where this one has come to.
     pub fn copy(&self) -> SpelledRecords<'a>
         ensures { result ≡ self.now }
     {

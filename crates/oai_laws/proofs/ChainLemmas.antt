@@ -183,7 +183,7 @@ whole_list config state list_request format exchanges kept known followed =
         told = told.told;
         placed = told.placed;
         lasting = told.lasting;
-        open_lists = (told.others, told.front);
+        begun = (told.others, told.front);
         complete = λ ends. sym (append-nil (joined pages)) ∙ ap (λ ys. joined pages ++ ys) (sym (told.complete ends)) ∙ told.front;
         ordered = front_ordered (joined pages) told.others (ap are_in_order told.front ∙ in_order-selected asked state.holdings.items kept.ordered);
         apart = front_apart (joined pages) told.others (ap are_apart told.front ∙ selected_apart asked state.holdings.items kept.apart);
@@ -199,14 +199,14 @@ chain_here config state timed commands list_request others good sound part verb 
     let found : RepoState = moved timed.moment state in
     let exchange : Exchange = performed config state timed in
     let sound_found = sound_moved config timed.moment state sound in
-    let open_lists = first_turn config found timed.command list_request good sound_found verb is many answered in
-    let within : 0 < length open_lists.list.items = omega (arith, many, ap length open_lists.items) in
-    let followed = follow config commands exchange.left open_lists.list 0 exchange others open_lists.good (sound_act config found timed.command sound_found) open_lists.stands within (zero-mod config.chunk) (λ _. first_given config open_lists.list open_lists.given) open_lists.told open_lists.lasting part
-    (subst (λ (v : ListVerb). AreNext v exchange others) (sym open_lists.verb) next)
+    let begun = first_turn config found timed.command list_request good sound_found verb is many answered in
+    let within : 0 < length begun.list.items = omega (arith, many, ap length begun.items) in
+    let followed = follow config commands exchange.left begun.list 0 exchange others begun.good (sound_act config found timed.command sound_found) begun.stands within (zero-mod config.chunk) (λ _. first_given config begun.list begun.given) begun.told begun.lasting part
+    (subst (λ (v : ListVerb). AreNext v exchange others) (sym begun.verb) next)
     in
-    whole_list config found list_request open_lists.good.format (exchange ∷ others) sound_found.kept open_lists.known
-    (subst (λ (items : List ItemState). Followed config list_request.verb open_lists.good.format items 0 (exchange ∷ others)) open_lists.items
-    (subst (λ (v : ListVerb). Followed config v open_lists.good.format open_lists.list.items 0 (exchange ∷ others)) open_lists.verb followed))
+    whole_list config found list_request begun.good.format (exchange ∷ others) sound_found.kept begun.known
+    (subst (λ (items : List ItemState). Followed config list_request.verb begun.good.format items 0 (exchange ∷ others)) begun.items
+    (subst (λ (v : ListVerb). Followed config v begun.good.format begun.list.items 0 (exchange ∷ others)) begun.verb followed))
 
 chain_at : (config : Config) (state : RepoState) (timed : Timed) (commands : List Timed) (list_request : ListRequest) (first : Exchange) (others : List Exchange) → first ≡ performed config state timed
     → IsConfig config → IsSound config state → IsPart others (run config (performed config state timed).left commands) → is_of_records list_request.verb ≡ true → first.command ≡ first_request list_request

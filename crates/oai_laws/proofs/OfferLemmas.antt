@@ -1,5 +1,5 @@
 -- A token that is answered with a page was offered before: of each open list, every cursor up to the highest that was given stood in a token.
-use Rattle.std.proofs.Common.{◌≡◌, ◌∙◌, ◌⊎◌, inl, inr, ℕ, ℤ, pos, max, ◌+◌, ◌*◌, ◌/◌, ◌%◌, ◌+ℤ◌, ◌<◌, ◌≤◌, Bool, true, false, ◌&&◌, eqb, cond, List, [], ◌∷◌, ◌++◌, ◌^◌, length, take, drop, map, suc, zero, Option, None, Some, is_some, refl, sym, ap, subst, arith}
+use Rattle.std.proofs.Common.{◌≡◌, ◌∙◌, ◌⊎◌, inl, inr, ℕ, ℤ, max, ◌+◌, ◌*◌, ◌/◌, ◌%◌, ◌<◌, ◌≤◌, Bool, true, false, ◌&&◌, eqb, cond, List, [], ◌∷◌, ◌++◌, ◌^◌, length, take, drop, map, suc, zero, Option, None, Some, is_some, refl, sym, ap, subst, arith}
 use Rattle.std.specs.Prelude.{filter, find, nat_le, nat_lt}
 use Rattle.std.specs.List.{list_all}
 use Rattle.std.specs.Str.{bytes_eq}
@@ -13,7 +13,6 @@ use Rattle.oai_item.specs.Formats.{format_named}
 use Rattle.oai_item.specs.Item.{ItemState}
 use Rattle.oai_item.specs.Items.{item_named}
 use Rattle.oai_item.specs.Selection.{selected}
-use Rattle.oai_item.specs.declared.changes.Change.{Change}
 use Rattle.oai_item.specs.declared.formats.Format.{Format}
 use Rattle.oai_lists.specs.Tokens.{token_numbers, token_of, token_text}
 use Rattle.oai_lists.specs.declared.tokens.Token.{Token}
@@ -23,11 +22,11 @@ use Rattle.oai_answers.specs.Answers.{Attributes, Page, fails, identifies}
 use Rattle.oai_answers.specs.declared.errors.ErrorCode.TheVariants.{BadArgument, BadResumptionToken, BadVerb, CannotDisseminateFormat, NoSetHierarchy}
 use Rattle.oai_settings.specs.Config.{Config, IsConfig}
 use Rattle.oai_repo.specs.Answers.{arguments_of_request, description, filter_of, formats_answer, record_answer, sets_answer}
-use Rattle.oai_repo.specs.Listing.{Response, answer_by_verb, carried_on, carried_on_at, continued_response, complete_answer, cursor_behind, format_response, has_no_sets, highest_given, is_continued, is_handed_out, is_of_number, is_same_verb, is_valid_cursor, list_continued, list_response, new_list, next_cursor, opens_list, part_answer, part_from, prolonged, request_response, retry_after, selection_response, token_response, wait_at, where_continued, with_answer, with_carried_on, with_new_list}
+use Rattle.oai_repo.specs.Listing.{Response, answer_by_verb, carried_on, carried_on_at, continued_response, complete_answer, format_response, has_no_sets, highest_given, is_continued, is_handed_out, is_of_number, is_same_verb, is_valid_cursor, new_list, next_cursor, opens_list, part_answer, part_from, prolonged, request_response, retry_after, selection_response, token_response, wait_at, where_continued, with_answer}
 use Rattle.oai_repo.specs.Machine.{Command, Outcome, act, changing, outcome_of, rejecting, requesting}
 use Rattle.oai_repo.specs.State.{FrozenList, OpenLists, RepoState, empty_state, is_open_at, moved}
 use Rattle.oai_laws.specs.Effects.{IsSound, is_of_format}
-use Rattle.oai_laws.specs.Following.{IsOffered, TokenOffer, WasOffered, is_of_records, next_request, offer_in, page_in, page_shown}
+use Rattle.oai_laws.specs.Following.{IsOffered, WasOffered, is_of_records, next_request, page_shown}
 use Rattle.oai_laws.specs.Runs.{Exchange, Timed, performed, run}
 use Rattle.oai_laws.proofs.ChainLemmas.{some_in_part}
 use Rattle.oai_laws.proofs.EffectLemmas.{sound_act, sound_empty, sound_moved}

@@ -46,7 +46,7 @@ use Rattle.oai_laws.proofs.EffectLemmas.{effect_of, sound_act, sound_empty, soun
 -- what is true of the times of a state
 record IsTimed (config : Config) (state : RepoState) : Type 0 where
   pub years : is_in_years state.clock ≡ true
-  pub open_lists : int_le config.earliest state.clock ≡ true
+  pub begun : int_le config.earliest state.clock ≡ true
   pub dated : list_all (has_granular_stamp config state.clock) state.holdings.items ≡ true
 
 le_own : (z : ℤ) → int_le z z ≡ true
@@ -60,7 +60,7 @@ le_later a b c h g = grind (arith, ints)
 
 -- a repository begins at its earliestDatestamp
 timed_empty : (config : Config) → IsConfig config → IsTimed config (empty_state config)
-timed_empty config good = record { years = in_years-config config good; open_lists = le_own config.earliest; dated = refl }
+timed_empty config good = record { years = in_years-config config good; begun = le_own config.earliest; dated = refl }
 
 -- the clock never goes back
 tick_later : (clock moment : ℤ) → clock ≤ℤ tick clock moment
@@ -78,7 +78,7 @@ timed_moved config moment state timed =
     let later : ℤ = tick state.clock moment in
     record {
       years = in_years-tick state.clock moment timed.years;
-      open_lists = le_later config.earliest state.clock later timed.open_lists (tick_later state.clock moment);
+      begun = le_later config.earliest state.clock later timed.begun (tick_later state.clock moment);
       dated = all-weaker (has_granular_stamp config state.clock) (has_granular_stamp config later) (dated_later config state.clock later (tick_later state.clock moment)) state.holdings.items timed.dated;
     }
 
@@ -117,18 +117,18 @@ timed_effected : (config : Config) (state : RepoState) (effect : Effect) → IsC
 timed_effected config state unchanged good possible timed = timed
 timed_effected config state (item_put item) good possible timed = record {
   years = timed.years;
-  open_lists = timed.open_lists;
+  begun = timed.begun;
   dated = all-placed (has_granular_stamp config state.clock) item (without item.identifier state.holdings.items)
-      (dated_now config state.clock item good timed.years timed.open_lists possible.dated)
+      (dated_now config state.clock item good timed.years timed.begun possible.dated)
       (well-without (has_granular_stamp config state.clock) item.identifier state.holdings.items timed.dated);
 }
 timed_effected config state (item_taken identifier) good possible timed =
-    record { years = timed.years; open_lists = timed.open_lists; dated = well-without (has_granular_stamp config state.clock) identifier state.holdings.items timed.dated }
+    record { years = timed.years; begun = timed.begun; dated = well-without (has_granular_stamp config state.clock) identifier state.holdings.items timed.dated }
 timed_effected config state (items_purged limit) good possible timed =
-    record { years = timed.years; open_lists = timed.open_lists; dated = all-filter (has_granular_stamp config state.clock) (λ item. not (goes_below limit item)) state.holdings.items timed.dated }
-timed_effected config state (set_added set) good possible timed = record { years = timed.years; open_lists = timed.open_lists; dated = timed.dated }
-timed_effected config state (list_carried_on number next) good possible timed = record { years = timed.years; open_lists = timed.open_lists; dated = timed.dated }
-timed_effected config state (list_opened list) good possible timed = record { years = timed.years; open_lists = timed.open_lists; dated = timed.dated }
+    record { years = timed.years; begun = timed.begun; dated = all-filter (has_granular_stamp config state.clock) (λ item. not (goes_below limit item)) state.holdings.items timed.dated }
+timed_effected config state (set_added set) good possible timed = record { years = timed.years; begun = timed.begun; dated = timed.dated }
+timed_effected config state (list_carried_on number next) good possible timed = record { years = timed.years; begun = timed.begun; dated = timed.dated }
+timed_effected config state (list_opened list) good possible timed = record { years = timed.years; begun = timed.begun; dated = timed.dated }
 
 timed_act : (config : Config) (state : RepoState) (command : Command) → IsConfig config → IsSound config state → IsTimed config state → IsTimed config (act config state command).1
 timed_act config state command good sound timed =

@@ -1,6 +1,6 @@
 -- A request with a token is answered with a page, or is told that no list is open which the token continues.
 use Rattle.std.proofs.Common.{◌≡◌, inl, inr, ℕ, ℤ, true, List, length, Option, None, Some, is_some, refl}
-use Rattle.std.specs.Prelude.{find, nat_lt}
+use Rattle.std.specs.Prelude.{find}
 use Rattle.std.proofs.lemmas.Bool.{and_parts, cond_both}
 use Rattle.oai_names.specs.declared.list_verbs.ListVerb.{ListVerb}
 use Rattle.oai_names.specs.declared.list_verbs.ListVerb.TheVariants as list

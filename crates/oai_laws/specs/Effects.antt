@@ -71,7 +71,7 @@ pub record IsPut (config : Config) (state : RepoState) (item : ItemState) : Type
 abbrev pub has_known_records : Config → ItemState → Bool
 has_known_records config item = list_all (has_format config.formats) item.formats && list_all (has_known_fields config.formats) item.formats
 
--- the items of the list, as they were, are such as the repository tells
+-- each item of the list, as it was, has only records that the repository can show
 abbrev pub is_formed : Config → FrozenList → Bool
 is_formed config list = list_all (has_known_records config) list.items
 
@@ -122,7 +122,7 @@ abbrev pub is_live : ItemState → Bool
 is_live item = item.live
 
 -- what is held is as a repository keeps it, and where nothing is kept of deleted records no item is a deleted one (section 2.5.1); each open
--- list has a number that was given, items that the repository tells, and a format of the repository; and the last number of 64 bits was not
+-- list has a number that was given, items that the repository can show, and a format of the repository; and the last number of 64 bits was not
 -- given
 pub record IsSound (config : Config) (state : RepoState) : Type 0 where
   pub kept : AreKept config state.holdings

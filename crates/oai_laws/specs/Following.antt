@@ -31,7 +31,7 @@ answer_in (later seconds) = None
 answer_in (accepted stamp) = None
 answer_in (refused_with cause) = None
 
--- the part of a list that an answer tells, or the whole, if it tells one
+-- the part of a list, or the whole list, that an answer has, if it has one
 abbrev pub page_in : Answer → Option Page
 page_in (lists_headers page) = Some page
 page_in (lists_records format page) = Some page
@@ -62,7 +62,7 @@ offer_in (remains expires extent token) = Some (record { token = token; expires 
 offer_in (completes extent) = None
 offer_in whole = None
 
--- how many records the list has (completeListSize), and how many of them stand before the part (cursor), where this is told
+-- how many records the list has (completeListSize), and how many of them stand before the part (cursor), where the part says so
 abbrev pub extent_in : Continuation → Option Extent
 extent_in (remains expires extent token) = Some extent
 extent_in (completes extent) = Some extent
@@ -110,7 +110,7 @@ abbrev pub AreNext : ListVerb → Exchange → List Exchange → Type 0
 AreNext verb before [] = Unit {0}
 AreNext verb before (next ∷ exchanges) = IsNextRequest verb before next × AreNext verb next exchanges
 
--- a chain among the exchanges of a repository: one that asks for a list which is too long for one page, and which is not told to wait;
+-- a chain among the exchanges of a repository: one that asks for a list which is too long for one page, and which need not wait;
 -- and then, whatever else is asked and deposited between, those that follow it by its tokens
 pub record IsChain (config : Config) (exchanges : List Exchange) (list_request : ListRequest) (first : Exchange) (others : List Exchange) : Type 0 where
   pub among : IsPart (first ∷ others) exchanges
@@ -144,7 +144,7 @@ abbrev pub IsLasting : Config → Exchange → Page → Type 0
 IsLasting config exchange page =
     (offer : TokenOffer) → offer_in page.continuation ≡ Some offer → offer.expires ≡ exchange.found.clock +ℤ pos config.lifetime
 
--- so it is of each page, which answers the exchange at its place
+-- each page is lasting, as the answer to the exchange at its place
 abbrev pub AreLasting : Config → List Exchange → List Page → Type 0
 AreLasting config [] [] = Unit {0}
 AreLasting config (exchange ∷ exchanges) (page ∷ pages) = IsLasting config exchange page × AreLasting config exchanges pages
@@ -167,7 +167,7 @@ pub record IsFollowedThrough (config : Config) (list_request : ListRequest) (sel
   pub told : map (λ (exchange : Exchange). answer_in exchange.outcome) exchanges ≡ map (λ (page : Page). Some (answer_by_verb list_request.verb format page)) pages
   pub placed : ArePagesAt config (length selection) 0 pages
   pub lasting : AreLasting config exchanges pages
-  pub open_lists : BeginsList (joined pages) selection
+  pub begun : BeginsList (joined pages) selection
   pub complete : are_complete pages ≡ true → joined pages ≡ selection
   pub ordered : are_in_order (joined pages) ≡ true
   pub apart : are_apart (joined pages) ≡ true

@@ -1,4 +1,4 @@
--- What it means to be told to wait. OAI-PMH 2.0, section 3.1.2.2 (the status 503); how long is this repository's own.
+-- What it means that a request is to wait. OAI-PMH 2.0, section 3.1.2.2 (the status 503); how long is this repository's own.
 use Rattle.std.specs.Prelude.{◌≡◌, ◌⊎◌, ◌≤◌, ◌<◌, ◌≤ℤ◌, ◌<ℤ◌, ◌+ℤ◌, ℤ, pos, length, Some}
 use Rattle.oai_lists.specs.declared.lists.TheConstants.{LAST_NUMBER}
 use Rattle.oai_settings.specs.Config.{Config}
@@ -14,7 +14,7 @@ pub record IsWait (config : Config) (clock : ℤ) (open_lists : OpenLists) (seco
   pub helps : config.lists ≤ length open_lists.lists → length (still_open (clock +ℤ seconds) open_lists).lists < length open_lists.lists
   pub no_longer : (fewer : ℤ) → config.lists ≤ length open_lists.lists → fewer <ℤ seconds → (still_open (clock +ℤ fewer) open_lists).lists ≡ open_lists.lists
 
--- a command that is told so in a state, with the state that it leaves: the seconds are those for which no further list begins, and the state
+-- a command that is to wait in a state, with the state that it leaves: the seconds are those for which no further list begins, and the state
 -- is left as it was
 pub record IsRetriedLater (config : Config) (state : RepoState) (seconds : ℤ) (left : RepoState) : Type 0 where
   pub why : wait_at config state.clock state.open_lists ≡ Some seconds

@@ -32,9 +32,9 @@ ghost use Rattle.oai_laws.specs.Worked.{IsWorked, worked_config};
 /// which the last one of 64 bits never is. A repository begins so, and stays so. A request changes
 /// nothing that is held, and leaves the state where it neither begins a list nor continues one, or where
 /// its token is refused; a change leaves the open lists. A request with a token is answered with a page,
-/// or is told badResumptionToken. And a command that is told to wait is a request for which no further list
-/// may begin, since as many are open as may be or no number is left. It leaves the state, and is told to wait
-/// for a second or more; where the table was full, a list has ended by then, and none before.
+/// or with badResumptionToken. And a command that is answered by a time to wait is a request for which no
+/// further list may begin, since as many are open as may be or no number is left. It leaves the state, and the
+/// time is a second or more; where the table was full, a list has ended by then, and none before.
 pub fn effect_law()
     ensures does { (config : Config) (state : RepoState) (command : Command) → IsSound config state
         → IsEffected config state (act config state command).1 }
@@ -109,13 +109,13 @@ pub fn selected_law()
 
 /// Following a list (OAI-PMH 2.0, section 3.5). Whatever a repository is asked from its beginning on,
 /// and whenever, and whatever is deposited and deleted meanwhile: a list request that selects more
-/// records than a page has and that is not told to wait, and the requests that follow it, each with the
-/// token of the page before and before this expires, are answered with pages. Each page has a record at
-/// least, tells how many records were selected and how many stand before it, and its token expires a
-/// lifetime after the request. The records of the pages, joined, begin the selection at the first request,
-/// and are all of it once a page has the empty token; each record once, in order. A list request that
-/// selects some records, and no more than a page has, is answered with all of them, and opens no list; one
-/// that selects none, with an error.
+/// records than a page has and that need not wait, and the requests that follow it, each with the token of
+/// the page before and before this expires, are answered with pages. Each page has a record at least and says
+/// how many records were selected and how many stand before it, and its token expires a lifetime after the
+/// request. The records of the pages, joined, begin the selection at the first request, and are all of it
+/// once a page has the empty token; each record once, in order. A list request that selects some records, and
+/// no more than a page has, is answered with all of them, and opens no list; one that selects none, with an
+/// error.
 pub fn following_law()
     ensures followed { (config : Config) (commands : List Timed) (list_request : ListRequest)
         (first : Exchange) (others : List Exchange) → IsConfig config
@@ -151,10 +151,10 @@ pub fn worked_law()
 {}
 
 /// What the bytes of the answers show (OAI-PMH 2.0, sections 2.5 and 3). Two documents that
-/// repositories answer some time show the same where they are equal byte for byte. And where what is
-/// written to the requests of two lists that are followed is equal, and one of them is followed to its
-/// end, the headers and the records of the selections at their first requests show the same: what a
-/// harvester reads determines what was selected.
+/// repositories answer some time show the same where they are equal byte for byte. And where two lists are
+/// followed, the bytes of their answers are equal, and one of the lists is followed to its end, then the
+/// selections at their first requests show equal headers and records: what a harvester reads determines what
+/// was selected.
 pub fn shown_law()
     ensures documents { (config other : Config) (a b : Document) → IsSomeAnswer config a
         → IsSomeAnswer other b → document a ≡ document b → document_seen a ≡ document_seen b }

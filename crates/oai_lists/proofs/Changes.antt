@@ -1,8 +1,8 @@
 -- One list is changed, and the others stay as they are.
-use Rattle.std.proofs.Common.{◌≡◌, ◌∙◌, inl, inr, ℕ, ℤ, ◌+◌, Bool, true, false, not, ◌&&◌, eqb, List, [], ◌∷◌, ◌++◌, Option, None, Some, take, drop, get_or, set, length, refl, sym, ap, subst, arith, IsSome, is_some}
+use Rattle.std.proofs.Common.{◌≡◌, ◌∙◌, inl, inr, ℕ, ℤ, ◌+◌, true, not, ◌&&◌, eqb, List, [], ◌∷◌, ◌++◌, Option, Some, take, drop, get_or, set, refl, sym, ap, subst, arith, IsSome}
 use Rattle.std.specs.Prelude.{find, int_le, nat_lt}
 use Rattle.std.specs.List.{list_all}
-use Rattle.std.proofs.lemmas.Bool.{and_from, and_parts, cases_Bool, cond-true, cond-false, cond_both, not-true, not_from_false}
+use Rattle.std.proofs.lemmas.Bool.{and_from, and_parts, cases_Bool, cond-true, cond-false, cond_both, not-true}
 use Rattle.std.proofs.lemmas.Bool.Decides.{nat_tests}
 use Rattle.std.proofs.lemmas.List.{map-append}
 use Rattle.oai_names.proofs.Lists.{all-weaker, cut, set_cut}

@@ -1,22 +1,22 @@
 -- Which lists have ended, and what is kept of the others.
-use Rattle.std.proofs.Common.{◌≡◌, ◌≢◌, ◌∙◌, ℕ, ℤ, ◌+◌, ◌<◌, ◌≤◌, ◌<ℤ◌, ◌≤ℤ◌, inl, inr, ◌⊎◌, Bool, true, false, not, ◌&&◌, cond, eqb, List, [], ◌∷◌, ◌++◌, Option, None, Some, Ok, Err, length, take, drop, get_or, set, refl, sym, ap, subst, arith, add-one, unwrap_or, IsSome, is_some, append-nil}
+use Rattle.std.proofs.Common.{◌≡◌, ◌≢◌, ◌∙◌, ℕ, ℤ, ◌+◌, ◌<◌, ◌≤◌, ◌<ℤ◌, ◌≤ℤ◌, inl, inr, ◌⊎◌, Bool, true, false, not, cond, eqb, List, [], ◌∷◌, ◌++◌, Option, None, Some, Ok, Err, length, take, drop, get_or, refl, sym, ap, subst, arith, add-one, unwrap_or, IsSome, is_some, append-nil}
 use Rattle.std.specs.Prelude.{find, int_le, int_lt, nat_lt, nat_le, position}
 use Rattle.std.specs.Int.{int_min}
 use Rattle.std.specs.List.{after_first, before_first, list_all, position_or_len, remove}
 use Rattle.std.proofs.lemmas.Bool.{false≢true, and_from, and_parts, cond-true, cond-false, cond_both, cases_Bool, eqb-false, le-leb, lt-leb, lt-ltb, ltb-true, not-true, not_from_false}
 use Rattle.std.proofs.lemmas.Int.{ints}
-use Rattle.std.proofs.lemmas.List.{drop_all, get_or-take, get_or_default, length-take-le, map-append, take_all}
+use Rattle.std.proofs.lemmas.List.{drop_all, get_or-take, get_or_default, length-take-le, take_all}
 use Rattle.std.proofs.lemmas.List.Folds.{list_all-append}
 use Rattle.std.proofs.lemmas.List.Quantifiers.{position-Some}
 use Rattle.std.proofs.lemmas.List.Sums.{AllPass-from_list_all, list_all-from_AllPass, position_or_len_is}
-use Rattle.oai_lists.specs.HeldTable.{IsHeldTable, IsListPlace, no_list_numbered}
-use Rattle.oai_lists.specs.OpenLists.{IsEarliest, IsListOpening, Table, number_or_fault, are_numbered_lists, has_ended, has_list_number, is_open, list_numbered, list_number, open_fault, open_ones, with_opened}
+use Rattle.oai_lists.specs.HeldTable.{IsHeldTable}
+use Rattle.oai_lists.specs.OpenLists.{IsEarliest, IsListOpening, Table, number_or_fault, are_numbered_lists, has_ended, is_open, list_numbered, list_number, open_fault, open_ones, with_opened}
 use Rattle.oai_lists.specs.declared.lists.OpenFault.{OpenFault}
 use Rattle.oai_lists.specs.declared.lists.OpenFault.TheVariants.{Full, NumbersSpent}
 use Rattle.oai_lists.specs.declared.open_lists.OpenList.{OpenList}
 use Rattle.oai_lists.specs.declared.lists.TheConstants.{LAST_NUMBER}
 use Rattle.oai_names.specs.Numbered.{is_lower}
-use Rattle.oai_names.proofs.Lists.{all-weaker, cut, filter_all, find_past, set_cut}
+use Rattle.oai_names.proofs.Lists.{all-weaker, cut, filter_all, find_past}
 use Rattle.oai_names.proofs.Numbered.{rise-append, rise-join}
 
 -- ---- numbers of moments

@@ -74,7 +74,7 @@ next_list table verb filter version size end first = record {
   mark = None;
 }
 
--- what opening the list at that moment answers, and the table then: it is the last one, or the first cause that applies is told and the table
+-- what opening the list at that moment answers, and the table then: it is the last one, or the first cause that applies is returned and the table
 -- is as it was. Memory may be refused where no cause applies
 abbrev pub IsListOpening : Table → ℤ → OpenList → Result ℕ OpenFault → Table → Type 0
 IsListOpening old now list (Ok number) new =

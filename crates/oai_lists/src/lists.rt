@@ -82,10 +82,11 @@ impl Lists {
         Ok(self.next)
     }
 
-    /// Opens a list of `size` records of that version at `now`, which ends at `end`, both in seconds from
-    /// 1970 on, and gives its number, the next one. The cursor that was given in its first token is
-    /// `first`, and it has no mark. On an error the lists are as before; the errors are those of
-    /// `OpenFault`, the first that applies. It costs what `next` does, and a place at the end.
+    /// Opens a list at `now` and returns its number, which is the next one. The list has `size` records of
+    /// that version, ends at `end`, and has no mark; the highest cursor given in a token of it is `first`.
+    /// Both moments are in seconds from 1970 on. On an error the lists are as before; the errors are those of
+    /// `OpenFault`, the first that applies. It looks at the lists only where `next` does, and takes memory
+    /// for one more list.
     pub fn open(
         &mut self,
         now: i64,
@@ -154,8 +155,8 @@ impl Lists {
         self.earliest = self.earliest.min(end);
     }
 
-    /// Tells that a token of the list of that number was given with that cursor: the highest cursor given is
-    /// this one, where it was lower. It takes no memory. Of n lists it looks at about log n.
+    /// Takes note that a token with that cursor was given for the list of that number: where its highest
+    /// cursor given was lower, it is this one. It takes no memory. Of n lists it looks at about log n.
     pub fn give(&mut self, number: u64, cursor: u64)
         requires { IsSome (list_numbered number self.old.lists) }
         ensures { self.new
@@ -168,8 +169,8 @@ impl Lists {
         list.given = list.given.max(cursor);
     }
 
-    /// Sets the mark of the list of that number, or lets it go. It takes no memory. Of n lists it looks at
-    /// about log n.
+    /// Sets the mark of the list of that number, or removes it, where `mark` is None. It takes no memory. Of
+    /// n lists it looks at about log n.
     pub fn set_mark(&mut self, number: u64, mark: Option<Mark>)
         requires { IsSome (list_numbered number self.old.lists) }
         ensures { self.new
@@ -182,9 +183,9 @@ impl Lists {
         list.mark = mark;
     }
 
-    /// Drops the first list whose end is not above `now`, in seconds from 1970 on, and gives its version,
-    /// which is then to be released; None where there is none. It takes no memory. It looks at the lists
-    /// only where one of them may have ended.
+    /// Drops the first list whose end is not above `now`, in seconds from 1970 on, and returns the number of
+    /// its version, which the caller then releases. None where no list has ended. It takes no memory. It looks
+    /// at the lists only where one of them may have ended.
     pub fn expire(&mut self, now: i64) -> Option<u64>
         ensures version { result
             ≡ option_map (λ list. list.version) (find (has_ended now) self.old.lists) }
@@ -210,7 +211,7 @@ impl Lists {
         earliest(self.lists.as_slice())
     }
 
-    /// How many lists are held, those counted that have ended and were not dropped.
+    /// How many lists are held. Lists that have ended and were not dropped yet are counted.
     pub fn len(&self) -> usize
         ensures count { result ≡ length self.now.lists }
         ensures valid { IsListTable self.now }
@@ -233,7 +234,7 @@ impl Lists {
     }
 }
 
-/// The place of the list of that number, among lists whose numbers rise.
+/// At which place the list of that number stands; None where no list has it. The numbers of the lists rise.
 fn place_of(lists: &[OpenList], number: u64) -> Option<usize>
     requires { are_numbered_lists lists.now ≡ true }
     ensures { IsListPlace number lists.now result }
@@ -244,14 +245,14 @@ fn place_of(lists: &[OpenList], number: u64) -> Option<usize>
     }
 }
 
-/// The place of the first list whose end is not above `now`.
+/// At which place the first list stands whose end is not above `now`; None where no list has ended.
 fn ended_at(lists: &[OpenList], now: i64) -> Option<usize>
     ensures { result ≡ position (has_ended now) lists.now }
 {
     lists.iter().position(|list| list.end <= now)
 }
 
-/// Drops the list at that place, and gives its version.
+/// Drops the list at that place, and returns the number of its version.
 fn drop_at(lists: &mut Vec<OpenList>, at: usize) -> u64
     requires { at < vec_len lists.old }
     ensures version { (list : Opened) → result ≡ (get_or lists.old.items at list).version }
@@ -260,7 +261,7 @@ fn drop_at(lists: &mut Vec<OpenList>, at: usize) -> u64
     lists.remove(at).version
 }
 
-/// The end of the list that ends first.
+/// The end of the list that ends first, or None where there is no list.
 fn earliest(lists: &[OpenList]) -> Option<i64>
     ensures { IsEarliest lists.now result }
 {

@@ -4,7 +4,7 @@ use oai_names::{Identifier, ListVerb};
 /// A list that was begun to be answered (OAI-PMH 2.0, section 3.5).
 #[derive(Debug, Drop)]
 pub struct OpenList {
-    /// Its number, the first of a repository being 1.
+    /// Its number, which no other list of the repository has had.
     pub number: u64,
     /// The verb by which it was opened.
     pub verb: ListVerb,

@@ -20,7 +20,7 @@ may_be_set_spec text = is_name_of is_set_spec MAX_SET_SPEC_BYTES text
 abbrev pub Covers : List ℕ → List ℕ → Type 0
 Covers s t = (t ≡ s) ⊎ ((rest : List ℕ) × (t ≡ s ++ 58 ∷ rest))
 
--- the same as a test, for definitions that compute
+-- `Covers` as a test, for definitions that compute
 unfoldable pub covers : List ℕ → List ℕ → Bool
 covers s t = bytes_eq s t || starts_with nat_eq t (s ++ 58 ∷ [])
 

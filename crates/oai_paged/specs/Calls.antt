@@ -57,7 +57,7 @@ FreesPages g old new = Spares g.room g.failures g.honest old new
 abbrev pub RunsOut : {P : Type 0} → Ghosts P → List PlaceState → P → Type 0
 RunsOut g places pool = (n : ℕ) × (0 < named_in places n) × (MAX_PAGES ≤ count_of (g.counts pool) n)
 
--- the fault of a store that tells what a pool could not do
+-- the fault of a store that reports the fault of a pool
 abbrev pub fault_of : PoolFault → Fault
 fault_of pool.Device = told.Device
 fault_of pool.NoMemory = told.NoMemory

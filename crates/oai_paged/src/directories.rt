@@ -30,7 +30,7 @@ impl Directory {
         }
     }
 
-    /// The same places. The error is out of memory.
+    /// A directory with a copy of each of its places. The error is out of memory.
     pub(crate) fn copy(&self, alloc: Global) -> Result<Directory, AllocError>
         ensures { IfOk result (λ copy. copy ≡ self.now) }
     {

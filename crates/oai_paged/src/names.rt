@@ -82,7 +82,7 @@ fn share_numbers<P: PagePool>(pages: &mut P, numbers: &[PageNo]) -> Result<(), F
     Ok(())
 }
 
-/// The same places. The error is out of memory.
+/// A copy of each of the places, in order. The error is out of memory.
 pub(crate) fn copies(alloc: Global, places: &[SharedPlace]) -> Result<Vec<SharedPlace>, AllocError>
     ensures { IfOk result (λ copies. copies.items ≡ places.now) }
 {

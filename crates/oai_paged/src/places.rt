@@ -80,7 +80,7 @@ impl SharedPlace {
         })
     }
 
-    /// The same place. The error is out of memory: no more copies of it can be counted.
+    /// A copy of the place, which is counted. The error is out of memory, where no more copies can be counted.
     pub(crate) fn copy(&self) -> Result<SharedPlace, AllocError>
         ensures { IfOk result (λ copy. copy ≡ self.now) }
     {

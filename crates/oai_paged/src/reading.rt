@@ -497,7 +497,8 @@ fn take_at<P: PagePool>(
     Ok(take_in(alloc, &entries, wanted, skip, most, part)?)
 }
 
-/// The same of items that were read.
+/// Adds to the part those of the entries that are wanted, behind the first `skip` of them, until the part has `most`
+/// items; returns how many are still to be skipped. The error is out of memory.
 fn take_in(
     alloc: Global,
     entries: &Entries,

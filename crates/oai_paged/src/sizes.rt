@@ -22,7 +22,7 @@ pub const FRONT_BYTES: usize = 608;
 /// To how many bytes a page is filled at the end of a list, where items come in order: nine tenths.
 pub(crate) const FULL_BYTES: usize = 14_742;
 
-/// The sizes in numbers, since definitions read them by their names. A theorem, proved by an empty function.
+/// The sizes in numbers, since definitions read them by their names. It is a theorem: the function is empty.
 pub fn size_law()
     ensures entries { MAX_ENTRY_BYTES ≡ 16_380 }
     ensures page { MAX_ENTRY_BYTES + NUMBER_BYTES ≡ PAGE_BYTES }

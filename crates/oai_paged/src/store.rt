@@ -23,7 +23,8 @@ use std::alloc::Global;
 pub type PagedVersions<D> = VersionsOver<Pool<D>>;
 
 /// A store of versions over the pages of a pool. A version is a directory of the pages that its items stand on. A frozen version
-/// names the same pages; a change adds the pages that it touches anew, and lets the old ones go where no other version names them.
+/// names the pages of the version that it was made of. A change writes no page again: it adds new pages for those that it changes,
+/// and frees the old ones where no other version names them.
 #[derive(Drop)]
 pub struct VersionsOver<P: PagePool + Drop> {
     alloc: Global,
@@ -174,7 +175,8 @@ impl<P: PagePool + Drop> Versions for VersionsOver<P> {
 impl<P: PagePool + Drop> VersionsOver<P> {
     ghost use Rattle.oai_paged.specs.Store.{directories_of, pool_of};
 
-    /// A store of no version over a pool in which no page is named. It takes no memory, and has room for a call for each 68 pages that the pool has room for.
+    /// A store without versions, over a pool in which no page is named. It takes no memory. It has room for one call for each 68 pages that the
+    /// pool has room for.
     pub fn new(alloc: Global, pool: P) -> VersionsOver<P>
         requires { used_of (P.counts pool) ≡ 0 }
         ensures lists { ⟦<VersionsOver<P> as Versions>⟧.lists result ≡ no_lists }
@@ -191,9 +193,9 @@ impl<P: PagePool + Drop> VersionsOver<P> {
         }
     }
 
-    /// The pool. At most 65 times as many of its pages are named as all versions hold items together, and each item stands, spelled, on one of these, or on
-    /// one and its overflow pages. The store has room for a call for each 68 pages that the pool has room for, or for as many as the page that is named most
-    /// often can be named more often still, where these are fewer.
+    /// The pool. At most 65 times as many of its pages are named as the versions together hold items. Each item stands, spelled, on a page that is
+    /// named, or on one and its overflow pages, which are named too. The store has room for one call for each 68 pages that the pool has room for.
+    /// Where the page that is named most often can be named only fewer times more, the store has room for that many calls.
     pub fn pool(&self) -> &P
         ensures pool { result.now ≡ pool_of self.now }
         ensures room { ⟦<VersionsOver<P> as Versions>⟧.room self.now ≡ calls_left (P.room result.now) (P.counts result.now) }

@@ -1,5 +1,5 @@
 -- What a list request is replied, by the first of the items that it selects: all of them, or the first part of a list.
-use Rattle.std.proofs.Common.{◌≡◌, ◌∙◌, ℕ, ℤ, ◌+◌, ◌-◌, ◌<◌, ◌≤◌, min, false, ◌&&◌, List, [], ◌∷◌, length, take, drop, Option, Some, is_some, refl, sym, ap, subst, arith}
+use Rattle.std.proofs.Common.{◌≡◌, ◌∙◌, ℕ, ℤ, ◌+◌, ◌<◌, ◌≤◌, min, false, ◌&&◌, List, [], ◌∷◌, length, take, Option, Some, is_some, refl, sym, ap, subst, arith}
 use Rattle.std.specs.Prelude.{nat_le}
 use Rattle.std.proofs.lemmas.Bool.{cond-true, cond-false, le-leb, lt-leb}
 use Rattle.std.proofs.lemmas.List.{length-take, take-take, take_all}

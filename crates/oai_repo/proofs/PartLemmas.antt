@@ -2,7 +2,6 @@
 use Rattle.std.proofs.Common.{◌≡◌, ◌∙◌, ℕ, ℤ, ◌+◌, List, length, ap}
 use Rattle.oai_item.specs.Item.{ItemState}
 use Rattle.oai_answers.specs.Answers.{Page}
-use Rattle.oai_answers.specs.declared.tokens.Extent.{Extent}
 use Rattle.oai_settings.specs.Config.{Config}
 use Rattle.oai_repo.specs.Listing.{continued_at, items_from, part_from}
 use Rattle.oai_repo.specs.State.{FrozenList}

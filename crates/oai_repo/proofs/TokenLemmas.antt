@@ -1,24 +1,21 @@
 -- What a token continues, in the table and in the state that it stands for.
-use Rattle.std.proofs.Common.{◌≡◌, ◌∙◌, inl, inr, ℕ, ℤ, Bool, true, ◌&&◌, List, length, Option, None, Some, refl, sym, ap, subst}
+use Rattle.std.proofs.Common.{◌≡◌, ◌∙◌, inl, inr, ℕ, ℤ, Bool, true, ◌&&◌, List, length, Option, None, Some, refl, sym, ap}
 use Rattle.std.specs.Prelude.{nat_lt}
 use Rattle.std.specs.Option.{option_map}
 use Rattle.std.proofs.lemmas.Bool.{and_parts, cases_Bool, cond-true, cond-false, eqb-true}
 use Rattle.oai_names.specs.declared.list_verbs.ListVerb.{ListVerb}
 use Rattle.oai_item.specs.Formats.{format_named}
-use Rattle.oai_answers.specs.Answers.{Attributes, fails}
+use Rattle.oai_answers.specs.Answers.{fails}
 use Rattle.oai_answers.specs.declared.errors.ErrorCode.TheVariants.{BadResumptionToken}
 use Rattle.oai_catalogue.specs.Store.{Lists}
 use Rattle.oai_lists.specs.OpenLists.{Table, open_numbered}
 use Rattle.oai_lists.specs.declared.open_lists.OpenList.{OpenList}
 use Rattle.oai_lists.specs.declared.tokens.Token.{Token}
 use Rattle.oai_settings.specs.Config.{Config}
-use Rattle.oai_repo.specs.Views.{IsViewReply}
 use Rattle.oai_repo.specs.Fields.{are_counted, open_lists_of, frozen_in, is_counted}
-use Rattle.oai_repo.specs.Listing.{Response, continued_response, is_continued, is_handed_out, is_same_verb, is_valid_cursor, list_continued, next_cursor, part_from, part_answer, prolonged, with_answer, token_response, where_continued, with_carried_on}
+use Rattle.oai_repo.specs.Listing.{continued_response, is_continued, is_handed_out, is_same_verb, is_valid_cursor, list_continued, next_cursor, part_from, part_answer, prolonged, with_answer, token_response, where_continued, with_carried_on}
 use Rattle.oai_repo.specs.State.{FrozenList, OpenLists}
 use Rattle.oai_repo.specs.Tables.{table_continued, table_where}
-use Rattle.oai_repo.specs.declared.responses.Reply.{Reply}
-use Rattle.oai_repo.specs.declared.view.RepoView.{RepoView}
 use Rattle.oai_repo.proofs.OpenListLemmas.{found_frozen, open_parts}
 
 -- ---- what was found in the table

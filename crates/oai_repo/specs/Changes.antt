@@ -81,7 +81,7 @@ after_deletion Persistent stamp identifier items = with_tombstone stamp (item_na
 
 -- ---- a purge
 
--- the repository forgets deleted items when it is told to (section 2.5.1)
+-- the repository forgets deleted items when a purge asks for it (section 2.5.1)
 abbrev pub is_transient : DeletedRecord → Bool
 is_transient No = false
 is_transient Transient = true

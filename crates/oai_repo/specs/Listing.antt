@@ -100,7 +100,7 @@ opens_list config open_lists format list None = (with_answer (answer_by_verb lis
 abbrev pub complete_page : Config → List ItemState → Page
 complete_page config items = record { items = items; granularity = config.granularity; continuation = whole }
 
--- the same, where there are any
+-- the answer with the items in one page, or noRecordsMatch where there are none
 abbrev pub complete_answer : Config → ListVerb → Format → List ItemState → Answer
 complete_answer config verb format [] = fails NoRecordsMatch
 complete_answer config verb format (item ∷ items) = answer_by_verb verb format (complete_page config (item ∷ items))
@@ -128,8 +128,8 @@ is_handed_out chunk given cursor = nat_lt 0 cursor && cursor % chunk == 0 && nat
 abbrev pub is_valid_cursor : ℕ → ℕ → ℕ → ℕ → Bool
 is_valid_cursor chunk size given cursor = nat_lt cursor size && is_handed_out chunk given cursor
 
--- the token continues a list of that verb, of so many records and with that highest cursor by the verb `verb`: it is the same one, and the
--- cursor is one of the list
+-- by the verb `verb` the token continues a list of the verb `list_verb`, of `size` records and with the highest cursor `given`: the two verbs
+-- are the same, and the token's cursor is one of the list
 abbrev pub is_continued : ℕ → ListVerb → Token → ListVerb → ℕ → ℕ → Bool
 is_continued chunk verb token list_verb size given = is_same_verb list_verb verb && is_valid_cursor chunk size given token.cursor
 
@@ -150,11 +150,11 @@ list_continued config open_lists verb token = where_continued config verb token 
 abbrev pub prolonged : Config → ℤ → FrozenList → FrozenList
 prolonged config clock list = record list { end = clock +ℤ pos config.lifetime }
 
--- the cursor of the token behind a part that ends before the record `next`, where records remain of so many
+-- the cursor of the token of a part, where `next` of the list's `size` records stand up to its end; None where no more records remain
 abbrev pub cursor_behind : ℕ → ℕ → Option ℕ
 cursor_behind size next = if nat_lt next size then Some next else None
 
--- the same of the part that begins behind so many records of the list
+-- the cursor of the token of the part that begins behind the first `cursor` records of the list
 abbrev pub next_cursor : Config → FrozenList → ℕ → Option ℕ
 next_cursor config list cursor = cursor_behind (length list.items) (cursor + length (items_from config list cursor))
 
@@ -167,7 +167,7 @@ highest_given (Some cursor) given = max given cursor
 abbrev pub carried_on : Config → ℤ → Option ℕ → FrozenList → FrozenList
 carried_on config clock next list = record list { end = clock +ℤ pos config.lifetime; given = highest_given next list.given }
 
--- the same, where it has the number
+-- the list once a part of it was answered, where it has the number; any other list as it is
 abbrev pub carried_on_at : Config → ℤ → ℕ → Option ℕ → FrozenList → FrozenList
 carried_on_at config clock number next list = if is_of_number number list then carried_on config clock next list else list
 

@@ -1,5 +1,5 @@
 -- What becomes of the open lists of a repository behind its calls: this repository's own.
-use Rattle.std.specs.Prelude.{◌≡◌, ◌⊎◌, ◌+◌, ◌≤◌, ℕ, ℤ, int_le, nat_lt, Bool, true, ◌&&◌, List, ◌∷◌, filter, length, map, Option, None, Some, if◌then◌else◌}
+use Rattle.std.specs.Prelude.{◌≡◌, ◌⊎◌, ◌≤◌, ℕ, ℤ, int_le, Bool, true, List, ◌∷◌, filter, length, map, Option, None, Some, if◌then◌else◌}
 use Rattle.oai_time.specs.declared.text.TheConstants.{LAST_SECOND}
 use Rattle.std.specs.List.{list_all}
 use Rattle.oai_catalogue.specs.Store.{Lists, list_at}

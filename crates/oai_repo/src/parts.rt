@@ -10,9 +10,9 @@ use oai_lists::{Mark, OpenList};
 use oai_names::Sequence;
 use std::alloc::Global;
 
-/// The items of a part of a list, which begins behind so many of its records. Any fault but
-/// `TooManyPages` may come, and `Damaged` where the store returns another number of them than the list's
-/// size has.
+/// The items of the part of a list that begins behind its first `cursor` records. Any fault but
+/// `TooManyPages` may come, and `Damaged` where the store returns another number of items than the part
+/// has: `chunk`, or as many as remain.
 pub(crate) fn read_part<V: Versions>(
     store: &mut V,
     list: &OpenList,
@@ -37,9 +37,9 @@ pub(crate) fn read_part<V: Versions>(
     Ok(items)
 }
 
-/// Of the items of a list those behind so many of its records, at most `most` of them. At the place of
-/// its mark the store is asked for what stands behind the mark's record, so that nothing before it is
-/// counted. Any fault but `TooManyPages` may come.
+/// The items of a list behind its first `cursor` records, at most `most` of them. Where the mark of the
+/// list is at that cursor, the store is asked for the items behind the mark's record, so that it passes over
+/// none before it. Any fault but `TooManyPages` may come.
 fn items_behind<V: Versions>(
     store: &mut V,
     list: &OpenList,
@@ -76,8 +76,8 @@ fn mark_at(list: &OpenList, cursor: u64) -> Option<&Mark>
     }
 }
 
-/// The place behind the items, which end before the record `next` of their list; None where there are
-/// none, or where no memory is found for it.
+/// The mark behind the last of the items, with the cursor `next`. None where there are no items, or where
+/// memory runs out.
 pub(crate) fn mark_behind(alloc: Global, items: &[Item], next: u64) -> Option<Mark>
     ensures { IfSome result (λ mark. IsMarkBehind items.now next mark) }
 {

@@ -32,9 +32,9 @@ const FIRST_NUMBER: u64 = 1;
 ///
 /// Its items are those of one version of the store that each call is given, and each open list has a
 /// version of its own, in which the items stand as they did when the list began. A call has the
-/// condition that these numbers are in use in the store, no two of them equal, and that an honest store
-/// holds under them what the repository's own calls left there; each call keeps both. What is done to
-/// other versions of the store does not matter.
+/// condition that the numbers of its versions are in use in the store, no two of them equal, and that an
+/// honest store holds under them what the repository's own calls left there; each call keeps both. What is
+/// done to other versions of the store does not matter.
 #[derive(Debug, Drop)]
 pub struct Repo {
     alloc: Global,
@@ -61,7 +61,8 @@ impl Model for Repo {
 impl Repo {
     /// A repository without items and sets, its clock at the lower limit of its datestamps, in a new
     /// version of the store. What grows in it takes its memory from `alloc`. Any fault may come, and
-    /// `TooManyPages` only where the store may lack room for one call; the store then holds what it held.
+    /// `TooManyPages` only where the store may lack room for one call. After each fault the lists of the
+    /// store are as before.
     pub fn new<V: Versions>(alloc: Global, config: RepoConfig, store: &mut V) -> Result<Repo, Fault>
         ensures new { IfOk result (λ repo. IsNew config (V.lists store.old) repo
             (V.lists store.new)) }
@@ -87,10 +88,11 @@ impl Repo {
     /// only where the request may begin a list and the store may lack room for one call.
     ///
     /// A request for one item costs one search of the store. A list that one answer holds costs what the
-    /// store needs to read it; the first part of a longer one besides what it needs to count what is
-    /// selected and to freeze a version; each further part what it needs to read the part, wherever it
-    /// stands. A part that is asked for again, after another one was told, costs besides what the store
-    /// needs to pass over the records before it.
+    /// store needs to read it. The first part of a longer list costs what the store needs to read it, to
+    /// count what is selected, and to freeze a version. Each further part costs what the store needs to read
+    /// it, wherever it stands, where the list's mark is at its cursor. Where it is not, the store also passes
+    /// over the records before the part: where the part is asked for again after another one was answered,
+    /// and where there was no memory for the mark.
     pub fn ask<V: Versions>(
         &mut self,
         store: &mut V,
@@ -130,10 +132,11 @@ impl Repo {
     }
 
     /// Makes a change at the moment, and answers its datestamp, both in seconds from 1970 on; the
-    /// datestamp is of the years 0000 to 9999. A change that is refused has moved the clock and nothing
-    /// else. After a fault everything is as it was, the clock and the store's lists included. Any fault
-    /// may come; `TooManyPages` of a deposit or a deletion only where the store may lack room for one
-    /// call, of a purge only where it may for one call more than there are items, and of a new set never.
+    /// datestamp is of the years 0000 to 9999. A change that is refused moves the clock, drops the lists that
+    /// have ended, and changes nothing else. After a fault everything is as it was, the clock and the store's
+    /// lists included. Any fault may come. A deposit or a deletion ends with `TooManyPages` only where the
+    /// store may lack room for one call, a purge only where it may lack room for one call more than there are
+    /// items, and a new set never.
     ///
     /// A deposit and a deletion look at no item but the one that they are about; a purge reads each item
     /// of a datestamp below its bound. A new item, or a new state at the same datestamp, is put into the

@@ -45,7 +45,7 @@ struct AnsweredPart {
     mark: Option<Mark>,
 }
 
-/// Replies to a request with a token.
+/// Replies with the part that the token asks for, or with badResumptionToken.
 pub(crate) fn reply_with_next_part<V: Versions>(
     repo: &RepoView<'_>,
     lists: &mut Lists,
@@ -82,7 +82,7 @@ fn chunk_of(repo: &RepoView<'_>) -> u64
 }
 
 /// The open list that the token continues by that verb, and how many of its records come before the part
-/// that is asked for. A part has `chunk` records.
+/// that is asked for. Each part but the last has `chunk` records.
 fn continued<'a>(
     lists: &'a Lists,
     now: i64,
@@ -104,8 +104,7 @@ fn continued<'a>(
     }
 }
 
-/// Whether a part of the list begins behind so many of its records, and a token that asks for it was
-/// handed out.
+/// Whether the cursor is below the size of the list, and a token with it was handed out.
 fn is_valid_cursor(list: &OpenList, chunk: u64, cursor: u64) -> bool
     requires some { chunk ≢ 0 }
     ensures { result ≡ listing.is_valid_cursor chunk list.now.size list.now.given cursor }
@@ -121,8 +120,8 @@ fn is_handed_out(chunk: u64, given: u64, cursor: u64) -> bool
     0 < cursor && cursor % chunk == 0 && cursor <= given
 }
 
-/// Keeps of a list of which a part was answered how long it stays open, in seconds from 1970 on, the
-/// cursor of the part's token, where it has one, and the place behind it. It takes no memory.
+/// Changes the list of that number, of which a part was answered: it ends at `end`, in seconds from 1970 on,
+/// the cursor `next` of the part's token, if it has one, was given, and its mark is `mark`. It takes no memory.
 fn carry_on(lists: &mut Lists, number: u64, end: i64, next: Option<u64>, mark: Option<Mark>)
     requires held { IsSome (list_numbered number lists.old.lists) }
     ensures { lists.new ≡ record lists.old {
@@ -137,7 +136,7 @@ fn carry_on(lists: &mut Lists, number: u64, end: i64, next: Option<u64>, mark: O
     lists.set_mark(number, mark);
 }
 
-/// Whether the verbs are one, and one of a list that tokens continue.
+/// Whether both verbs are ListIdentifiers, or both are ListRecords: the verbs whose lists tokens continue.
 fn is_same_verb(a: ListVerb, b: ListVerb) -> bool
     ensures { result ≡ listing.is_same_verb a b }
 {
@@ -148,8 +147,9 @@ fn is_same_verb(a: ListVerb, b: ListVerb) -> bool
     }
 }
 
-/// Replies with the part of the list that begins behind so many of its records, from which on the list
-/// stays open.
+/// Replies with the part of the list that begins behind its first `cursor` records. Returned with it are the
+/// cursor of its token, which expires a lifetime after the clock, and the mark behind its last record. The
+/// list is not changed.
 fn reply_from<V: Versions>(
     repo: &RepoView<'_>,
     store: &mut V,
@@ -197,15 +197,15 @@ fn end_of_part(extent: Extent, items: &[Item]) -> u64
     extent.cursor + items.len() as u64
 }
 
-/// The cursor of the token behind a part that ends before the record `next`, or None where no records
-/// remain of so many.
+/// The cursor of the token of a part, where `next` of the list's `size` records stand up to its end. None
+/// where no more records remain.
 fn cursor_behind(size: u64, next: u64) -> Option<u64>
     ensures { result ≡ listing.cursor_behind size next }
 {
     if next < size { Some(next) } else { None }
 }
 
-/// The document with the items as the part of the list that begins behind so many of its records.
+/// The document with the items as the part of the list that begins behind its first `cursor` records.
 fn reply_with_items(
     repo: &RepoView<'_>,
     verb: ListVerb,
@@ -281,7 +281,8 @@ pub(crate) fn reply_with_part(
     make_reply(repo, answer_by_verb(verb, format, list))
 }
 
-/// The items, with what follows them.
+/// The items as a document lists them: with datestamps of the repository's granularity, and with what the
+/// document says of the list beyond them.
 fn listed<'a>(repo: &RepoView<'_>, items: &'a [Item], resumption: Resumption<'a>) -> Listed<'a>
     ensures { result ≡ record {
       items = items.entry;

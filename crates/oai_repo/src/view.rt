@@ -55,7 +55,7 @@ impl RepoView<'_> {
     }
 }
 
-/// The same repository, with the arguments of that request.
+/// The view of the repository in which the arguments of that request were asked.
 pub(crate) fn with_arguments<'a>(repo: RepoView<'a>, ask: &'a Ask) -> RepoView<'a>
     ensures same { SeesSame repo.entry result }
     ensures asked { attributes_of result.asked ≡ spec.arguments_of_ask ask.now }

@@ -20,7 +20,7 @@ abbrev pub answers_in : List Served → List Answer
 answers_in served = map (λ s. s.done.answer) served
 
 -- calls came, and messages were performed as `AreServed` says. At each repository what is answered is a run of its own exchanges, whatever came
--- between them, on the same connection or on others; where none failed, it is what that repository alone answers. A fault is told only where it
+-- between them, on the same connection or on others; where none failed, it is what that repository alone answers. A fault is reported only where it
 -- has its cause
 pub record AreServedByHost (old new : State HostState) (calls : List FrontCall) : Type 0 where
   pub served : AreServed IsHandled old new calls

@@ -21,8 +21,8 @@ pub record IsBegunOn (config : HostConfig) (honest : Bool) (failures : ℕ) (hos
   pub room : all_calls ≤ host.room + length config.repositories
 
 -- exchanges with it over an honest device: at each repository the answers are a run of its own exchanges alone, from its empty state, in
--- which each is done or has failed; where none has failed, they are those that the repository alone gives; that the device failed is told
--- only where it did since the host was made, and that something is damaged never
+-- which each is done or has failed; where none has failed, they are those that the repository alone gives; an answer says
+-- that the device failed only where it did since the host was made, and that something is damaged never
 pub record AreServedOnPages (config : HostConfig) (failures : ℕ) (calls : List Call) (answers : List Answer) (first last : HostState) : Type 0 where
   pub answered : AreAnswered calls answers first last
   pub alone : none_failed answers ≡ true → AreAsAlone calls answers (map begun config.repositories)

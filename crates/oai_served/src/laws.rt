@@ -8,10 +8,12 @@ ghost use Rattle.oai_served.specs.Served.{AreServedOnPages, IsBegunOn};
 
 use oai_device::PageDevice;
 
-/// A host is made of a configuration over a device that gives back what was written to it, and exchanges come one after
-/// the other, as `Host::run` and `Host::exchange` say. At each repository the answers are a run of its own exchanges,
-/// from its empty state, and where none failed, those that it alone gives: nothing is seen in them of the other
-/// repositories, of the cache that they share, or of where the pages are. It does nothing.
+/// Repositories on the pages of one device do not disturb one another. A host is made of a configuration, over a device
+/// that gives back what was written to it, and performs exchanges, one after the other, as `Host::run` and
+/// `Host::exchange` say. The answers at each repository are those of a run of its own exchanges alone, from its empty
+/// state. Where no exchange failed, they are the answers that the repository gives alone: they show nothing of the other
+/// repositories, of the cache that all share, or of where the pages are. An answer says that the device failed only
+/// where it did since the host was made, and that something is damaged never. It is a theorem: the function is empty.
 pub fn pages_law<D: PageDevice>()
     ensures served { (config : HostConfig) (device : D) (first last : HostState) (calls : List Call)
         (answers : List Answer) → IsBegunOn config (D.honest device) (D.failures device) first

@@ -17,8 +17,8 @@ use oai_paged::{PagedVersions, VersionsOver};
 use oai_pool::{PagePool, Pool};
 use std::alloc::{AllocError, Global};
 
-/// An empty store over the pages of that device, with a cache of as many pages as the configuration tells. It is as
-/// honest as its device, and has failed as often. The error is out of memory.
+/// A store without versions over the pages of that device, with a cache of as many pages as the configuration says. It
+/// is as honest as the device, and has failed as often. The error is out of memory.
 pub fn store_on<D: PageDevice>(
     alloc: Global,
     config: &Config,
@@ -37,8 +37,8 @@ pub fn store_on<D: PageDevice>(
     }
 }
 
-/// The pool of the pages on which the host's repositories keep their items: each item stands, spelled, on one of them, or on one and its
-/// overflow pages.
+/// The pool of the pages on which the host's repositories keep their items. Each item stands on one of these pages, or on one and its
+/// overflow pages, encoded as `oai_item` does.
 pub fn pages_under<D: PageDevice>(host: &Host<PagedVersions<D>>) -> &Pool<D>
     ensures room { calls_left (⟦<Pool<D> as PagePool>⟧.room result.now) (⟦<Pool<D> as PagePool>⟧.counts result.now)
         ≡ host.now.room }
@@ -51,7 +51,8 @@ pub fn pages_under<D: PageDevice>(host: &Host<PagedVersions<D>>) -> &Pool<D>
     host.versions().pool()
 }
 
-/// The device on which they are: it is as honest as the host says, and has failed as often.
+/// The device of the pages on which the host's repositories keep their items. It is as honest as the host, and has failed
+/// as often.
 pub fn device_under<D: PageDevice>(host: &Host<PagedVersions<D>>) -> &D
     ensures honesty { D.honest result.now ≡ host.now.honest }
     ensures count { D.failures result.now ≡ host.now.failures }

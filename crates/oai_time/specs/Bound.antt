@@ -52,7 +52,7 @@ HasEachDate = (year month day : ℕ)
     → (midnight : ℤ)
     × IsBound (date_text (record { year = year; month = month; day = day })) (WholeDay midnight)
 
--- ---- the same as a function
+-- ---- the bound of a text, as a function
 
 -- the greatest number below n that passes, if there is one
 unfoldable pub last_below : (ℕ → Bool) → ℕ → Option ℕ

@@ -24,7 +24,7 @@ enum Command {
     Check(String),
     /// To perform the exchanges of standard input on the repositories of the configuration.
     Ask(String),
-    /// To take the pieces and ends of connections that standard input tells.
+    /// To perform the lines of standard input, each a piece or the end of a connection.
     Trace(String),
     /// To serve so many connections on a port of 127.0.0.1, with the pages in the file of the second path.
     Serve(String, u16, String, u64),
@@ -121,7 +121,7 @@ fn run_ask(rt: &(impl Files + Input + Print + AllocGlobal), path: &str) -> Resul
     ask_lines(alloc, &mut host, &mut rt.reader(), &mut writer)
 }
 
-/// Takes the pieces and ends of connections that standard input tells, to the repositories of the
+/// Performs the lines of standard input, each a piece or the end of a connection to the repositories of the
 /// configuration.
 fn run_trace(rt: &(impl Files + Input + Print + AllocGlobal), path: &str) -> Result<(), Stop> {
     let alloc = rt.alloc();

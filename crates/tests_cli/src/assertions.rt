@@ -19,7 +19,7 @@ pub(crate) fn assert_same_at<T: PartialEq + Debug + Drop, P: Display + Drop>(
     assert_eq!(rt; found, wanted, "at {place}");
 }
 
-/// Fails the test where the value is not told as the text that is wanted, and shows both; or where memory runs out.
+/// Fails the test where the text of the value is not the one that is wanted, and shows both; or where memory runs out.
 pub(crate) fn assert_shown<T: Display + Drop>(
     rt: &impl Abort,
     alloc: Global,

@@ -65,7 +65,7 @@ fn chunk_of_no_records(rt: HostRuntime) {
     assert_refused(&rt, rt.alloc(), text.as_str(), "config: 7 BadNumber");
 }
 
-/// Of two faults the lower number is told.
+/// Of two faults the one with the lower number is reported.
 #[test]
 fn lower_fault_of_two(rt: HostRuntime) {
     let twice = with_one_name_twice(&rt, rt.alloc());

@@ -1,4 +1,4 @@
-//! The configuration that a file tells.
+//! The configuration in a file.
 use crate::assertions::assert_same;
 use oai_cli::{Stop, read_config};
 use std::alloc::Global;

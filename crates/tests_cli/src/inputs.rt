@@ -128,6 +128,27 @@ fn line_longer_than_the_buffer(rt: HostRuntime) {
     assert_asked(&rt, alloc, text.as_str(), wanted.as_str());
 }
 
+/// A deposit line of 2,097,152 bytes, as many as a body of a message may have.
+fn longest_deposit(rt: &impl Abort, alloc: Global) -> String {
+    let mut text = String::from_str(alloc, transcripts::front_of_a_long_deposit()).expect(
+        rt, "memory",
+    );
+    for _ in 0..2_097_085u32 {
+        text.push('t').expect(rt, "memory");
+    }
+    text.push_str(transcripts::back_of_a_long_deposit())
+        .expect(rt, "memory");
+    text
+}
+
+/// It is read whole, and its item is too large.
+#[test]
+fn longest_deposit_line(rt: HostRuntime) {
+    let alloc = rt.alloc();
+    let text = longest_deposit(&rt, alloc);
+    assert_asked(&rt, alloc, text.as_str(), "200\nrefused 11 too-large\n");
+}
+
 /// A line that comes in 1,223 reads.
 #[test]
 fn line_of_many_reads(rt: HostRuntime) {

@@ -48,7 +48,7 @@ impl Clock for StoppedClock {
     }
 }
 
-/// A clock that others move; it tells seconds from 1970 on.
+/// A clock that others move; it counts seconds from 1970 on.
 #[derive(Drop)]
 struct MovedClock(Cell<u64>);
 
@@ -326,7 +326,7 @@ fn clock_of_a_stream_fails(rt: HostRuntime) {
     assert_set(&rt, alloc, &mut front, set_answer());
 }
 
-/// A message is performed at the moment that the clock tells behind the read that completes it: the second
+/// A message is performed at the moment of the clock behind the read that completes it: the second
 /// read ends twenty seconds behind the first moment.
 #[test]
 fn moments_of_a_stream(rt: HostRuntime) {

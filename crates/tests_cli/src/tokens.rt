@@ -1,5 +1,5 @@
 //! Lists that are answered in parts, as worked exchanges: lines that begin with `> ` are asked, the
-//! others are answered. 1704067200 is 2024-01-01T00:00:00Z; the archive tells two records in an answer,
+//! others are answered. 1704067200 is 2024-01-01T00:00:00Z; the archive gives two records in an answer,
 //! keeps a list open for a minute, and one at a time.
 use crate::asking::assert_transcript;
 
@@ -70,7 +70,7 @@ fn frozen_lists(rt: HostRuntime) {
     assert_transcript(&rt, rt.alloc(), frozen_lists_asked());
 }
 
-/// A record that is deposited again while its list is read is told once, as it was.
+/// A record that is deposited again while its list is read is listed once, as it was.
 fn redeposits_asked() -> &'static str {
     r#"> 1704067200 POST /deposit/a {"deposit":"oai:a:1","sets":[],"records":{"oai_dc":[]}}
 200

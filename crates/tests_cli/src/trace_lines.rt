@@ -204,7 +204,7 @@ fn no_sets() -> &'static str {
     "DOC <responseDate>2024-01-01T00:00:00Z</responseDate><request verb=\"ListSets\">http://host.example/oai/a</request><error code=\"noSetHierarchy\">The repository has no sets.</error></OAI-PMH>"
 }
 
-/// The second repository, as Identify tells it.
+/// The second repository, as Identify describes it.
 fn second() -> &'static str {
     "DOC <responseDate>2024-01-01T00:00:00Z</responseDate><request verb=\"Identify\">http://host.example/oai/b</request><Identify><repositoryName>Archive B</repositoryName><baseURL>http://host.example/oai/b</baseURL><protocolVersion>2.0</protocolVersion><adminEmail>b@host.example</adminEmail><earliestDatestamp>2024-01-01</earliestDatestamp><deletedRecord>no</deletedRecord><granularity>YYYY-MM-DD</granularity></Identify></OAI-PMH>"
 }
@@ -338,7 +338,7 @@ fn too_many_connections(rt: HostRuntime) {
     assert_traced(&rt, alloc, ended.as_str(), "0 close\n", Ok(()));
 }
 
-/// Each of these lines alone tells nothing.
+/// None of these lines is a piece or an end.
 fn bad_lines() -> &'static str {
     "1 1 4
 1 1 4g

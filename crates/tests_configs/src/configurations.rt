@@ -1,4 +1,4 @@
-//! What texts tell, and how many repositories they may tell of.
+//! The configurations in texts, and how many repositories they may have.
 use crate::answers::answer_to;
 use crate::assertions::{assert_same, assert_same_at};
 use crate::samples::{assert_table, worked_with};
@@ -54,7 +54,7 @@ fn repositories_in_the_order_of_the_text(rt: HostRuntime) {
     assert_same(&rt, bases.as_str(), wanted);
 }
 
-/// What is told of the first repository.
+/// The settings of the first repository.
 fn assert_first(rt: &impl Abort, alloc: Global) {
     let config = Config::read(alloc, worked_configuration().as_bytes()).expect(rt, "Config::read");
     for first in config.into_repositories().as_slice().iter().take(1) {
@@ -86,7 +86,7 @@ fn member_that_stands_twice(rt: HostRuntime) {
     );
 }
 
-/// What may be told in place of the words of the worked configuration: each limit, and what is free.
+/// What may stand in place of the words of the worked configuration: each limit, and what is free.
 fn free_changes() -> &'static str {
     r#""base":"http://host.example","cache":1 -> "cache":1,"base":"http://host.example" => ok
 "name":"a" -> "name":"-" && "name":"b" -> "name":"0" => ok
@@ -164,7 +164,7 @@ fn a_thousand_repositories(rt: HostRuntime) {
     assert_many(&rt, rt.alloc(), 999, 0, "2", "4 DuplicateName");
 }
 
-/// One more is told where no lower fault lies anywhere, the last repository included.
+/// That there is one repository too many is reported where no lower fault lies anywhere, the last repository included.
 #[test]
 fn a_thousand_and_one(rt: HostRuntime) {
     assert_many(&rt, rt.alloc(), 1_000, 1_000, "2", "8 TooMany");

@@ -160,7 +160,7 @@ fn each_cause_alone(rt: HostRuntime) {
     assert_table(&rt, rt.alloc(), single_causes());
 }
 
-/// Two causes, of which the lower is told wherever they stand: before the other or behind it, in one
+/// Two causes, of which the lower is reported wherever they stand: before the other or behind it, in one
 /// repository or in two.
 fn two_causes() -> &'static str {
     r#""name":"a" -> "name":"A" && "items":2 -> "items":"2" => 2 BadShape

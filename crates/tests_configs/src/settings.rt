@@ -1,4 +1,4 @@
-//! What settings make a configuration, why others make none, and what is told of each fault.
+//! What settings make a configuration, why others make none, and the text of each fault.
 use crate::assertions::{assert_same, assert_same_at, assert_shown};
 use oai_answers::DeletedRecord;
 use oai_settings::{ConfigFault, RepoConfig};
@@ -44,7 +44,7 @@ fn repeated(rt: &impl Abort, alloc: Global, text: &str, times: usize) -> String 
     all
 }
 
-/// What is told of Archive A.
+/// The settings of Archive A.
 fn assert_told(rt: &impl Abort, config: &RepoConfig) {
     assert_same(rt, config.base(), "http://host.example/oai/a");
     assert_same(rt, config.repository_name(), "Archive A");

@@ -7,14 +7,14 @@ use std::alloc::Global;
 use std::panic::Expect;
 use std::process::Abort;
 
-/// The copy catches up with the items of which these are told.
+/// The copy catches up with the items that these describe.
 fn catch_up(rt: &impl Abort, alloc: Global, copy: &mut Copy, told: &[Told<'_>]) {
     let harvest = items(rt, alloc, told);
     copy.catch_up(harvest.as_slice())
         .expect(rt, "Copy::catch_up");
 }
 
-/// The item is the one of which this is told.
+/// The item is the one that this describes.
 fn assert_item(rt: &impl Abort, item: &Item, told: &Told<'_>) {
     assert_same(rt, item.identifier().as_str(), told.identifier);
     assert_same(
@@ -24,7 +24,7 @@ fn assert_item(rt: &impl Abort, item: &Item, told: &Told<'_>) {
     );
 }
 
-/// The copy holds the items of which these are told, in that order.
+/// The copy holds the items that these describe, in that order.
 pub(crate) fn assert_holds(rt: &impl Abort, copy: &Copy, told: &[Told<'_>]) {
     assert_same(rt, copy.items().len(), told.len());
     for (item, told) in copy.items().iter().zip(told) {
@@ -108,7 +108,7 @@ fn identifiers_are_in_the_order_of_their_bytes(rt: HostRuntime) {
     assert_holds_after(&rt, alloc, (&first, &second), &wanted);
 }
 
-/// Thirty items, each told three times, the last one with the greatest second.
+/// Thirty items, each harvested three times, the last time with the greatest second.
 fn catch_up_with_thirty(rt: &impl Abort, alloc: Global, copy: &mut Copy) {
     let names = [
         "oai:a:9", "oai:a:3", "oai:a:7", "oai:a:1", "oai:a:5", "oai:a:0", "oai:a:8", "oai:a:2",

@@ -1,4 +1,4 @@
-//! Items that tests speak of, by the little that is told of them.
+//! Items that tests speak of, each described in short.
 use oai_item::Item;
 use oai_names::{Identifier, Prefix, Sequence};
 use std::alloc::Global;
@@ -8,7 +8,7 @@ use std::process::Abort;
 /// 2024-01-01T00:00:00Z.
 const STAMP: i64 = 1_704_067_200;
 
-/// What is told of an item: its identifier, the second of its datestamp, and whether it is live.
+/// An item in short: its identifier, the second of its datestamp, and whether it is live.
 #[derive(Clone, Copy)]
 pub(crate) struct Told<'a> {
     pub(crate) identifier: &'a str,
@@ -53,7 +53,7 @@ fn empty_item(rt: &impl Abort, alloc: Global, identifier: &str, second: u8) -> I
     Item::live(alloc, identifier, stamp, sets, formats).expect(rt, "Item::live")
 }
 
-/// The item of which this is told.
+/// The item that this describes.
 fn item(rt: &impl Abort, alloc: Global, told: Told<'_>) -> Item {
     let item = empty_item(rt, alloc, told.identifier, told.second);
     if told.live {
@@ -64,7 +64,7 @@ fn item(rt: &impl Abort, alloc: Global, told: Told<'_>) -> Item {
     }
 }
 
-/// The items of which these are told.
+/// The items that these describe.
 pub(crate) fn items(rt: &impl Abort, alloc: Global, told: &[Told<'_>]) -> Vec<Item> {
     let mut items = Vec::new(alloc);
     for one in told {

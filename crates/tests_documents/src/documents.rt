@@ -279,7 +279,7 @@ fn identify_transient(rt: HostRuntime) {
     );
 }
 
-/// All eight errors. All arguments were given; two of the errors tell none.
+/// All eight errors. All arguments were given; two of the errors repeat none.
 #[test]
 fn errors(rt: HostRuntime) {
     let asked = Asked {

@@ -1,11 +1,11 @@
-//! The repositories that tests speak of, by what is told of each.
+//! The repositories that tests speak of, each by its settings.
 use oai_item::DeletedRecord;
 use oai_names::{Sequence, Text};
 use oai_settings::{FormatSettings, Settings};
 use oai_time::Granularity;
 use std::alloc::{AllocError, Global};
 
-/// What is told of a repository.
+/// The settings of a repository.
 #[derive(Clone, Copy)]
 pub struct Told<'a> {
     /// What the base URL begins with.
@@ -16,7 +16,7 @@ pub struct Told<'a> {
     pub repository_name: &'a str,
     /// An address of those who keep it.
     pub address: &'a str,
-    /// How often that address is told.
+    /// How often that address is given.
     pub addresses: usize,
     /// The earliest datestamp, as a text.
     pub earliest: &'a str,
@@ -24,13 +24,13 @@ pub struct Told<'a> {
     pub deleted: DeletedRecord,
     /// Days or seconds.
     pub granularity: Granularity,
-    /// The most records of a part of a list; none where what is told is no whole number of 64 bits.
+    /// The most records of a part of a list; none where what is given is no whole number of 64 bits.
     pub chunk: Option<u64>,
-    /// For how many seconds a list is open, told in the same way.
+    /// For how many seconds a list is open; none where what is given is no whole number of 64 bits.
     pub lifetime: Option<u64>,
-    /// How many lists may be open, told in the same way.
+    /// How many lists may be open; none where what is given is no whole number of 64 bits.
     pub lists: Option<u64>,
-    /// How many items there may be, told in the same way.
+    /// How many items there may be; none where what is given is no whole number of 64 bits.
     pub items: Option<u64>,
     /// The prefixes of its formats of journals, with commas between; none where it has no such format.
     pub prefixes: Option<&'a str>,
@@ -83,7 +83,7 @@ pub fn archive_c() -> Told<'static> {
     }
 }
 
-/// The settings of which that is told.
+/// The described settings, as a value of `oai_settings`.
 pub fn settings_of(alloc: Global, told: Told<'_>) -> Result<Settings, AllocError> {
     Ok(Settings {
         base: Text::new(alloc, told.base)?,

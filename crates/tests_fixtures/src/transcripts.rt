@@ -1,4 +1,4 @@
-//! The worked configuration, and the shorthand in which transcripts tell documents.
+//! The worked configuration, and the shorthand in which transcripts write documents.
 use std::alloc::{AllocError, Global};
 
 /// A configuration of three repositories: `a` has seconds, keeps deleted records and has a format of

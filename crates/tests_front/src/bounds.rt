@@ -1,6 +1,6 @@
 //! The longest heads and bodies, and those that are longer by one.
 use crate::assertions::assert_same;
-use crate::recording_handler::answered;
+use crate::recording_handler::{answered, assert_answered};
 use std::alloc::Global;
 use std::panic::Expect;
 use std::process::Abort;
@@ -8,6 +8,9 @@ use std::process::Abort;
 const FOUND: &str = "HTTP/1.1 404 Not Found\r\nContent-Length: 0\r\n\r\n";
 
 const BAD: &str = "HTTP/1.1 400 Bad Request\r\nConnection: close\r\nContent-Length: 0\r\n\r\n";
+
+const TOO_LARGE: &str =
+    "HTTP/1.1 413 Content Too Large\r\nConnection: close\r\nContent-Length: 0\r\n\r\n";
 
 /// A head of so many bytes.
 fn head_of(rt: &impl Abort, alloc: Global, size: usize) -> Vec<u8> {
@@ -75,23 +78,72 @@ fn filled(rt: &impl Abort, alloc: Global) -> Vec<u8> {
     filled
 }
 
-#[test]
-fn bodies_have_at_most_1048576_bytes(rt: HostRuntime) {
-    let message = longest_message(&rt, rt.alloc());
-    assert_found(&rt, rt.alloc(), &message, FOUND);
+/// The head of a message with a body of so many bytes. The line is its method and target.
+fn head_with_body(rt: &impl Abort, alloc: Global, line: &str, size: u32) -> String {
+    format!(in alloc; "{line} HTTP/1.1\r\nHost: h\r\nContent-Length: {size}\r\n\r\n").expect(
+        rt, "memory",
+    )
 }
 
-/// A message with the longest body.
-fn longest_message(rt: &impl Abort, alloc: Global) -> Vec<u8> {
-    let mut message = Vec::from_slice(
-        alloc,
-        b"PUT / HTTP/1.1\r\nHost: h\r\nContent-Length: 1048576\r\n\r\n",
-    )
-    .expect(rt, "Vec::from_slice");
-    for _ in 0..1_048_576u32 {
+/// A message with a body of so many bytes. The line is its method and target.
+fn message_with_body(rt: &impl Abort, alloc: Global, line: &str, size: u32) -> Vec<u8> {
+    let head = head_with_body(rt, alloc, line, size);
+    let mut message = Vec::from_slice(alloc, head.as_str().as_bytes()).expect(
+        rt,
+        "Vec::from_slice",
+    );
+    for _ in 0..size {
         message.push(b'b').expect(rt, "memory");
     }
     message
+}
+
+#[test]
+fn the_longest_bodies(rt: HostRuntime) {
+    for (line, size) in [("PUT /", 1_048_576), ("PUT /deposit/z", 2_097_152)] {
+        let message = message_with_body(&rt, rt.alloc(), line, size);
+        assert_found(&rt, rt.alloc(), &message, FOUND);
+    }
+}
+
+/// Methods and targets, and how long a body of each may be.
+fn lengths_that_may_come() -> [(&'static str, u32); 7] {
+    [
+        ("POST /deposit/a", 1_048_577),
+        ("POST /deposit/a", 2_097_152),
+        ("PUT /deposit/a?x", 2_097_152),
+        ("GET /deposit/", 2_097_152),
+        ("POST /oai/a", 1_048_576),
+        ("POST /deposit", 1_048_576),
+        ("PUT /", 1_048_576),
+    ]
+}
+
+/// Methods and targets, and a length of which no body of each may be.
+fn lengths_that_are_refused() -> [(&'static str, u32); 8] {
+    [
+        ("POST /deposit/a", 2_097_153),
+        ("PUT /deposit/a?x", 2_097_153),
+        ("GET /deposit/", 2_097_153),
+        ("POST /oai/a", 1_048_577),
+        ("POST /deposit", 1_048_577),
+        ("POST /oai/deposit/", 1_048_577),
+        ("POST /?/deposit/", 1_048_577),
+        ("POST http://h/deposit/a", 1_048_577),
+    ]
+}
+
+/// A head without its body waits for it, or is refused by the length.
+#[test]
+fn lengths_of_bodies(rt: HostRuntime) {
+    for (line, size) in lengths_that_may_come() {
+        let head = head_with_body(&rt, rt.alloc(), line, size);
+        assert_answered(&rt, rt.alloc(), head.as_str(), "", false);
+    }
+    for (line, size) in lengths_that_are_refused() {
+        let head = head_with_body(&rt, rt.alloc(), line, size);
+        assert_answered(&rt, rt.alloc(), head.as_str(), TOO_LARGE, true);
+    }
 }
 
 /// The bytes, so many times.
@@ -113,7 +165,7 @@ fn assert_all_found(rt: &impl Abort, alloc: Global, piece: &[u8], count: usize) 
 /// Two of the longest messages are more than two megabytes.
 #[test]
 fn pieces_have_any_size(rt: HostRuntime) {
-    let message = longest_message(&rt, rt.alloc());
+    let message = message_with_body(&rt, rt.alloc(), "PUT /", 1_048_576);
     let piece = times(&rt, rt.alloc(), &message, 2);
     assert_all_found(&rt, rt.alloc(), &piece, 2);
 }

@@ -82,7 +82,7 @@ fn assert_gone(rt: &impl Abort, front: &mut Front<Teller>, conn: ConnId) {
     assert_same(rt, front.forget(conn), Err(NoSuchConnection));
 }
 
-/// Nothing is told of the connection.
+/// The front has no such connection: no output of it, and neither open nor closing.
 fn assert_untold(rt: &impl Abort, front: &Front<Teller>, conn: ConnId) {
     assert!(rt; front.output(conn).is_none());
     assert_same(rt, front.closing(conn), None);

@@ -1,4 +1,4 @@
-//! Tests of connections (`oai_front`), over a handler that tells what it was asked, and over a host. It
+//! Tests of connections (`oai_front`), over a handler that repeats what it was asked, and over a host. It
 //! holds nothing else.
 #![tactic(auto)]
 

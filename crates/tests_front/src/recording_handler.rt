@@ -1,4 +1,4 @@
-//! A handler that tells what it was asked, and what a front over it answers.
+//! A handler that repeats what it was asked, and what a front over it answers.
 ghost use Rattle.std.specs.Prelude.{⊤};
 
 use crate::assertions::{assert_same, assert_same_at};
@@ -29,8 +29,8 @@ impl Handler for Teller {
     }
 }
 
-/// The status, the seconds and the number of lines that a target is answered, where it is not told what
-/// was asked.
+/// The status, the seconds and the number of lines that a target is answered; none where the answer repeats
+/// what was asked.
 fn planned(target: &str) -> Option<(Status, Option<i64>, Option<u64>)> {
     match target {
         "/oai/a" | "/deposit/a" => None,

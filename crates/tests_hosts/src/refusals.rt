@@ -1,5 +1,5 @@
 //! Exchanges that are not performed, and why: of the causes that apply the first of 400, 404, 405 and
-//! 415 is told. None of them has a body, nor moves a clock.
+//! 415 is answered. None of them has a body, nor moves a clock.
 use crate::assertions::assert_same;
 use crate::sample_host::host;
 use crate::transcripts::assert_transcript;
@@ -51,7 +51,7 @@ fn types_of_requests(rt: HostRuntime) {
     assert_transcript(&rt, rt.alloc(), spaced_type_asked());
 }
 
-/// Of two causes the first is told; and what is no repository's is told so whatever the method.
+/// Of two causes the first is answered; and a target of no repository is refused as such whatever the method.
 fn two_causes_asked() -> &'static str {
     r#"> 1704067200 GET oai/z
 400

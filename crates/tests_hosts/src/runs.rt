@@ -44,7 +44,7 @@ pub(crate) fn call(
     }
 }
 
-/// The call of which that is told.
+/// The call that this describes.
 fn call_of(rt: &impl Abort, alloc: Global, told: Told<'_>) -> Call {
     let body = body_of(alloc, told).expect(rt, "body_of");
     let Told {
@@ -141,7 +141,7 @@ ok 2024-01-01T00:00:00Z
 DOC <responseDate>2024-01-01T00:00:00Z</responseDate><request verb="GetRecord" identifier="oai:a:1" metadataPrefix="oai_dc">http://host.example/oai/a</request><GetRecord><record><header><identifier>oai:a:1</identifier><datestamp>2024-01-01T00:00:00Z</datestamp></header><metadata>{dc}<dc:title>A &amp; B &lt; "C" é</dc:title></oai_dc:dc></metadata></record></GetRecord></OAI-PMH>"#
 }
 
-/// Two items that one answer tells, and three that two answers tell.
+/// Two items that one answer lists, and three that two answers list.
 fn token() -> &'static str {
     r#"> 1704067200 POST /deposit/a | - | {"deposit":"oai:a:1","sets":[],"records":{"oai_dc":[]}}
 200

@@ -17,7 +17,7 @@ use tests_fixtures::wanted_in;
 
 // ---- exchanges
 
-/// An exchange and its moment, as a line tells them.
+/// An exchange and its moment, as a line has them.
 #[derive(Clone, Copy)]
 pub(crate) struct Told<'a> {
     pub(crate) moment: i64,
@@ -27,7 +27,7 @@ pub(crate) struct Told<'a> {
     pub(crate) body: &'a str,
 }
 
-/// What the line tells.
+/// The exchange in the line, and its moment.
 pub(crate) fn told_in<'a>(rt: &impl Abort, line: &'a str) -> Told<'a> {
     let mut parts = line.split(" | ");
     let mut words = parts.next().unwrap_or("").split(' ');

@@ -9,7 +9,7 @@ use std::process::Abort;
 
 const URI: &str = "http://host.example/jnl/";
 
-/// What is told of a format.
+/// A format in short.
 #[derive(Clone, Copy)]
 struct Told<'a> {
     prefix: &'a str,
@@ -40,7 +40,7 @@ fn texts(rt: &impl Abort, alloc: Global, texts: &[&str]) -> Sequence<Text> {
     Sequence::new(copies)
 }
 
-/// The format of which that is told.
+/// The format that this describes.
 fn format_of(rt: &impl Abort, alloc: Global, told: Told<'_>) -> Format {
     Format {
         prefix: Prefix::read(alloc, told.prefix).expect(rt, "Prefix::read"),
@@ -93,7 +93,7 @@ fn assert_declared(
     assert_last(rt, &formats, prefix.as_str(), answer);
 }
 
-/// The same with the format of which that is told.
+/// Declares the format that this describes.
 fn assert_answer(rt: &impl Abort, alloc: Global, told: Told<'_>, answer: Result<(), FormatFault>) {
     assert_declared(rt, alloc, format_of(rt, alloc, told), answer);
 }

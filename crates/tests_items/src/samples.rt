@@ -1,4 +1,4 @@
-//! Items that tests speak of, by the little that is told of them.
+//! Items that tests speak of, each described in short.
 use oai_item::{Field, Item};
 use oai_names::{Identifier, Prefix, Sequence, SetSpec, Text};
 use std::alloc::Global;

@@ -1,4 +1,4 @@
-//! Items that tests speak of, by the little that is told of them. Their bytes are put together as the description of an item's
+//! Items that tests speak of, each described in short. Their bytes are put together as the description of an item's
 //! spelling has it, and not by the program.
 use oai_item::Item;
 use std::alloc::Global;
@@ -8,7 +8,7 @@ use std::process::Abort;
 /// 2024-01-01T00:00:00Z, from which the datestamps of items are counted.
 pub(crate) const STAMP: i64 = 1_704_067_200;
 
-/// What is told of an item. It has a title in oai_dc, and the identifiers rise with the numbers.
+/// An item in short. It has a title in oai_dc, and the identifiers rise with the numbers.
 #[derive(Clone, Copy, Debug, PartialEq, Eq)]
 pub(crate) struct Sample {
     /// The number in its identifier, below 900,000.

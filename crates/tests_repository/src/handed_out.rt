@@ -1,5 +1,5 @@
 //! A token is handed out by a part that was answered, and not by one that failed: whether it failed for the store or, where
-//! these tests are run with an allocation refused, for want of memory.
+//! these tests are run with an allocation refused, since memory runs out.
 use crate::outcomes::{archive, assert_outcomes, page_of};
 use crate::samples::{Asked, BEGIN};
 use oai_catalogue::{PlainVersions, Versions};

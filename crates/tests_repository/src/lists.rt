@@ -46,7 +46,7 @@ fn lists_in_turns(rt: HostRuntime) {
     assert_transcript(&rt, rt.alloc(), archive_a(), lists_in_turns_asked());
 }
 
-/// While a list is read, each of its records is deposited again or deleted; it is told as it was, and a
+/// While a list is read, each of its records is deposited again or deleted; it is listed as it was, and a
 /// list that begins in between as it was then.
 fn all_records_change_asked() -> &'static str {
     r#"> 1704067200 {"deposit":"oai:a:1","sets":[],"records":{"oai_dc":[["title","One"]]}}
@@ -136,7 +136,7 @@ fn lists_of_their_own(rt: HostRuntime) {
 }
 
 /// Where two lists are open, a third one waits for the first that ends, of whatever verb. To wait moves
-/// the clock and uses no number up; what fits into one answer is told all the same.
+/// the clock and uses no number up; what fits into one answer is answered nevertheless.
 fn no_third_list_asked() -> &'static str {
     r#"> 1704067200 {"deposit":"oai:a:1","sets":[],"records":{"oai_dc":[]}}
 ok 1704067200

@@ -51,7 +51,7 @@ fn each_call_fails(rt: HostRuntime) {
     }
 }
 
-/// Two of three deleted items are forgotten while a list is read, which tells them as they were. What is
+/// Two of three deleted items are forgotten while a list is read, which gives them as they were. What is
 /// live stays, however old it is; so does what was deleted at the bound. A day as a bound is its
 /// midnight. A forgotten identifier comes anew, in other formats than it had.
 fn forgotten_in_a_list_asked() -> &'static str {

@@ -1,5 +1,5 @@
 //! Transcripts of one repository: lines that begin with `> ` are a moment and what is asked at it, the
-//! others are answered. 1704067200 is 2024-01-01T00:00:00Z; the repositories tell two records in an
+//! others are answered. 1704067200 is 2024-01-01T00:00:00Z; the repositories give two records in an
 //! answer, and keep two lists open, each for a minute.
 use crate::assertions::assert_same_at;
 use oai_catalogue::{PlainVersions, Versions};
@@ -13,7 +13,7 @@ use std::panic::Expect;
 use std::process::Abort;
 use tests_fixtures::{Stocked, Told, settings_of, wanted_in};
 
-/// The repository of which that is told, over the store, with room for two open lists.
+/// The repository that this describes, over the store, with room for two open lists.
 fn repository<V: Versions + Drop>(
     rt: &impl Abort,
     alloc: Global,
@@ -115,12 +115,12 @@ fn write_line<V: Versions + Drop>(
     }
 }
 
-/// A new repository of which that is told answers the transcript's lines as it says.
+/// A new repository that this describes answers the transcript's lines as it says.
 pub(crate) fn assert_transcript(rt: &impl Abort, alloc: Global, told: Told<'_>, transcript: &str) {
     assert_transcript_over(rt, alloc, told, PlainVersions::new(alloc), transcript);
 }
 
-/// A new repository of which that is told, over the store, answers the transcript's lines as it says.
+/// A new repository that this describes, over the store, answers the transcript's lines as it says.
 pub(crate) fn assert_transcript_over<V: Versions + Drop>(
     rt: &impl Abort,
     alloc: Global,

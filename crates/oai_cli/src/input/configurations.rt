@@ -15,7 +15,7 @@ use std::fs;
 use std::io::{ErrorKind, Read, Write};
 use std::rt::Files;
 
-/// The configuration that the file tells. The errors are `CannotRead`, also where the file has not ended
+/// The configuration in the file. The errors are `CannotRead`, also where the file has not ended
 /// within 1,000,000 reads, `BadConfig` and `NoMemory`.
 pub fn read_config(rt: &(impl Files + AllocGlobal), path: &str) -> Result<Config, Stop> {
     let text = read_file(rt, path)?;
@@ -33,8 +33,8 @@ pub fn read_file(rt: &(impl Files + AllocGlobal), path: &str) -> Result<Vec<u8>,
     read_text(rt.alloc(), &mut file)
 }
 
-/// The configuration that the text tells. The errors are `BadConfig`, with the fault that `Config::read`
-/// tells, and `NoMemory`.
+/// The configuration in the text. The errors are `BadConfig`, with the fault that `Config::read` returns, and
+/// `NoMemory`.
 pub fn config_in(alloc: Global, text: &[u8]) -> Result<Config, Stop>
     ensures { spec.IsConfigIn text.now result }
 {
@@ -45,9 +45,9 @@ pub fn config_in(alloc: Global, text: &[u8]) -> Result<Config, Stop>
     }
 }
 
-/// Checks the configuration that the text tells: writes `ok`, a space and the number of its repositories,
-/// as a line. The errors are `BadConfig`, with the fault that `Config::read` tells, and `NoMemory`, before
-/// which nothing is written, and `OutputFault`.
+/// Checks the configuration in the text: writes `ok`, a space and the number of its repositories, as a line.
+/// The errors are `BadConfig`, with the fault that `Config::read` returns, and `NoMemory`, before which
+/// nothing is written, and `OutputFault`.
 pub fn check_config<W: Write>(alloc: Global, text: &[u8], writer: &mut W) -> Result<(), Stop>
     ensures { spec.IsChecked text.now result
         (Appends (W.Write.contents writer.old) (W.Write.contents writer.new)) }
@@ -58,7 +58,7 @@ pub fn check_config<W: Write>(alloc: Global, text: &[u8], writer: &mut W) -> Res
     }
 }
 
-/// Writes the line of a configuration of so many repositories.
+/// Writes the line for a configuration of that many repositories.
 fn write_checked<W: Write>(repositories: usize, writer: &mut W) -> Result<(), Stop>
     ensures written { OnOk result (Appends (W.Write.contents writer.old)
         (W.Write.contents writer.new) (spec.checked_line repositories)) }

@@ -1,4 +1,4 @@
-//! What a line of a trace tells.
+//! The events of a trace, each of which is a line.
 ghost use Rattle.std.specs.Prelude.{◌≡◌};
 ghost use Rattle.oai_cli.specs.EventLines as spec;
 
@@ -8,7 +8,7 @@ use hex::FromHexError;
 use oai_names::Sequence;
 use std::alloc::Global;
 
-/// What a line of a trace tells: at a moment a piece comes on a connection, or its end.
+/// A line of a trace, as it is parsed: at a moment a piece comes on a connection, or the connection's end.
 #[derive(Drop)]
 pub(crate) struct Event {
     /// The moment, in seconds from 1970 on.
@@ -58,7 +58,7 @@ fn read_piece(alloc: Global, text: &[u8]) -> Result<Option<Sequence<u8>>, FromHe
     }
 }
 
-/// Why the line of that number tells nothing.
+/// Why the line of that number could not be parsed.
 fn stop_at(number: u64, error: FromHexError) -> Stop
     ensures { result ≡ spec.stop_at number error }
 {

@@ -1,5 +1,5 @@
 //! What is deposited: why it is refused, and the item that it makes.
-ghost use Rattle.std.specs.Prelude.{◌≡◌, ◌≤◌, None, Some, codes, false, length, OnOk};
+ghost use Rattle.std.specs.Prelude.{◌≡◌, ◌≤◌, None, Some, false, length, OnOk};
 ghost use Rattle.std.specs.List.{list_all};
 ghost use Rattle.std.specs.Option.{option_copied};
 ghost use Rattle.oai_names.specs.Names.{is_among};
@@ -131,7 +131,8 @@ fn deposit_refusal(
     None
 }
 
-/// Why the item may not stand in place of that one, if there is one, among so many: the first cause.
+/// Why the item may not stand in place of that one, if there is one, where there are `count` items: the first
+/// cause.
 #[tactic(auto, unfolding(crate::specs::Changes::item_refusal))]
 fn item_refusal(
     config: &RepoConfig,
@@ -242,7 +243,7 @@ fn has_each_format(item: &Item, other: &Item) -> bool
         .all(|format| item.has_record(format.0.as_str()))
 }
 
-/// Whether none is replaced and no further item may stand beside so many.
+/// Whether no item is replaced, and the repository may have no more items than the `count` that it has.
 #[tactic(auto, unfolding(crate::specs::Changes::is_one_too_many))]
 fn is_one_too_many(config: &RepoConfig, replaced: Option<&Item>, count: u64) -> bool
     ensures { result ≡ spec.is_one_too_many config.now (option_copied replaced.entry) count }

@@ -6,7 +6,6 @@ ghost use Rattle.oai_time.specs.Bound.{IsWritableBound};
 ghost use Rattle.oai_time.specs.Stamp.{IsWritable};
 ghost use Rattle.oai_item.specs.declared.faults.Fault.TheVariants as fault;
 ghost use Rattle.oai_item.specs.Selection.{selected};
-ghost use Rattle.oai_item.specs.declared.deleted_record.DeletedRecord.TheVariants as policy;
 ghost use Rattle.oai_catalogue.specs.Calls.{OnlyReads, Uses};
 ghost use Rattle.oai_catalogue.specs.Store.{list_at};
 ghost use Rattle.oai_repo.specs.Calls.{fault_in};

@@ -1,5 +1,5 @@
 -- Whether the list begins is decided by the table as by the state.
-use Rattle.std.proofs.Common.{◌≡◌, ◌∙◌, ℤ, Err, refl, rules, sym, ap, FitsSigned, w64}
+use Rattle.std.proofs.Common.{◌≡◌, ◌∙◌, ℤ, Err, refl, sym, ap, FitsSigned, w64}
 use Rattle.std.proofs.lemmas.Int.{to_z-of_z}
 use Rattle.oai_lists.specs.OpenLists.{number_or_fault, open_fault}
 use Rattle.oai_lists.specs.declared.lists.OpenFault.TheVariants.{Full, NumbersSpent}

@@ -1,5 +1,5 @@
 -- The list stands behind the others, and its version holds the items as they stand.
-use Rattle.std.proofs.Common.{◌≡◌, ◌∙◌, ℤ, ℕ, List, None, ap, FitsSigned, w64, to_z, of_z, refl, rules, sym, take, length}
+use Rattle.std.proofs.Common.{◌≡◌, ◌∙◌, ℤ, ℕ, List, None, ap, FitsSigned, w64, to_z, of_z, refl, sym, take}
 use Rattle.std.proofs.lemmas.Int.{to_z-of_z}
 use Rattle.oai_item.specs.Item.{ItemState}
 use Rattle.oai_item.specs.Selection.{selected}

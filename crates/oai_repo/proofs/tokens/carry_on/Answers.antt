@@ -1,5 +1,5 @@
 -- Three calls change the one list, one after the other.
-use Rattle.std.proofs.Common.{◌≡◌, ◌∙◌, ℕ, List, Option, None, Some, FitsSigned, ap, refl, sym, w64}
+use Rattle.std.proofs.Common.{◌≡◌, ◌∙◌, ℕ, List, Option, FitsSigned, ap, refl, sym, w64}
 use Rattle.std.proofs.lemmas.Int.{to_z-of_z}
 use Rattle.oai_lists.proofs.Changes.{still_numbered}
 use Rattle.oai_lists.specs.OpenLists.{Table, given_too, open_until, with_change, with_mark}

@@ -1,11 +1,11 @@
 -- The part is that of the list as the state has it, and the mark stands behind it.
-use Rattle.std.proofs.Common.{◌≡◌, ◌∙◌, ◌+◌, ◌+ℤ◌, ℕ, pos, ap, refl, length}
+use Rattle.std.proofs.Common.{◌∙◌, ◌+◌, ◌+ℤ◌, ℕ, pos, ap, refl, length}
 use Rattle.std.proofs.lemmas.Bool.{eqb-true}
 use Rattle.oai_answers.specs.Answers.{Page}
 use Rattle.oai_item.specs.Formats.{format_named}
 use Rattle.oai_repo.specs.Views.{document_reply}
 use Rattle.oai_repo.specs.Fields.{frozen_in, items_frozen}
-use Rattle.oai_repo.specs.Listing.{cursor_behind, part_from, part_answer, prolonged}
+use Rattle.oai_repo.specs.Listing.{cursor_behind, part_answer, prolonged}
 use Rattle.oai_repo.specs.State.{FrozenList}
 use Rattle.oai_repo.proofs.MarkLemmas.{mark_place}
 use Rattle.oai_repo.proofs.PartLemmas.{part_is}

@@ -1,4 +1,4 @@
-use Rattle.std.proofs.Common.{◌≡◌, ◌∙◌, List, Some, ap, max, refl, set, subst, sym}
+use Rattle.std.proofs.Common.{◌≡◌, ◌∙◌, List, Some, ap, refl, set, subst, sym}
 use Rattle.oai_lists.specs.HeldTable.{IsHeldTable, IsListPlace, no_list_numbered}
 use Rattle.oai_lists.specs.OpenLists.{Table, with_mark, list_numbered, with_change}
 use Rattle.oai_lists.specs.declared.open_lists.OpenList.{OpenList}

@@ -1,8 +1,8 @@
 -- The item that is found is the one of its identifier, and it can be stored.
-use Rattle.std.proofs.Common.{◌≡◌, ◌∙◌, Bool, true, not, None, Some, IsTrue, refl, sym, subst}
+use Rattle.std.proofs.Common.{◌≡◌, ◌∙◌, Bool, not, Some, IsTrue, sym, subst}
 use Rattle.oai_item.specs.Item.{ItemState}
 use Rattle.oai_item.specs.Items.{item_named}
-use Rattle.oai_item.proofs.Named.{found_name, of_found}
+use Rattle.oai_item.proofs.Named.{of_found}
 use Rattle.oai_repo.specs.Fields.{stored_items}
 use Rattle.oai_repo.specs.Kept.{is_too_large}
 use Rattle.oai_repo.proofs.IndexLemmas.{named_own}

@@ -1,5 +1,5 @@
 -- An item that is not one too many leaves no more entries than items may be.
-use Rattle.std.proofs.Common.{◌≡◌, length, None}
+use Rattle.std.proofs.Common.{◌≡◌, length}
 use Rattle.std.specs.Option.{option_copied}
 use Rattle.oai_repo.specs.Entries.{stamp_in}
 use Rattle.oai_repo.proofs.KeptLemmas.{few_put}

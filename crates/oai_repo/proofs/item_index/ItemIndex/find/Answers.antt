@@ -1,5 +1,5 @@
 -- At the datestamp of its entry the item of the identifier is found, unless the store is not honest.
-use Rattle.std.proofs.Common.{◌≡◌, ◌∙◌, true, false, not, Option, None, Some, IsSome, refl, rules, sym, ap, subst, FitsSigned, w64}
+use Rattle.std.proofs.Common.{◌≡◌, ◌∙◌, true, false, not, Option, None, Some, IsSome, rules, sym, ap, subst, FitsSigned, w64}
 use Rattle.std.proofs.lemmas.Bool.{false_from_ne_true}
 use Rattle.std.proofs.lemmas.Int.{to_z-of_z}
 use Rattle.std.proofs.lemmas.Slice.Eq.{bytes_eq-Decides}
