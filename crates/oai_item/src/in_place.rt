@@ -10,7 +10,10 @@ ghost use Rattle.oai_item.specs.Order.{item_cmp, place_cmp};
 ghost use Rattle.oai_item.specs.Selection.{is_in_given, passes};
 ghost use Rattle.oai_item.specs.SpellingParts.{ReadsParts};
 
-use crate::decodings::{read_identifier, read_live, read_records, read_sets, read_stamp};
+use crate::decodings::{
+    read_identifier, read_live, read_records, read_sets, read_stamp, read_text,
+};
+use crate::fronts::first_records;
 use crate::sizes::MAX_ITEM_BYTES;
 use crate::walks::{SpelledRecords, SpelledSets};
 use oai_names::{SetSpec, covers};
@@ -60,7 +63,7 @@ impl<'a> Spelling<'a> {
     {
         let (live, rest) = read_live(bytes).unwrap();
         let (stamp, rest) = read_stamp(rest).unwrap();
-        let (identifier, rest) = read_identifier(rest).unwrap();
+        let (identifier, rest) = read_text(rest).unwrap();
         Spelling {
             bytes,
             live,
@@ -113,8 +116,7 @@ impl<'a> Spelling<'a> {
         ensures { result ≡ self.now.formats }
     {
         let (_, rest) = read_sets(self.rest).unwrap();
-        let (records, _) = read_records(rest).unwrap();
-        records
+        first_records(rest)
     }
 
     /// How the item stands to another in the order of items.

@@ -3,7 +3,6 @@ use Rattle.std.proofs.lemmas.Bool.{and_parts}
 use Rattle.std.specs.List.{list_all}
 use Rattle.oai_names.specs.ByteTests.{is_bare_byte}
 use Rattle.oai_names.specs.Escapes.{escaped, escaped_text, text_spelling}
-use Rattle.oai_names.specs.declared.escapes.Place.TheVariants.{Element}
 use Rattle.oai_names.proofs.escapes.escape_text.Goals as goal
 
 bare_byte : (b : ℕ) → is_bare_byte b ≡ true → text_spelling b ≡ b ∷ []
