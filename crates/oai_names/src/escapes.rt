@@ -59,7 +59,9 @@ pub fn escape_law()
 {}
 
 /// Whether each byte stands for itself in an element, as in most texts: such a text is appended in one
-/// piece. The loop has no other end than the last byte, so that many bytes are tested at a time.
+/// piece. The loop has no other end than the last byte, and what it finds is handed out of a function of
+/// its own, so that many bytes are tested at a time.
+#[inline(never)]
 fn is_bare(bytes: &[u8]) -> bool
     ensures { result ≡ list_all is_bare_byte bytes.now }
 {
