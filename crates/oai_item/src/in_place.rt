@@ -13,7 +13,7 @@ ghost use Rattle.oai_item.specs.SpellingParts.{ReadsParts};
 use crate::decodings::{
     read_identifier, read_live, read_records, read_sets, read_stamp, read_text,
 };
-use crate::fronts::first_records;
+use crate::fronts::{first_records, first_sets};
 use crate::sizes::MAX_ITEM_BYTES;
 use crate::walks::{SpelledRecords, SpelledSets};
 use oai_names::{SetSpec, covers};
@@ -107,7 +107,7 @@ impl<'a> Spelling<'a> {
     pub fn sets(&self) -> SpelledSets<'a>
         ensures { result ≡ self.now.sets }
     {
-        let (sets, _) = read_sets(self.rest).unwrap();
+        let (sets, _) = first_sets(self.rest);
         sets
     }
 
@@ -115,7 +115,7 @@ impl<'a> Spelling<'a> {
     pub fn records(&self) -> SpelledRecords<'a>
         ensures { result ≡ self.now.formats }
     {
-        let (_, rest) = read_sets(self.rest).unwrap();
+        let (_, rest) = first_sets(self.rest);
         first_records(rest)
     }
 
