@@ -18,6 +18,8 @@ use Rattle.oai_answers.specs.declared.errors.ErrorCode.TheVariants.{BadVerb, Bad
 use Rattle.oai_item.specs.declared.deleted_record.DeletedRecord.{DeletedRecord}
 use Rattle.oai_item.specs.declared.deleted_record.DeletedRecord.TheVariants.{No, Transient, Persistent}
 use Rattle.oai_answers.specs.declared.tokens.Extent.{Extent}
+use Rattle.oai_answers.specs.declared.metadata.Qualifier.{Qualifier}
+use Rattle.oai_answers.specs.declared.metadata.Qualifier.TheVariants.{Dc, Bare}
 
 -- The root and the request. Section 3.2
 
@@ -130,6 +132,11 @@ unfoldable pub sets_element : List (List ℕ × List ℕ) → List ℕ
 sets_element sets = element (codes "ListSets") (flat_map set_element sets)
 
 -- Metadata. Section 2.5
+
+-- what stands before the name of a field: the prefix of a namespace and a colon, or nothing
+abbrev pub qualifier_of : Qualifier → List ℕ
+qualifier_of Dc = codes "dc:"
+qualifier_of Bare = []
 
 -- a field; the name of its element begins with the prefix of a namespace and a colon, or with nothing
 unfoldable pub field_element : List ℕ → Field → List ℕ

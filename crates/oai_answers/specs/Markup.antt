@@ -1,6 +1,8 @@
 -- The markup of which documents are made: tags, elements and attributes. XML 1.0, sections 3 and 3.1.
 use Rattle.std.specs.Prelude.{ℕ, List, ◌++◌, codes}
 use Rattle.oai_names.specs.Escapes.{escaped_text, escaped_attribute}
+use Rattle.oai_answers.specs.declared.tags.Tag.{Tag}
+use Rattle.oai_answers.specs.declared.tags.Tag.TheVariants.{Record, Header, Identifier, Datestamp, SetSpec, Metadata, DublinCore}
 
 -- bytes that stand as they are: the bytes themselves. It marks them for the prover, and changes nothing
 unfoldable pub plain : List ℕ → List ℕ
@@ -33,3 +35,13 @@ spelled_attribute name value = attribute_start name ++ value ++ plain (codes "\"
 -- an attribute with a text as its value
 unfoldable pub attribute : List ℕ → List ℕ → List ℕ
 attribute name text = spelled_attribute name (escaped_attribute text)
+
+-- the name of an element that each record has, or may have. OAI-PMH 2.0, section 2.5
+abbrev pub name_of : Tag → List ℕ
+name_of Record = codes "record"
+name_of Header = codes "header"
+name_of Identifier = codes "identifier"
+name_of Datestamp = codes "datestamp"
+name_of SetSpec = codes "setSpec"
+name_of Metadata = codes "metadata"
+name_of DublinCore = codes "oai_dc:dc"

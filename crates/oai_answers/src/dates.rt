@@ -53,7 +53,7 @@ pub(crate) fn datestamp_element(
 }
 
 /// Appends the datestamp alone.
-fn put_datestamp(
+pub(crate) fn put_datestamp(
     granularity: Granularity,
     seconds: i64,
     out: &mut Vec<u8>,

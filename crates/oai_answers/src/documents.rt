@@ -13,6 +13,7 @@ use crate::lists::{Listed, write_list_identifiers, write_list_records};
 use crate::markup::put;
 use crate::records::{Record, write_get_record};
 use crate::request::{Asked, write_request};
+use crate::rooms::room_of;
 use crate::sets::write_list_sets;
 use oai_item::Format;
 use oai_names::{SetSpec, Text};
@@ -50,22 +51,20 @@ pub struct Doc<'a> {
     pub body: Body<'a>,
 }
 
-/// The room that a document begins with, in bytes; a longer one grows.
-const FIRST_ROOM: usize = 4_096;
-
 /// Appends the XML document (OAI-PMH 2.0, section 3.2), in UTF-8. The date, the earliest datestamp
 /// of an answer to Identify and the moment at which a token expires are of the years 0000 to 9999.
 /// The error is out of memory; it leaves the buffer as it was.
 ///
 /// It costs one pass over the texts of the document, and a search among the records of an item for
 /// each record, and for each format that is listed of an item. The document is written into a buffer
-/// of its own, which `out` takes over where it was empty; otherwise it is copied once.
+/// of its own, with room for about as much as it takes, which `out` takes over where it was empty;
+/// otherwise it is copied once.
 pub fn write_document(alloc: Global, doc: &Doc<'_>, out: &mut Vec<u8>) -> Result<(), AllocError>
     requires { IsWritableDocument (document_of doc.now) }
     ensures ok { OnOk result (out.new.items ≡ out.old.items ++ document (document_of doc.now)) }
     ensures err { OnErr result (out.new.items ≡ out.old.items) }
 {
-    let mut document = Vec::with_capacity(alloc, FIRST_ROOM)?;
+    let mut document = Vec::with_capacity(alloc, room_of(&doc.body))?;
     append(doc, &mut document)?;
     if out.is_empty() {
         *out = document;

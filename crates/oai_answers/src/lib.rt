@@ -16,7 +16,9 @@ mod markup;
 mod metadata;
 mod records;
 mod request;
+mod rooms;
 mod sets;
+mod tags;
 mod tokens;
 
 pub use documents::{Body, Doc, write_document};

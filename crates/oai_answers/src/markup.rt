@@ -4,6 +4,7 @@ ghost use Rattle.oai_names.specs.Escapes.{escaped_attribute, escaped_text};
 ghost use Rattle.oai_answers.specs.Appends.{Appends};
 ghost use Rattle.oai_answers.specs.Markup.{attribute, attribute_start, element, end_tag, plain, spelled_attribute, start_tag, text_element};
 
+use crate::tags::{Tag, tagged_text};
 use oai_names::{SetSpec, Text, escape_attr, escape_text};
 use std::alloc::AllocError;
 
@@ -89,7 +90,7 @@ pub(crate) fn set_specs(specs: &[SetSpec], out: &mut Vec<u8>) -> Result<(), Allo
         (flat_map (text_element (codes "setSpec")) specs.now)) }
 {
     for spec in specs {
-        text_element("setSpec", spec.as_str(), out)?;
+        tagged_text(Tag::SetSpec, spec.as_str(), out)?;
     }
     Ok(())
 }

@@ -1,10 +1,11 @@
-ghost use Rattle.std.specs.Prelude.{OnOk, [], ◌++◌};
+ghost use Rattle.std.specs.Prelude.{◌≡◌, OnOk, ◌++◌, codes};
 ghost use Rattle.std.specs.List.{flat_map};
 ghost use Rattle.oai_answers.specs.Appends.{Appends};
-ghost use Rattle.oai_answers.specs.Documents.{declared_metadata, declared_start, dublin_core_metadata, dublin_core_start, field_element, metadata, schema_location};
+ghost use Rattle.oai_answers.specs.Documents.{declared_metadata, declared_start, dublin_core_metadata, dublin_core_start, field_element, metadata, qualifier_of, schema_location};
 ghost use Rattle.oai_answers.specs.Markup.{end_tag, start_tag};
 
 use crate::markup::{attribute, end, put, put_text, put_value, start_attribute};
+use crate::tags::{Tag, close};
 use oai_item::{Field, Format};
 use std::alloc::AllocError;
 
@@ -14,6 +15,37 @@ const DUBLIN_CORE_START: &str =
 
 /// The namespace of the attributes that say where a schema lies.
 const SCHEMA_INSTANCE: &str = "http://www.w3.org/2001/XMLSchema-instance";
+
+/// How the names of fields are qualified (Namespaces in XML 1.0, section 4).
+#[derive(Clone, Copy)]
+enum Qualifier {
+    /// By the prefix of Dublin Core's elements.
+    Dc,
+    /// By none, since the namespace of the format is the default one.
+    Bare,
+}
+
+impl Qualifier {
+    /// The start tag of a field, up to its own name.
+    fn start(self) -> &'static str
+        ensures { result.now ≡ codes "<" ++ qualifier_of self }
+    {
+        match self {
+            Qualifier::Dc => "<dc:",
+            Qualifier::Bare => "<",
+        }
+    }
+
+    /// The end tag of a field, up to its own name.
+    fn end(self) -> &'static str
+        ensures { result.now ≡ codes "</" ++ qualifier_of self }
+    {
+        match self {
+            Qualifier::Dc => "</dc:",
+            Qualifier::Bare => "</",
+        }
+    }
+}
 
 /// Appends the metadata in its format.
 #[tactic(auto, unfolding(crate::specs::Documents::metadata))]
@@ -37,8 +69,8 @@ fn write_dublin_core(fields: &[Field], out: &mut Vec<u8>) -> Result<(), AllocErr
     ensures { OnOk result (Appends out.old.items out.new.items (dublin_core_metadata fields.now)) }
 {
     write_dublin_core_start(out)?;
-    write_fields("dc:", fields, out)?;
-    end("oai_dc:dc", out)?;
+    write_fields(Qualifier::Dc, fields, out)?;
+    close(Tag::DublinCore, out)?;
     Ok(())
 }
 
@@ -57,7 +89,7 @@ fn write_declared(format: &Format, fields: &[Field], out: &mut Vec<u8>) -> Resul
         (declared_metadata format.now fields.now)) }
 {
     write_declared_start(format, out)?;
-    write_fields("", fields, out)?;
+    write_fields(Qualifier::Bare, fields, out)?;
     end(format.root.as_str(), out)?;
     Ok(())
 }
@@ -90,9 +122,9 @@ fn write_schema_location(format: &Format, out: &mut Vec<u8>) -> Result<(), Alloc
 }
 
 /// Appends the fields, in order.
-fn write_fields(qualifier: &str, fields: &[Field], out: &mut Vec<u8>) -> Result<(), AllocError>
+fn write_fields(qualifier: Qualifier, fields: &[Field], out: &mut Vec<u8>) -> Result<(), AllocError>
     ensures { OnOk result (Appends out.old.items out.new.items
-        (flat_map (field_element qualifier.now) fields.now)) }
+        (flat_map (field_element (qualifier_of qualifier)) fields.now)) }
 {
     for field in fields {
         write_field(qualifier, field, out)?;
@@ -102,9 +134,9 @@ fn write_fields(qualifier: &str, fields: &[Field], out: &mut Vec<u8>) -> Result<
 
 /// Appends the element of a field, its name qualified.
 #[tactic(auto, unfolding(crate::specs::Documents::field_element, crate::specs::Markup::text_element, crate::specs::Markup::element))]
-fn write_field(qualifier: &str, field: &Field, out: &mut Vec<u8>) -> Result<(), AllocError>
+fn write_field(qualifier: Qualifier, field: &Field, out: &mut Vec<u8>) -> Result<(), AllocError>
     ensures { OnOk result (Appends out.old.items out.new.items
-        (field_element qualifier.now field.now)) }
+        (field_element (qualifier_of qualifier) field.now)) }
 {
     start_qualified(qualifier, field.name.as_str(), out)?;
     put_text(field.text.as_str(), out)?;
@@ -114,12 +146,11 @@ fn write_field(qualifier: &str, field: &Field, out: &mut Vec<u8>) -> Result<(), 
 
 /// Appends the start tag of a qualified name.
 #[tactic(auto, unfolding(crate::specs::Markup::start_tag, crate::specs::Markup::plain))]
-fn start_qualified(qualifier: &str, name: &str, out: &mut Vec<u8>) -> Result<(), AllocError>
+fn start_qualified(qualifier: Qualifier, name: &str, out: &mut Vec<u8>) -> Result<(), AllocError>
     ensures { OnOk result (Appends out.old.items out.new.items
-        (start_tag (qualifier.now ++ name.now))) }
+        (start_tag (qualifier_of qualifier ++ name.now))) }
 {
-    put("<", out)?;
-    put(qualifier, out)?;
+    put(qualifier.start(), out)?;
     put(name, out)?;
     put(">", out)?;
     Ok(())
@@ -127,12 +158,11 @@ fn start_qualified(qualifier: &str, name: &str, out: &mut Vec<u8>) -> Result<(),
 
 /// Appends the end tag of a qualified name.
 #[tactic(auto, unfolding(crate::specs::Markup::end_tag, crate::specs::Markup::plain))]
-fn end_qualified(qualifier: &str, name: &str, out: &mut Vec<u8>) -> Result<(), AllocError>
+fn end_qualified(qualifier: Qualifier, name: &str, out: &mut Vec<u8>) -> Result<(), AllocError>
     ensures { OnOk result (Appends out.old.items out.new.items
-        (end_tag (qualifier.now ++ name.now))) }
+        (end_tag (qualifier_of qualifier ++ name.now))) }
 {
-    put("</", out)?;
-    put(qualifier, out)?;
+    put(qualifier.end(), out)?;
     put(name, out)?;
     put(">", out)?;
     Ok(())

@@ -8,6 +8,7 @@ use crate::fields::fields_in;
 use crate::headers::write_header;
 use crate::markup::{end, start};
 use crate::metadata::write_metadata;
+use crate::tags::{Tag, close, open};
 use oai_item::{Format, Item};
 use oai_time::Granularity;
 use std::alloc::AllocError;
@@ -71,10 +72,10 @@ fn write_record(
     ensures { OnOk result (Appends out.old.items out.new.items
         (record_element granularity format.now item.now)) }
 {
-    start("record", out)?;
+    open(Tag::Record, out)?;
     write_header(granularity, item, out)?;
     write_metadata_part(format, item, out)?;
-    end("record", out)?;
+    close(Tag::Record, out)?;
     Ok(())
 }
 
@@ -87,8 +88,8 @@ fn write_metadata_part(format: &Format, item: &Item, out: &mut Vec<u8>) -> Resul
     if !item.is_live() {
         return Ok(());
     }
-    start("metadata", out)?;
+    open(Tag::Metadata, out)?;
     write_metadata(format, fields_in(format.prefix.as_str(), item), out)?;
-    end("metadata", out)?;
+    close(Tag::Metadata, out)?;
     Ok(())
 }

@@ -236,7 +236,7 @@ count_of_list spelled some Good bytes s = record {
 }
 
 -- and behind it the elements
-list_behind : {A : Type 0} (spelled : A → List ℕ) → ((x : A) → 4 ≤ length (spelled x)) → (Good : List A → Type 0) (bytes elements : List ℕ) (n : ℕ) → n < 2 ^ 32
+pub list_behind : {A : Type 0} (spelled : A → List ℕ) → ((x : A) → 4 ≤ length (spelled x)) → (Good : List A → Type 0) (bytes elements : List ℕ) (n : ℕ) → n < 2 ^ 32
     → bytes ≡ encoded_count n ++ elements → (s : Stands (encoded_list spelled) Good bytes) → (length s.value ≡ n) × (flat_map spelled s.value ++ s.rest ≡ elements)
 list_behind spelled some Good bytes elements n fits e s =
     count_cut (length s.value) n (flat_map spelled s.value ++ s.rest) elements (list_fits spelled some bytes s.value s.rest s.few s.parts) fits

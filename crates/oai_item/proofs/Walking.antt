@@ -1,14 +1,14 @@
 -- Lists that are read in place, element by element.
-use Rattle.std.proofs.Common.{◌≡◌, ◌∙◌, ◌≢◌, ℕ, zero, suc, ◌+◌, ◌-◌, ◌≤◌, Bool, true, List, [], ◌∷◌, ◌++◌, length, Option, Some, None, IsSome, refl, sym, ap, subst, arith, length-append}
+use Rattle.std.proofs.Common.{◌≡◌, ◌∙◌, ◌≢◌, ℕ, zero, suc, ◌+◌, ◌-◌, ◌^◌, ◌<◌, ◌≤◌, Bool, true, List, [], ◌∷◌, ◌++◌, length, Option, Some, None, IsSome, refl, sym, ap, subst, arith, length-append}
 use Rattle.std.specs.List.{flat_map, list_all}
 use Rattle.std.proofs.lemmas.Bool.{and_parts}
 use Rattle.oai_item.specs.declared.sizes.TheConstants.{MAX_ITEM_BYTES}
-use Rattle.oai_item.specs.Decoding.{first_elements}
+use Rattle.oai_item.specs.Decoding.{first_elements, first_list}
 use Rattle.oai_item.specs.Encoding.{encoded_count, encoded_list}
 use Rattle.oai_item.specs.Walks.{AreSpelled}
 use Rattle.oai_item.specs.SpellingParts.{Reads, HasRead, Stands}
-use Rattle.oai_item.proofs.ReadBack.{ReadsBack, elements_back}
-use Rattle.oai_item.proofs.Spellings.{all_more, element_splits, few_behind, list_more, list_of_parts}
+use Rattle.oai_item.proofs.ReadBack.{ReadsBack, count_back, elements_back}
+use Rattle.oai_item.proofs.Spellings.{all_more, element_splits, few_behind, list_behind, list_more, list_of_parts}
 
 -- ---- what was found
 
@@ -57,6 +57,34 @@ list_found first spelled test reads bytes start rest count seen few e h seen_is 
       ap (list_all test) is ∙ h.good,
       list_of_parts spelled bytes start rest h.elements count e h.parts h.many ∙ ap (λ xs. encoded_list spelled xs ++ rest) (sym is),
     )
+
+-- ---- what is known to stand in front
+
+-- what the function of the definitions reads there is the value that stands there
+pub front_is : {A : Type 0} (first : List ℕ → A × List ℕ) (spelled : A → List ℕ) (Good : A → Type 0) → ReadsBack first spelled → (bytes rest : List ℕ) (x : A) → length bytes ≤ MAX_ITEM_BYTES → Good x × (bytes ≡ spelled x ++ rest)
+    → Good (first bytes).0 × (bytes ≡ spelled (first bytes).0 ++ rest)
+front_is first spelled Good reads bytes rest x few found =
+    let is = (reads.back bytes x rest few found.1).0 in
+    (subst Good (sym is) found.0, found.1 ∙ ap (λ y. spelled y ++ rest) (sym is))
+
+-- behind the count of a list that stands there, so many elements are spelled
+pub list_spelled : {A : Type 0} (first : List ℕ → A × List ℕ) (spelled : A → List ℕ) (test : A → Bool) → ReadsBack first spelled → ((x : A) → 4 ≤ length (spelled x)) → (bytes start : List ℕ) (n : ℕ) → n < 2 ^ 32 → bytes ≡ encoded_count n ++ start
+    → Stands (encoded_list spelled) (λ xs. list_all test xs ≡ true) bytes → AreSpelled spelled test start (first_elements first n start).0
+list_spelled first spelled test reads four bytes start n fits e s =
+    let h = list_behind spelled four (λ xs. list_all test xs ≡ true) bytes start n fits e s in
+    let few = few_behind bytes (encoded_count n) start e s.few in
+    let is = ap (λ k. (first_elements first k start).0) (sym h.0) ∙ (elements_back first spelled reads start s.value s.rest few (sym h.1)).0 in
+    record {
+      good = ap (list_all test) is ∙ s.good;
+      behind = s.rest;
+      parts = sym h.1 ∙ ap (λ xs. flat_map spelled xs ++ s.rest) (sym is);
+      few = few;
+    }
+
+-- and these are the list
+pub list_left : {A : Type 0} (first : List ℕ → A × List ℕ) (bytes start : List ℕ) (n : ℕ) → n < 2 ^ 32 → bytes ≡ encoded_count n ++ start → (first_list first bytes).0 ≡ (first_elements first n start).0
+unfolding first_list
+list_left first bytes start n fits e = let c = count_back bytes n start fits e in rw (c.0, c.1) refl
 
 -- ---- a walk over a list that is known to be spelled
 

@@ -31,6 +31,10 @@ Reads see spelled Good bytes (Some a) =
     Good (see a).0 × (bytes ≡ spelled (see a).0 ++ (see a).1)
 Reads see spelled Good bytes None = ¬ (Stands spelled Good bytes)
 
+-- the good value is that which stands spelled in front of the bytes, and the rest is behind it
+abbrev pub IsFront : {A : Type 0} → (A → List ℕ) → (A → Type 0) → A → List ℕ → List ℕ → Type 0
+IsFront spelled Good value bytes rest = Good value × (bytes ≡ spelled value ++ rest)
+
 -- so many good elements of a list were read from the front of bytes, and this is what is left
 pub record HasRead {A : Type 0} (spelled : A → List ℕ) (test : A → Bool)
     (bytes : List ℕ) (count : ℕ) (rest : List ℕ) : Type 0 where

@@ -10,7 +10,10 @@ ghost use Rattle.oai_item.specs.Order.{item_cmp, place_cmp};
 ghost use Rattle.oai_item.specs.Selection.{is_in_given, passes};
 ghost use Rattle.oai_item.specs.SpellingParts.{ReadsParts};
 
-use crate::decodings::{read_identifier, read_live, read_records, read_sets, read_stamp};
+use crate::decodings::{
+    read_identifier, read_live, read_records, read_sets, read_stamp, read_text,
+};
+use crate::fronts::{first_records, first_sets};
 use crate::sizes::MAX_ITEM_BYTES;
 use crate::walks::{SpelledRecords, SpelledSets};
 use oai_names::{SetSpec, covers};
@@ -60,7 +63,7 @@ impl<'a> Spelling<'a> {
     {
         let (live, rest) = read_live(bytes).unwrap();
         let (stamp, rest) = read_stamp(rest).unwrap();
-        let (identifier, rest) = read_identifier(rest).unwrap();
+        let (identifier, rest) = read_text(rest).unwrap();
         Spelling {
             bytes,
             live,
@@ -104,7 +107,7 @@ impl<'a> Spelling<'a> {
     pub fn sets(&self) -> SpelledSets<'a>
         ensures { result ≡ self.now.sets }
     {
-        let (sets, _) = read_sets(self.rest).unwrap();
+        let (sets, _) = first_sets(self.rest);
         sets
     }
 
@@ -112,9 +115,8 @@ impl<'a> Spelling<'a> {
     pub fn records(&self) -> SpelledRecords<'a>
         ensures { result ≡ self.now.formats }
     {
-        let (_, rest) = read_sets(self.rest).unwrap();
-        let (records, _) = read_records(rest).unwrap();
-        records
+        let (_, rest) = first_sets(self.rest);
+        first_records(rest)
     }
 
     /// How the item stands to another in the order of items.

@@ -10,6 +10,7 @@ mod encodings;
 mod faults;
 mod fields;
 mod formats;
+mod fronts;
 mod in_place;
 mod items;
 mod order;

@@ -5,7 +5,8 @@ ghost use Rattle.oai_names.specs.Names.{may_be_prefix};
 ghost use Rattle.oai_names.specs.Sets.{may_be_set_spec};
 ghost use Rattle.oai_item.specs.Walks.{AreFields, AreRecords, AreSets, fields_left, records_left, sets_left};
 
-use crate::decodings::{read_field, read_record, read_set};
+use crate::decodings::{read_field, read_set};
+use crate::fronts::first_record;
 use std::marker::Model;
 
 /// The setSpecs in the spelling of an item that are still to come.
@@ -204,7 +205,7 @@ impl<'a> SpelledRecords<'a> {
         if self.left == 0 {
             return None;
         }
-        let (format, rest) = read_record(self.rest)?;
+        let (format, rest) = first_record(self.rest);
         self.left -= 1;
         self.rest = rest;
         Some(format)

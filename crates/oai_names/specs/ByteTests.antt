@@ -1,5 +1,5 @@
 -- Words of the code's own: no public contract names them.
-use Rattle.std.specs.Prelude.{ℕ, Bool, true, List, [], ◌∷◌}
+use Rattle.std.specs.Prelude.{ℕ, Bool, true, ◌==◌, ◌&&◌, not, List, [], ◌∷◌}
 use Rattle.std.specs.Int.{is_in_range}
 use Rattle.oai_names.specs.Names.{is_colon}
 
@@ -11,3 +11,7 @@ ends_part (b ∷ bytes) = is_colon b
 -- the byte is a character of ASCII from the space on, all of which documents may hold
 abbrev pub is_plain_byte : ℕ → Bool
 is_plain_byte b = is_in_range 0x20 0x7F b
+
+-- the byte stands for itself in an element: it is no markup, and no CR
+abbrev pub is_bare_byte : ℕ → Bool
+is_bare_byte b = not (b == 38) && not (b == 60) && not (b == 62) && not (b == 13)

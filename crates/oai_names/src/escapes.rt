@@ -1,7 +1,8 @@
 ghost use Rattle.std.specs.Prelude.{◌≡◌, ◌≢◌, ◌<◌, ◌≤◌, ◌++◌, ℕ, List, [], ◌∷◌, false, length, slice_index, take, unwrap_or, OnOk, OnErr};
-ghost use Rattle.std.specs.List.{list_any};
+ghost use Rattle.std.specs.List.{list_all, list_any};
 ghost use Rattle.std.specs.Option.{option_copied};
 ghost use Rattle.memchr.specs.Find.{is_byte3};
+ghost use Rattle.oai_names.specs.ByteTests.{is_bare_byte};
 ghost use Rattle.oai_names.specs.Escapes as spec;
 ghost use Rattle.oai_names.specs.Names.{is_one_of};
 ghost use Rattle.oai_names.specs.declared.escapes.Place.TheVariants.{Attribute, Element};
@@ -26,6 +27,9 @@ pub fn escape_text(text: &str, out: &mut Vec<u8>) -> Result<(), AllocError>
     ensures ok { OnOk result (out.new.items ≡ out.old.items ++ spec.escaped_text text.now) }
     ensures err { OnErr result (out.new.items ≡ out.old.items) }
 {
+    if is_bare(text.as_bytes()) {
+        return out.extend_from_slice(text.as_bytes());
+    }
     escape(Place::Element, text, out)
 }
 
@@ -53,6 +57,27 @@ pub fn escape_law()
     ensures values { (value other : List ℕ)
         → spec.escaped_attribute value ≡ spec.escaped_attribute other → value ≡ other }
 {}
+
+/// Whether each byte stands for itself in an element, as in most texts: such a text is appended in one
+/// piece. The loop has no other end than the last byte, and what it finds is handed out of a function of
+/// its own, so that many bytes are tested at a time.
+#[inline(never)]
+fn is_bare(bytes: &[u8]) -> bool
+    ensures { result ≡ list_all is_bare_byte bytes.now }
+{
+    let mut bare = true;
+    for b in bytes {
+        bare = bare & is_bare_byte(*b);
+    }
+    bare
+}
+
+/// Whether the byte stands for itself in an element. All four are compared, so that there is no branch.
+fn is_bare_byte(b: u8) -> bool
+    ensures { result ≡ is_bare_byte b }
+{
+    (b != b'&') & (b != b'<') & (b != b'>') & (b != b'\r')
+}
 
 /// Appends the text, each of its characters as the table spells it.
 fn escape(place: Place, text: &str, out: &mut Vec<u8>) -> Result<(), AllocError>

@@ -3,11 +3,12 @@ use Rattle.std.proofs.lemmas.Int.{to_z-of_z}
 use Rattle.oai_names.specs.Names.{may_be_identifier}
 use Rattle.oai_item.specs.Encoding.{encoded_bool, encoded_stamp, encoded_text}
 use Rattle.oai_item.specs.Item.{IsStamp}
-use Rattle.oai_item.specs.SpellingParts.{IsAny, IsNamed}
+use Rattle.oai_item.specs.SpellingParts.{IsAny, IsText}
 use Rattle.oai_item.proofs.Decoded.{item_in-spelled}
 use Rattle.oai_item.proofs.Numbers.{stamp_fits}
 use Rattle.oai_item.proofs.Placed.{item_of_bytes, placed}
 use Rattle.oai_item.proofs.Spelled.{parts_spelled}
+use Rattle.oai_item.proofs.Spellings.{text_of_name}
 use Rattle.oai_item.proofs.Walking.{reads_some, reads_value}
 use Rattle.oai_item.proofs.Wholes.{identifier_stands, live_stands, stamp_stands}
 use Rattle.oai_item.proofs.in_place.Spelling.new.Goals as goal
@@ -40,8 +41,8 @@ unwrap-requires c =
     let see_stamp : ℤ × Bor (List ℕ) → ℤ × List ℕ = λ a. (a.0, a.1.now) in
     let stamp = reads_value see_stamp encoded_stamp IsStamp c.unwrap-live.result.1.now c.read_stamp.result c.unwrap-stamp.result c.unwrap-stamp.ensures c.read_stamp.ensures in
     let see_identifier : Bor (List ℕ) × Bor (List ℕ) → List ℕ × List ℕ = λ a. (a.0.now, a.1.now) in
-    reads_some see_identifier encoded_text (IsNamed may_be_identifier) c.unwrap-stamp.result.1.now c.read_identifier.result c.read_identifier.ensures
-    (identifier_stands c.args.bytes.now c.unwrap-live.result.1.now c.unwrap-stamp.result.1.now c.unwrap-live.result.0 c.unwrap-stamp.result.0 live.1 stamp found.0 s)
+    reads_some see_identifier encoded_text IsText c.unwrap-stamp.result.1.now c.read_text.result c.read_text.ensures
+    (text_of_name may_be_identifier c.unwrap-stamp.result.1.now (identifier_stands c.args.bytes.now c.unwrap-live.result.1.now c.unwrap-stamp.result.1.now c.unwrap-live.result.0 c.unwrap-stamp.result.0 live.1 stamp found.0 s))
 
 pub invariant_of-result : goal.invariant_of-result
 invariant_of-result c =
@@ -51,7 +52,7 @@ invariant_of-result c =
     let see_stamp : ℤ × Bor (List ℕ) → ℤ × List ℕ = λ a. (a.0, a.1.now) in
     let stamp = reads_value see_stamp encoded_stamp IsStamp c.unwrap-live.result.1.now c.read_stamp.result c.unwrap-stamp.result c.unwrap-stamp.ensures c.read_stamp.ensures in
     let see_identifier : Bor (List ℕ) × Bor (List ℕ) → List ℕ × List ℕ = λ a. (a.0.now, a.1.now) in
-    let identifier = reads_value see_identifier encoded_text (IsNamed may_be_identifier) c.unwrap-stamp.result.1.now c.read_identifier.result c.unwrap.result c.unwrap.ensures c.read_identifier.ensures in
+    let identifier = reads_value see_identifier encoded_text IsText c.unwrap-stamp.result.1.now c.read_text.result c.unwrap.result c.unwrap.ensures c.read_text.ensures in
     let is = placed c.args.bytes.now c.unwrap-live.result.1.now c.unwrap-stamp.result.1.now c.unwrap.result.1.now c.unwrap-live.result.0 c.unwrap-stamp.result.0 c.unwrap.result.0.now found.0 found.1 live.1 stamp identifier.1 in
     let fits : FitsSigned w64 c.unwrap-stamp.result.0 = stamp_fits c.unwrap-stamp.result.0 stamp.0 in
     simp to_z-of_z (record { spells = is.spells; rest = is.rest_is })
@@ -64,7 +65,7 @@ returns c =
     let see_stamp : ℤ × Bor (List ℕ) → ℤ × List ℕ = λ a. (a.0, a.1.now) in
     let stamp = reads_value see_stamp encoded_stamp IsStamp c.unwrap-live.result.1.now c.read_stamp.result c.unwrap-stamp.result c.unwrap-stamp.ensures c.read_stamp.ensures in
     let see_identifier : Bor (List ℕ) × Bor (List ℕ) → List ℕ × List ℕ = λ a. (a.0.now, a.1.now) in
-    let identifier = reads_value see_identifier encoded_text (IsNamed may_be_identifier) c.unwrap-stamp.result.1.now c.read_identifier.result c.unwrap.result c.unwrap.ensures c.read_identifier.ensures in
+    let identifier = reads_value see_identifier encoded_text IsText c.unwrap-stamp.result.1.now c.read_text.result c.unwrap.result c.unwrap.ensures c.read_text.ensures in
     let is = placed c.args.bytes.now c.unwrap-live.result.1.now c.unwrap-stamp.result.1.now c.unwrap.result.1.now c.unwrap-live.result.0 c.unwrap-stamp.result.0 c.unwrap.result.0.now found.0 found.1 live.1 stamp identifier.1 in
     let fits : FitsSigned w64 c.unwrap-stamp.result.0 = stamp_fits c.unwrap-stamp.result.0 stamp.0 in
     simp to_z-of_z (item_in-spelled c.args.bytes.now _ is.spells)

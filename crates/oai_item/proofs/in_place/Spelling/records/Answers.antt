@@ -1,47 +1,20 @@
-use Rattle.std.proofs.Common.{◌≡◌, ℕ, List, Bor, true}
-use Rattle.oai_item.specs.declared.walks.SpelledSets.{SpelledSets}
-use Rattle.oai_item.specs.declared.walks.SpelledRecords.{SpelledRecords}
-use Rattle.oai_item.specs.Encoding.{encoded_list, encoded_record, encoded_text}
+use Rattle.std.proofs.Common.{◌∙◌}
 use Rattle.oai_item.specs.InPlace.{spelled_item}
-use Rattle.oai_item.specs.Item.{ItemState, Metadata}
-use Rattle.oai_item.specs.SpellingParts.{are_records, are_sets}
-use Rattle.oai_item.proofs.Placed.{few_left, sets_found, sets_left_stand}
-use Rattle.oai_item.proofs.Walking.{reads_some, reads_value}
+use Rattle.oai_item.proofs.Placed.{sets_found, sets_left_stand}
+use Rattle.oai_item.proofs.ReadBack.{records_back}
 use Rattle.oai_item.proofs.in_place.Spelling.records.Goals as goal
 
-pub read_sets-requires : goal.read_sets-requires
-read_sets-requires c = few_left c.self.inside.bytes.now c.self.inside.rest.now (spelled_item c.self.inside) c.self.invariant.spells c.self.invariant.rest
+pub first_sets-requires : goal.first_sets-requires
+first_sets-requires c = sets_left_stand c.self.inside.bytes.now c.self.inside.rest.now (spelled_item c.self.inside) c.self.invariant.spells c.self.invariant.rest
 
-pub unwrap-requires : goal.unwrap-requires
-unwrap-requires c =
-    let item : ItemState = spelled_item c.self.inside in
-    let see : SpelledSets × Bor (List ℕ) → List (List ℕ) × List ℕ = λ a. (a.0, a.1.now) in
-    reads_some see (encoded_list encoded_text) (λ sets. are_sets sets ≡ true) c.self.inside.rest.now c.read_sets.result c.read_sets.ensures
-    (sets_left_stand c.self.inside.bytes.now c.self.inside.rest.now item c.self.invariant.spells c.self.invariant.rest)
-
-pub read_records-requires : goal.read_records-requires
-read_records-requires c =
-    let item : ItemState = spelled_item c.self.inside in
-    let see : SpelledSets × Bor (List ℕ) → List (List ℕ) × List ℕ = λ a. (a.0, a.1.now) in
-    let sets = reads_value see (encoded_list encoded_text) (λ sets. are_sets sets ≡ true) c.self.inside.rest.now c.read_sets.result c.unwrap.result c.unwrap.ensures c.read_sets.ensures in
-    let is = sets_found c.self.inside.bytes.now c.self.inside.rest.now c.unwrap.result.1.now item c.unwrap.result.0 c.self.invariant.spells c.self.invariant.rest sets.1 in
-    is.few
-
-pub unwrap-records-requires : goal.unwrap-records-requires
-unwrap-records-requires c =
-    let item : ItemState = spelled_item c.self.inside in
-    let see : SpelledSets × Bor (List ℕ) → List (List ℕ) × List ℕ = λ a. (a.0, a.1.now) in
-    let sets = reads_value see (encoded_list encoded_text) (λ sets. are_sets sets ≡ true) c.self.inside.rest.now c.read_sets.result c.unwrap.result c.unwrap.ensures c.read_sets.ensures in
-    let is = sets_found c.self.inside.bytes.now c.self.inside.rest.now c.unwrap.result.1.now item c.unwrap.result.0 c.self.invariant.spells c.self.invariant.rest sets.1 in
-    let see_records : SpelledRecords × Bor (List ℕ) → List Metadata × List ℕ = λ a. (a.0, a.1.now) in
-    reads_some see_records (encoded_list encoded_record) (λ formats. are_records formats ≡ true) c.unwrap.result.1.now c.read_records.result c.read_records.ensures is.records
+pub first_records-requires : goal.first_records-requires
+first_records-requires c =
+    (sets_found c.self.inside.bytes.now c.self.inside.rest.now c.first_sets.result.1.now (spelled_item c.self.inside) c.first_sets.result.0
+    c.self.invariant.spells c.self.invariant.rest c.first_sets.ensures.1).records
 
 pub returns : goal.returns
 returns c =
-    let item : ItemState = spelled_item c.self.inside in
-    let see : SpelledSets × Bor (List ℕ) → List (List ℕ) × List ℕ = λ a. (a.0, a.1.now) in
-    let sets = reads_value see (encoded_list encoded_text) (λ sets. are_sets sets ≡ true) c.self.inside.rest.now c.read_sets.result c.unwrap.result c.unwrap.ensures c.read_sets.ensures in
-    let is = sets_found c.self.inside.bytes.now c.self.inside.rest.now c.unwrap.result.1.now item c.unwrap.result.0 c.self.invariant.spells c.self.invariant.rest sets.1 in
-    let see_records : SpelledRecords × Bor (List ℕ) → List Metadata × List ℕ = λ a. (a.0, a.1.now) in
-    let records = reads_value see_records (encoded_list encoded_record) (λ formats. are_records formats ≡ true) c.unwrap.result.1.now c.read_records.result c.unwrap-records.result c.unwrap-records.ensures c.read_records.ensures in
-    rw (← c.self.view_is) (is.only c.unwrap-records.result.0 c.unwrap-records.result.1.now records.1)
+    let is = sets_found c.self.inside.bytes.now c.self.inside.rest.now c.first_sets.result.1.now (spelled_item c.self.inside) c.first_sets.result.0
+    c.self.invariant.spells c.self.invariant.rest c.first_sets.ensures.1 in
+    let s = is.records in
+    rw (← c.self.view_is) (c.first_records.ensures ∙ (records_back.back c.first_sets.result.1.now s.value s.rest s.few s.parts).0 ∙ is.only s.value s.rest s.parts)

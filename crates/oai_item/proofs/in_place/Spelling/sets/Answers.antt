@@ -1,27 +1,12 @@
-use Rattle.std.proofs.Common.{◌≡◌, ℕ, List, Bor, true}
-use Rattle.oai_item.specs.declared.walks.SpelledSets.{SpelledSets}
-use Rattle.oai_item.specs.Encoding.{encoded_list, encoded_text}
 use Rattle.oai_item.specs.InPlace.{spelled_item}
-use Rattle.oai_item.specs.Item.{ItemState}
-use Rattle.oai_item.specs.SpellingParts.{are_sets}
-use Rattle.oai_item.proofs.Placed.{few_left, sets_found, sets_left_stand}
-use Rattle.oai_item.proofs.Walking.{reads_some, reads_value}
+use Rattle.oai_item.proofs.Placed.{sets_found, sets_left_stand}
 use Rattle.oai_item.proofs.in_place.Spelling.sets.Goals as goal
 
-pub read_sets-requires : goal.read_sets-requires
-read_sets-requires c = few_left c.self.inside.bytes.now c.self.inside.rest.now (spelled_item c.self.inside) c.self.invariant.spells c.self.invariant.rest
-
-pub unwrap-sets-requires : goal.unwrap-sets-requires
-unwrap-sets-requires c =
-    let item : ItemState = spelled_item c.self.inside in
-    let see : SpelledSets × Bor (List ℕ) → List (List ℕ) × List ℕ = λ a. (a.0, a.1.now) in
-    reads_some see (encoded_list encoded_text) (λ sets. are_sets sets ≡ true) c.self.inside.rest.now c.read_sets.result c.read_sets.ensures
-    (sets_left_stand c.self.inside.bytes.now c.self.inside.rest.now item c.self.invariant.spells c.self.invariant.rest)
+pub first_sets-sets-requires : goal.first_sets-sets-requires
+first_sets-sets-requires c = sets_left_stand c.self.inside.bytes.now c.self.inside.rest.now (spelled_item c.self.inside) c.self.invariant.spells c.self.invariant.rest
 
 pub returns : goal.returns
 returns c =
-    let item : ItemState = spelled_item c.self.inside in
-    let see : SpelledSets × Bor (List ℕ) → List (List ℕ) × List ℕ = λ a. (a.0, a.1.now) in
-    let sets = reads_value see (encoded_list encoded_text) (λ sets. are_sets sets ≡ true) c.self.inside.rest.now c.read_sets.result c.unwrap-sets.result c.unwrap-sets.ensures c.read_sets.ensures in
-    let is = sets_found c.self.inside.bytes.now c.self.inside.rest.now c.unwrap-sets.result.1.now item c.unwrap-sets.result.0 c.self.invariant.spells c.self.invariant.rest sets.1 in
+    let is = sets_found c.self.inside.bytes.now c.self.inside.rest.now c.first_sets-sets.result.1.now (spelled_item c.self.inside) c.first_sets-sets.result.0
+    c.self.invariant.spells c.self.invariant.rest c.first_sets-sets.ensures.1 in
     rw (← c.self.view_is) is.same

@@ -13,26 +13,26 @@ use Rattle.oai_item.proofs.walks.SpelledRecords.next.Goals as goal
 pub returns-then-self-eq0-clause-next : goal.returns-then-self-eq0-clause-next
 returns-then-self-eq0-clause-next c = rw (← c.self.view_is) (none_left first_record c.self.inside.left c.self.inside.rest.now (omega (arith, c.if-self-eq0.true)))
 
--- the next one stands there, so it is read
-pub returns-in_err-format-clause-next : goal.returns-in_err-format-clause-next
-returns-in_err-format-clause-next c =
+-- where some are to come, the next one stands
+pub first_record-format-requires : goal.first_record-format-requires
+first_record-format-requires c =
     let some : c.self.inside.left ≢ 0 = λ e. omega (arith, e, c.if-self-eq0.false) in
-    absurd (c.in_err-format.ensures (next_stands first_record encoded_record is_record c.self.inside.rest.now c.self.inside.left some c.self.invariant))
+    next_stands first_record encoded_record is_record c.self.inside.rest.now c.self.inside.left some c.self.invariant
 
 pub invariant_of-self : goal.invariant_of-self
 invariant_of-self c =
-    let x : Metadata = (c.in_ok-format.format.prefix.now, c.in_ok-format.format.fields) in
+    let x : Metadata = (c.first_record-format.result.0.prefix.now, c.first_record-format.result.0.fields) in
     let some : c.self.inside.left ≢ 0 = λ e. omega (arith, e, c.if-self-eq0.false) in
-    (next_is first_record encoded_record is_record record_back c.self.inside.rest.now c.in_ok-format.rest.now c.self.inside.left x some c.self.invariant c.in_ok-format.ensures.1).spelled_behind
+    (next_is first_record encoded_record is_record record_back c.self.inside.rest.now c.first_record-format.result.1.now c.self.inside.left x some c.self.invariant c.first_record-format.ensures.1).spelled_behind
 
 pub returns-clause-next : goal.returns-clause-next
 returns-clause-next c =
-    let x : Metadata = (c.in_ok-format.format.prefix.now, c.in_ok-format.format.fields) in
+    let x : Metadata = (c.first_record-format.result.0.prefix.now, c.first_record-format.result.0.fields) in
     let some : c.self.inside.left ≢ 0 = λ e. omega (arith, e, c.if-self-eq0.false) in
-    rw (← c.self.view_is) (next_is first_record encoded_record is_record record_back c.self.inside.rest.now c.in_ok-format.rest.now c.self.inside.left x some c.self.invariant c.in_ok-format.ensures.1).is
+    rw (← c.self.view_is) (next_is first_record encoded_record is_record record_back c.self.inside.rest.now c.first_record-format.result.1.now c.self.inside.left x some c.self.invariant c.first_record-format.ensures.1).is
 
 pub returns-clause-name : goal.returns-clause-name
 returns-clause-name c =
-    let prefix : List ℕ = c.in_ok-format.format.prefix.now in
-    let named = and_parts (is_name_text may_be_prefix prefix) (are_fields c.in_ok-format.format.fields) c.in_ok-format.ensures.0 in
+    let prefix : List ℕ = c.first_record-format.result.0.prefix.now in
+    let named = and_parts (is_name_text may_be_prefix prefix) (are_fields c.first_record-format.result.0.fields) c.first_record-format.ensures.0 in
     (and_parts (may_be_prefix prefix) (is_utf8 prefix) named.0).0

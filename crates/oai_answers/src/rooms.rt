@@ -1,0 +1,68 @@
+//! About how many bytes a document takes, so that its buffer seldom grows. No contract speaks of it: a document that takes more
+//! grows.
+use crate::documents::Body;
+use crate::fields::fields_in;
+use oai_item::{Format, Item};
+
+/// The room for what every document has, and for what is small in it, in bytes.
+const FIRST_ROOM: usize = 4_096;
+
+/// The most room that is taken at first.
+const MAX_ROOM: usize = 4_194_304;
+
+/// The room for a record or a header without its texts: its tags, and the attributes of its metadata.
+const RECORD_ROOM: usize = 640;
+
+const HEADER_ROOM: usize = 160;
+
+/// The room for the tags of a field or of a setSpec without its name.
+const FIELD_ROOM: usize = 16;
+
+/// About how many bytes a document with that answer takes. A list is judged by its first item, which it takes to be a
+/// little shorter than the others.
+pub(crate) fn room_of(body: &Body<'_>) -> usize {
+    let room = match body {
+        Body::GetRecord(record) => record_room(record.format, record.item),
+        Body::ListIdentifiers(list) => room_of_all(list.items, None),
+        Body::ListRecords(format, list) => room_of_all(list.items, Some(*format)),
+        _ => 0,
+    };
+    room.saturating_add(FIRST_ROOM).min(MAX_ROOM)
+}
+
+/// The room for so many items like the first, as headers or as records in a format.
+fn room_of_all(items: &[Item], format: Option<&Format>) -> usize {
+    let Some(first) = items.first() else {
+        return 0;
+    };
+    let room = match format {
+        Some(format) => record_room(format, first),
+        None => header_room(first),
+    };
+    room.saturating_add(room / 8).saturating_mul(items.len())
+}
+
+/// The room for the header of the item.
+fn header_room(item: &Item) -> usize {
+    let mut room = HEADER_ROOM.saturating_add(item.identifier().as_str().len());
+    for set in item.sets() {
+        room = room
+            .saturating_add(FIELD_ROOM + 8)
+            .saturating_add(set.as_str().len());
+    }
+    room
+}
+
+/// The room for the record of the item.
+fn record_room(format: &Format, item: &Item) -> usize {
+    let mut room = header_room(item).saturating_add(RECORD_ROOM);
+    for field in fields_in(format.prefix.as_str(), item) {
+        let name = field.name.as_str().len();
+        room = room
+            .saturating_add(FIELD_ROOM)
+            .saturating_add(name)
+            .saturating_add(name);
+        room = room.saturating_add(field.text.as_str().len());
+    }
+    room
+}

@@ -1,0 +1,79 @@
+//! The tags of elements that each record has, written in one piece.
+ghost use Rattle.std.specs.Prelude.{◌≡◌, OnOk};
+ghost use Rattle.oai_answers.specs.Appends.{Appends};
+ghost use Rattle.oai_answers.specs.Markup.{end_tag, name_of, start_tag, text_element};
+
+use crate::markup::put_text;
+use std::alloc::AllocError;
+
+/// An element that each record has, or may have.
+#[derive(Clone, Copy)]
+pub(crate) enum Tag {
+    Record,
+    Header,
+    Identifier,
+    Datestamp,
+    SetSpec,
+    Metadata,
+    DublinCore,
+}
+
+impl Tag {
+    /// Its start tag.
+    #[tactic(auto, unfolding(crate::specs::Markup::start_tag, crate::specs::Markup::plain))]
+    fn start(self) -> &'static str
+        ensures { result.now ≡ start_tag (name_of self) }
+    {
+        match self {
+            Tag::Record => "<record>",
+            Tag::Header => "<header>",
+            Tag::Identifier => "<identifier>",
+            Tag::Datestamp => "<datestamp>",
+            Tag::SetSpec => "<setSpec>",
+            Tag::Metadata => "<metadata>",
+            Tag::DublinCore => "<oai_dc:dc>",
+        }
+    }
+
+    /// Its end tag.
+    #[tactic(auto, unfolding(crate::specs::Markup::end_tag, crate::specs::Markup::plain))]
+    fn end(self) -> &'static str
+        ensures { result.now ≡ end_tag (name_of self) }
+    {
+        match self {
+            Tag::Record => "</record>",
+            Tag::Header => "</header>",
+            Tag::Identifier => "</identifier>",
+            Tag::Datestamp => "</datestamp>",
+            Tag::SetSpec => "</setSpec>",
+            Tag::Metadata => "</metadata>",
+            Tag::DublinCore => "</oai_dc:dc>",
+        }
+    }
+}
+
+/// Appends the start tag.
+pub(crate) fn open(tag: Tag, out: &mut Vec<u8>) -> Result<(), AllocError>
+    ensures { OnOk result (Appends out.old.items out.new.items (start_tag (name_of tag))) }
+{
+    out.extend_from_slice(tag.start().as_bytes())
+}
+
+/// Appends the end tag.
+pub(crate) fn close(tag: Tag, out: &mut Vec<u8>) -> Result<(), AllocError>
+    ensures { OnOk result (Appends out.old.items out.new.items (end_tag (name_of tag))) }
+{
+    out.extend_from_slice(tag.end().as_bytes())
+}
+
+/// Appends the element with a text in it.
+#[tactic(auto, unfolding(crate::specs::Markup::element, crate::specs::Markup::text_element))]
+pub(crate) fn tagged_text(tag: Tag, text: &str, out: &mut Vec<u8>) -> Result<(), AllocError>
+    ensures { OnOk result (Appends out.old.items out.new.items
+        (text_element (name_of tag) text.now)) }
+{
+    open(tag, out)?;
+    put_text(text, out)?;
+    close(tag, out)?;
+    Ok(())
+}

@@ -1,0 +1,48 @@
+use Rattle.std.proofs.Common.{◌≡◌, ℕ, List, Bor, true, subst, arith}
+use Rattle.std.specs.List.{list_all}
+use Rattle.oai_item.specs.Decoding.{first_text}
+use Rattle.oai_names.specs.Sets.{may_be_set_spec}
+use Rattle.oai_item.specs.Encoding.{encoded_count, encoded_text}
+use Rattle.oai_item.specs.Walks.{is_name_text}
+use Rattle.oai_item.specs.SpellingParts.{HasRead, IsCount}
+use Rattle.oai_item.proofs.ReadBack.{text_back}
+use Rattle.oai_item.proofs.Spellings.{count_of_list, few_behind, text_has_four, text_is_cut, next_in_list}
+use Rattle.oai_item.proofs.Walking.{all_spelled, list_found, none_read, one_more, reads_some, reads_value}
+use Rattle.oai_item.proofs.fronts.first_sets.Goals as goal
+
+pub unwrap-count-requires : goal.unwrap-count-requires
+unwrap-count-requires c =
+    let see : ℕ × Bor (List ℕ) → ℕ × List ℕ = λ a. (a.0, a.1.now) in
+    reads_some see encoded_count IsCount c.args.bytes.now c.read_count.result c.read_count.ensures
+    (count_of_list encoded_text text_has_four (λ xs. list_all (is_name_text may_be_set_spec) xs ≡ true) c.args.bytes.now c.requires)
+
+pub loop-init : goal.loop-init
+loop-init c = none_read encoded_text (is_name_text may_be_set_spec) c.unwrap-count.result.1.now
+
+pub after_set-rest-requires : goal.after_set-rest-requires
+after_set-rest-requires c =
+    let see : ℕ × Bor (List ℕ) → ℕ × List ℕ = λ a. (a.0, a.1.now) in
+    let read = reads_value see encoded_count IsCount c.args.bytes.now c.read_count.result c.unwrap-count.result c.unwrap-count.ensures c.read_count.ensures in
+    let so_far = c.loop.invariant in
+    next_in_list encoded_text text_is_cut text_has_four (is_name_text may_be_set_spec) c.args.bytes.now c.unwrap-count.result.1.now c.loop.rest.now so_far.elements c.unwrap-count.result.0 read.0 read.1 so_far.parts (omega (arith, so_far.many, c.loop-test.true)) c.requires
+
+pub loop-preserved : goal.loop-preserved
+loop-preserved c = one_more encoded_text (is_name_text may_be_set_spec) c.unwrap-count.result.1.now c.loop.rest.now c.after_set-rest.result.now c.loop.counter _ c.loop.invariant c.after_set-rest.ensures
+
+pub new-requires : goal.new-requires
+new-requires c =
+    let see : ℕ × Bor (List ℕ) → ℕ × List ℕ = λ a. (a.0, a.1.now) in
+    let read = reads_value see encoded_count IsCount c.args.bytes.now c.read_count.result c.unwrap-count.result c.unwrap-count.ensures c.read_count.ensures in
+    let few = few_behind c.args.bytes.now (encoded_count c.unwrap-count.result.0) c.unwrap-count.result.1.now read.1 c.requires.few in
+    let whole : HasRead encoded_text (is_name_text may_be_set_spec) c.unwrap-count.result.1.now c.unwrap-count.result.0 c.loop.rest.now =
+    subst (λ n. HasRead encoded_text (is_name_text may_be_set_spec) c.unwrap-count.result.1.now n c.loop.rest.now) (omega (arith, c.loop.auto.counter-end, c.loop-test.false)) c.loop.invariant in
+    all_spelled first_text encoded_text (is_name_text may_be_set_spec) text_back c.unwrap-count.result.1.now c.loop.rest.now c.unwrap-count.result.0 few whole
+
+pub returns : goal.returns
+returns c =
+    let see : ℕ × Bor (List ℕ) → ℕ × List ℕ = λ a. (a.0, a.1.now) in
+    let read = reads_value see encoded_count IsCount c.args.bytes.now c.read_count.result c.unwrap-count.result c.unwrap-count.ensures c.read_count.ensures in
+    let few = few_behind c.args.bytes.now (encoded_count c.unwrap-count.result.0) c.unwrap-count.result.1.now read.1 c.requires.few in
+    let whole : HasRead encoded_text (is_name_text may_be_set_spec) c.unwrap-count.result.1.now c.unwrap-count.result.0 c.loop.rest.now =
+    subst (λ n. HasRead encoded_text (is_name_text may_be_set_spec) c.unwrap-count.result.1.now n c.loop.rest.now) (omega (arith, c.loop.auto.counter-end, c.loop-test.false)) c.loop.invariant in
+    list_found first_text encoded_text (is_name_text may_be_set_spec) text_back c.args.bytes.now c.unwrap-count.result.1.now c.loop.rest.now c.unwrap-count.result.0 _ few read.1 whole c.new.ensures

@@ -1,0 +1,89 @@
+//! What is known to stand in front of bytes, read by the lengths alone: texts are passed over, and not tested again.
+//! No function here takes memory.
+
+ghost use Rattle.std.specs.Prelude.{◌≡◌, ◌++◌, true};
+ghost use Rattle.oai_names.specs.Sets.{may_be_set_spec};
+ghost use Rattle.oai_item.specs.Decoding.{first_field, first_list, first_record, first_text};
+ghost use Rattle.oai_item.specs.Encoding.{encoded_field, encoded_list, encoded_record, encoded_text, is_text_field};
+ghost use Rattle.oai_item.specs.SpellingParts.{IsFront, IsNamed, IsText, Stands, are_records, are_sets};
+ghost use Rattle.oai_item.specs.Walks.{are_fields, is_record};
+
+use crate::decodings::{read_count, read_text};
+use crate::walks::{SpelledFields, SpelledRecord, SpelledRecords, SpelledSets};
+
+/// The bytes after the text that stands in front.
+fn after_text(bytes: &[u8]) -> &[u8]
+    requires { Stands encoded_text IsText bytes.now }
+    ensures { IsFront encoded_text IsText (first_text bytes.now).0 bytes.now result.now }
+{
+    let (len, rest) = read_count(bytes).unwrap();
+    let (_, after) = rest.split_at(len);
+    after
+}
+
+/// The bytes after the field that stands in front.
+fn after_field(bytes: &[u8]) -> &[u8]
+    requires { Stands encoded_field (λ field. is_text_field field ≡ true) bytes.now }
+    ensures { IsFront encoded_field (λ field. is_text_field field ≡ true) (first_field bytes.now).0
+        bytes.now result.now }
+{
+    after_text(after_text(bytes))
+}
+
+/// The list of fields that stands in front, and the bytes after it.
+fn first_fields(bytes: &[u8]) -> (SpelledFields<'_>, &[u8])
+    requires { Stands (encoded_list encoded_field) (λ fields. are_fields fields ≡ true) bytes.now }
+    ensures { IsFront (encoded_list encoded_field) (λ fields. are_fields fields ≡ true) result.0
+        bytes.now result.1.now }
+{
+    let (count, start) = read_count(bytes).unwrap();
+    let mut rest = start;
+    for _ in 0..count {
+        rest = after_field(rest);
+    }
+    (SpelledFields::new(count, start), rest)
+}
+
+/// The bytes after the setSpec that stands in front.
+fn after_set(bytes: &[u8]) -> &[u8]
+    requires { Stands encoded_text (IsNamed may_be_set_spec) bytes.now }
+    ensures { IsFront encoded_text (IsNamed may_be_set_spec) (first_text bytes.now).0
+        bytes.now result.now }
+{
+    after_text(bytes)
+}
+
+/// The list of sets that stands in front, and the bytes after it.
+pub(crate) fn first_sets(bytes: &[u8]) -> (SpelledSets<'_>, &[u8])
+    requires { Stands (encoded_list encoded_text) (λ sets. are_sets sets ≡ true) bytes.now }
+    ensures { IsFront (encoded_list encoded_text) (λ sets. are_sets sets ≡ true) result.0
+        bytes.now result.1.now }
+{
+    let (count, start) = read_count(bytes).unwrap();
+    let mut rest = start;
+    for _ in 0..count {
+        rest = after_set(rest);
+    }
+    (SpelledSets::new(count, start), rest)
+}
+
+/// The record that stands in front, and the bytes after it.
+pub(crate) fn first_record(bytes: &[u8]) -> (SpelledRecord<'_>, &[u8])
+    requires { Stands encoded_record (λ format. is_record format ≡ true) bytes.now }
+    ensures { IsFront encoded_record (λ format. is_record format ≡ true)
+        (result.0.prefix.now, result.0.fields) bytes.now result.1.now }
+{
+    let (prefix, rest) = read_text(bytes).unwrap();
+    let (fields, rest) = first_fields(rest);
+    (SpelledRecord { prefix, fields }, rest)
+}
+
+/// The list of records that stands in front.
+pub(crate) fn first_records(bytes: &[u8]) -> SpelledRecords<'_>
+    requires { Stands (encoded_list encoded_record) (λ formats. are_records formats ≡ true)
+        bytes.now }
+    ensures { result ≡ (first_list first_record bytes.now).0 }
+{
+    let (count, start) = read_count(bytes).unwrap();
+    SpelledRecords::new(count, start)
+}
