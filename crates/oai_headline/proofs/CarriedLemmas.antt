@@ -1,5 +1,5 @@
 -- The steps that come of exchanges with a repository are the run of the commands that these carry, and their outcomes are what is answered.
-use Rattle.std.proofs.Common.{◌≡◌, ◌∙◌, ℕ, ℤ, List, [], ◌∷◌, ◌++◌, map, refl, sym, ap, subst}
+use Rattle.std.proofs.Common.{◌≡◌, ◌∙◌, ℕ, ℤ, List, [], ◌∷◌, ◌++◌, map, refl, sym, ap}
 use Rattle.std.specs.List.{AllByRecursion, flat_map}
 use Rattle.oai_settings.specs.Config.{Config}
 use Rattle.oai_repo.specs.Machine.{Command, command_of, line, query}
@@ -10,7 +10,7 @@ use Rattle.oai_http.specs.Answers.{answered_with}
 use Rattle.oai_http.specs.declared.exchanges.Call.{Call}
 use Rattle.oai_host.specs.Alone.{after_line, after_lines, answers_alone, done_alone, exchanged_alone}
 use Rattle.oai_host.specs.Tasks.{Task, asking, depositing, refusing, task_of}
-use Rattle.oai_headline.specs.Visits.{IsWritten, IsWrittenVisit, Visit, commands_by, commands_in, commands_of, lines_written, steps_of, timed_input, visit_in, visits}
+use Rattle.oai_headline.specs.Visits.{IsWritten, IsWrittenVisit, Visit, commands_by, commands_in, commands_of, lines_written, steps_of, timed_input, visits}
 
 -- ---- the state behind commands
 

@@ -1,5 +1,5 @@
 -- A token expires when the list that it continues ends: its lifetime after the clock at which it is answered.
-use Rattle.std.proofs.Common.{◌≡◌, ℕ, ℤ, pos, ◌+◌, ◌+ℤ◌, ◌&&◌, Bool, true, List, [], ◌∷◌, length, Option, None, Some, is_some, refl, arith}
+use Rattle.std.proofs.Common.{◌≡◌, ℕ, ℤ, pos, ◌+◌, ◌+ℤ◌, ◌&&◌, true, List, [], ◌∷◌, length, Option, None, Some, is_some, refl, arith}
 use Rattle.std.specs.Prelude.{nat_le, nat_lt}
 use Rattle.std.proofs.lemmas.Bool.{and_parts, cond_both}
 use Rattle.std.proofs.lemmas.Bool.Decides.{nat_tests}

@@ -1,7 +1,7 @@
 -- The theorem of a host, from what its exchanges do and what visits come to.
 use Rattle.std.proofs.Common.{◌≡◌, ◌∙◌, ℕ, suc, Bool, true, IsTrue, List, [], ◌∷◌, arith, map, sym, subst}
 use Rattle.std.specs.List.{All, AllByRecursion}
-use Rattle.oai_settings.specs.Config.{Config, IsConfig}
+use Rattle.oai_settings.specs.Config.{IsConfig}
 use Rattle.oai_repo.specs.State.{empty_state}
 use Rattle.oai_laws.specs.Runs.{Exchange}
 use Rattle.oai_config.specs.Configs.{HostConfig, NamedConfig}
@@ -38,11 +38,16 @@ at_each : (calls : List Call) (answers : List Answer) (entries : List NamedConfi
 at_each calls answers [] rules alone = tt
 at_each calls answers (entry ∷ entries) rules alone = (at_one calls answers entry rules.0 alone.0, at_each calls answers entries rules.1 alone.1)
 
+pub headline_alone : (config : HostConfig) (calls : List Call) (answers : List Answer) → HaveRules config → AreAsAlone calls answers (map begun config.repositories)
+    → IsHeadline config calls answers
+headline_alone config calls answers rules alone = at_each calls answers config.repositories (each_rules config.repositories rules) alone
+
+-- over any store
 pub headline : (config : HostConfig) (honest : Bool) (first last : HostState) (calls : List Call) (answers : List Answer) → HaveRules config → IsMadeOf config honest first → IsTrue honest
     → AreExchanged calls answers first last → none_failed answers ≡ true → IsHeadline config calls answers
 headline config honest first last calls answers rules made so run none =
     let answered = all_answered first last calls answers (subst (λ (b : Bool). IsTrue b) (sym made.honesty) so) run in
-    at_each calls answers config.repositories (each_rules config.repositories rules)
+    headline_alone config calls answers rules
     (subst (λ (rs : List Repository). AreAsAlone calls answers rs) made.begun (all_alone calls answers first last answered none))
 
 -- over the pages of a device

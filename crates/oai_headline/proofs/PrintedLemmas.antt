@@ -1,15 +1,13 @@
 -- The token that the bytes of an answer show is the one that was answered.
 use Rattle.std.proofs.Common.{◌≡◌, ◌∙◌, ℕ, ℤ, false, List, Option, None, Some, refl, sym, ap, subst}
-use Rattle.oai_time.specs.Bound.{IsBound}
 use Rattle.oai_time.specs.Stamp.{IsWritable}
 use Rattle.oai_time.specs.TimeTexts.{second_text}
-use Rattle.oai_time.specs.declared.bound.Bound.{Bound}
 use Rattle.oai_time.specs.declared.bound.Bound.TheVariants.{Second as OneSecond}
 use Rattle.oai_time.specs.declared.granularity.Granularity.{Granularity}
 use Rattle.oai_time.proofs.ReadingLemmas.{IsBound-unique}
 use Rattle.oai_answers.specs.Answers.{Answer, Continuation, Document, Page, completes, fails, gives_record, identifies, lists_formats, lists_headers, lists_records, lists_sets, remains, whole}
 use Rattle.oai_answers.specs.Documents.{document}
-use Rattle.oai_answers.specs.Seen.{IsRegular, SeenAnswer, SeenDocument, SeenToken, answer_seen, document_seen, empty_token, no_token, seen_error, seen_formats, seen_headers, seen_identity, seen_record, seen_records, seen_sets, seen_token, token_seen}
+use Rattle.oai_answers.specs.Seen.{SeenAnswer, SeenDocument, SeenToken, answer_seen, document_seen, seen_error, seen_formats, seen_headers, seen_identity, seen_record, seen_records, seen_sets, token_seen}
 use Rattle.oai_answers.proofs.RegularLemmas.{same_seen}
 use Rattle.oai_repo.specs.Machine.{Outcome, accepted, documented, later, outcome_output, refused_with}
 use Rattle.oai_laws.specs.Following.{TokenOffer, is_later, offer_in, page_in, page_shown}

@@ -16,7 +16,6 @@ use Rattle.oai_repo.specs.State.{RepoState, empty_state, moved}
 use Rattle.oai_repo.proofs.ClockLemmas.{in_years-config, in_years-tick}
 use Rattle.oai_laws.specs.Effects.{IsSound}
 use Rattle.oai_laws.specs.Runs.{Exchange, IsPart, Timed, performed, run}
-use Rattle.oai_laws.specs.Shown.{IsRegularOutcome}
 use Rattle.oai_laws.proofs.EffectLemmas.{sound_act, sound_empty, sound_moved}
 use Rattle.oai_laws.proofs.ShownLemmas.{regular_act}
 use Rattle.oai_http.specs.declared.exchanges.Call.{Call}

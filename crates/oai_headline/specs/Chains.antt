@@ -1,7 +1,8 @@
 -- A list that is followed by exchanges, from answer to answer, by the tokens that these print. OAI-PMH 2.0, sections 3.1.2.2 and 3.5.
-use Rattle.std.specs.Prelude.{◌≡◌, ◌<◌, ℕ, int_lt, true, List, [], ◌∷◌, length, Option, None, Some}
+use Rattle.std.specs.Prelude.{◌≡◌, ◌<◌, ℕ, int_lt, true, List, [], ◌∷◌, length, None, Some}
 use Rattle.std.specs.List.{AllZip}
 use Rattle.oai_names.specs.declared.list_verbs.ListVerb.{ListVerb}
+use Rattle.oai_item.specs.declared.formats.Format.{Format}
 use Rattle.oai_time.specs.Stamp.{IsWritable}
 use Rattle.oai_time.specs.declared.granularity.Granularity.{Granularity}
 use Rattle.oai_args.specs.Asks.{AskOrError, asks}
@@ -12,6 +13,7 @@ use Rattle.oai_answers.specs.Answers.{Document, Page}
 use Rattle.oai_answers.specs.Documents.{document}
 use Rattle.oai_answers.specs.Seen.{IsRegular}
 use Rattle.oai_settings.specs.Config.{Config}
+use Rattle.oai_repo.specs.Listing.{answer_by_verb}
 use Rattle.oai_repo.specs.Machine.{outcome_output}
 use Rattle.oai_laws.specs.Following.{IsFollowedThrough, ListRequest, TokenOffer, is_of_records, offer_in, page_in, selection_in}
 use Rattle.oai_laws.specs.Runs.{Exchange, IsPart}
@@ -75,10 +77,17 @@ pub record IsStepOf (config : Config) (visit : Visit) (step : Exchange) : Type 0
   pub found : step.found ≡ found_by visit
   pub written : visit.answer ≡ answer_of (outcome_output config.granularity step.outcome)
 
--- each answer is the document of a page; and the pages, joined, begin the selection at the first request, and are all of it once a page has
--- the empty token; each record once, in order
+-- the answer is a document that tells the page, by the verb and in the format
+pub record IsPageOf (verb : ListVerb) (format : Format) (visit : Visit) (page : Page) : Type 0 where
+  pub its : Document
+  pub written : visit.answer ≡ answered_with (document its)
+  pub told : its.answer ≡ answer_by_verb verb format page
+
+-- each visit is a step of the machine; each is answered a page; and the pages, joined, begin the selection at the first of them, and are all of
+-- it once a page has the empty token, each record once, in order
 pub record AreReached (config : Config) (list_request : ListRequest) (first : Visit) (others : List Visit) : Type 0 where
   pub steps : List Exchange
   pub each : AllZip (IsStepOf config) (first ∷ others) steps
   pub pages : List Page
   pub followed : IsFollowedThrough config list_request (selection_in (found_by first) list_request) steps pages
+  pub printed : AllZip (IsPageOf list_request.verb followed.format) (first ∷ others) pages

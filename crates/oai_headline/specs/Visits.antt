@@ -5,7 +5,7 @@ use Rattle.std.specs.List.{flat_map}
 use Rattle.oai_time.specs.declared.granularity.Granularity.{Granularity}
 use Rattle.oai_deposit.specs.Lines.{line_of}
 use Rattle.oai_settings.specs.Config.{Config}
-use Rattle.oai_repo.specs.Machine.{Command, RepoInput, command_of, line, outcome_output, query}
+use Rattle.oai_repo.specs.Machine.{RepoInput, command_of, line, outcome_output, query}
 use Rattle.oai_repo.specs.State.{RepoState, moved}
 use Rattle.oai_laws.specs.Runs.{Exchange, Timed, run}
 use Rattle.oai_http.specs.Answers.{answered, answered_with}
