@@ -10,7 +10,7 @@ ghost use Rattle.oai_host.specs.Alone.{answers_alone};
 ghost use Rattle.oai_config.specs.Configs.{HostConfig, NamedConfig};
 ghost use Rattle.oai_http.specs.declared.exchanges.Answer.{Answer};
 ghost use Rattle.oai_host.specs.Exchanged.{AreExchanged};
-ghost use Rattle.oai_host.specs.Hosts.{HostState, none_failed};
+ghost use Rattle.oai_host.specs.Hosts.{AreAsAlone, HostState, begun, none_failed};
 ghost use Rattle.oai_served.specs.Served.{IsBegunOn};
 ghost use Rattle.oai_headline.specs.Chains.{AreReached, IsFollowing};
 ghost use Rattle.oai_headline.specs.Headline.{HaveRules, IsHeadline, IsMadeOf, MissNothing};
@@ -69,6 +69,13 @@ pub fn headline_on_pages_law<D: PageDevice>()
         → IsBegunOn config (D.honest device) (D.failures device) first → IsTrue (D.honest device)
         → AreExchanged calls answers first last → none_failed answers ≡ true
         → IsHeadline config calls answers }
+{}
+
+/// The same wherever the answers at each repository are those that it alone gives to its own exchanges, from its beginning on: so the clause
+/// `alone` of `host_law` of `oai_runs` says of the bytes of connections. It does nothing.
+pub fn headline_alone_law()
+    ensures { (config : HostConfig) (calls : List Call) (answers : List Answer) → HaveRules config
+        → AreAsAlone calls answers (map begun config.repositories) → IsHeadline config calls answers }
 {}
 
 /// Harvests of a repository of a host miss nothing: of the steps that come of its exchanges, which are answered them, written
