@@ -4,3 +4,4 @@ pub mod PrintedLemmas
 pub mod TakenLemmas
 pub mod FollowedLemmas
 pub mod HeadlineLemmas
+pub mod MetLemmas

@@ -73,7 +73,7 @@ token_is base (lists_records format page) = refl
 abbrev pub HasOffer : Option Page → TokenOffer → Type 0
 HasOffer found offer = (page : Page) × (found ≡ Some page) × (offer_in page.continuation ≡ Some offer)
 
-page_ends : (end : ℤ) (answer : Answer) (page : Page) → page_in answer ≡ Some page → AnswerEnds end answer → EndsAt end page.continuation
+pub page_ends : (end : ℤ) (answer : Answer) (page : Page) → page_in answer ≡ Some page → AnswerEnds end answer → EndsAt end page.continuation
 page_ends end (fails code) page told ends = cc
 page_ends end (identifies description) page told ends = cc
 page_ends end (lists_formats formats) page told ends = cc

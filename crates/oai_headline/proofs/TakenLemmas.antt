@@ -39,7 +39,7 @@ pub record IsReachable (config : Config) (state : RepoState) : Type 0 where
 pub reachable_empty : (config : Config) → IsConfig config → IsReachable config (empty_state config)
 reachable_empty config rules = record { sound = sound_empty config; years = in_years-config config rules }
 
-reachable_moved : (config : Config) (moment : ℤ) (state : RepoState) → IsReachable config state → IsReachable config (moved moment state)
+pub reachable_moved : (config : Config) (moment : ℤ) (state : RepoState) → IsReachable config state → IsReachable config (moved moment state)
 reachable_moved config moment state h = record { sound = sound_moved config moment state h.sound; years = in_years-tick state.clock moment h.years }
 
 -- no command moves the clock
@@ -65,7 +65,7 @@ reachable_behind config state (timed ∷ commands) h =
     reachable_behind config (performed config state timed).left commands
     (reachable_act config (moved timed.moment state) timed.command (reachable_moved config timed.moment state h))
 
-reachable_after : (config : Config) (state : RepoState) (call : Call) → IsReachable config state → IsReachable config (exchanged_alone config state call).1
+pub reachable_after : (config : Config) (state : RepoState) (call : Call) → IsReachable config state → IsReachable config (exchanged_alone config state call).1
 reachable_after config state call h =
     subst (IsReachable config) (call_behind config state call) (reachable_behind config state (commands_by config.granularity call) h)
 
@@ -75,7 +75,7 @@ pub record IsAsking (visit : Visit) : Type 0 where
   pub arguments : List ℕ
   pub asked : task_of visit.call ≡ asking arguments
 
-abbrev step_with : Config → Visit → List ℕ → Exchange
+abbrev pub step_with : Config → Visit → List ℕ → Exchange
 step_with config visit arguments = performed config visit.before (timed_input config.granularity visit.call.moment (query arguments))
 
 -- it is that step
@@ -95,7 +95,7 @@ part_behind : (front some whole : List Exchange) → IsPart some whole → IsPar
 part_behind [] some whole h = h
 part_behind (x ∷ front) some whole h = inl (part_behind front some whole h)
 
-only_step : (config : Config) (visit : Visit) (arguments : List ℕ) → task_of visit.call ≡ asking arguments → steps_of config visit ≡ step_with config visit arguments ∷ []
+pub only_step : (config : Config) (visit : Visit) (arguments : List ℕ) → task_of visit.call ≡ asking arguments → steps_of config visit ≡ step_with config visit arguments ∷ []
 only_step config visit arguments asked = ap (λ (task : Task). run config visit.before (commands_of config.granularity visit.call.moment task)) asked
 
 taken_here : (config : Config) (state : RepoState) (call : Call) (others : List Visit) (rest : List Exchange) → IsReachable config state → IsAsking (visit_in config state call)
@@ -149,6 +149,8 @@ taken_written config visit step h =
 
 pub taken_step : (config : Config) (visit : Visit) (step : Exchange) → IsTaken config visit step → IsStepOf config visit step
 taken_step config visit step h = record {
+  arguments = h.arguments;
+  asked = h.asked;
   only = only_step config visit h.arguments h.asked ∙ ap (λ (e : Exchange). e ∷ []) (sym h.is);
   found = taken_found config visit step h;
   written = taken_written config visit step h;
@@ -158,7 +160,7 @@ replied : (config : Config) (clock end : ℤ) (asked : Attributes) (said : Respo
 replied config clock end asked (with_answer answer) h = h
 replied config clock end asked (retry_after seconds) h = tt
 
-replied_act : (config : Config) (state : RepoState) (arguments : List ℕ) → IsReplied (state.clock +ℤ pos config.lifetime) (act config state (request_in config arguments)).0
+pub replied_act : (config : Config) (state : RepoState) (arguments : List ℕ) → IsReplied (state.clock +ℤ pos config.lifetime) (act config state (request_in config arguments)).0
 unfolding act
 replied_act config state arguments =
     let request = request_of config.granularity (decoded_pairs arguments) in

@@ -71,8 +71,10 @@ pub record IsFollowing (config : Config) (all : List Visit) (list_request : List
 
 -- ---- what it comes to
 
--- the visit is one step of the machine, and is answered its outcome, written
+-- the visit is a request, is one step of the machine, and is answered its outcome, written
 pub record IsStepOf (config : Config) (visit : Visit) (step : Exchange) : Type 0 where
+  pub arguments : List ℕ
+  pub asked : task_of visit.call ≡ asking arguments
   pub only : steps_of config visit ≡ step ∷ []
   pub found : step.found ≡ found_by visit
   pub written : visit.answer ≡ answer_of (outcome_output config.granularity step.outcome)

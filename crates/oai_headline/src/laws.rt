@@ -1,10 +1,10 @@
-ghost use Rattle.std.specs.Prelude.{◌≡◌, List, IsTrue, map, true};
-ghost use Rattle.std.specs.List.{AllByRecursion, flat_map};
+ghost use Rattle.std.specs.Prelude.{◌≡◌, ◌∷◌, List, IsTrue, map, true};
+ghost use Rattle.std.specs.List.{AllByRecursion, AllZip, flat_map};
 ghost use Rattle.oai_item.specs.Formats.{AreRepositoryFormats};
 ghost use Rattle.oai_settings.specs.Config.{Config, IsConfig};
 ghost use Rattle.oai_repo.specs.State.{RepoState, empty_state};
-ghost use Rattle.oai_laws.specs.Following.{ListRequest};
-ghost use Rattle.oai_laws.specs.Runs.{run};
+ghost use Rattle.oai_laws.specs.Following.{IsChain, ListRequest};
+ghost use Rattle.oai_laws.specs.Runs.{Exchange, IsPart, run};
 ghost use Rattle.oai_http.specs.declared.exchanges.Call.{Call};
 ghost use Rattle.oai_host.specs.Alone.{answers_alone};
 ghost use Rattle.oai_config.specs.Configs.{HostConfig, NamedConfig};
@@ -12,7 +12,7 @@ ghost use Rattle.oai_http.specs.declared.exchanges.Answer.{Answer};
 ghost use Rattle.oai_host.specs.Exchanged.{AreExchanged};
 ghost use Rattle.oai_host.specs.Hosts.{AreAsAlone, HostState, begun, none_failed};
 ghost use Rattle.oai_served.specs.Served.{IsBegunOn};
-ghost use Rattle.oai_headline.specs.Chains.{AreReached, IsFollowing};
+ghost use Rattle.oai_headline.specs.Chains.{AreReached, IsFollowing, IsStepOf};
 ghost use Rattle.oai_headline.specs.Headline.{HaveRules, IsHeadline, IsMadeOf, MissNothing};
 ghost use Rattle.oai_headline.specs.Visits.{IsWrittenVisit, Visit, commands_in, steps_of, visits};
 
@@ -38,12 +38,21 @@ pub fn carried_law()
 /// beginning on, one asks for a list that is too long for one answer and is not told to come again later; and others, each after the
 /// one before it, ask with the token that the answer before prints, and before its expirationDate. Then each of them is a step of the
 /// machine and is answered its page, written; and the pages, joined, are what was selected at the first of them, as
-/// `following_law` of `oai_laws` says. It does nothing.
+/// `following_law` of `oai_laws` says. And exchanges whose steps are a chain of the machine are such a chain: what is asked of a token that
+/// is printed is true of each that the machine answers. It does nothing.
 pub fn visits_law()
-    ensures { (config : Config) (calls : List Call) (list_request : ListRequest) (first : Visit)
+    ensures reached { (config : Config) (calls : List Call) (list_request : ListRequest) (first : Visit)
         (others : List Visit) → IsConfig config → AreRepositoryFormats config.formats
         → IsFollowing config (visits config (empty_state config) calls) list_request first others
         → AreReached config list_request first others }
+    ensures met { (config : Config) (calls : List Call) (list_request : ListRequest) (first : Visit)
+        (others : List Visit) (step : Exchange) (steps : List Exchange) → IsConfig config
+        → AreRepositoryFormats config.formats
+        → IsPart (first ∷ others) (visits config (empty_state config) calls)
+        → AllZip (IsStepOf config) (first ∷ others) (step ∷ steps)
+        → IsChain config (run config (empty_state config) (commands_in config.granularity calls))
+        list_request step steps
+        → IsFollowing config (visits config (empty_state config) calls) list_request first others }
 {}
 
 /// **The theorem.** For every list of deposits, deletions and requests, each with its moment, in which no memory was refused and no
