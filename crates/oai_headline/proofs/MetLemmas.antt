@@ -1,5 +1,5 @@
 -- Visits whose steps are a chain of the machine follow a list: the machine's tokens are printed as a chain of visits asks for.
-use Rattle.std.proofs.Common.{◌≡◌, ◌∙◌, ◌<◌, inl, inr, ℕ, ℤ, pos, ◌+ℤ◌, false, List, [], ◌∷◌, length, None, Some, refl, sym, ap, subst}
+use Rattle.std.proofs.Common.{◌≡◌, ◌∙◌, ◌<◌, inl, inr, ℤ, pos, ◌+ℤ◌, false, List, [], ◌∷◌, length, None, Some, refl, sym, ap, subst}
 use Rattle.std.specs.Prelude.{int_lt}
 use Rattle.std.specs.List.{AllByRecursion, AllZip}
 use Rattle.oai_names.specs.declared.list_verbs.ListVerb.{ListVerb}
