@@ -1,2 +1,2 @@
-mod ServedLemmas
+pub mod ServedLemmas
 mod UnderLemmas

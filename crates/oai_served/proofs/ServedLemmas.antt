@@ -33,6 +33,11 @@ answered_more first old new done said (c ∷ calls) (a ∷ answers) so_far hones
     (answered_more first run.0 new (done ++ c ∷ []) (said ++ a ∷ []) calls answers with_one
     (subst (λ (b : Bool). IsTrue b) (sym run.1.honesty.same) honest) run.2)
 
+-- exchanges one after the other, each answered
+pub all_answered : (first last : HostState) (calls : List Call) (answers : List Answer) → IsTrue first.honest → AreExchanged calls answers first last
+    → AreAnswered calls answers first last
+all_answered first last calls answers honest run = answered_more first first last [] [] calls answers (answered_none first) honest run
+
 -- the store is as honest as it was
 honesty_stays : (old new : HostState) (calls : List Call) (answers : List Answer) → AreExchanged calls answers old new → new.honest ≡ old.honest
 honesty_stays old new [] [] run = ap (λ (h : HostState). h.honest) run
@@ -79,7 +84,7 @@ served_on_pages config honest failures first last calls answers made so run =
     let same : first.honest ≡ true = made.honesty ∙ is_so honest so in
     let stays : last.honest ≡ true = honesty_stays first last calls answers run ∙ same in
     let answered : AreAnswered calls answers first last =
-    answered_more first first last [] [] calls answers (answered_none first) (subst (λ (b : Bool). IsTrue b) (sym made.honesty) so) run in
+    all_answered first last calls answers (subst (λ (b : Bool). IsTrue b) (sym made.honesty) so) run in
     record {
       answered = answered;
       alone = λ none. subst (λ (rs : List Repository). AreAsAlone calls answers rs) made.begun (all_alone calls answers first last answered none);

@@ -1,0 +1,6 @@
+use Rattle.std.specs.List.{AllWithin}
+use Rattle.oai_headline.specs.Headline.{HasRules}
+use Rattle.oai_headline.proofs.rules.have_rules.Given as goal
+
+abbrev pub invariant-loop-entry : goal.invariant-loop-entry
+invariant-loop-entry l = AllWithin HasRules l.entries 0 l.entry-index

@@ -1,0 +1,3 @@
+pub mod Visits
+pub mod Chains
+pub mod Headline

@@ -1,0 +1,84 @@
+-- The exchanges with a repository that stands alone, and the steps of its machine that come of them. OAI-PMH 2.0, section 3.1; deposits are this
+-- repository's own.
+use Rattle.std.specs.Prelude.{◌≡◌, ℕ, ℤ, List, [], ◌∷◌, map}
+use Rattle.std.specs.List.{flat_map}
+use Rattle.oai_time.specs.declared.granularity.Granularity.{Granularity}
+use Rattle.oai_deposit.specs.Lines.{line_of}
+use Rattle.oai_settings.specs.Config.{Config}
+use Rattle.oai_repo.specs.Machine.{RepoInput, command_of, line, outcome_output, query}
+use Rattle.oai_repo.specs.State.{RepoState, moved}
+use Rattle.oai_laws.specs.Runs.{Exchange, Timed, run}
+use Rattle.oai_http.specs.Answers.{answered, answered_with}
+use Rattle.oai_http.specs.declared.exchanges.Answer.{Answer}
+use Rattle.oai_http.specs.declared.exchanges.Call.{Call}
+use Rattle.oai_host.specs.Alone.{exchanged_alone, with_end}
+use Rattle.oai_host.specs.Answers.{answer_of}
+use Rattle.oai_host.specs.Tasks.{Task, asking, depositing, refusing, task_of}
+
+-- ---- the commands that exchanges carry
+
+-- what is handed in is a command, at that moment
+abbrev pub timed_input : Granularity → ℤ → RepoInput → Timed
+timed_input granularity moment input = record { moment = moment; command = command_of granularity input }
+
+-- none where nothing is asked; one for a request; one for each line of a deposit
+abbrev pub commands_of : Granularity → ℤ → Task → List Timed
+commands_of granularity moment (refusing status) = []
+commands_of granularity moment (asking arguments) = timed_input granularity moment (query arguments) ∷ []
+commands_of granularity moment (depositing lines) = map (λ (text : List ℕ). timed_input granularity moment (line (line_of text))) lines
+
+-- of an exchange
+abbrev pub commands_by : Granularity → Call → List Timed
+commands_by granularity call = commands_of granularity call.moment (task_of call)
+
+-- of exchanges, one after the other
+abbrev pub commands_in : Granularity → List Call → List Timed
+commands_in granularity calls = flat_map (commands_by granularity) calls
+
+-- ---- visits
+
+-- an exchange with the repository: what is asked, the state that it comes upon, and what is answered
+pub record Visit : Type 0 where
+  pub call : Call
+  pub before : RepoState
+  pub answer : Answer
+
+-- the state that it finds: its clock has moved, and lists may have ended
+abbrev pub found_by : Visit → RepoState
+found_by visit = moved visit.call.moment visit.before
+
+-- what the machine does then: a step for each command
+abbrev pub steps_of : Config → Visit → List Exchange
+steps_of config visit = run config visit.before (commands_by config.granularity visit.call)
+
+-- the exchange, with the repository in that state
+abbrev pub visit_in : Config → RepoState → Call → Visit
+visit_in config state call = record { call = call; before = state; answer = (exchanged_alone config state call).0 }
+
+-- exchanges, one after the other, the first in that state
+abbrev pub visits : Config → RepoState → List Call → List Visit
+visits config state [] = []
+visits config state (call ∷ calls) = visit_in config state call ∷ visits config (exchanged_alone config state call).1 calls
+
+-- ---- what is written
+
+-- a line for each step
+abbrev pub lines_written : Granularity → List Exchange → List ℕ
+lines_written granularity steps = flat_map (λ (step : Exchange). with_end (outcome_output granularity step.outcome)) steps
+
+-- what is answered is what came of the steps: a status where nothing is asked; of a request, which is one step, a document or that it is to
+-- come again later; of a deposit, which is a step for each line, a line for each
+abbrev pub IsWritten : Granularity → Task → List Exchange → Answer → Type 0
+IsWritten granularity (refusing status) steps answer = (steps ≡ []) × (answer ≡ answered status)
+IsWritten granularity (asking arguments) steps answer =
+    (step : Exchange)
+    × (steps ≡ step ∷ [])
+    × (step.command ≡ command_of granularity (query arguments))
+    × (answer ≡ answer_of (outcome_output granularity step.outcome))
+IsWritten granularity (depositing lines) steps answer =
+    (map (λ (step : Exchange). step.command) steps ≡ map (λ (text : List ℕ). command_of granularity (line (line_of text))) lines)
+    × (answer ≡ answered_with (lines_written granularity steps))
+
+-- so it is of the visit
+abbrev pub IsWrittenVisit : Config → Visit → Type 0
+IsWrittenVisit config visit = IsWritten config.granularity (task_of visit.call) (steps_of config visit) visit.answer

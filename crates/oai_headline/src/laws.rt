@@ -1,0 +1,94 @@
+ghost use Rattle.std.specs.Prelude.{◌≡◌, ◌∷◌, List, IsTrue, map, true};
+ghost use Rattle.std.specs.List.{AllByRecursion, AllZip, flat_map};
+ghost use Rattle.oai_item.specs.Formats.{AreRepositoryFormats};
+ghost use Rattle.oai_settings.specs.Config.{Config, IsConfig};
+ghost use Rattle.oai_repo.specs.State.{RepoState, empty_state};
+ghost use Rattle.oai_laws.specs.Following.{IsChain, ListRequest};
+ghost use Rattle.oai_laws.specs.Runs.{Exchange, IsPart, run};
+ghost use Rattle.oai_http.specs.declared.exchanges.Call.{Call};
+ghost use Rattle.oai_host.specs.Alone.{answers_alone};
+ghost use Rattle.oai_config.specs.Configs.{HostConfig, NamedConfig};
+ghost use Rattle.oai_http.specs.declared.exchanges.Answer.{Answer};
+ghost use Rattle.oai_host.specs.Exchanged.{AreExchanged};
+ghost use Rattle.oai_host.specs.Hosts.{AreAsAlone, HostState, begun, none_failed};
+ghost use Rattle.oai_served.specs.Served.{IsBegunOn};
+ghost use Rattle.oai_headline.specs.Chains.{AreReached, IsFollowing, IsStepOf};
+ghost use Rattle.oai_headline.specs.Headline.{HaveRules, IsHeadline, IsMadeOf, MissNothing};
+ghost use Rattle.oai_headline.specs.Visits.{IsWrittenVisit, Visit, commands_in, steps_of, visits};
+
+use oai_catalogue::Versions;
+use oai_device::PageDevice;
+
+/// What a repository that stands alone answers to exchanges is what its machine does, written. The steps that
+/// come of the exchanges are the run of the commands that they carry: a request is one, a deposit one for each
+/// line. A request is answered the document of its step, or that it is to come again later, and a deposit a
+/// line for each step; an exchange that asks nothing is answered its status, and is no step. So what the laws
+/// of runs say is true of the exchanges. It does nothing.
+pub fn carried_law()
+    ensures answers { (config : Config) (state : RepoState) (calls : List Call)
+        → map (λ (visit : Visit). visit.answer) (visits config state calls) ≡ answers_alone config state calls }
+    ensures steps { (config : Config) (state : RepoState) (calls : List Call)
+        → flat_map (steps_of config) (visits config state calls)
+        ≡ run config state (commands_in config.granularity calls) }
+    ensures written { (config : Config) (state : RepoState) (calls : List Call)
+        → AllByRecursion (IsWrittenVisit config) (visits config state calls) }
+{}
+
+/// A list that is followed by exchanges (OAI-PMH 2.0, section 3.5). Among the exchanges with a repository that stands alone, from its
+/// beginning on, one asks for a list that is too long for one answer and is not told to come again later; and others, each after the
+/// one before it, ask with the token that the answer before prints, and before its expirationDate. Then each of them is a step of the
+/// machine and is answered its page, written; and the pages, joined, are what was selected at the first of them, as
+/// `following_law` of `oai_laws` says. And exchanges whose steps are a chain of the machine are such a chain: what is asked of a token that
+/// is printed is true of each that the machine answers. It does nothing.
+pub fn visits_law()
+    ensures reached { (config : Config) (calls : List Call) (list_request : ListRequest) (first : Visit)
+        (others : List Visit) → IsConfig config → AreRepositoryFormats config.formats
+        → IsFollowing config (visits config (empty_state config) calls) list_request first others
+        → AreReached config list_request first others }
+    ensures met { (config : Config) (calls : List Call) (list_request : ListRequest) (first : Visit)
+        (others : List Visit) (step : Exchange) (steps : List Exchange) → IsConfig config
+        → AreRepositoryFormats config.formats
+        → IsPart (first ∷ others) (visits config (empty_state config) calls)
+        → AllZip (IsStepOf config) (first ∷ others) (step ∷ steps)
+        → IsChain config (run config (empty_state config) (commands_in config.granularity calls))
+        list_request step steps
+        → IsFollowing config (visits config (empty_state config) calls) list_request first others }
+{}
+
+/// **The theorem.** For every list of deposits, deletions and requests, each with its moment, in which no memory was refused and no
+/// device call failed, the bytes answered at each base URL are those of the one-repository machine given that repository's commands
+/// alone; and the pages reached by following a list's unexpired tokens are, joined, exactly the records selected at its first
+/// request, each once, in order.
+///
+/// The configuration is one that keeps its rules, as each does that was accepted ([`rules_law`]). The host is made of it, as
+/// `Host::new` says, over a store that does what a store of versions does and gives back what was written to it. The exchanges come one
+/// after the other, as `Host::run` and `Host::exchange` say, and no answer has a fault. It does nothing.
+pub fn headline_law<V: Versions>()
+    ensures { (config : HostConfig) (store : V) (first last : HostState) (calls : List Call)
+        (answers : List Answer) → HaveRules config → IsMadeOf config (V.honest store) first
+        → IsTrue (V.honest store) → AreExchanged calls answers first last
+        → none_failed answers ≡ true → IsHeadline config calls answers }
+{}
+
+/// The same of the host that the program runs: its store is the one of pages, over a device that gives back what was written to it, made
+/// as `host_on` of `oai_cli` says. It does nothing.
+pub fn headline_on_pages_law<D: PageDevice>()
+    ensures { (config : HostConfig) (device : D) (first last : HostState) (calls : List Call)
+        (answers : List Answer) → HaveRules config
+        → IsBegunOn config (D.honest device) (D.failures device) first → IsTrue (D.honest device)
+        → AreExchanged calls answers first last → none_failed answers ≡ true
+        → IsHeadline config calls answers }
+{}
+
+/// The same wherever the answers at each repository are those that it alone gives to its own exchanges, from its beginning on: so the clause
+/// `alone` of `host_law` of `oai_runs` says of the bytes of connections. It does nothing.
+pub fn headline_alone_law()
+    ensures { (config : HostConfig) (calls : List Call) (answers : List Answer) → HaveRules config
+        → AreAsAlone calls answers (map begun config.repositories) → IsHeadline config calls answers }
+{}
+
+/// Harvests of a repository of a host miss nothing: of the steps that come of its exchanges, which are answered them, written
+/// ([`carried_law`]), is true what `harvest_law` of `oai_harvests` says. It does nothing.
+pub fn harvests_law()
+    ensures { (calls : List Call) (entry : NamedConfig) → IsConfig entry.config → MissNothing calls entry }
+{}

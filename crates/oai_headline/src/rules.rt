@@ -1,0 +1,28 @@
+//! What each configuration keeps that was accepted.
+ghost use Rattle.std.specs.List.{All};
+ghost use Rattle.oai_headline.specs.Headline.{HasRules, HaveRules};
+
+use oai_config::{Config, NamedConfig};
+
+/// A configuration keeps the rules that the theorem asks for. It does nothing.
+pub fn rules_law(config: Config)
+    ensures { HaveRules config }
+{
+    let repositories = config.into_repositories();
+    have_rules(repositories.as_slice());
+}
+
+fn have_rules(entries: &[NamedConfig])
+    ensures { All HasRules entries.now }
+{
+    for entry in entries {
+        has_rules(entry);
+    }
+}
+
+fn has_rules(entry: &NamedConfig)
+    ensures { HasRules entry.now }
+{
+    let _base = entry.config.base();
+    let _formats = entry.config.formats().len();
+}
