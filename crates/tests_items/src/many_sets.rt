@@ -9,6 +9,9 @@ use std::process::Abort;
 /// In how many sets an item is at most here: each is spelled in ten bytes.
 const SETS: usize = 100_000;
 
+/// How many bytes of an item are of no set: the front, the number of sets, and the back.
+const OTHER_BYTES: usize = 42;
+
 /// What stands before the number of sets: the live item `oai:a:1` of 2024-01-01T00:00:00Z.
 fn front() -> &'static [u8] {
     b"\x01\x00\x00\x00\x00\x65\x92\x00\x80\x00\x00\x00\x07oai:a:1"
@@ -21,8 +24,7 @@ fn back() -> &'static [u8] {
 
 /// How many sets an item of so many bytes has room for, and at most `SETS`.
 fn sets_of(bytes: usize) -> usize {
-    let room = bytes.saturating_sub(front().len() + 4 + back().len());
-    (room / 10).min(SETS)
+    (bytes.saturating_sub(OTHER_BYTES) / 10).min(SETS)
 }
 
 /// Adds a number of four bytes.
@@ -58,7 +60,7 @@ fn item_in(rt: &impl Abort, alloc: Global, sets: usize, twice: bool) -> Vec<u8> 
 fn assert_read(rt: &impl Abort, alloc: Global, bytes: usize) {
     let sets = sets_of(bytes);
     let spelling = item_in(rt, alloc, sets, false);
-    assert!(rt; spelling.len() <= bytes && spelling.len() + 10 > bytes);
+    assert!(rt; spelling.len() <= bytes && bytes.saturating_sub(spelling.len()) < 10);
     let item = Item::decode(alloc, spelling.as_slice()).expect(rt, "Item::decode");
     assert_told(rt, &item, "oai:a:1", (1_704_067_200, true, sets));
     let spelling = item_in(rt, alloc, sets, true);
