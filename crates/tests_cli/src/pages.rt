@@ -139,12 +139,11 @@ fn file_of_pages(rt: HostRuntime) {
 
 /// The bytes of a page: zeros, or with a seed bytes at random.
 fn page_of(rt: &impl Abort, alloc: Global, seed: u32) -> Vec<u8> {
+    let step = if seed == 0 { 0 } else { 1_013_904_223 };
     let mut page = Vec::new(alloc);
     let mut state = seed;
     for _ in 0..PAGE_BYTES {
-        state = state
-            .wrapping_mul(1_664_525)
-            .wrapping_add(if seed == 0 { 0 } else { 1_013_904_223 });
+        state = state.wrapping_mul(1_664_525).wrapping_add(step);
         page.push((state / 65_536 % 256) as u8).expect(rt, "memory");
     }
     page

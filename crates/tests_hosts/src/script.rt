@@ -4,16 +4,27 @@ use std::alloc::Global;
 use std::panic::Expect;
 use std::process::Abort;
 
-/// How many letters the title of the first item has.
-pub(crate) const LETTERS: usize = 1;
+/// A form of the script.
+#[derive(Clone, Copy)]
+pub(crate) struct Form {
+    /// How many letters the title of the first item has.
+    pub(crate) letters: usize,
+    /// On how many pages the items stand at the end: those of the first repository, which its open list names too; the others
+    /// have none.
+    pub(crate) pages: usize,
+}
 
-/// On how many pages the items stand at the end of the script: the three of the first repository on one, which its open list
-/// names too; the others have none.
-pub(crate) const PAGES: usize = 1;
+/// The script with a short title: the three items stand on one page.
+pub(crate) fn short() -> Form {
+    Form {
+        letters: 1,
+        pages: 1,
+    }
+}
 
-/// The script, with a title of so many letters.
-pub(crate) fn script(rt: &impl Abort, alloc: Global, letters: usize) -> String {
-    let title = vec![in alloc; b'T'; letters].expect(rt, "memory");
+/// The script in that form.
+pub(crate) fn script(rt: &impl Abort, alloc: Global, form: Form) -> String {
+    let title = vec![in alloc; b'T'; form.letters].expect(rt, "memory");
     let title = std::str::from_utf8(&title).expect(rt, "from_utf8");
     let mut whole = String::new(alloc);
     for part in [deposits(), requests(), changes(), lists()] {

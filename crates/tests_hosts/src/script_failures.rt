@@ -1,8 +1,8 @@
 //! The script over stores and devices of which a call fails. An exchange that fails is made once more, and all else is answered as
 //! where nothing failed; nor does a failure leave a page that nobody needs.
-use crate::assertions::{assert_same, assert_same_at};
+use crate::assertions::assert_same_at;
 use crate::sample_host::{host, paged};
-use crate::script::{LETTERS, PAGES, script};
+use crate::script::{Form, script, short};
 use crate::transcripts::{Told, answer_to, body_of, told_in, write_answer};
 use oai_catalogue::{PlainVersions, Versions};
 use oai_device::{FaultyDevice, MemoryDevice, PageDevice};
@@ -117,18 +117,17 @@ fn failures_over<V: Versions + Drop>(
     failures_of(rt, alloc, &mut host, script, fault)
 }
 
-/// How many exchanges fail over pages of that device. At the end no more pages are named than where none fails.
+/// How many exchanges fail over pages of that device, and how many pages are named at the end.
 fn failures_on<D: PageDevice>(
     rt: &impl Abort,
     alloc: Global,
     device: D,
     script: &str,
     fault: Fault,
-) -> u64 {
+) -> (u64, usize) {
     let mut host = host(rt, alloc, paged(rt, alloc, device));
     let failures = failures_of(rt, alloc, &mut host, script, fault);
-    assert_same(rt, host.versions().pool().used(), PAGES);
-    failures
+    (failures, host.versions().pool().used())
 }
 
 // ---- each call fails in turn
@@ -146,45 +145,54 @@ enum Trouble {
     StoreMemory,
 }
 
-/// How many calls of a store the host makes when it begins: one for each repository.
-const CALLS_OF_A_NEW_HOST: u64 = 3;
-
-/// How many exchanges of the script fail where the k-th call after the host was made does.
-fn failures_at(rt: &impl Abort, alloc: Global, trouble: Trouble, script: &str, k: u64) -> u64 {
-    let call = k.wrapping_add(CALLS_OF_A_NEW_HOST);
-    let memory = MemoryDevice::new(alloc);
-    let lists = PlainVersions::new(alloc);
-    match trouble {
-        Trouble::Device => {
-            failures_on(
-                rt,
-                alloc,
-                FaultyDevice::new(memory, k),
-                script,
-                Fault::Device,
-            )
-        }
-        Trouble::DeviceMemory => {
-            failures_on(
-                rt,
-                alloc,
-                RefusingDevice::new(memory, k),
-                script,
-                Fault::NoMemory,
-            )
-        }
-        Trouble::Store => failures_over(rt, alloc, failing(lists, call), script, Fault::Device),
-        Trouble::StoreMemory => {
-            failures_over(rt, alloc, refusing(lists, call), script, Fault::NoMemory)
-        }
-    }
+/// The number of a store's call that is the k-th after the host was made, which made one for each of its three repositories.
+fn behind_the_host(k: u64) -> u64 {
+    k.wrapping_add(3)
 }
 
-/// Each call fails in turn, and one exchange with it, up to the first run in which none does.
-fn assert_each_fails(rt: &impl Abort, alloc: Global, trouble: Trouble) {
-    let script = script(rt, alloc, LETTERS);
+/// How many exchanges of the script fail where the k-th call after the host was made does. Behind them no more pages are named than where
+/// none fails.
+fn failures_at(
+    rt: &impl Abort,
+    alloc: Global,
+    trouble: Trouble,
+    script: &str,
+    pages: usize,
+    k: u64,
+) -> u64 {
+    let (failures, used) = match trouble {
+        Trouble::Device => {
+            let device = FaultyDevice::new(MemoryDevice::new(alloc), k);
+            failures_on(rt, alloc, device, script, Fault::Device)
+        }
+        Trouble::DeviceMemory => {
+            let device = RefusingDevice::new(MemoryDevice::new(alloc), k);
+            failures_on(rt, alloc, device, script, Fault::NoMemory)
+        }
+        Trouble::Store => {
+            let store = failing(PlainVersions::new(alloc), behind_the_host(k));
+            (
+                failures_over(rt, alloc, store, script, Fault::Device),
+                pages,
+            )
+        }
+        Trouble::StoreMemory => {
+            let store = refusing(PlainVersions::new(alloc), behind_the_host(k));
+            (
+                failures_over(rt, alloc, store, script, Fault::NoMemory),
+                pages,
+            )
+        }
+    };
+    assert_same_at(rt, used, pages, k);
+    failures
+}
+
+/// Each call fails in turn, and one exchange of the script with it, up to the first run in which none does.
+fn assert_each_fails(rt: &impl Abort, alloc: Global, trouble: Trouble, form: Form) {
+    let script = script(rt, alloc, form);
     for k in 1..1_000u64 {
-        let failures = failures_at(rt, alloc, trouble, script.as_str(), k);
+        let failures = failures_at(rt, alloc, trouble, script.as_str(), form.pages, k);
         if failures == 0 {
             assert!(rt; k > 1);
             return;
@@ -196,20 +204,20 @@ fn assert_each_fails(rt: &impl Abort, alloc: Global, trouble: Trouble) {
 
 #[test]
 fn calls_of_a_device(rt: HostRuntime) {
-    assert_each_fails(&rt, rt.alloc(), Trouble::Device);
+    assert_each_fails(&rt, rt.alloc(), Trouble::Device, short());
 }
 
 #[test]
 fn memory_of_a_device(rt: HostRuntime) {
-    assert_each_fails(&rt, rt.alloc(), Trouble::DeviceMemory);
+    assert_each_fails(&rt, rt.alloc(), Trouble::DeviceMemory, short());
 }
 
 #[test]
 fn calls_of_a_store(rt: HostRuntime) {
-    assert_each_fails(&rt, rt.alloc(), Trouble::Store);
+    assert_each_fails(&rt, rt.alloc(), Trouble::Store, short());
 }
 
 #[test]
 fn memory_of_a_store(rt: HostRuntime) {
-    assert_each_fails(&rt, rt.alloc(), Trouble::StoreMemory);
+    assert_each_fails(&rt, rt.alloc(), Trouble::StoreMemory, short());
 }

@@ -1,7 +1,7 @@
 //! The script over a device that lies once. The exchange that meets the lie fails, and the other repositories answer as where there is none.
 use crate::assertions::assert_same_at;
 use crate::sample_host::{host, paged};
-use crate::script::{LETTERS, script};
+use crate::script::{Form, script, short};
 use crate::script_failures::{answer_of, assert_written, failed, step_in};
 use oai_device::{FlippingDevice, MemoryDevice};
 use oai_host::Host;
@@ -73,17 +73,21 @@ fn lies_met(rt: &impl Abort, alloc: Global, script: &str, k: u64) -> u64 {
     lies
 }
 
-/// Each read is a lie in turn, and one exchange fails for it, up to the first run in which none does.
-#[test]
-fn reads_of_a_device(rt: HostRuntime) {
-    let script = script(&rt, rt.alloc(), LETTERS);
+/// Each read is a lie in turn, and one exchange of the script fails for it, up to the first run in which none does.
+fn assert_each_lie(rt: &impl Abort, alloc: Global, form: Form) {
+    let script = script(rt, alloc, form);
     for k in 1..1_000u64 {
-        let lies = lies_met(&rt, rt.alloc(), script.as_str(), k);
+        let lies = lies_met(rt, alloc, script.as_str(), k);
         if lies == 0 {
             assert!(rt; k > 1);
             return;
         }
-        assert_same_at(&rt, lies, 1, k);
+        assert_same_at(rt, lies, 1, k);
     }
     panic!(rt; "a read is a lie in each run")
+}
+
+#[test]
+fn reads_of_a_device(rt: HostRuntime) {
+    assert_each_lie(&rt, rt.alloc(), short());
 }

@@ -2,7 +2,7 @@
 use crate::assertions::assert_same;
 use crate::runs::{answers_to, assert_runs, calls_in};
 use crate::sample_host::paged;
-use crate::script::{LETTERS, script};
+use crate::script::{Form, script, short};
 use crate::script_failures::{assert_written, failed, step_in};
 use oai_device::MemoryDevice;
 use oai_host::Answer;
@@ -11,10 +11,15 @@ use std::alloc::Global;
 use std::process::Abort;
 use tests_devices::RefusingDevice;
 
+/// Where no call fails, the script in that form is answered as one run.
+fn assert_undisturbed(rt: &impl Abort, alloc: Global, form: Form) {
+    let script = script(rt, alloc, form);
+    assert_runs(rt, alloc, script.as_str());
+}
+
 #[test]
 fn undisturbed_run(rt: HostRuntime) {
-    let script = script(&rt, rt.alloc(), LETTERS);
-    assert_runs(&rt, rt.alloc(), script.as_str());
+    assert_undisturbed(&rt, rt.alloc(), short());
 }
 
 /// The answer is that of the script, or the exchange was refused memory, which it says.
@@ -32,8 +37,9 @@ fn is_refused(rt: &impl Abort, alloc: Global, step: &str, answer: &Answer) -> bo
 
 /// The answers up to the first exchange that was refused memory are those of the script; whether there is one.
 fn has_refused(rt: &impl Abort, alloc: Global, script: &str, answers: &[Answer]) -> bool {
-    for (step, answer) in script.split("\n> ").zip(answers) {
-        if is_refused(rt, alloc, step, answer) {
+    let mut steps = script.split("\n> ");
+    for answer in answers {
+        if is_refused(rt, alloc, steps.next().unwrap_or(""), answer) {
             return true;
         }
     }
@@ -50,14 +56,18 @@ fn refused_at(rt: &impl Abort, alloc: Global, script: &str, k: u64) -> bool {
 }
 
 /// Each call of the device is refused memory in turn, up to the first run in which none is.
-#[test]
-fn run_without_memory(rt: HostRuntime) {
-    let script = script(&rt, rt.alloc(), LETTERS);
+fn assert_each_refused(rt: &impl Abort, alloc: Global, form: Form) {
+    let script = script(rt, alloc, form);
     for k in 1..1_000u64 {
-        if !refused_at(&rt, rt.alloc(), script.as_str(), k) {
+        if !refused_at(rt, alloc, script.as_str(), k) {
             assert!(rt; k > 1);
             return;
         }
     }
     panic!(rt; "memory is refused in each run")
+}
+
+#[test]
+fn run_without_memory(rt: HostRuntime) {
+    assert_each_refused(&rt, rt.alloc(), short());
 }
