@@ -1,13 +1,14 @@
 //! The file that has the pages of a host: how it is opened, what lies in it, and what comes of it where another program
-//! cuts it.
+//! cuts it, or writes over a page.
 use crate::asking::{asked_in, config};
-use crate::assertions::{assert_same, assert_shown};
+use crate::assertions::{assert_same, assert_same_at, assert_shown};
 use oai_cli::{Stop, ask_lines, empty_file, host_on, read_file};
-use oai_device::FileDevice;
+use oai_device::{FileDevice, PAGE_BYTES};
 use oai_host::Host;
 use oai_paged::PagedVersions;
 use std::alloc::Global;
 use std::fs::{self, File, OpenOptions};
+use std::io::{Seek, SeekFrom, Write};
 use std::panic::Expect;
 use std::process::Abort;
 use std::rt::Files;
@@ -131,5 +132,113 @@ fn file_of_pages(rt: HostRuntime) {
     cut(&rt, path, 100);
     let lines = asked_in(&rt, alloc, asked_of_a_cut_file());
     assert_answers(&rt, alloc, &mut host, lines.as_str(), asked_of_a_cut_file());
+    fs::remove_file(&rt, path).expect(&rt, "fs::remove_file");
+}
+
+// ---- pages that another program writes over
+
+/// The bytes of a page: zeros, or with a seed bytes at random.
+fn page_of(rt: &impl Abort, alloc: Global, seed: u32) -> Vec<u8> {
+    let step = if seed == 0 { 0 } else { 1_013_904_223 };
+    let mut page = Vec::new(alloc);
+    let mut state = seed;
+    for _ in 0..PAGE_BYTES {
+        state = state.wrapping_mul(1_664_525).wrapping_add(step);
+        page.push((state / 65_536 % 256) as u8).expect(rt, "memory");
+    }
+    page
+}
+
+/// Writes over the page of that number.
+fn write_over<R: Files<File = File> + Abort>(rt: &R, path: &str, number: u64, page: &[u8]) {
+    let mut file = OpenOptions::new()
+        .write(true)
+        .open(rt, path)
+        .expect(rt, "open");
+    let place = number.wrapping_mul(PAGE_BYTES as u64);
+    file.seek(SeekFrom::Start(place)).expect(rt, "seek");
+    file.write_all(page).expect(rt, "write_all");
+}
+
+/// A list, a deletion and a record; what each is answered where its pages stand, and what where they do not.
+fn asked_of_such_a_file() -> [(&'static str, &'static str, &'static str); 3] {
+    [
+        (
+            "1704067200 GET /oai/a?verb=ListIdentifiers&metadataPrefix=oai_dc",
+            r#"200
+DOC <responseDate>2024-01-01T00:00:00Z</responseDate><request verb="ListIdentifiers" metadataPrefix="oai_dc">http://host.example/oai/a</request><ListIdentifiers><header><identifier>oai:a:1</identifier><datestamp>2024-01-01T00:00:00Z</datestamp></header><header><identifier>oai:a:2</identifier><datestamp>2024-01-01T00:00:00Z</datestamp></header></ListIdentifiers></OAI-PMH>"#,
+            "500",
+        ),
+        (
+            r#"1704067200 POST /deposit/a {"delete":"oai:a:1"}"#,
+            "200\nok 2024-01-01T00:00:00Z",
+            "500 0",
+        ),
+        (
+            "1704067200 GET /oai/b?verb=GetRecord&identifier=oai:b:1&metadataPrefix=oai_dc",
+            r#"200
+DOC <responseDate>2024-01-01T00:00:00Z</responseDate><request verb="GetRecord" identifier="oai:b:1" metadataPrefix="oai_dc">http://host.example/oai/b</request><GetRecord><record><header><identifier>oai:b:1</identifier><datestamp>2024-01-01</datestamp></header><metadata>{dc}<dc:title>T</dc:title></oai_dc:dc></metadata></record></GetRecord></OAI-PMH>"#,
+            "500",
+        ),
+    ]
+}
+
+/// The line is answered as it should be, or with the status 500; whether it is the latter.
+fn fails_or_is_right(
+    rt: &impl Abort,
+    alloc: Global,
+    host: &mut FiledHost,
+    line: &str,
+    right: &str,
+    failed: &str,
+) -> bool {
+    let mut reader = line.as_bytes();
+    let mut output = Vec::new(alloc);
+    ask_lines(alloc, host, &mut reader, &mut output).expect(rt, "ask_lines");
+    let fails = output.starts_with(b"500");
+    let wanted = wanted_in(alloc, if fails { failed } else { right }).expect(rt, "wanted_in");
+    assert_same_at(rt, output.as_slice(), wanted.as_bytes(), line);
+    fails
+}
+
+/// How many of the lines fail.
+fn failures_of(rt: &impl Abort, alloc: Global, host: &mut FiledHost) -> u32 {
+    let mut failures: u32 = 0;
+    for (line, right, failed) in asked_of_such_a_file() {
+        if fails_or_is_right(rt, alloc, host, line, right, failed) {
+            failures = failures.wrapping_add(1);
+        }
+    }
+    failures
+}
+
+/// How many of the lines fail where the page of that number is written over, with that seed.
+fn failures_with<R: Files<File = File> + AllocGlobal + Abort>(
+    rt: &R,
+    path: &str,
+    number: u64,
+    seed: u32,
+) -> u32 {
+    let alloc = rt.alloc();
+    let mut host = host_in(rt, alloc, emptied(rt, path));
+    let lines = deposits(rt, alloc);
+    assert_answers(rt, alloc, &mut host, lines.as_str(), deposited());
+    let page = page_of(rt, alloc, seed);
+    write_over(rt, path, number, &page);
+    failures_of(rt, alloc, &mut host)
+}
+
+/// Each page is filled with zeros, and with bytes at random: what needs it fails, and nothing is answered that is wrong. The page in the cache is
+/// not read, and that of the last item is in it.
+#[test]
+fn pages_written_over(rt: HostRuntime) {
+    let path = "written-over.pages";
+    for seed in [0, 57] {
+        let mut failures: u32 = 0;
+        for number in 0..3u64 {
+            failures = failures.wrapping_add(failures_with(&rt, path, number, seed));
+        }
+        assert!(rt; failures > 0, "{seed}");
+    }
     fs::remove_file(&rt, path).expect(&rt, "fs::remove_file");
 }

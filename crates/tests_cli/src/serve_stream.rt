@@ -315,6 +315,98 @@ fn writes_of_a_stream_fail(rt: HostRuntime) {
     assert_served_behind_writes(&rt, rt.alloc(), 1);
 }
 
+/// A wire of which so many calls succeed, reads and writes, and the next one fails.
+#[derive(Drop)]
+struct BrokenWire<'a> {
+    wire: Wire<'a>,
+    calls: usize,
+}
+
+impl BrokenWire<'_> {
+    /// One call more; an error where it is the one that fails.
+    fn call(&mut self) -> io::Result<()> {
+        if self.calls == 0 {
+            return Err(io::Error::from(ErrorKind::ConnectionReset));
+        }
+        self.calls -= 1;
+        Ok(())
+    }
+}
+
+impl Read for BrokenWire<'_> {
+    fn read(&mut self, buffer: &mut [u8]) -> io::Result<usize> {
+        self.call()?;
+        self.wire.read(buffer)
+    }
+}
+
+impl Write for BrokenWire<'_> {
+    fn write(&mut self, bytes: &[u8]) -> io::Result<usize> {
+        self.call()?;
+        self.wire.write(bytes)
+    }
+
+    fn flush(&mut self) -> io::Result<()> {
+        self.wire.flush()
+    }
+}
+
+/// The messages come in pieces of 30 bytes, and what is written for them is a front of that; what comes of it where a call fails.
+fn served_with_calls(
+    rt: &impl Abort,
+    alloc: Global,
+    front: &mut PagedFront,
+    text: &str,
+    wanted: &str,
+    calls: usize,
+) -> (Result<(), StreamFault>, usize) {
+    let wire = wire_of(alloc, text.as_bytes(), 30);
+    let mut stream = BrokenWire { wire, calls };
+    let served = serve_stream(alloc, front, &mut stream, &StandingClock);
+    assert!(rt;
+        wanted
+            .as_bytes()
+            .starts_with(stream.wire.written.as_slice()),
+        "{calls}"
+    );
+    (served, text.len().saturating_sub(stream.wire.text.len()))
+}
+
+/// What was performed where that call fails stays, and the next connection is served; whether a call failed.
+fn fails_behind(rt: &impl Abort, alloc: Global, calls: usize) -> bool {
+    let text = three_messages(rt, alloc);
+    let wanted = two_answers(rt, alloc);
+    let mut front = new_front(rt, alloc);
+    let (served, read) = served_with_calls(
+        rt,
+        alloc,
+        &mut front,
+        text.as_str(),
+        wanted.as_str(),
+        calls,
+    );
+    let performed = read >= set_message().len();
+    let next = if performed {
+        set_again_answer()
+    } else {
+        set_answer()
+    };
+    assert_set(rt, alloc, &mut front, next);
+    served.is_err()
+}
+
+/// Each call of a stream fails in turn, up to the first time that none does.
+#[test]
+fn calls_of_a_stream_fail(rt: HostRuntime) {
+    for calls in 0..100usize {
+        if !fails_behind(&rt, rt.alloc(), calls) {
+            assert!(rt; calls > 0);
+            return;
+        }
+    }
+    panic!(rt; "a call fails each time")
+}
+
 #[test]
 fn clock_of_a_stream_fails(rt: HostRuntime) {
     let alloc = rt.alloc();

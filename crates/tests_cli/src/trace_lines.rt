@@ -199,6 +199,27 @@ fn end_in_a_body(rt: HostRuntime) {
     assert_traced(&rt, alloc, lines.as_str(), wanted.as_str(), Ok(()));
 }
 
+/// A connection that ends behind the front of a message puts out nothing, and its repository is as it was.
+fn assert_end_behind(rt: &impl Abort, alloc: Global, front: &[u8]) {
+    let mut lines = String::new(alloc);
+    push_piece(rt, alloc, 1, front, &mut lines);
+    lines.push_str("1704067200 1 end\n").expect(rt, "memory");
+    push_piece(rt, alloc, 2, set_message().as_bytes(), &mut lines);
+    let mut wanted = String::from_str(alloc, "1 close\n").expect(rt, "memory");
+    push_output(rt, alloc, 2, set_answer(), &mut wanted);
+    assert_traced(rt, alloc, lines.as_str(), wanted.as_str(), Ok(()));
+}
+
+/// The end comes behind each byte of a message but the last.
+#[test]
+fn ends_in_a_message(rt: HostRuntime) {
+    let message = set_message().as_bytes();
+    for at in 0..message.len() {
+        let (front, _) = message.split_at(at);
+        assert_end_behind(&rt, rt.alloc(), front);
+    }
+}
+
 /// The document where a repository has no sets.
 fn no_sets() -> &'static str {
     "DOC <responseDate>2024-01-01T00:00:00Z</responseDate><request verb=\"ListSets\">http://host.example/oai/a</request><error code=\"noSetHierarchy\">The repository has no sets.</error></OAI-PMH>"

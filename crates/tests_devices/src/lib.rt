@@ -1,5 +1,5 @@
-//! Tests of page devices (`oai_device`) and of the pool of pages (`oai_pool`); and a device that counts its
-//! calls, for the tests of what stands on pools too.
+//! Tests of page devices (`oai_device`) and of the pool of pages (`oai_pool`); and devices for the tests of what stands on pools
+//! too: one that counts its calls, and one that is refused memory.
 #![tactic(auto)]
 
 #[cfg(test)]
@@ -15,9 +15,11 @@ mod filled;
 mod pool_failures;
 #[cfg(test)]
 mod pools;
+mod refusing;
 #[cfg(test)]
 mod saturated;
 #[cfg(test)]
 mod steps;
 
 pub use counting::CountingDevice;
+pub use refusing::RefusingDevice;

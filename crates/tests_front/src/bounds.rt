@@ -57,6 +57,7 @@ fn assert_size(rt: &impl Abort, alloc: Global, size: usize, wanted: &str) {
 
 #[test]
 fn heads_have_at_most_64_fields(rt: HostRuntime) {
+    assert_fields(&rt, rt.alloc(), 63, FOUND);
     assert_fields(&rt, rt.alloc(), 64, FOUND);
     assert_fields(&rt, rt.alloc(), 65, "");
     let filled = filled(&rt, rt.alloc());

@@ -11,6 +11,8 @@ mod bounds;
 #[cfg(test)]
 mod connections;
 #[cfg(test)]
+mod hostile_heads;
+#[cfg(test)]
 mod hosts;
 #[cfg(test)]
 mod pieces;

@@ -12,14 +12,26 @@ mod failures;
 #[cfg(test)]
 mod limits;
 #[cfg(test)]
+mod many_sets;
+#[cfg(test)]
 mod neighbours;
 #[cfg(test)]
 mod pages;
 #[cfg(test)]
 mod refusals;
 #[cfg(test)]
+mod refused_memory;
+#[cfg(test)]
 mod runs;
 #[cfg(test)]
 mod sample_host;
+#[cfg(test)]
+mod script;
+#[cfg(test)]
+mod script_failures;
+#[cfg(test)]
+mod script_lies;
+#[cfg(test)]
+mod script_runs;
 #[cfg(test)]
 mod transcripts;

@@ -66,7 +66,7 @@ fn call_of(rt: &impl Abort, alloc: Global, told: Told<'_>) -> Call {
 }
 
 /// The exchanges of the transcript.
-fn calls_in(rt: &impl Abort, alloc: Global, transcript: &str) -> Vec<Call> {
+pub(crate) fn calls_in(rt: &impl Abort, alloc: Global, transcript: &str) -> Vec<Call> {
     let mut calls = Vec::new(alloc);
     for line in transcript.lines() {
         if let Some(asked) = line.strip_prefix("> ") {
@@ -170,7 +170,7 @@ DOC <responseDate>2024-01-01T00:00:02Z</responseDate><request verb="ListIdentifi
 }
 
 /// New hosts over plain lists and over pages in memory do so.
-fn assert_runs(rt: &impl Abort, alloc: Global, transcript: &str) {
+pub(crate) fn assert_runs(rt: &impl Abort, alloc: Global, transcript: &str) {
     assert_run(rt, alloc, PlainVersions::new(alloc), transcript);
     let store = paged(rt, alloc, MemoryDevice::new(alloc));
     assert_run(rt, alloc, store, transcript);

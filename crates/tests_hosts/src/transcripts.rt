@@ -58,7 +58,11 @@ pub(crate) fn body_of(alloc: Global, told: Told<'_>) -> Result<String, AllocErro
 }
 
 /// What the host answers to it, with that body.
-fn answer_to<V: Versions + Drop>(host: &mut Host<V>, told: Told<'_>, body: &str) -> Answer {
+pub(crate) fn answer_to<V: Versions + Drop>(
+    host: &mut Host<V>,
+    told: Told<'_>,
+    body: &str,
+) -> Answer {
     let exchange = Exchange {
         method: told.method.as_bytes(),
         target: told.target.as_bytes(),

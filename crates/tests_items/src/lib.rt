@@ -17,6 +17,8 @@ mod item_assertions;
 #[cfg(test)]
 mod items;
 #[cfg(test)]
+mod many_sets;
+#[cfg(test)]
 mod open_lists;
 #[cfg(test)]
 mod part_after;

@@ -77,7 +77,12 @@ fn request_in_words(rt: &impl Abort, alloc: Global, ask: &Ask) -> String {
 }
 
 /// What the query is answered, in words; out of memory fails the test.
-fn answer_to(rt: &impl Abort, alloc: Global, query: &str, granularity: Granularity) -> String {
+pub(crate) fn answer_to(
+    rt: &impl Abort,
+    alloc: Global,
+    query: &str,
+    granularity: Granularity,
+) -> String {
     match read_request(alloc, query.as_bytes(), granularity) {
         Ok(ask) => request_in_words(rt, alloc, &ask),
         Err(ArgFault::BadVerb) => String::from_str(alloc, "badVerb").expect(rt, "memory"),
@@ -87,7 +92,7 @@ fn answer_to(rt: &impl Abort, alloc: Global, query: &str, granularity: Granulari
 }
 
 /// The query is answered so in a repository of that granularity.
-fn assert_answer(
+pub(crate) fn assert_answer(
     rt: &impl Abort,
     alloc: Global,
     query: &str,

@@ -8,6 +8,10 @@ mod arguments;
 #[cfg(test)]
 mod assertions;
 #[cfg(test)]
+mod escaped_arguments;
+#[cfg(test)]
+mod hostile_lines;
+#[cfg(test)]
 mod names;
 #[cfg(test)]
 mod read_line;

@@ -8,7 +8,7 @@ use std::panic::Expect;
 use std::process::Abort;
 
 /// What a line is answered that is read, or refused; out of memory fails the test.
-fn answer_to(alloc: Global, line: &[u8]) -> Result<&'static str, AllocError> {
+pub(crate) fn answer_to(alloc: Global, line: &[u8]) -> Result<&'static str, AllocError> {
     match read_line(alloc, line) {
         Ok(_) => Ok("read"),
         Err(LineFault::NoMemory) => Err(AllocError),
@@ -194,7 +194,7 @@ fn refuses_what_is_not_utf_8(rt: HostRuntime) {
 }
 
 /// An array in an array, and so on, of that depth.
-fn nested(rt: &impl Abort, alloc: Global, depth: usize) -> String {
+pub(crate) fn nested(rt: &impl Abort, alloc: Global, depth: usize) -> String {
     let mut text = String::new(alloc);
     for _ in 0..depth {
         text.push('[').expect(rt, "memory");

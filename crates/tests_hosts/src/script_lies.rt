@@ -1,0 +1,93 @@
+//! The script over a device that lies once. The exchange that meets the lie fails, and the other repositories answer as where there is none.
+use crate::assertions::assert_same_at;
+use crate::sample_host::{host, paged};
+use crate::script::{Form, script, short};
+use crate::script_failures::{answer_of, assert_written, failed, step_in};
+use oai_device::{FlippingDevice, MemoryDevice};
+use oai_host::Host;
+use oai_item::Fault;
+use oai_paged::PagedVersions;
+use oai_pool::PagePool;
+use std::alloc::Global;
+use std::process::Abort;
+use tests_devices::CountingDevice;
+
+/// A host over a device that lies once, whose reads are counted.
+type LiedTo = Host<PagedVersions<CountingDevice<FlippingDevice<MemoryDevice>>>>;
+
+/// A new host, for whose device the first byte of the k-th read is inverted.
+fn host_lied_to(rt: &impl Abort, alloc: Global, k: u64) -> LiedTo {
+    let device = CountingDevice::new(FlippingDevice::new(MemoryDevice::new(alloc), k));
+    host(rt, alloc, paged(rt, alloc, device))
+}
+
+/// How many reads were made.
+fn reads_of(host: &LiedTo) -> u64 {
+    host.versions().pool().device().reads()
+}
+
+/// The repository of a path: what stands behind its last `/`.
+fn repository_of(target: &str) -> &str {
+    let (path, _) = target.split_once("?").unwrap_or((target, ""));
+    match path.rsplit_once("/") {
+        Some((_, name)) => name,
+        None => path,
+    }
+}
+
+/// Makes the exchange. Where the k-th read falls into it, it fails; else it is answered as it should, unless it is one of the repository
+/// that was lied to. Whether it failed.
+fn meets_the_lie(
+    rt: &impl Abort,
+    alloc: Global,
+    host: &mut LiedTo,
+    step: &str,
+    lied_to: &str,
+    k: u64,
+) -> bool {
+    let (told, wanted) = step_in(rt, step);
+    let before = reads_of(host);
+    let answer = answer_of(rt, alloc, host, told);
+    if before < k && k <= reads_of(host) {
+        assert_written(rt, alloc, &answer, failed(Fault::Damaged, told), told);
+        return true;
+    }
+    if repository_of(told.target) != lied_to {
+        assert_written(rt, alloc, &answer, wanted, told);
+    }
+    false
+}
+
+/// Makes the exchanges of the script where the k-th read is a lie; how many failed for it.
+fn lies_met(rt: &impl Abort, alloc: Global, script: &str, k: u64) -> u64 {
+    let mut host = host_lied_to(rt, alloc, k);
+    let mut lied_to = "";
+    let mut lies: u64 = 0;
+    for step in script.split("\n> ") {
+        if meets_the_lie(rt, alloc, &mut host, step, lied_to, k) {
+            let (told, _) = step_in(rt, step);
+            lied_to = repository_of(told.target);
+            lies = lies.wrapping_add(1);
+        }
+    }
+    lies
+}
+
+/// Each read is a lie in turn, and one exchange of the script fails for it, up to the first run in which none does.
+fn assert_each_lie(rt: &impl Abort, alloc: Global, form: Form) {
+    let script = script(rt, alloc, form);
+    for k in 1..1_000u64 {
+        let lies = lies_met(rt, alloc, script.as_str(), k);
+        if lies == 0 {
+            assert!(rt; k > 1);
+            return;
+        }
+        assert_same_at(rt, lies, 1, k);
+    }
+    panic!(rt; "a read is a lie in each run")
+}
+
+#[test]
+fn reads_of_a_device(rt: HostRuntime) {
+    assert_each_lie(&rt, rt.alloc(), short());
+}

@@ -1,0 +1,73 @@
+//! The script as one run: over stores of which no call fails, and over a device of which one does.
+use crate::assertions::assert_same;
+use crate::runs::{answers_to, assert_runs, calls_in};
+use crate::sample_host::paged;
+use crate::script::{Form, script, short};
+use crate::script_failures::{assert_written, failed, step_in};
+use oai_device::MemoryDevice;
+use oai_host::Answer;
+use oai_item::Fault;
+use std::alloc::Global;
+use std::process::Abort;
+use tests_devices::RefusingDevice;
+
+/// Where no call fails, the script in that form is answered as one run.
+fn assert_undisturbed(rt: &impl Abort, alloc: Global, form: Form) {
+    let script = script(rt, alloc, form);
+    assert_runs(rt, alloc, script.as_str());
+}
+
+#[test]
+fn undisturbed_run(rt: HostRuntime) {
+    assert_undisturbed(&rt, rt.alloc(), short());
+}
+
+/// The answer is that of the script, or the exchange was refused memory, which it says.
+fn is_refused(rt: &impl Abort, alloc: Global, step: &str, answer: &Answer) -> bool {
+    let (told, wanted) = step_in(rt, step);
+    let refused = answer.fault.is_some();
+    let wanted = if refused {
+        failed(Fault::NoMemory, told)
+    } else {
+        wanted
+    };
+    assert_written(rt, alloc, answer, wanted, told);
+    refused
+}
+
+/// The answers up to the first exchange that was refused memory are those of the script; whether there is one.
+fn has_refused(rt: &impl Abort, alloc: Global, script: &str, answers: &[Answer]) -> bool {
+    let mut steps = script.split("\n> ");
+    for answer in answers {
+        if is_refused(rt, alloc, steps.next().unwrap_or(""), answer) {
+            return true;
+        }
+    }
+    false
+}
+
+/// Whether an exchange of the run is refused memory where the k-th call of the device is.
+fn refused_at(rt: &impl Abort, alloc: Global, script: &str, k: u64) -> bool {
+    let calls = calls_in(rt, alloc, script);
+    let device = RefusingDevice::new(MemoryDevice::new(alloc), k);
+    let answers = answers_to(rt, alloc, paged(rt, alloc, device), &calls);
+    assert_same(rt, answers.as_slice().len(), 20);
+    has_refused(rt, alloc, script, answers.as_slice())
+}
+
+/// Each call of the device is refused memory in turn, up to the first run in which none is.
+fn assert_each_refused(rt: &impl Abort, alloc: Global, form: Form) {
+    let script = script(rt, alloc, form);
+    for k in 1..1_000u64 {
+        if !refused_at(rt, alloc, script.as_str(), k) {
+            assert!(rt; k > 1);
+            return;
+        }
+    }
+    panic!(rt; "memory is refused in each run")
+}
+
+#[test]
+fn run_without_memory(rt: HostRuntime) {
+    assert_each_refused(&rt, rt.alloc(), short());
+}

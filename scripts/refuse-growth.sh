@@ -1,0 +1,489 @@
+#!/usr/bin/env bash
+# Refuses each request for memory in turn. A program is made in a copy of the crates, with the script of crates/tests_hosts/src/script.rt, on a host
+# over pages in memory, and is run, compiled with checks and without a proof, once for each request for memory that it makes:
+#   exchange   the script by Host::exchange: an exchange that is answered 503 for memory is made once more
+#   run        the script by Host::run: a run that is refused is made once more; in one that answers 503, the answers before it are compared
+#   pieces     a message and the same again through a front, a byte a piece: a piece that is refused is handed in again, behind Unfinished an empty
+#              one, and behind an answered 503 the message
+#   clock      commands at a later moment, each on a host of its own: behind one that is refused, Identify at the first moment
+#   token      the token of a list's second part: where it is refused, that of the third part is none that was handed out; then the token again
+# Answers and pages must be those of the undisturbed run. Of each it prints how many requests for memory it makes behind those that make the host, how
+# many of them were refused and answered so, how many were refused with no answer changed, and each that ended in a fault or was answered
+# otherwise. The last line is `N refused, M differences`, and the status is 0 where M is 0. LETTERS is how long the title of the first item
+# is, 1 if not given. COPY is a folder for the copy, which then stays. It stands beside the gate, and needs rt and python3.
+# Usage: scripts/refuse-growth.sh [LETTERS [exchange|run|pieces|clock|token]..]
+set -u
+cd "$(dirname "$0")/.." || exit 2
+if ! command -v rt >/dev/null; then
+    echo "refuse-growth.sh needs the Rattle kit's command rt, which is not on the PATH" >&2
+    exit 2
+fi
+letters=${1:-1}
+shift $(($# > 0))
+(($#)) || set -- exchange run pieces clock token
+copy=${COPY:-$(mktemp -d)}
+trap '[ -n "${COPY:-}" ] || rm -rf "$copy"' EXIT
+mkdir -p "$copy/crates"
+for crate in crates/oai_*; do
+    mkdir -p "$copy/crates/${crate#crates/}"
+    cp -r "$crate"/src "$copy/crates/${crate#crates/}"
+    for folder in specs proofs; do
+        [ ! -d "$crate/$folder" ] || cp -r "$crate/$folder" "$copy/crates/${crate#crates/}"
+    done
+done
+{
+    grep -E '^oai_' crates.txt
+    echo 'refuse_growth: oai_names oai_item oai_catalogue oai_device oai_pool oai_paged oai_http oai_host oai_front oai_served'
+} >"$copy/crates.txt"
+program=$copy/crates/refuse_growth
+mkdir -p "$program"/{src,specs,proofs}
+: >"$program/specs/Lib.antt"
+: >"$program/proofs/Lib.antt"
+python3 -B scripts/refuse_growth.py steps "$letters" >"$program/src/steps.rt" || exit 2
+cat >"$program/src/main.rt" <<'RATTLE'
+//! A script of exchanges while a request for memory is refused.
+#![tactic(auto)]
+
+mod steps;
+
+use crate::steps::{Step, configuration, steps};
+use oai_device::MemoryDevice;
+use oai_front::{ConnId, Front, PieceFault};
+use oai_host::{Answer, Call, Config, Exchange, Host};
+use oai_item::Fault;
+use oai_names::Sequence;
+use oai_paged::PagedVersions;
+use oai_pool::PagePool;
+use oai_served::store_on;
+use std::alloc::{AllocError, AllocFailed, Global};
+use std::env;
+use std::io::{self, Write};
+use std::process::ExitCode;
+
+type PagedHost = Host<PagedVersions<MemoryDevice>>;
+
+/// How a script went: how often memory was refused, and whether all else was as where it is not.
+#[derive(Clone, Copy)]
+struct Course {
+    refused: u32,
+    differs: bool,
+}
+
+/// A host over pages in memory.
+fn new_host(alloc: Global) -> Result<PagedHost, AllocError> {
+    let Ok(config) = Config::read(alloc, configuration().as_bytes()) else {
+        return Err(AllocError);
+    };
+    let store = store_on(alloc, &config, MemoryDevice::new(alloc))?;
+    match Host::new(alloc, config, store) {
+        Ok(host) => Ok(host),
+        Err(_) => Err(AllocError),
+    }
+}
+
+/// What the host answers to the exchange.
+fn answer_to(host: &mut PagedHost, step: Step) -> Answer {
+    let (moment, method, target, body, _) = step;
+    let exchange = Exchange {
+        method: method.as_bytes(),
+        target: target.as_bytes(),
+        content_type: None,
+        body: body.as_bytes(),
+    };
+    host.exchange(moment, &exchange)
+}
+
+/// Writes the answer.
+fn write_answer(answer: &Answer, output: &mut Vec<u8>) -> io::Result<()> {
+    write!(output, "{}", answer.status.number())?;
+    if let Some(seconds) = answer.seconds {
+        write!(output, " after {seconds}")?;
+    }
+    if let Some(done) = answer.done {
+        write!(output, " done {done}")?;
+    }
+    output.write_all(b"\n")?;
+    output.write_all(answer.body.as_slice())
+}
+
+/// Whether the answer is that.
+fn is_answer(answer: &Answer, wanted: &str, output: &mut Vec<u8>) -> bool {
+    output.clear();
+    write_answer(answer, output).is_ok() && output.as_slice() == wanted.as_bytes()
+}
+
+/// Whether it says that memory was refused, and that nothing was done.
+fn is_refusal(answer: &Answer, step: Step, output: &mut Vec<u8>) -> bool {
+    let wanted = if step.3.is_empty() { "503 after 60\n" } else { "503 after 60 done 0\n" };
+    answer.fault == Some(Fault::NoMemory) && is_answer(answer, wanted, output)
+}
+
+/// Makes the exchange, and makes it again where it is refused memory.
+fn step_course(host: &mut PagedHost, step: Step, output: &mut Vec<u8>) -> Course {
+    let first = answer_to(host, step);
+    if first.fault.is_none() {
+        return Course { refused: 0, differs: !is_answer(&first, step.4, output) };
+    }
+    let refusal = is_refusal(&first, step, output);
+    let second = answer_to(host, step);
+    Course { refused: 1, differs: !refusal || !is_answer(&second, step.4, output) }
+}
+
+/// A request for memory was refused outside of the script; of those that move it nearer, so many came before.
+#[derive(Clone, Copy)]
+struct Outside {
+    before: u64,
+}
+
+impl From<AllocError> for Outside {
+    fn from(_refused: AllocError) -> Outside {
+        Outside { before: 0 }
+    }
+}
+
+impl<T: Drop> From<AllocFailed<T>> for Outside {
+    fn from(_refused: AllocFailed<T>) -> Outside {
+        Outside { before: 0 }
+    }
+}
+
+/// Makes so many requests for memory, which move the one that is refused nearer; an error where it is one of them.
+fn spend(alloc: Global, requests: u64) -> Result<(), Outside> {
+    let before = left(alloc, requests);
+    if before < requests {
+        return Err(Outside { before });
+    }
+    Ok(())
+}
+
+/// How many requests for memory come before the one that is refused, up to so many.
+fn left(alloc: Global, most: u64) -> u64 {
+    for count in 0..most {
+        if Vec::<u8>::with_capacity(alloc, 1).is_err() {
+            return count;
+        }
+    }
+    most
+}
+
+/// The script by `Host::exchange`.
+fn by_exchange(alloc: Global, requests: u64) -> Result<Course, Outside> {
+    let mut output = Vec::with_capacity(alloc, 400_000)?;
+    let mut host = new_host(alloc)?;
+    let mut course = Course { refused: 0, differs: false };
+    spend(alloc, requests)?;
+    for step in steps() {
+        let one = step_course(&mut host, step, &mut output);
+        course.refused = course.refused.wrapping_add(one.refused);
+        course.differs = course.differs || one.differs;
+    }
+    course.differs = course.differs || host.versions().pool().used() != PAGES;
+    Ok(course)
+}
+
+/// The bytes of the text.
+fn bytes_of(alloc: Global, text: &str) -> Result<Sequence<u8>, AllocError> {
+    Ok(Sequence::new(Vec::from_slice(alloc, text.as_bytes())?))
+}
+
+/// The exchanges of the script, as one run has them.
+fn calls(alloc: Global) -> Result<Vec<Call>, AllocError> {
+    let mut calls = Vec::new(alloc);
+    for (moment, method, target, body, _) in steps() {
+        calls.push(Call {
+            moment,
+            method: bytes_of(alloc, method)?,
+            target: bytes_of(alloc, target)?,
+            content_type: None,
+            body: bytes_of(alloc, body)?,
+        })?;
+    }
+    Ok(calls)
+}
+
+/// The answers up to one that is refused memory are those of the script.
+fn run_course(answers: &[Answer], output: &mut Vec<u8>) -> Course {
+    for (step, answer) in steps().into_iter().zip(answers) {
+        if answer.fault.is_some() {
+            return Course { refused: 1, differs: !is_refusal(answer, step, output) };
+        }
+        if !is_answer(answer, step.4, output) {
+            return Course { refused: 0, differs: true };
+        }
+    }
+    Course { refused: 0, differs: answers.len() != steps().len() }
+}
+
+/// The script by `Host::run`.
+fn by_run(alloc: Global, requests: u64) -> Result<Course, Outside> {
+    let mut output = Vec::with_capacity(alloc, 400_000)?;
+    let calls = calls(alloc)?;
+    let mut host = new_host(alloc)?;
+    spend(alloc, requests)?;
+    if let Ok(answers) = host.run(&calls) {
+        return Ok(run_course(answers.as_slice(), &mut output));
+    }
+    let answers = host.run(&calls)?;
+    let course = run_course(answers.as_slice(), &mut output);
+    Ok(Course { refused: 1, differs: course.differs || course.refused > 0 })
+}
+
+/// A message that adds a set.
+fn message() -> &'static str {
+    "POST /deposit/a HTTP/1.1\r\nHost: h\r\nContent-Length: 22\r\n\r\n{\"set\":\"x\",\"name\":\"X\"}"
+}
+
+/// The answer to it, to it again, and where memory is refused.
+const ADDED: &str = "HTTP/1.1 200 OK\r\nContent-Type: text/plain; charset=utf-8\r\nContent-Length: 24\r\n\r\nok 2024-01-01T00:00:00Z\n";
+const EXISTS: &str = "HTTP/1.1 200 OK\r\nContent-Type: text/plain; charset=utf-8\r\nContent-Length: 22\r\n\r\nrefused 17 set-exists\n";
+const REFUSED: &str = "HTTP/1.1 503 Service Unavailable\r\nRetry-After: 60\r\nX-Lines-Done: 0\r\nContent-Length: 0\r\n\r\n";
+
+/// Opens a connection, at the second time where memory is refused.
+fn opened(front: &mut Front<PagedHost>, course: &mut Course) -> Result<ConnId, AllocError> {
+    if let Ok(conn) = front.open() {
+        return Ok(conn);
+    }
+    course.refused = course.refused.wrapping_add(1);
+    match front.open() {
+        Ok(conn) => Ok(conn),
+        Err(_) => Err(AllocError),
+    }
+}
+
+/// Hands the byte in, and again where memory is refused; behind Unfinished an empty piece.
+fn hand_in(front: &mut Front<PagedHost>, conn: ConnId, byte: u8, course: &mut Course) {
+    let piece = [byte];
+    let again: &[u8] = match front.piece(conn, 1_704_067_200, piece.as_slice()) {
+        Ok(()) => return,
+        Err(PieceFault::NoMemory) => piece.as_slice(),
+        Err(PieceFault::Unfinished) => &[],
+        Err(PieceFault::NoSuchConnection) => {
+            course.differs = true;
+            return;
+        }
+    };
+    course.refused = course.refused.wrapping_add(1);
+    course.differs = course.differs || front.piece(conn, 1_704_067_200, again).is_err();
+}
+
+/// Takes all that is to be written on the connection into the output.
+fn take(front: &mut Front<PagedHost>, conn: ConnId, output: &mut Vec<u8>) -> bool {
+    output.clear();
+    for _ in 0..1_000u32 {
+        let count = match front.output(conn) {
+            Some([]) => return true,
+            Some(bytes) if output.extend_from_slice(bytes).is_ok() => bytes.len(),
+            _ => return false,
+        };
+        front.taken(conn, count);
+    }
+    false
+}
+
+/// Hands the message in, byte by byte; what waits then is in the output.
+fn send(front: &mut Front<PagedHost>, conn: ConnId, output: &mut Vec<u8>, course: &mut Course) {
+    for byte in message().as_bytes() {
+        hand_in(front, conn, *byte, course);
+    }
+    let taken = take(front, conn, output);
+    course.differs = course.differs || !taken;
+}
+
+/// Sends the message, and again where it is answered that memory was refused; it is then answered so.
+fn send_for(
+    front: &mut Front<PagedHost>,
+    conn: ConnId,
+    wanted: &str,
+    output: &mut Vec<u8>,
+    course: &mut Course,
+) {
+    send(front, conn, output, course);
+    if output.as_slice() == REFUSED.as_bytes() {
+        course.refused = course.refused.wrapping_add(1);
+        send(front, conn, output, course);
+    }
+    course.differs = course.differs || output.as_slice() != wanted.as_bytes();
+}
+
+/// A message and the same again, in pieces of a byte.
+fn by_pieces(alloc: Global, requests: u64) -> Result<Course, Outside> {
+    let mut output = Vec::with_capacity(alloc, 400_000)?;
+    let mut front = Front::new(alloc, new_host(alloc)?, 1);
+    let mut course = Course { refused: 0, differs: false };
+    spend(alloc, requests)?;
+    let conn = opened(&mut front, &mut course)?;
+    send_for(&mut front, conn, ADDED, &mut output, &mut course);
+    send_for(&mut front, conn, EXISTS, &mut output, &mut course);
+    Ok(course)
+}
+
+/// A method, a target and a body.
+type Command = (&'static str, &'static str, &'static str);
+
+/// Commands that come at a later moment, each on a host of its own.
+fn later_commands() -> [Command; 5] {
+    [
+        ("POST", "/deposit/a", "{\"set\":\"x\",\"name\":\"X\"}"),
+        ("POST", "/deposit/a", "{\"deposit\":\"oai:a:2\",\"sets\":[],\"records\":{\"oai_dc\":[]}}"),
+        ("POST", "/deposit/a", "{\"delete\":\"oai:a:1\"}"),
+        ("POST", "/deposit/c", "{\"purge\":\"2024-01-01T00:00:05Z\"}"),
+        ("GET", "/oai/a?verb=ListRecords&metadataPrefix=oai_dc", ""),
+    ]
+}
+
+/// An item of that repository, deleted where the command is at the third.
+fn prepare(host: &mut PagedHost, target: &str) -> bool {
+    let name = if target == "/deposit/c" { "/deposit/c" } else { "/deposit/a" };
+    let item = "{\"deposit\":\"oai:a:1\",\"sets\":[],\"records\":{\"oai_dc\":[]}}";
+    let mut done = answer_to(host, (1_704_067_200, "POST", name, item, "")).fault.is_none();
+    if name == "/deposit/c" {
+        let deletion = (1_704_067_200, "POST", name, "{\"delete\":\"oai:a:1\"}", "");
+        done = answer_to(host, deletion).fault.is_none() && done;
+    }
+    done
+}
+
+/// Whether the text stands in the bytes.
+fn has_text(bytes: &[u8], text: &str) -> bool {
+    bytes.windows(text.len()).any(|part| part == text.as_bytes())
+}
+
+/// Whether the repository of the target, asked at the first moment, still has the time of that moment.
+fn has_first_moment(host: &mut PagedHost, target: &str, output: &mut Vec<u8>) -> bool {
+    let identify = if target == "/deposit/c" { "/oai/c?verb=Identify" } else { "/oai/a?verb=Identify" };
+    let answer = answer_to(host, (1_704_067_200, "GET", identify, "", ""));
+    output.clear();
+    let written = write_answer(&answer, output).is_ok();
+    written && has_text(output, "<responseDate>2024-01-01T00:00:00Z</responseDate>")
+}
+
+/// A host for each of the commands, with what the command is about.
+fn prepared_hosts(alloc: Global) -> Result<Vec<PagedHost>, AllocError> {
+    let mut hosts = Vec::new(alloc);
+    for (_, target, _) in later_commands() {
+        let mut host = new_host(alloc)?;
+        if !prepare(&mut host, target) {
+            return Err(AllocError);
+        }
+        hosts.push(host)?;
+    }
+    Ok(hosts)
+}
+
+/// A command at a later moment, and where it is refused memory, Identify at the first one.
+fn clock_course(host: &mut PagedHost, command: Command, output: &mut Vec<u8>) -> Course {
+    let (method, target, body) = command;
+    let step = (1_704_067_300, method, target, body, "");
+    let answer = answer_to(host, step);
+    if answer.fault.is_none() {
+        return Course { refused: 0, differs: answer.status.number() != 200 };
+    }
+    let refusal = is_refusal(&answer, step, output);
+    Course { refused: 1, differs: !refusal || !has_first_moment(host, target, output) }
+}
+
+/// Each of the commands.
+fn by_clock(alloc: Global, requests: u64) -> Result<Course, Outside> {
+    let mut output = Vec::with_capacity(alloc, 400_000)?;
+    let mut hosts = prepared_hosts(alloc)?;
+    let mut course = Course { refused: 0, differs: false };
+    spend(alloc, requests)?;
+    for (host, command) in hosts.iter_mut().zip(later_commands()) {
+        let one = clock_course(host, command, &mut output);
+        course.refused = course.refused.wrapping_add(one.refused);
+        course.differs = course.differs || one.differs;
+    }
+    Ok(course)
+}
+
+/// Whether the text stands in what is answered at the moment of the first exchange.
+fn answers_with(host: &mut PagedHost, target: &'static str, text: &str, output: &mut Vec<u8>) -> bool {
+    let answer = answer_to(host, (1_704_067_200, "GET", target, "", ""));
+    output.clear();
+    write_answer(&answer, output).is_ok() && has_text(output, text)
+}
+
+/// A host of five items, whose list begins: its first part has two of them, and the token of the second part.
+fn begun_list(alloc: Global, output: &mut Vec<u8>) -> Result<PagedHost, AllocError> {
+    let mut host = new_host(alloc)?;
+    let body = "{\"deposit\":\"oai:a:1\",\"sets\":[],\"records\":{\"oai_dc\":[]}}\n{\"deposit\":\"oai:a:2\",\"sets\":[],\"records\":{\"oai_dc\":[]}}\n{\"deposit\":\"oai:a:3\",\"sets\":[],\"records\":{\"oai_dc\":[]}}\n{\"deposit\":\"oai:a:4\",\"sets\":[],\"records\":{\"oai_dc\":[]}}\n{\"deposit\":\"oai:a:5\",\"sets\":[],\"records\":{\"oai_dc\":[]}}";
+    let deposited = answer_to(&mut host, (1_704_067_200, "POST", "/deposit/a", body, ""));
+    let list = "/oai/a?verb=ListIdentifiers&metadataPrefix=oai_dc";
+    if deposited.fault.is_none() && answers_with(&mut host, list, ">1.2</resumptionToken>", output) {
+        Ok(host)
+    } else {
+        Err(AllocError)
+    }
+}
+
+/// A token; where it is refused memory, the one behind it, which was not handed out, and then itself again.
+fn by_token(alloc: Global, requests: u64) -> Result<Course, Outside> {
+    let mut output = Vec::with_capacity(alloc, 400_000)?;
+    let mut host = begun_list(alloc, &mut output)?;
+    spend(alloc, requests)?;
+    let second = "/oai/a?verb=ListIdentifiers&resumptionToken=1.2";
+    let third = "/oai/a?verb=ListIdentifiers&resumptionToken=1.4";
+    let offer = ">1.4</resumptionToken>";
+    if answers_with(&mut host, second, offer, &mut output) {
+        return Ok(Course { refused: 0, differs: false });
+    }
+    let refusal = output.as_slice() == b"503 after 60\n".as_slice();
+    let kept = answers_with(&mut host, third, "\"badResumptionToken\"", &mut output);
+    let again = answers_with(&mut host, second, offer, &mut output);
+    Ok(Course { refused: 1, differs: !refusal || !kept || !again })
+}
+
+/// The script of that name, behind so many requests for memory.
+fn course_of(alloc: Global, word: &str, requests: u64) -> Result<Course, Outside> {
+    match word {
+        "exchange" => by_exchange(alloc, requests),
+        "run" => by_run(alloc, requests),
+        "pieces" => by_pieces(alloc, requests),
+        "clock" => by_clock(alloc, requests),
+        "token" => by_token(alloc, requests),
+        _ => Err(Outside { before: 0 }),
+    }
+}
+
+/// Writes how the script went and how many requests for memory came behind it before one was refused, up to so many; or that one outside of
+/// the script was refused.
+fn main(rt: HostRuntime) -> io::Result<ExitCode> {
+    let Ok(mut arguments) = env::args(&rt) else {
+        return Ok(ExitCode::from(2));
+    };
+    let _program = arguments.next();
+    let (Some(word), Some(requests), Some(most)) = (arguments.next(), arguments.next(), arguments.next()) else {
+        return Ok(ExitCode::from(2));
+    };
+    let requests = requests.as_str().parse::<u64>().unwrap_or(0);
+    let most = most.as_str().parse::<u64>().unwrap_or(0);
+    match course_of(rt.alloc(), word.as_str(), requests) {
+        Ok(course) => {
+            let behind = left(rt.alloc(), most);
+            println!(&rt; "refused {} differs {} behind {behind}", course.refused, course.differs)?;
+        }
+        Err(outside) => println!(&rt; "outside {}", outside.before)?,
+    }
+    Ok(ExitCode::SUCCESS)
+}
+RATTLE
+pages=1
+((letters > 15940)) && pages=$((1 + (letters + 60 - 600 + 16383) / 16384))
+sed -i "s/^type PagedHost/\/\/\/ How many pages are named at the end of the script.\nconst PAGES: usize = $pages;\n\ntype PagedHost/" "$program/src/main.rt"
+top=$PWD
+cases=$copy/cases
+cd "$program" || exit 2
+# The toolchain refuses the request of one number, and builds the program for each number. So it is one number for all runs, and a run makes
+# requests of its own before its script, as many as leave the n-th of the script to be that one.
+far=100000
+mkdir -p "$cases"
+for word in "$@"; do
+    : >"$cases/$word"
+    printf '%s\n' "$word" 0 "$far" >"$cases/$word.args"
+    : >"$cases/before-$word"
+    printf '%s\n' "$word" "$far" "$far" >"$cases/before-$word.args"
+done
+rt try --fail-alloc "$far" --seconds 60 --cases "$cases" >"$copy/counted" 2>&1
+number=$(python3 -B "$top/scripts/refuse_growth.py" plan "$copy/counted" "$cases" "$@") || exit 2
+rt try --fail-alloc "$number" --seconds 60 --cases "$cases" >"$copy/refused" 2>&1
+python3 -B "$top/scripts/refuse_growth.py" tally "$copy/counted" "$copy/refused" "$@"
