@@ -591,11 +591,17 @@ fn push_end(ends: &mut Vec<usize>, end: usize) -> Result<(), AllocError>
     Ok(())
 }
 
-/// Whether each of the bytes is 0.
+/// Whether each of the bytes is 0. The loop has no other end than the last byte, and what it finds is handed out of a
+/// function of its own, so that many bytes are tested at a time.
+#[inline(never)]
 pub(crate) fn are_zeros(bytes: &[u8]) -> bool
     ensures { result ≡ list_all (λ byte. byte == 0) bytes.now }
 {
-    bytes.iter().all(|byte| *byte == 0)
+    let mut zeros = true;
+    for byte in bytes {
+        zeros = zeros & (*byte == 0);
+    }
+    zeros
 }
 
 /// A copy of the bytes.
