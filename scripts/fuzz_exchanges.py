@@ -17,6 +17,9 @@ FAR = [-(2**63), -1, 0, 999_999_999_999, 2**63 - 1]
 
 SET_SPECS = ["x", "x", "x:y", "x:y", "x:y:z", "xy", "letters", "letters:early", "q:r", "x:"]
 
+# Bytes of stored items about which the store changes what it does: the most that stand in an entry, and full overflow pages.
+EDGES = [15_999, 16_000, 16_000, 16_001, 16_983, 16_984, 16_985, 33_368, 33_369, 60_000]
+
 # Deposit lines that are refused for what they say, in most cases; `ID` stands for an identifier.
 BAD_LINES = [
     "[", "{}", "null", " \t", '{"delete":1}', '{"delete":"x"}', '{"delete":"ID","x":1}', '{"delete":"ID",}', '{"delete":"x","delete":"ID"}',
@@ -152,7 +155,7 @@ class Author:
         if self.chance(self.large):
             records["oai_dc"].append(["description", plain_text(self.chooser, self.chooser.randrange(2300))])
         elif self.chance(0.1):
-            self.fill(repository, line, ITEM_BYTES + self.choice([-1, 0, 0, 1]))
+            self.fill(repository, line, ITEM_BYTES + self.choice([-1, 0, 0, 1]) if self.chance(0.05) else self.choice(EDGES))
         return self.posted(repository, line)
 
     def fill(self, repository, line, most):
