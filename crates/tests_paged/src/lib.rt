@@ -19,6 +19,12 @@ mod failing;
 #[cfg(test)]
 mod five_pages;
 #[cfg(test)]
+mod long_costs;
+#[cfg(test)]
+mod long_filters;
+#[cfg(test)]
+mod long_items;
+#[cfg(test)]
 mod orders;
 #[cfg(test)]
 mod pages;
