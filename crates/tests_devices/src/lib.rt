@@ -1,5 +1,5 @@
 //! Tests of page devices (`oai_device`) and of the pool of pages (`oai_pool`); and a device that counts its
-//! calls, for the tests of what stands on pools too.
+//! calls and one that gives a byte inverted, for the tests of what stands on pools too.
 #![tactic(auto)]
 
 #[cfg(test)]
@@ -11,6 +11,7 @@ mod devices;
 mod files;
 #[cfg(test)]
 mod filled;
+mod lying;
 #[cfg(test)]
 mod pool_failures;
 #[cfg(test)]
@@ -21,3 +22,4 @@ mod saturated;
 mod steps;
 
 pub use counting::CountingDevice;
+pub use lying::LyingDevice;

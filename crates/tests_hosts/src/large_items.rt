@@ -9,6 +9,7 @@ use oai_pool::PagePool;
 use std::alloc::Global;
 use std::panic::Expect;
 use std::process::Abort;
+use tests_devices::LyingDevice;
 
 /// A host over pages in memory.
 type PagedHost = Host<PagedVersions<MemoryDevice>>;
@@ -78,4 +79,42 @@ fn largest_item(rt: HostRuntime) {
     assert_answers(&rt, alloc, &mut host, deposited_anew());
     assert_same_at(&rt, host.versions().pool().used(), 1, "anew");
     answered(&rt, alloc, refused(), 1_048_522, 0);
+}
+
+/// An item of 20,055 bytes, on a page and two overflow pages, and a small one in another repository.
+fn two_deposits() -> &'static str {
+    r#"> 1704067200 POST /deposit/a | - | {"deposit":"oai:a:1","sets":[],"records":{"oai_dc":[["title","{t}"]]}}
+200
+ok 2024-01-01T00:00:00Z
+> 1704067200 POST /deposit/b | - | {"deposit":"oai:b:1","sets":[],"records":{"oai_dc":[["title","T"]]}}
+200
+ok 2024-01-01"#
+}
+
+/// The large item is damaged, and the other repository is as before; so is the clock of the first one.
+fn damaged() -> &'static str {
+    r#"> 1704067250 GET /oai/a?verb=GetRecord&identifier=oai:a:1&metadataPrefix=oai_dc
+500 for Damaged
+> 1704067250 GET /oai/a?verb=ListRecords&metadataPrefix=oai_dc
+500 for Damaged
+> 1704067200 GET /oai/b?verb=GetRecord&identifier=oai:b:1&metadataPrefix=oai_dc
+200
+DOC <responseDate>2024-01-01T00:00:00Z</responseDate><request verb="GetRecord" identifier="oai:b:1" metadataPrefix="oai_dc">http://host.example/oai/b</request><GetRecord><record><header><identifier>oai:b:1</identifier><datestamp>2024-01-01</datestamp></header><metadata>{dc}<dc:title>T</dc:title></oai_dc:dc></metadata></record></GetRecord></OAI-PMH>
+> 1704067200 GET /oai/a?verb=ListSets
+200
+DOC <responseDate>2024-01-01T00:00:00Z</responseDate><request verb="ListSets">http://host.example/oai/a</request><error code="noSetHierarchy">The repository has no sets.</error></OAI-PMH>"#
+}
+
+/// A byte is inverted: the first one behind the 608 that are in use of the page of the entry, one of a text, and the first and the
+/// last one of the filling of the last overflow page, of which 3,071 bytes are in use.
+#[test]
+fn inverted_bytes(rt: HostRuntime) {
+    let alloc = rt.alloc();
+    for (no, at) in [(0, 608), (1, 0), (2, 3_070), (2, 3_071), (2, 16_383)] {
+        let device = LyingDevice::new(MemoryDevice::new(alloc), no, at);
+        let mut host = host(&rt, alloc, paged(&rt, alloc, device));
+        let deposits = with_letters(&rt, alloc, two_deposits(), 20_000);
+        assert_answers(&rt, alloc, &mut host, deposits.as_str());
+        assert_answers(&rt, alloc, &mut host, damaged());
+    }
 }

@@ -15,6 +15,8 @@ mod calls;
 #[cfg(test)]
 mod costs;
 #[cfg(test)]
+mod damaged_pages;
+#[cfg(test)]
 mod failing;
 #[cfg(test)]
 mod five_pages;
