@@ -60,8 +60,8 @@ fn assert_between<V: Versions + Drop + UsesPages>(
     item: Sample,
     pages: usize,
 ) {
-    let more = if pages == 1 { 0 } else { pages };
-    let left = if pages == 1 { 1 } else { 2 };
+    let more: usize = if pages == 1 { 0 } else { pages };
+    let left: usize = if pages == 1 { 1 } else { 2 };
     assert_used(rt, both, Call::Put(tiny(0, 0)), 1);
     assert_used(rt, both, Call::Put(tiny(2, 2)), 1);
     assert_used(rt, both, Call::Put(item), left.saturating_add(more));
