@@ -36,15 +36,14 @@ fn put_all<V: Versions + Drop + UsesPages>(rt: &impl Abort, both: &mut Both<V>) 
     }
 }
 
-/// Counts what is asked for, and takes it, behind so many items and behind each key.
+/// Counts what is asked for, and takes it, behind so many items and behind some keys.
 fn assert_asked<V: Versions + Drop + UsesPages>(rt: &impl Abort, both: &mut Both<V>, asked: Asked) {
     both.call(rt, Call::Count(asked));
-    for skip in 0..=12 {
+    for skip in [0, 3] {
         both.call(rt, Call::Part(asked, skip, 1));
         both.call(rt, Call::Part(asked, skip, 30));
     }
-    for number in 0..COUNT {
-        both.call(rt, Call::PartAfter(asked, tiny(number, number / 4), 1));
+    for number in [1u32, 6, 13, 22] {
         both.call(rt, Call::PartAfter(asked, tiny(number, number / 4), 30));
     }
 }
