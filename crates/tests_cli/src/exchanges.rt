@@ -96,18 +96,20 @@ fn deposit_of_letters(rt: &impl Abort, alloc: Global, letters: usize) -> String 
     line
 }
 
-/// An item of 16,000 bytes is taken.
+/// Items of 16,000 bytes, of 16,001 and of 1,048,576 are taken.
 #[test]
-fn largest_item(rt: HostRuntime) {
-    let line = deposit_of_letters(&rt, rt.alloc(), 15_945);
-    assert_asked(&rt, rt.alloc(), line.as_str(), transcripts::accepted());
+fn large_items(rt: HostRuntime) {
+    for letters in [15_945, 15_946, 1_048_521] {
+        let line = deposit_of_letters(&rt, rt.alloc(), letters);
+        assert_asked(&rt, rt.alloc(), line.as_str(), transcripts::accepted());
+    }
 }
 
-/// A deposit, a deposit of 16,001 bytes and a request of the item.
+/// A deposit, a deposit of 1,048,577 bytes and a request of the item.
 fn too_large_asked(rt: &impl Abort, alloc: Global) -> String {
     let mut lines = String::from_str(alloc, transcripts::short_deposit()).expect(rt, "memory");
     lines
-        .push_str(deposit_of_letters(rt, alloc, 15_946).as_str())
+        .push_str(deposit_of_letters(rt, alloc, 1_048_522).as_str())
         .expect(rt, "memory");
     lines
         .push_str(transcripts::request_of_the_item())
@@ -124,7 +126,7 @@ fn too_large_answered(rt: &impl Abort, alloc: Global) -> String {
     wanted
 }
 
-/// One of 16,001 bytes is refused, and the item is as before.
+/// One of 1,048,577 bytes is refused, and the item is as before.
 #[test]
 fn too_large_item(rt: HostRuntime) {
     let alloc = rt.alloc();

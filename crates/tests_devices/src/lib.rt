@@ -1,5 +1,5 @@
 //! Tests of page devices (`oai_device`) and of the pool of pages (`oai_pool`); and devices for the tests of what stands on pools
-//! too: one that counts its calls, and one that is refused memory.
+//! too: one that counts its calls, one that gives a byte inverted, and one that is refused memory.
 #![tactic(auto)]
 
 #[cfg(test)]
@@ -11,6 +11,7 @@ mod devices;
 mod files;
 #[cfg(test)]
 mod filled;
+mod lying;
 #[cfg(test)]
 mod pool_failures;
 #[cfg(test)]
@@ -22,4 +23,5 @@ mod saturated;
 mod steps;
 
 pub use counting::CountingDevice;
+pub use lying::LyingDevice;
 pub use refusing::RefusingDevice;

@@ -10,6 +10,8 @@ mod deposits;
 #[cfg(test)]
 mod failures;
 #[cfg(test)]
+mod large_items;
+#[cfg(test)]
 mod limits;
 #[cfg(test)]
 mod many_sets;

@@ -101,11 +101,16 @@ impl<V: Versions + Drop + UsesPages> Both<V> {
 
     /// No more pages are used than both lists have items.
     pub(crate) fn assert_few_pages(&mut self, rt: &impl Abort) {
+        self.assert_pages_of_an_item(rt, 1);
+    }
+
+    /// No more pages are used than so many times the items of both lists.
+    pub(crate) fn assert_pages_of_an_item(&mut self, rt: &impl Abort, most: usize) {
         let own = item_count(rt, self.alloc, &mut self.plain);
         self.plain.turn();
         let other = item_count(rt, self.alloc, &mut self.plain);
         self.plain.turn();
-        assert!(rt; self.used() <= own.saturating_add(other));
+        assert!(rt; self.used() <= own.saturating_add(other).saturating_mul(most));
     }
 
     /// Both lists are let go, and no page is then used.

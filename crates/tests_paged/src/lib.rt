@@ -15,9 +15,17 @@ mod calls;
 #[cfg(test)]
 mod costs;
 #[cfg(test)]
+mod damaged_pages;
+#[cfg(test)]
 mod failing;
 #[cfg(test)]
 mod five_pages;
+#[cfg(test)]
+mod long_costs;
+#[cfg(test)]
+mod long_filters;
+#[cfg(test)]
+mod long_items;
 #[cfg(test)]
 mod orders;
 #[cfg(test)]

@@ -8,7 +8,7 @@ use oai_device::MemoryDevice;
 use std::process::Abort;
 
 /// So many pages are used after the call.
-fn assert_used<V: Versions + Drop + UsesPages>(
+pub(crate) fn assert_used<V: Versions + Drop + UsesPages>(
     rt: &impl Abort,
     both: &mut Both<V>,
     call: Call,

@@ -6,12 +6,24 @@ use crate::samples::Sample;
 #[derive(Clone, Copy, Debug, PartialEq, Eq)]
 pub(crate) struct Random {
     state: u64,
+    long: bool,
 }
 
 impl Random {
     /// The numbers that the seed determines.
     pub(crate) fn new(seed: u64) -> Random {
-        Random { state: seed }
+        Random {
+            state: seed,
+            long: false,
+        }
+    }
+
+    /// The same, of items that all have one datestamp, of which one in eight has overflow pages, and every second one is wide.
+    pub(crate) fn with_long_items(seed: u64) -> Random {
+        Random {
+            state: seed,
+            long: true,
+        }
     }
 
     /// The next number.
@@ -30,19 +42,31 @@ impl Random {
         let number = self.number() % 60;
         Sample {
             number,
-            later: number / 3,
+            later: if self.long { 0 } else { number / 3 },
             bytes: self.size(),
             letter: [b'a', b'b'][self.number() as usize % 2],
             in_set: self.number() % 2 == 0,
             in_jnl: self.number() % 4 > 0,
+            wide: self.long && self.number() % 2 == 0,
         }
     }
 
     fn size(&mut self) -> usize {
         match self.number() % 24 {
+            0..=2 if self.long => self.long_size(),
             0..=2 => 15_990 + self.number() as usize % 11,
             3..=10 => 3_000 + self.number() as usize % 3_000,
             _ => 0,
+        }
+    }
+
+    /// About the last byte that stands whole on a page of entries, or on an overflow page; or of some more pages.
+    fn long_size(&mut self) -> usize {
+        match self.number() % 4 {
+            0 => 15_999 + self.number() as usize % 4,
+            1 => 16_983 + self.number() as usize % 4,
+            2 => 33_367 + self.number() as usize % 4,
+            _ => 16_001 + self.number() as usize % 50_000,
         }
     }
 

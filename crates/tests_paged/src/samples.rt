@@ -23,6 +23,9 @@ pub(crate) struct Sample {
     pub(crate) in_set: bool,
     /// Whether it has a record in `jnl` too.
     pub(crate) in_jnl: bool,
+    /// Whether eighty other sets stand before its set, and a record of a long field before its others: 1,444 bytes, so that
+    /// its set and these records stand behind the first 600 bytes.
+    pub(crate) wide: bool,
 }
 
 /// The item of that number and of that datestamp, so many seconds later than the first one: as small as one can be, in no set
@@ -35,6 +38,7 @@ pub(crate) fn tiny(number: u32, later: u32) -> Sample {
         letter: b'a',
         in_set: false,
         in_jnl: false,
+        wide: false,
     }
 }
 
@@ -67,18 +71,37 @@ fn push_identifier(rt: &impl Abort, alloc: Global, bytes: &mut Vec<u8>, number: 
     push_text(rt, bytes, text.as_bytes());
 }
 
-/// The set `x:y`, or none.
-fn push_sets(rt: &impl Abort, bytes: &mut Vec<u8>, in_set: bool) {
-    push_count(rt, bytes, usize::from(in_set));
-    if in_set {
+/// The set `x:y`, or none, behind the eighty others, where it is wide.
+fn push_sets(rt: &impl Abort, alloc: Global, bytes: &mut Vec<u8>, sample: Sample) {
+    let others = if sample.wide { 80u32 } else { 0 };
+    push_count(rt, bytes, others as usize + usize::from(sample.in_set));
+    for other in 0..others {
+        let number = 100 + u64::from(other);
+        let set = format!(in alloc; "s:{}", number).expect(rt, "memory");
+        push_text(rt, bytes, set.as_bytes());
+    }
+    if sample.in_set {
         push_text(rt, bytes, b"x:y");
     }
 }
 
+/// A record in `abc`, with a title of 700 letters.
+fn push_long_record(rt: &impl Abort, bytes: &mut Vec<u8>) {
+    push_text(rt, bytes, b"abc");
+    push_count(rt, bytes, 1);
+    push_text(rt, bytes, b"title");
+    let size = bytes.len().saturating_add(704);
+    push_letters(rt, bytes, b'l', size);
+}
+
 /// The prefixes, and the records in front of the title's text.
-fn push_records(rt: &impl Abort, bytes: &mut Vec<u8>, in_jnl: bool) {
-    push_count(rt, bytes, 1 + usize::from(in_jnl));
-    if in_jnl {
+fn push_records(rt: &impl Abort, bytes: &mut Vec<u8>, sample: Sample) {
+    let count = 1 + usize::from(sample.in_jnl) + usize::from(sample.wide);
+    push_count(rt, bytes, count);
+    if sample.wide {
+        push_long_record(rt, bytes);
+    }
+    if sample.in_jnl {
         push_text(rt, bytes, b"jnl");
         push_count(rt, bytes, 0);
     }
@@ -102,8 +125,8 @@ pub(crate) fn spelling_of(rt: &impl Abort, alloc: Global, sample: Sample) -> Vec
     push(rt, &mut bytes, &[1]);
     push(rt, &mut bytes, &stamp_of(sample).to_be_bytes());
     push_identifier(rt, alloc, &mut bytes, sample.number);
-    push_sets(rt, &mut bytes, sample.in_set);
-    push_records(rt, &mut bytes, sample.in_jnl);
+    push_sets(rt, alloc, &mut bytes, sample);
+    push_records(rt, &mut bytes, sample);
     push_letters(rt, &mut bytes, sample.letter, sample.bytes);
     bytes
 }

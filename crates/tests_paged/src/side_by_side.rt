@@ -23,6 +23,21 @@ fn assert_side_by_side<V: Versions + Drop + UsesPages>(
     both.assert_released(rt);
 }
 
+/// The same of calls some of whose items have overflow pages, at most four.
+fn assert_long_side_by_side<V: Versions + Drop + UsesPages>(
+    rt: &impl Abort,
+    both: &mut Both<V>,
+    seed: u64,
+) {
+    let mut random = Random::with_long_items(seed);
+    for _ in 0..1_000 {
+        both.call(rt, random.call());
+        both.assert_pages_of_an_item(rt, 5);
+    }
+    both.assert_lists(rt);
+    both.assert_released(rt);
+}
+
 /// With a cache of so many pages.
 fn with_cache(rt: &impl Abort, alloc: Global, cache: usize, seed: u64)
     requires { 0 < cache }
@@ -44,4 +59,11 @@ fn cache_of_two_pages(rt: HostRuntime) {
 #[test]
 fn cache_of_many_pages(rt: HostRuntime) {
     with_cache(&rt, rt.alloc(), 64, 3);
+}
+
+#[test]
+fn long_items(rt: HostRuntime) {
+    let alloc = rt.alloc();
+    let mut both = Both::new(&rt, alloc, paged(&rt, alloc, MemoryDevice::new(alloc), 2));
+    assert_long_side_by_side(&rt, &mut both, 4);
 }

@@ -1,4 +1,4 @@
-//! Items as large as they may be, put first, last and between others.
+//! Items as large as a page has room for, put first, last and between others.
 use crate::both::{Both, UsesPages, paged};
 use crate::calls::Call;
 use crate::samples::{sized, tiny};
