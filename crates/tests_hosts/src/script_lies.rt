@@ -26,12 +26,12 @@ fn reads_of(host: &LiedTo) -> u64 {
     host.versions().pool().device().reads()
 }
 
-/// The repository of a path: what stands behind its last `/`.
-fn repository_of(target: &str) -> &str {
+/// The letter of the repository to which a target leads: the last one of its path.
+fn letter_of(target: &str) -> u8 {
     let (path, _) = target.split_once("?").unwrap_or((target, ""));
-    match path.rsplit_once("/") {
-        Some((_, name)) => name,
-        None => path,
+    match path.as_bytes() {
+        [.., letter] => *letter,
+        [] => 0,
     }
 }
 
@@ -42,7 +42,7 @@ fn meets_the_lie(
     alloc: Global,
     host: &mut LiedTo,
     step: &str,
-    lied_to: &str,
+    lied_to: u8,
     k: u64,
 ) -> bool {
     let (told, wanted) = step_in(rt, step);
@@ -52,7 +52,7 @@ fn meets_the_lie(
         assert_written(rt, alloc, &answer, failed(Fault::Damaged, told), told);
         return true;
     }
-    if repository_of(told.target) != lied_to {
+    if letter_of(told.target) != lied_to {
         assert_written(rt, alloc, &answer, wanted, told);
     }
     false
@@ -61,12 +61,12 @@ fn meets_the_lie(
 /// Makes the exchanges of the script where the k-th read is a lie; how many failed for it.
 fn lies_met(rt: &impl Abort, alloc: Global, script: &str, k: u64) -> u64 {
     let mut host = host_lied_to(rt, alloc, k);
-    let mut lied_to = "";
+    let mut lied_to: u8 = 0;
     let mut lies: u64 = 0;
     for step in script.split("\n> ") {
         if meets_the_lie(rt, alloc, &mut host, step, lied_to, k) {
             let (told, _) = step_in(rt, step);
-            lied_to = repository_of(told.target);
+            lied_to = letter_of(told.target);
             lies = lies.wrapping_add(1);
         }
     }
