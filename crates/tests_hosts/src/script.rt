@@ -22,6 +22,15 @@ pub(crate) fn short() -> Form {
     }
 }
 
+/// The script with a title of 20,000 letters: its item has a page and two overflow pages, and the two others stand on one page
+/// behind it.
+pub(crate) fn long() -> Form {
+    Form {
+        letters: 20_000,
+        pages: 4,
+    }
+}
+
 /// The script in that form.
 pub(crate) fn script(rt: &impl Abort, alloc: Global, form: Form) -> String {
     let title = vec![in alloc; b'T'; form.letters].expect(rt, "memory");

@@ -2,7 +2,7 @@
 //! where nothing failed; nor does a failure leave a page that nobody needs.
 use crate::assertions::assert_same_at;
 use crate::sample_host::{host, paged};
-use crate::script::{Form, script, short};
+use crate::script::{Form, long, script, short};
 use crate::transcripts::{Told, answer_to, body_of, told_in, write_answer};
 use oai_catalogue::{PlainVersions, Versions};
 use oai_device::{FaultyDevice, MemoryDevice, PageDevice};
@@ -210,6 +210,16 @@ fn calls_of_a_device(rt: HostRuntime) {
 #[test]
 fn memory_of_a_device(rt: HostRuntime) {
     assert_each_fails(&rt, rt.alloc(), Trouble::DeviceMemory, short());
+}
+
+#[test]
+fn calls_of_a_device_for_a_long_item(rt: HostRuntime) {
+    assert_each_fails(&rt, rt.alloc(), Trouble::Device, long());
+}
+
+#[test]
+fn memory_of_a_device_for_a_long_item(rt: HostRuntime) {
+    assert_each_fails(&rt, rt.alloc(), Trouble::DeviceMemory, long());
 }
 
 #[test]

@@ -1,7 +1,7 @@
 //! The script over a device that lies once. The exchange that meets the lie fails, and the other repositories answer as where there is none.
 use crate::assertions::assert_same_at;
 use crate::sample_host::{host, paged};
-use crate::script::{Form, script, short};
+use crate::script::{Form, long, script, short};
 use crate::script_failures::{answer_of, assert_written, failed, step_in};
 use oai_device::{FlippingDevice, MemoryDevice};
 use oai_host::Host;
@@ -90,4 +90,9 @@ fn assert_each_lie(rt: &impl Abort, alloc: Global, form: Form) {
 #[test]
 fn reads_of_a_device(rt: HostRuntime) {
     assert_each_lie(&rt, rt.alloc(), short());
+}
+
+#[test]
+fn reads_of_a_long_item(rt: HostRuntime) {
+    assert_each_lie(&rt, rt.alloc(), long());
 }

@@ -2,7 +2,7 @@
 use crate::assertions::assert_same;
 use crate::runs::{answers_to, assert_runs, calls_in};
 use crate::sample_host::paged;
-use crate::script::{Form, script, short};
+use crate::script::{Form, long, script, short};
 use crate::script_failures::{assert_written, failed, step_in};
 use oai_device::MemoryDevice;
 use oai_host::Answer;
@@ -65,6 +65,11 @@ fn assert_each_refused(rt: &impl Abort, alloc: Global, form: Form) {
         }
     }
     panic!(rt; "memory is refused in each run")
+}
+
+#[test]
+fn undisturbed_run_with_a_long_item(rt: HostRuntime) {
+    assert_undisturbed(&rt, rt.alloc(), long());
 }
 
 #[test]
