@@ -2,14 +2,13 @@
 use Rattle.std.proofs.Common.{◌≡◌, ◌≢◌, inl, inr, ℕ, ℤ, List, [], ◌∷◌, ◌++◌, Result, Ok, Err, refl, sym, ap, subst}
 use Rattle.std.specs.List.{AllByRecursion, AllZip, flat_map}
 use Rattle.oai_time.specs.declared.granularity.Granularity.{Granularity}
-use Rattle.oai_item.specs.Formats.{AreRepositoryFormats}
 use Rattle.oai_item.specs.declared.changes.Change.{Change}
 use Rattle.oai_item.specs.declared.refusals.LineRefusal.{LineRefusal}
 use Rattle.oai_deposit.specs.Lines.{line_of}
 use Rattle.oai_args.specs.Asks.{AskOrError}
-use Rattle.oai_settings.specs.Config.{Config, IsConfig}
-use Rattle.oai_repo.specs.Machine.{Command, command_of, line, query, requesting}
-use Rattle.oai_repo.specs.State.{RepoState, empty_state}
+use Rattle.oai_settings.specs.Config.{Config}
+use Rattle.oai_repo.specs.Machine.{command_of, line, requesting}
+use Rattle.oai_repo.specs.State.{RepoState}
 use Rattle.oai_laws.specs.Runs.{Exchange, IsPart, performed, run}
 use Rattle.oai_http.specs.declared.exchanges.Call.{Call}
 use Rattle.oai_host.specs.Alone.{done_alone, exchanged_alone}
@@ -41,7 +40,7 @@ behind_lines config moment state (text ∷ lines) steps rest asks (inl part) =
     behind_lines config moment (performed config state (timed_input config.granularity moment (line (line_of text)))).left lines steps rest asks part
 behind_lines config moment state (text ∷ lines) steps rest asks (inr here) =
     let own : AllByRecursion IsAsked (performed config state (timed_input config.granularity moment (line (line_of text))) ∷ here.0) =
-        subst (AllByRecursion IsAsked) here.1 asks in
+    subst (AllByRecursion IsAsked) here.1 asks in
     absurd (never_line config.granularity (line_of text) own.0.0 own.0.1)
 
 passed : (config : Config) (visit : Visit) (steps : List Exchange) (all : List Visit) → AreFound config steps all → AreFound config steps (visit ∷ all)

@@ -151,9 +151,9 @@ four_visits carried (v1 ∷ v2 ∷ v3 ∷ v4 ∷ []) each part = (
 pub worked_list : commands_in Second own_a ≡ worked_commands → IsWorkedRun
 worked_list carried =
     let steps : worked_run ≡ flat_map (steps_of worked_config) (own_visits first_entry worked_calls) =
-        ap (run worked_config (empty_state worked_config)) (sym carried) ∙ sym (steps_run worked_config (empty_state worked_config) own_a) in
+    ap (run worked_config (empty_state worked_config)) (sym carried) ∙ sym (steps_run worked_config (empty_state worked_config) own_a) in
     let its : AreFound worked_config four_steps (own_visits first_entry worked_calls) =
-        found worked_config (empty_state worked_config) own_a four_steps asked_each (subst (λ (all : List Exchange). IsPart four_steps all) steps amid) in
+    found worked_config (empty_state worked_config) own_a four_steps asked_each (subst (λ (all : List Exchange). IsPart four_steps all) steps amid) in
     four_visits carried its.some its.each its.among
 
 -- ---- the second repository
@@ -164,7 +164,7 @@ own_b = own_calls (codes "b") worked_calls
 beside_of : commands_in Second own_b ≡ beside.worked_commands → (first second third : Harvest) → AreWorkedHarvests first second third → AreMadeBeside first second third
 beside_of carried first second third h =
     let steps : beside.worked_run ≡ own_steps second_entry worked_calls =
-        ap (run archive_b (empty_state archive_b)) (sym carried) ∙ sym (steps_run archive_b (empty_state archive_b) own_b) in
+    ap (run archive_b (empty_state archive_b)) (sym carried) ∙ sym (steps_run archive_b (empty_state archive_b) own_b) in
     record {
       successive = subst (λ (all : List Exchange). AreSuccessive archive_b all prefix first (second ∷ third ∷ [])) steps h.successive;
       by_pages = h.by_pages;

@@ -1,6 +1,6 @@
 -- A worked run of a host of two repositories, as exchanges. It shows that what the theorem of a host asks for can be met. OAI-PMH 2.0,
 -- sections 2.7.1, 3.1.2.2 and 3.5; deposits are this repository's own.
-use Rattle.std.specs.Prelude.{◌≡◌, ◌+◌, ℕ, pos, Bool, true, false, List, [], ◌∷◌, ◌++◌, length, codes, None, Some}
+use Rattle.std.specs.Prelude.{◌≡◌, ◌+◌, ℕ, pos, true, false, List, [], ◌∷◌, ◌++◌, length, codes, None, Some}
 use Rattle.std.specs.List.{AllZip}
 use Rattle.oai_names.specs.declared.list_verbs.ListVerb.TheVariants as list
 use Rattle.oai_args.specs.Asks.{asks}

@@ -96,12 +96,12 @@ pub fn harvests_law()
 {}
 
 /// What the theorem and the laws beside it ask for can be met: a run of a host of two repositories, computed from the bytes of its
-/// messages on. The configuration keeps its rules. At the first repository a list is followed over three pages, by the tokens that
-/// they print, and their records are the five that there were at its first request. Amid the pages an item is deposited and one is
-/// deleted, and another list is asked for while as many are open as may be, and is answered by a time to wait. At the second
-/// repository, beside it, a list is followed over two pages as the first of three harvests, between which items are deleted and
-/// deposited, and a copy that catches up with them holds what there is. The answers are those of documents that tell the pages; the
-/// bytes of these are not written out. It does nothing.
+/// messages on, at the machine of each. The configuration keeps its rules. At the first repository a list is followed over three
+/// pages, by the tokens that they print, and their records are the five that there were at its first request. Amid the pages an item
+/// is deposited and one is deleted; and another list is asked for while as many are open as may be, and is answered by a time to wait.
+/// At the second repository, beside it, three harvests are made, the first over two pages, while an item is deleted and one deposited;
+/// and a copy that catches up with them holds what there is. The answers are those of documents that tell the pages; the bytes of
+/// these documents are not written out. It does nothing.
 pub fn worked_headline_law()
     ensures accepted { IsHostConfig worked_host }
     ensures rules { HaveRules worked_host }
