@@ -3,10 +3,9 @@ ghost use Rattle.oai_item.specs.declared.deleted_record.DeletedRecord.TheVariant
 ghost use Rattle.oai_settings.specs.Config.{Config, IsConfig};
 ghost use Rattle.oai_repo.specs.State.{empty_state};
 ghost use Rattle.oai_laws.specs.Runs.{Timed, run};
-ghost use Rattle.oai_laws.specs.Worked.{worked_config};
 ghost use Rattle.oai_copy.specs.Copies.{caught_up_with};
 ghost use Rattle.oai_harvests.specs.Harvests.{AreSuccessive, Harvest, IsWholeCopy, harvested, last_harvest};
-ghost use Rattle.oai_harvests.specs.Worked.{AreWorkedHarvests};
+ghost use Rattle.oai_harvests.specs.Worked.{AreWorkedHarvests, archive_b};
 
 /// Harvests miss nothing (OAI-PMH 2.0, sections 2.5.1 and 2.7.1). Whatever a repository that keeps its
 /// deleted records is asked from its beginning on, and whenever, and whatever is deposited and deleted
@@ -27,8 +26,8 @@ pub fn harvest_law()
 /// The first gets its records over two pages, between which an item is deleted; the second, from the
 /// datestamp of the first on, gets the deleted item and a new one in one answer; the third finds nothing.
 pub fn worked_harvests_law()
-    ensures config { IsConfig worked_config }
-    ensures policy { worked_config.deleted ≡ Persistent }
+    ensures config { IsConfig archive_b }
+    ensures policy { archive_b.deleted ≡ Persistent }
     ensures harvests { (first : Harvest) × (second : Harvest) × (third : Harvest)
         × AreWorkedHarvests first second third }
 {}

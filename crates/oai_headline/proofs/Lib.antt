@@ -5,3 +5,6 @@ pub mod TakenLemmas
 pub mod FollowedLemmas
 pub mod HeadlineLemmas
 pub mod MetLemmas
+pub mod FoundLemmas
+pub mod WorkedCalls
+pub mod WorkedLemmas

@@ -85,7 +85,7 @@ printed_at config visit step page offer rules formats before h told offered =
 
 -- ---- the links
 
-its_request : (config : Config) (visit : Visit) (step : Exchange) (request : AskOrError) → IsStepOf config visit step → step.command ≡ requesting request → IsRequest config.granularity visit.call request
+pub its_request : (config : Config) (visit : Visit) (step : Exchange) (request : AskOrError) → IsStepOf config visit step → step.command ≡ requesting request → IsRequest config.granularity visit.call request
 its_request config visit step request h is =
     let both : requesting (request_of config.granularity (decoded_pairs h.arguments)) ≡ requesting request = ap (λ (e : Exchange). e.command) (sym (step_is config visit step h)) ∙ is in
     let read : request_of config.granularity (decoded_pairs h.arguments) ≡ request = cc in

@@ -1,3 +1,4 @@
 pub mod Visits
 pub mod Chains
 pub mod Headline
+pub mod Worked

@@ -6,8 +6,9 @@ ghost use Rattle.oai_repo.specs.State.{RepoState, empty_state};
 ghost use Rattle.oai_laws.specs.Following.{IsChain, ListRequest};
 ghost use Rattle.oai_laws.specs.Runs.{Exchange, IsPart, run};
 ghost use Rattle.oai_http.specs.declared.exchanges.Call.{Call};
+ghost use Rattle.oai_harvests.specs.Harvests.{Harvest};
 ghost use Rattle.oai_host.specs.Alone.{answers_alone};
-ghost use Rattle.oai_config.specs.Configs.{HostConfig, NamedConfig};
+ghost use Rattle.oai_config.specs.Configs.{HostConfig, IsHostConfig, NamedConfig};
 ghost use Rattle.oai_http.specs.declared.exchanges.Answer.{Answer};
 ghost use Rattle.oai_host.specs.Exchanged.{AreExchanged};
 ghost use Rattle.oai_host.specs.Hosts.{AreAsAlone, HostState, begun, none_failed};
@@ -15,6 +16,7 @@ ghost use Rattle.oai_served.specs.Served.{IsBegunOn};
 ghost use Rattle.oai_headline.specs.Chains.{AreReached, IsFollowing, IsStepOf};
 ghost use Rattle.oai_headline.specs.Headline.{HaveRules, IsHeadline, IsMadeOf, MissNothing};
 ghost use Rattle.oai_headline.specs.Visits.{IsWrittenVisit, Visit, commands_in, steps_of, visits};
+ghost use Rattle.oai_headline.specs.Worked.{AreMadeBeside, IsWorkedList, worked_host};
 
 use oai_catalogue::Versions;
 use oai_device::PageDevice;
@@ -91,4 +93,20 @@ pub fn headline_alone_law()
 /// ([`carried_law`]), is true what `harvest_law` of `oai_harvests` says. It does nothing.
 pub fn harvests_law()
     ensures { (calls : List Call) (entry : NamedConfig) → IsConfig entry.config → MissNothing calls entry }
+{}
+
+/// What the theorem and the laws beside it ask for can be met: a run of a host of two repositories, computed from the bytes of its
+/// messages on, at the machine of each. The configuration keeps its rules. At the first repository a list is followed over three
+/// pages, by the tokens that they print, and their records are the five that there were at its first request. Amid the pages an item
+/// is deposited and one is deleted; and another list is asked for while as many are open as may be, and is answered by a time to wait.
+/// At the second repository, beside it, three harvests are made, the first over two pages, while an item is deleted and one deposited;
+/// and a copy that catches up with them holds what there is. The answers are those of documents that tell the pages; the bytes of
+/// these documents are not written out. It does nothing.
+pub fn worked_headline_law()
+    ensures accepted { IsHostConfig worked_host }
+    ensures rules { HaveRules worked_host }
+    ensures followed { (first : Visit) × (waiting : Visit) × (second : Visit) × (last : Visit)
+        × IsWorkedList first waiting second last }
+    ensures beside { (first : Harvest) × (second : Harvest) × (third : Harvest)
+        × AreMadeBeside first second third }
 {}

@@ -7,5 +7,6 @@ mod rules;
 
 pub use laws::{
     carried_law, harvests_law, headline_alone_law, headline_law, headline_on_pages_law, visits_law,
+    worked_headline_law,
 };
 pub use rules::rules_law;

@@ -26,76 +26,76 @@ use Rattle.oai_laws.specs.Worked.{IsWorked, after, all_headers, all_records, del
 
 -- ---- the states that the run goes through
 
-abbrev second : ℕ → ℤ
+abbrev pub second : ℕ → ℤ
 second n = pos (1_704_067_200 + n)
 
 -- an item as it was deposited
-abbrev item : List ℕ → ℕ → ItemState
+abbrev pub item : List ℕ → ℕ → ItemState
 item identifier n = live_item identifier (second n) [] ((codes "oai_dc", []) ∷ [])
 
-abbrev first_items : List ItemState
+abbrev pub first_items : List ItemState
 first_items = item (codes "oai:a:1") 0 ∷ item (codes "oai:a:2") 0 ∷ item (codes "oai:a:3") 0 ∷ []
 
-abbrev fourth : ItemState
+abbrev pub fourth : ItemState
 fourth = item (codes "oai:a:4") 0
 
-abbrev fifth : ItemState
+abbrev pub fifth : ItemState
 fifth = item (codes "oai:a:5") 0
 
 -- what both lists of the run select
-abbrev five : List ItemState
+abbrev pub five : List ItemState
 five = first_items ++ fourth ∷ fifth ∷ []
 
-abbrev list_of : ℕ → ListVerb → ℕ → ℕ → FrozenList
+abbrev pub list_of : ℕ → ListVerb → ℕ → ℕ → FrozenList
 list_of number verb end given = record { number = number; verb = verb; prefix = codes "oai_dc"; items = five; end = second end; given = given }
 
-abbrev state_at : ℕ → List ItemState → List FrozenList → ℕ → RepoState
+abbrev pub state_at : ℕ → List ItemState → List FrozenList → ℕ → RepoState
 state_at n items lists next = record { clock = second n; holdings = record { items = items; sets = [] }; open_lists = record { lists = lists; next = next } }
 
-abbrev s1 : RepoState
+abbrev pub s1 : RepoState
 s1 = state_at 0 (item (codes "oai:a:1") 0 ∷ []) [] 1
 
-abbrev s2 : RepoState
+abbrev pub s2 : RepoState
 s2 = state_at 0 (item (codes "oai:a:1") 0 ∷ item (codes "oai:a:2") 0 ∷ []) [] 1
 
-abbrev s3 : RepoState
+abbrev pub s3 : RepoState
 s3 = state_at 0 first_items [] 1
 
-abbrev s4 : RepoState
+abbrev pub s4 : RepoState
 s4 = state_at 0 (first_items ++ fourth ∷ []) [] 1
 
-abbrev s5 : RepoState
+abbrev pub s5 : RepoState
 s5 = state_at 0 five [] 1
 
-abbrev s6 : RepoState
+abbrev pub s6 : RepoState
 s6 = state_at 0 five (list_of 1 list.Identifiers 60 2 ∷ []) 2
 
-abbrev s7 : RepoState
+abbrev pub s7 : RepoState
 s7 = state_at 60 five (list_of 2 list.Records 120 2 ∷ []) 3
 
-abbrev six : List ItemState
+abbrev pub six : List ItemState
 six = five ++ item (codes "oai:a:6") 61 ∷ []
 
-abbrev s9 : RepoState
+abbrev pub s9 : RepoState
 s9 = state_at 61 six (list_of 2 list.Records 120 2 ∷ []) 3
 
-abbrev without_fourth : List ItemState
+abbrev pub without_fourth : List ItemState
 without_fourth = first_items ++ fifth ∷ item (codes "oai:a:6") 61 ∷ tombstone_of (second 62) fourth ∷ []
 
-abbrev s10 : RepoState
+abbrev pub s10 : RepoState
 s10 = state_at 62 without_fourth (list_of 2 list.Records 120 2 ∷ []) 3
 
-abbrev s12 : RepoState
+abbrev pub s12 : RepoState
 s12 = state_at 63 without_fourth (list_of 2 list.Records 120 2 ∷ []) 3
 
-abbrev s13 : RepoState
+abbrev pub s13 : RepoState
 s13 = state_at 64 without_fourth (list_of 2 list.Records 124 4 ∷ []) 3
 
-abbrev s14 : RepoState
+abbrev pub s14 : RepoState
 s14 = state_at 70 (first_items ++ item (codes "oai:a:6") 61 ∷ tombstone_of (second 62) fourth ∷ item (codes "oai:a:5") 70 ∷ []) (list_of 2 list.Records 124 4 ∷ []) 3
 
 -- a command leads from one of them to the next
-abbrev Leads : RepoState → Timed → RepoState → Type 0
+abbrev pub Leads : RepoState → Timed → RepoState → Type 0
 Leads old timed new = (performed worked_config old timed).left ≡ new
 
 pub led_1 : Leads (empty_state worked_config) (after 0 (deposit (codes "oai:a:1"))) s1
@@ -157,65 +157,65 @@ led_14 = refl
 -- ---- the chain
 
 -- the exchanges of the chain: the first page, the second, and the last
-abbrev opens : Exchange
+abbrev pub opens : Exchange
 opens = performed worked_config s6 (after 60 (first_request all_records))
 
-abbrev second_page : Exchange
+abbrev pub second_page : Exchange
 second_page = performed worked_config s12 (after 64 (next_request list.Records (codes "2.2")))
 
-abbrev last_page : Exchange
+abbrev pub last_page : Exchange
 last_page = performed worked_config s14 (after 123 (next_request list.Records (codes "2.4")))
 
 -- a run passes over a command, or takes it up
-passes_over : (old new : RepoState) (timed : Timed) (commands : List Timed) (some : List Exchange) → Leads old timed new → IsPart some (run worked_config new commands)
+pub passes_over : (old new : RepoState) (timed : Timed) (commands : List Timed) (some : List Exchange) → Leads old timed new → IsPart some (run worked_config new commands)
     → IsPart some (run worked_config old (timed ∷ commands))
 passes_over old new timed commands some leads part = inl (subst (λ (state : RepoState). IsPart some (run worked_config state commands)) (sym leads) part)
 
-takes_up : (old new : RepoState) (timed : Timed) (commands : List Timed) (some : List Exchange) → Leads old timed new → IsPart some (run worked_config new commands)
+pub takes_up : (old new : RepoState) (timed : Timed) (commands : List Timed) (some : List Exchange) → Leads old timed new → IsPart some (run worked_config new commands)
     → IsPart (performed worked_config old timed ∷ some) (run worked_config old (timed ∷ commands))
 takes_up old new timed commands some leads part = inr (some, refl, subst (λ (state : RepoState). IsPart some (run worked_config state commands)) (sym leads) part)
 
 -- what is left of the commands behind each
-abbrev from_15 : List Timed
+abbrev pub from_15 : List Timed
 from_15 = after 123 (next_request list.Records (codes "2.4")) ∷ []
 
-abbrev from_14 : List Timed
+abbrev pub from_14 : List Timed
 from_14 = after 70 (deposit (codes "oai:a:5")) ∷ from_15
 
-abbrev from_13 : List Timed
+abbrev pub from_13 : List Timed
 from_13 = after 64 (next_request list.Records (codes "2.2")) ∷ from_14
 
-abbrev from_12 : List Timed
+abbrev pub from_12 : List Timed
 from_12 = after 63 (next_request list.Identifiers (codes "2.2")) ∷ from_13
 
-abbrev from_11 : List Timed
+abbrev pub from_11 : List Timed
 from_11 = after 30 (first_request all_headers) ∷ from_12
 
-abbrev from_10 : List Timed
+abbrev pub from_10 : List Timed
 from_10 = after 62 (delete (codes "oai:a:4")) ∷ from_11
 
-abbrev from_9 : List Timed
+abbrev pub from_9 : List Timed
 from_9 = after 61 (deposit (codes "oai:a:6")) ∷ from_10
 
-abbrev from_8 : List Timed
+abbrev pub from_8 : List Timed
 from_8 = after 60 (next_request list.Identifiers (codes "1.2")) ∷ from_9
 
-abbrev from_7 : List Timed
+abbrev pub from_7 : List Timed
 from_7 = after 60 (first_request all_records) ∷ from_8
 
-abbrev from_6 : List Timed
+abbrev pub from_6 : List Timed
 from_6 = after 0 (first_request all_headers) ∷ from_7
 
-abbrev from_5 : List Timed
+abbrev pub from_5 : List Timed
 from_5 = after 0 (deposit (codes "oai:a:5")) ∷ from_6
 
-abbrev from_4 : List Timed
+abbrev pub from_4 : List Timed
 from_4 = after 0 (deposit (codes "oai:a:4")) ∷ from_5
 
-abbrev from_3 : List Timed
+abbrev pub from_3 : List Timed
 from_3 = after 0 (deposit (codes "oai:a:3")) ∷ from_4
 
-abbrev from_2 : List Timed
+abbrev pub from_2 : List Timed
 from_2 = after 0 (deposit (codes "oai:a:2")) ∷ from_3
 
 pub among : IsPart (opens ∷ second_page ∷ last_page ∷ []) worked_run
@@ -240,13 +240,13 @@ among =
     passes_over (empty_state worked_config) s1 (after 0 (deposit (codes "oai:a:1"))) from_2 chain led_1 part_2
 
 -- the list, as each page found it, and the page
-abbrev page_1 : Page
+abbrev pub page_1 : Page
 page_1 = part_from worked_config (list_of 2 list.Records 120 2) 0
 
-abbrev page_2 : Page
+abbrev pub page_2 : Page
 page_2 = part_from worked_config (list_of 2 list.Records 124 4) 2
 
-abbrev page_3 : Page
+abbrev pub page_3 : Page
 page_3 = part_from worked_config (list_of 2 list.Records 183 4) 4
 
 pub told_1 : page_shown opens.outcome ≡ Some page_1
@@ -261,10 +261,10 @@ pub told_3 : page_shown last_page.outcome ≡ Some page_3
 unfolding act selected selection_response part_from wait_at record_named format_named dublin_core token_text token_of fmt.digits
 told_3 = refl
 
-abbrev offer_1 : TokenOffer
+abbrev pub offer_1 : TokenOffer
 offer_1 = record { token = codes "2.2"; expires = second 120 }
 
-abbrev offer_2 : TokenOffer
+abbrev pub offer_2 : TokenOffer
 offer_2 = record { token = codes "2.4"; expires = second 124 }
 
 pub offered_1 : offer_in page_1.continuation ≡ Some offer_1
@@ -289,10 +289,10 @@ not_later : is_later opens.outcome ≡ false
 unfolding act selected selection_response part_from wait_at record_named format_named dublin_core token_text token_of fmt.digits
 not_later = refl
 
-chain : IsChain worked_config worked_run all_records opens (second_page ∷ last_page ∷ [])
+pub chain : IsChain worked_config worked_run all_records opens (second_page ∷ last_page ∷ [])
 chain = record { among = among; verb = refl; asked = refl; long = long; answered = not_later; next = (next_1, (next_2, tt)) }
 
-records_told : identifiers (joined (page_1 ∷ page_2 ∷ page_3 ∷ [])) ≡ codes "oai:a:1" ∷ codes "oai:a:2" ∷ codes "oai:a:3" ∷ codes "oai:a:4" ∷ codes "oai:a:5" ∷ []
+pub records_told : identifiers (joined (page_1 ∷ page_2 ∷ page_3 ∷ [])) ≡ codes "oai:a:1" ∷ codes "oai:a:2" ∷ codes "oai:a:3" ∷ codes "oai:a:4" ∷ codes "oai:a:5" ∷ []
 unfolding part_from
 records_told = refl
 

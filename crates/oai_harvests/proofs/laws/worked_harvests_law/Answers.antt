@@ -1,6 +1,5 @@
 use Rattle.std.proofs.Common.{refl}
-use Rattle.oai_laws.proofs.WorkedLemmas.{configured}
-use Rattle.oai_harvests.proofs.WorkedLemmas.{worked}
+use Rattle.oai_harvests.proofs.WorkedLemmas.{configured, worked}
 use Rattle.oai_harvests.proofs.laws.worked_harvests_law.Goals as goal
 
 pub returns-clause-config : goal.returns-clause-config
