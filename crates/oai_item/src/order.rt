@@ -1,5 +1,7 @@
 ghost use Rattle.std.specs.Prelude.{◌≡◌, ◌↔◌, ◌⊎◌, ℕ, ℤ, List, None, false, true};
+ghost use Rattle.std.specs.Cmp.Lexicographic.{slice_cmp};
 ghost use Rattle.std.specs.List.{Contains};
+ghost use Rattle.std.specs.Ordering.{int_cmp, nat_cmp, ordering_then};
 ghost use Rattle.oai_item.specs.Item.{ItemState};
 ghost use Rattle.oai_item.specs.Items.{is_at, item_at, items_after, placed, with_item, without_at};
 ghost use Rattle.oai_item.specs.Order.{IsPlace, are_in_order, item_cmp, place_cmp};
@@ -20,10 +22,24 @@ impl Item {
     pub fn order_to(&self, stamp: i64, identifier: &str) -> Ordering
         ensures { result ≡ place_cmp self.now stamp identifier.now }
     {
-        match self.stamp().cmp(&stamp) {
-            Ordering::Equal => self.identifier().as_str().cmp(identifier),
-            unequal => unequal,
-        }
+        order_of_places(self.stamp(), self.identifier().as_str(), stamp, identifier)
+    }
+}
+
+/// How that datestamp, in seconds from 1970 on, and identifier stand to the other ones: by datestamp, and
+/// where these are equal by the bytes of the identifiers.
+pub(crate) fn order_of_places(
+    stamp: i64,
+    identifier: &str,
+    other_stamp: i64,
+    other_identifier: &str,
+) -> Ordering
+    ensures { result ≡ ordering_then (int_cmp stamp other_stamp)
+        (slice_cmp nat_cmp identifier.now other_identifier.now) }
+{
+    match stamp.cmp(&other_stamp) {
+        Ordering::Equal => identifier.cmp(other_identifier),
+        unequal => unequal,
     }
 }
 
