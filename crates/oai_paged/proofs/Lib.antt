@@ -33,3 +33,4 @@ mod HaveReadLemmas
 mod TakenLemmas
 mod ReadPlaces
 mod InsidePlaces
+mod FindingLemmas

@@ -171,7 +171,7 @@ all_zeros (suc n) = all_zeros n
 
 -- ---- a page
 
-page_read : (bytes : List ℕ) (items : List ItemState) → IsPage bytes items
+pub page_read : (bytes : List ℕ) (items : List ItemState) → IsPage bytes items
     → (first_number bytes ≡ length items) × (drop 4 bytes ≡ entries_of items ++ replicate (length bytes - 4 - size_of items) 0)
 page_read bytes items page =
     let behind : List ℕ = entries_of items ++ replicate (length bytes - 4 - size_of items) 0 in

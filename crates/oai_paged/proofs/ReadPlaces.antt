@@ -1,5 +1,5 @@
 -- What is so of a place of a directory that is read.
-use Rattle.std.proofs.Common.{◌≡◌, ◌∙◌, ◌+◌, ◌<◌, ◌≤◌, ℕ, ℤ, Bool, true, false, List, ◌∷◌, ◌++◌, length, take, drop, get_or, sym, ap, subst, arith, IsTrue}
+use Rattle.std.proofs.Common.{◌≡◌, ◌∙◌, ◌+◌, ◌<◌, ◌≤◌, ℕ, ℤ, Bool, true, false, List, [], ◌∷◌, ◌++◌, length, take, drop, get_or, sym, ap, subst, arith, IsTrue}
 use Rattle.std.proofs.lemmas.Bool.{both_ways, false_from_ne_true}
 use Rattle.std.proofs.lemmas.List.{get_or_read}
 use Rattle.oai_names.proofs.Lists.{cut}
@@ -12,11 +12,12 @@ use Rattle.oai_paged.specs.Calls.{ReadsPages}
 use Rattle.oai_paged.specs.Directory.{IsDirectory}
 use Rattle.oai_pool.specs.Names.{times}
 use Rattle.oai_paged.specs.Pages.{FitPage, IsPage, begins_at, fit_one, items_in}
-use Rattle.oai_paged.specs.Places.{FitPages, IsSoundPlace, Pages, PlaceState, are_below, bytes_on, items_at, items_on, named_in}
+use Rattle.oai_paged.specs.Places.{FitPages, IsSoundPlace, Pages, PlaceState, are_below, bytes_on, items_at, items_on, named_in, page_at}
 use Rattle.oai_paged.specs.Searches.{MayBeAt}
 use Rattle.oai_paged.proofs.DirectoryLemmas.{goes_on, items-cut, no_place, placed-cut}
 use Rattle.oai_paged.proofs.OrderedPlaces.{own_below}
 use Rattle.oai_paged.proofs.HaveReadLemmas.{HaveRead, err_of}
+use Rattle.oai_paged.proofs.JoinedLemmas.{bytes_on-one}
 use Rattle.oai_paged.proofs.NameLemmas.{named_in-append, named_own}
 
 -- a place of a directory stands on its page
@@ -41,6 +42,12 @@ pub fit_of_place : (pages : Pages) (p : PlaceState) (numbers : List ℕ) → num
 unfolding items_at
 fit_of_place pages p numbers same h =
     subst (λ (ns : List ℕ). FitPages pages ns (items_in (bytes_on pages ns))) (sym same) h.many
+
+-- the page of a place that has one alone
+pub page_of_one : (pages : Pages) (p : PlaceState) (numbers bytes : List ℕ) → numbers ≡ p.pages → length p.pages ≤ 1 → IsSoundPlace pages p → bytes ≡ page_at pages (get_or numbers 0 0) → IsPage bytes (items_at pages p)
+page_of_one pages p numbers bytes same few h e =
+    let on : bytes ≡ bytes_on pages p.pages = e ∙ ap (λ (ns : List ℕ). page_at pages (get_or ns 0 0)) same ∙ sym (bytes_on-one pages p.pages h.many.some few) in
+    subst (λ (bs : List ℕ). IsPage bs (items_at pages p)) (sym on) h.page
 
 -- damage is found only over a device that is not honest
 pub reads_damaged : {P A : Type 0} (g : Ghosts P) (p q : P) → HaveRead g p q → g.honest p ≡ false → ReadsPages g (err_of A Damaged) p q

@@ -1,5 +1,6 @@
 pub mod Pages
 pub mod Entries
+pub mod Finding
 pub mod Places
 pub mod Searches
 pub mod Parts

@@ -536,7 +536,7 @@ fn put_at(page: &mut Page, at: usize, bytes: &[u8])
 }
 
 /// The number in front of the bytes.
-fn first_number(bytes: &[u8]) -> usize
+pub(crate) fn first_number(bytes: &[u8]) -> usize
     requires { 4 ≤ length bytes.now }
     ensures { result ≡ first_number bytes.now }
 {

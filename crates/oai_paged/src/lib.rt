@@ -7,6 +7,7 @@ mod directories;
 mod entries;
 mod exchanges;
 mod faults;
+mod finding;
 mod names;
 mod places;
 mod put_and_remove;

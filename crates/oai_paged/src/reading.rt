@@ -13,11 +13,12 @@ ghost use Rattle.oai_paged.specs.Calls.{ReadsPages};
 ghost use Rattle.oai_paged.specs.Directory.{StandsIn};
 ghost use Rattle.oai_paged.specs.Pages.{FitPage, IsPage, fit_one, items_in};
 ghost use Rattle.oai_paged.specs.Parts.{EndsBy, IsInside, IsOutside, IsPartTaken};
-ghost use Rattle.oai_paged.specs.Places.{FitPages, are_below, bytes_on, first_cmp, is_wanted, items_at, items_on, page_at};
+ghost use Rattle.oai_paged.specs.Places.{FitPages, IsSoundPlace, are_below, bytes_on, first_cmp, is_wanted, items_at, items_on, page_at};
 ghost use Rattle.oai_paged.specs.Searches.{MayBeAt, StartsAt};
 
 use crate::entries::{Entries, are_zeros};
 use crate::faults::fault_of;
+use crate::finding::{begins_on_page, find_on_page};
 use crate::places::SharedPlace;
 use crate::searches::place_of;
 use crate::sizes::FRONT_BYTES;
@@ -191,7 +192,7 @@ fn are_below(entries: &Entries, places: &[SharedPlace]) -> bool
 }
 
 /// The item of that datestamp, in seconds from 1970 on, and identifier, or None. It reads one page, and the overflow pages of an item that it
-/// returns. Any fault but `TooManyPages`.
+/// returns, and tests no other item. Any fault but `TooManyPages`.
 pub(crate) fn find<P: PagePool>(
     alloc: Global,
     pages: &mut P,
@@ -211,10 +212,43 @@ pub(crate) fn find<P: PagePool>(
     if is_other(&places[at], stamp, identifier) {
         return Ok(None);
     }
+    if !places[at].is_long() {
+        return find_at(alloc, pages, &places[at], stamp, identifier);
+    }
     let entries = read_place(alloc, pages, places, at)?;
     match entries.place_of(stamp, identifier) {
         Ok(at) => Ok(Some(entries.item(alloc, at)?)),
         Err(_) => Ok(None),
+    }
+}
+
+/// The item of that datestamp, in seconds from 1970 on, and identifier of those of the place, which has one page, or None. Any fault but
+/// `TooManyPages`.
+fn find_at<P: PagePool>(
+    alloc: Global,
+    pages: &mut P,
+    place: &SharedPlace,
+    stamp: i64,
+    identifier: &str,
+) -> Result<Option<Item>, Fault>
+    requires one { length place.now.pages ≤ 1 }
+    requires named { (n : ℕ) → 0 < times n place.now.pages → 0 < count_of (P.counts pages.old) n }
+    requires sound { IsSoundPlace (P.pages pages.old) place.now }
+    ensures found { IfOk result (λ item. IsTrue (P.honest pages.old)
+        → item ≡ item_at stamp identifier.now (items_at (P.pages pages.old) place.now)) }
+    ensures pages { ReadsPages P.PagePool result pages.old pages.new }
+{
+    let page = match pages.read(place.pages()[0]) {
+        Ok(page) => page,
+        Err(fault) => return Err(fault_of(fault)),
+    };
+    if !begins_on_page(&page[..], place.stamp(), place.identifier()) {
+        return Err(Fault::Damaged);
+    }
+    match find_on_page(alloc, &page[..], stamp, identifier) {
+        Ok(found) => Ok(found),
+        Err(DecodeFault::Damaged) => Err(Fault::Damaged),
+        Err(DecodeFault::NoMemory) => Err(Fault::NoMemory),
     }
 }
 
