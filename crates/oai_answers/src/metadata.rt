@@ -84,11 +84,7 @@ fn write_dublin_core_start(out: &mut Vec<u8>) -> Result<(), AllocError>
 
 /// Appends the metadata in a declared format.
 #[tactic(auto, unfolding(crate::specs::Documents::declared_metadata))]
-fn write_declared(
-    format: &Format,
-    fields: Fields<'_>,
-    out: &mut Vec<u8>,
-) -> Result<(), AllocError>
+fn write_declared(format: &Format, fields: Fields<'_>, out: &mut Vec<u8>) -> Result<(), AllocError>
     ensures { OnOk result (Appends out.old.items out.new.items
         (declared_metadata format.now fields)) }
 {
