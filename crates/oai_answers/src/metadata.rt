@@ -54,7 +54,7 @@ pub(crate) fn write_metadata(
     fields: Fields<'_>,
     out: &mut Vec<u8>,
 ) -> Result<(), AllocError>
-    ensures { OnOk result (Appends out.old.items out.new.items (metadata format.now fields)) }
+    ensures { OnOk result (Appends out.old.items out.new.items (metadata format.now fields.entry)) }
 {
     if format.prefix.as_str() == "oai_dc" {
         write_dublin_core(fields, out)
@@ -66,7 +66,7 @@ pub(crate) fn write_metadata(
 /// Appends the metadata in unqualified Dublin Core (OAI-PMH 2.0, section 2.5; DCES 1.1).
 #[tactic(auto, unfolding(crate::specs::Documents::dublin_core_metadata))]
 fn write_dublin_core(fields: Fields<'_>, out: &mut Vec<u8>) -> Result<(), AllocError>
-    ensures { OnOk result (Appends out.old.items out.new.items (dublin_core_metadata fields)) }
+    ensures { OnOk result (Appends out.old.items out.new.items (dublin_core_metadata fields.entry)) }
 {
     write_dublin_core_start(out)?;
     write_fields(Qualifier::Dc, fields, out)?;
@@ -86,7 +86,7 @@ fn write_dublin_core_start(out: &mut Vec<u8>) -> Result<(), AllocError>
 #[tactic(auto, unfolding(crate::specs::Documents::declared_metadata))]
 fn write_declared(format: &Format, fields: Fields<'_>, out: &mut Vec<u8>) -> Result<(), AllocError>
     ensures { OnOk result (Appends out.old.items out.new.items
-        (declared_metadata format.now fields)) }
+        (declared_metadata format.now fields.entry)) }
 {
     write_declared_start(format, out)?;
     write_fields(Qualifier::Bare, fields, out)?;
