@@ -4,7 +4,7 @@ ghost use Rattle.std.specs.Prelude.{◌≡◌, ◌==◌, true, [], ◌∷◌, le
 ghost use Rattle.oai_names.specs.Names.{may_be_prefix};
 
 use crate::fields::Field;
-use crate::walks::{SpelledField, SpelledFields, SpelledRecords};
+use crate::walks::{FieldTexts, SpelledFields, SpelledRecords};
 use oai_names::{Prefix, Sequence};
 use std::marker::Model;
 
@@ -76,7 +76,7 @@ impl<'a> Fields<'a> {
     }
 
     /// Takes the next field, if there is one.
-    pub fn next(&mut self) -> Option<SpelledField<'a>>
+    pub fn next(&mut self) -> Option<FieldTexts<'a>>
         ensures { MatchOption result (self.old ≡ [])
             (λ field. self.old
             ≡ record { name = field.name.now; text = field.text.now } ∷ self.new) }
@@ -85,7 +85,7 @@ impl<'a> Fields<'a> {
             FieldsLeft::Typed(fields) => {
                 let (field, rest) = fields.split_first()?;
                 *fields = rest;
-                Some(SpelledField {
+                Some(FieldTexts {
                     name: field.name.as_str(),
                     text: field.text.as_str(),
                 })

@@ -39,4 +39,4 @@ pub use refusals::{ChangeRefusal, LineRefusal, Refusal};
 pub use selections::selection_law;
 pub use short_texts::{MAX_SHORT_TEXT_BYTES, is_short_text};
 pub use sizes::{MAX_ITEM_BYTES, TooLarge, limit_law};
-pub use walks::{SpelledField, SpelledFields, SpelledRecord, SpelledRecords, SpelledSets};
+pub use walks::{FieldTexts, SpelledFields, SpelledRecord, SpelledRecords, SpelledSets};
