@@ -1,15 +1,15 @@
 ghost use Rattle.std.specs.Prelude.{◌≡◌};
 ghost use Rattle.oai_item.specs.Item.{fields_in};
 
-use oai_item::{Field, Item};
+use oai_item::{Fields, Item};
 
 /// The fields of the item's record of that metadataPrefix, in order; none where it has no such
 /// record. It looks through the item's records.
-pub(crate) fn fields_in<'a>(prefix: &str, item: &'a Item) -> &'a [Field]
-    ensures { result.now ≡ fields_in prefix.now item.now.formats }
+pub(crate) fn fields_in<'a>(prefix: &str, item: &'a Item) -> Fields<'a>
+    ensures { result ≡ fields_in prefix.now item.now.formats }
 {
     match item.fields_in(prefix) {
         Some(fields) => fields,
-        None => &[],
+        None => Fields::none(),
     }
 }

@@ -6,7 +6,7 @@ ghost use Rattle.oai_answers.specs.Markup.{end_tag, start_tag};
 
 use crate::markup::{attribute, end, put, put_text, put_value, start_attribute};
 use crate::tags::{Tag, close};
-use oai_item::{Field, Format};
+use oai_item::{Fields, Format};
 use std::alloc::AllocError;
 
 /// The start tag of unqualified Dublin Core, with its namespaces and its schema.
@@ -51,10 +51,10 @@ impl Qualifier {
 #[tactic(auto, unfolding(crate::specs::Documents::metadata))]
 pub(crate) fn write_metadata(
     format: &Format,
-    fields: &[Field],
+    fields: Fields<'_>,
     out: &mut Vec<u8>,
 ) -> Result<(), AllocError>
-    ensures { OnOk result (Appends out.old.items out.new.items (metadata format.now fields.now)) }
+    ensures { OnOk result (Appends out.old.items out.new.items (metadata format.now fields.entry)) }
 {
     if format.prefix.as_str() == "oai_dc" {
         write_dublin_core(fields, out)
@@ -65,8 +65,8 @@ pub(crate) fn write_metadata(
 
 /// Appends the metadata in unqualified Dublin Core (OAI-PMH 2.0, section 2.5; DCES 1.1).
 #[tactic(auto, unfolding(crate::specs::Documents::dublin_core_metadata))]
-fn write_dublin_core(fields: &[Field], out: &mut Vec<u8>) -> Result<(), AllocError>
-    ensures { OnOk result (Appends out.old.items out.new.items (dublin_core_metadata fields.now)) }
+fn write_dublin_core(fields: Fields<'_>, out: &mut Vec<u8>) -> Result<(), AllocError>
+    ensures { OnOk result (Appends out.old.items out.new.items (dublin_core_metadata fields.entry)) }
 {
     write_dublin_core_start(out)?;
     write_fields(Qualifier::Dc, fields, out)?;
@@ -84,9 +84,9 @@ fn write_dublin_core_start(out: &mut Vec<u8>) -> Result<(), AllocError>
 
 /// Appends the metadata in a declared format.
 #[tactic(auto, unfolding(crate::specs::Documents::declared_metadata))]
-fn write_declared(format: &Format, fields: &[Field], out: &mut Vec<u8>) -> Result<(), AllocError>
+fn write_declared(format: &Format, fields: Fields<'_>, out: &mut Vec<u8>) -> Result<(), AllocError>
     ensures { OnOk result (Appends out.old.items out.new.items
-        (declared_metadata format.now fields.now)) }
+        (declared_metadata format.now fields.entry)) }
 {
     write_declared_start(format, out)?;
     write_fields(Qualifier::Bare, fields, out)?;
@@ -122,25 +122,34 @@ fn write_schema_location(format: &Format, out: &mut Vec<u8>) -> Result<(), Alloc
 }
 
 /// Appends the fields, in order.
-fn write_fields(qualifier: Qualifier, fields: &[Field], out: &mut Vec<u8>) -> Result<(), AllocError>
+fn write_fields(
+    qualifier: Qualifier,
+    mut fields: Fields<'_>,
+    out: &mut Vec<u8>,
+) -> Result<(), AllocError>
     ensures { OnOk result (Appends out.old.items out.new.items
-        (flat_map (field_element (qualifier_of qualifier)) fields.now)) }
+        (flat_map (field_element (qualifier_of qualifier)) fields.entry)) }
 {
-    for field in fields {
-        write_field(qualifier, field, out)?;
+    while let Some(field) = fields.next() {
+        write_field(qualifier, field.name, field.text, out)?;
     }
     Ok(())
 }
 
 /// Appends the element of a field, its name qualified.
 #[tactic(auto, unfolding(crate::specs::Documents::field_element, crate::specs::Markup::text_element, crate::specs::Markup::element))]
-fn write_field(qualifier: Qualifier, field: &Field, out: &mut Vec<u8>) -> Result<(), AllocError>
+fn write_field(
+    qualifier: Qualifier,
+    name: &str,
+    text: &str,
+    out: &mut Vec<u8>,
+) -> Result<(), AllocError>
     ensures { OnOk result (Appends out.old.items out.new.items
-        (field_element (qualifier_of qualifier) field.now)) }
+        (field_element (qualifier_of qualifier) (record { name = name.now; text = text.now }))) }
 {
-    start_qualified(qualifier, field.name.as_str(), out)?;
-    put_text(field.text.as_str(), out)?;
-    end_qualified(qualifier, field.name.as_str(), out)?;
+    start_qualified(qualifier, name, out)?;
+    put_text(text, out)?;
+    end_qualified(qualifier, name, out)?;
     Ok(())
 }
 

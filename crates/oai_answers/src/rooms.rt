@@ -56,13 +56,13 @@ fn header_room(item: &Item) -> usize {
 /// The room for the record of the item.
 fn record_room(format: &Format, item: &Item) -> usize {
     let mut room = header_room(item).saturating_add(RECORD_ROOM);
-    for field in fields_in(format.prefix.as_str(), item) {
-        let name = field.name.as_str().len();
+    let mut fields = fields_in(format.prefix.as_str(), item);
+    while let Some(field) = fields.next() {
         room = room
             .saturating_add(FIELD_ROOM)
-            .saturating_add(name)
-            .saturating_add(name);
-        room = room.saturating_add(field.text.as_str().len());
+            .saturating_add(field.name.len())
+            .saturating_add(field.name.len())
+            .saturating_add(field.text.len());
     }
     room
 }

@@ -11,6 +11,7 @@ pub mod Apart
 pub mod Decoded
 pub mod Walking
 pub mod Placed
+pub mod Holding
 pub mod Written
 pub mod Above
 pub mod Flagged

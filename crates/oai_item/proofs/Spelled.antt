@@ -24,7 +24,7 @@ all_both p q (x ∷ xs) h k =
     and_from _ _ (and_from _ _ a.0 b.0) (all_both p q xs a.1 b.1)
 
 -- a test that others imply
-all_so : {A : Type 0} (p q : A → Bool) → ((x : A) → p x ≡ true → q x ≡ true) → (xs : List A) → list_all p xs ≡ true → list_all q xs ≡ true
+pub all_so : {A : Type 0} (p q : A → Bool) → ((x : A) → p x ≡ true → q x ≡ true) → (xs : List A) → list_all p xs ≡ true → list_all q xs ≡ true
 all_so p q so [] h = refl
 all_so p q so (x ∷ xs) h = let a = and_parts (p x) (list_all p xs) h in and_from _ _ (so x a.0) (all_so p q so xs a.1)
 
@@ -61,7 +61,7 @@ parts_spelled bytes item s = record { spelling = s.spelling; few = s.few; parts 
 
 -- ---- and the other way round
 
-text_record_from : (format : Metadata) → is_record format ≡ true → is_text_record format ≡ true
+pub text_record_from : (format : Metadata) → is_record format ≡ true → is_text_record format ≡ true
 text_record_from format h =
     let a = and_parts (is_name_text may_be_prefix format.0) (are_fields format.1) h in
     and_from _ _ (and_parts (may_be_prefix format.0) (is_utf8 format.0) a.0).1 a.1

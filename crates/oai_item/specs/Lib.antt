@@ -11,6 +11,7 @@ pub mod Declaring
 pub mod Encoding
 pub mod Decoding
 pub mod Walks
+pub mod Held
 pub mod InPlace
 pub mod Refusals
 pub mod ShortTexts

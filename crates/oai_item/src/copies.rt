@@ -2,8 +2,9 @@ ghost use Rattle.std.specs.Prelude.{◌≡◌, IfOk, map};
 ghost use Rattle.oai_item.specs.Item.{emptied};
 
 use crate::fields::Field;
-use crate::walks::{SpelledFields, SpelledRecords, SpelledSets};
-use oai_names::{Prefix, Sequence, SetSpec, Text};
+use crate::item_records::ItemRecords;
+use crate::walks::SpelledSets;
+use oai_names::{Prefix, Sequence, SetSpec};
 use std::alloc::{AllocError, Global};
 
 /// Copies of the setSpecs.
@@ -42,16 +43,17 @@ pub(crate) fn copy_fields(alloc: Global, fields: &[Field]) -> Result<Sequence<Fi
     Ok(Sequence::new(copies))
 }
 
-/// The records without their fields.
+/// The records without their fields, in memory.
 pub(crate) fn emptied(
     alloc: Global,
-    records: &[(Prefix, Sequence<Field>)],
+    mut records: ItemRecords<'_>,
 ) -> Result<Sequence<(Prefix, Sequence<Field>)>, AllocError>
-    ensures { IfOk result (λ left. left ≡ map emptied records.now) }
+    ensures { IfOk result (λ left. left ≡ map emptied records.entry) }
 {
     let mut left = Vec::with_capacity(alloc, records.len())?;
-    for (prefix, _) in records {
-        left.push((prefix.copy(alloc)?, Sequence::new(Vec::new(alloc))))?;
+    while let Some(format) = records.next() {
+        let prefix = Prefix::new(alloc, format.prefix)?;
+        left.push((prefix, Sequence::new(Vec::new(alloc))))?;
     }
     Ok(Sequence::new(left))
 }
@@ -66,37 +68,6 @@ pub(crate) fn sets_in_memory(
     let mut copies = Vec::with_capacity(alloc, sets.len())?;
     while let Some(set) = sets.next() {
         copies.push(SetSpec::new(alloc, set)?)?;
-    }
-    Ok(Sequence::new(copies))
-}
-
-/// The records of a spelling, in memory.
-pub(crate) fn records_in_memory(
-    alloc: Global,
-    mut records: SpelledRecords<'_>,
-) -> Result<Sequence<(Prefix, Sequence<Field>)>, AllocError>
-    ensures { IfOk result (λ copies. copies ≡ records.entry) }
-{
-    let mut copies = Vec::with_capacity(alloc, records.len())?;
-    while let Some(format) = records.next() {
-        let prefix = Prefix::new(alloc, format.prefix)?;
-        copies.push((prefix, fields_in_memory(alloc, format.fields)?))?;
-    }
-    Ok(Sequence::new(copies))
-}
-
-/// The fields of a spelling, in memory.
-fn fields_in_memory(
-    alloc: Global,
-    mut fields: SpelledFields<'_>,
-) -> Result<Sequence<Field>, AllocError>
-    ensures { IfOk result (λ copies. copies ≡ fields.entry) }
-{
-    let mut copies = Vec::with_capacity(alloc, fields.len())?;
-    while let Some(field) = fields.next() {
-        let name = Text::new(alloc, field.name)?;
-        let text = Text::new(alloc, field.text)?;
-        copies.push(Field { name, text })?;
     }
     Ok(Sequence::new(copies))
 }

@@ -10,7 +10,7 @@ ghost use Rattle.oai_item.specs.declared.decodings.DecodeFault.TheVariants as fa
 ghost use Rattle.oai_item.specs.SpellingParts.{IsAny, IsCount, IsText, IsNamed, Reads, are_records, are_sets};
 
 use crate::sizes::MAX_ITEM_BYTES;
-use crate::walks::{SpelledField, SpelledFields, SpelledRecord, SpelledRecords, SpelledSets};
+use crate::walks::{FieldTexts, SpelledFields, SpelledRecord, SpelledRecords, SpelledSets};
 use oai_names::{may_be_identifier, may_be_prefix, may_be_set_spec};
 use oai_time::{FIRST_SECOND, LAST_SECOND};
 use std::alloc::AllocError;
@@ -136,13 +136,13 @@ fn read_prefix(bytes: &[u8]) -> Option<(&str, &[u8])>
 }
 
 /// A field from the front, and the bytes after it.
-pub(crate) fn read_field(bytes: &[u8]) -> Option<(SpelledField<'_>, &[u8])>
+pub(crate) fn read_field(bytes: &[u8]) -> Option<(FieldTexts<'_>, &[u8])>
     ensures { Reads (λ a. (record { name = a.0.name.now; text = a.0.text.now }, a.1.now))
         encoded_field (λ field. is_text_field field ≡ true) bytes.now result }
 {
     let (name, rest) = read_text(bytes)?;
     let (text, rest) = read_text(rest)?;
-    Some((SpelledField { name, text }, rest))
+    Some((FieldTexts { name, text }, rest))
 }
 
 /// A record from the front, and the bytes after it.

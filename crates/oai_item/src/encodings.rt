@@ -7,10 +7,11 @@ ghost use Rattle.oai_item.specs.Encoding.{encoded_bool, encoded_count, encoded_f
 ghost use Rattle.oai_item.specs.SpellingParts.{Writes, item_with};
 
 use crate::fields::Field;
+use crate::held_records::HeldRecords;
 use oai_names::{Prefix, Sequence, SetSpec};
 
 /// Writes the bytes at the front, and says how many they are.
-fn put_bytes(out: &mut [u8], bytes: &[u8]) -> usize
+pub(crate) fn put_bytes(out: &mut [u8], bytes: &[u8]) -> usize
     requires { length bytes.now ≤ length out.old }
     ensures { Writes bytes.now out.old result out.new }
 {
@@ -26,19 +27,19 @@ pub(crate) fn put_parts(
     stamp: i64,
     identifier: &str,
     sets: &[SetSpec],
-    formats: &[(Prefix, Sequence<Field>)],
+    records: &HeldRecords,
 ) -> usize
-    requires { length (encoded (item_with live stamp identifier.now sets.now formats.now))
+    requires { length (encoded (item_with live stamp identifier.now sets.now records.now))
         ≤ length out.old }
-    ensures written { Writes (encoded (item_with live stamp identifier.now sets.now formats.now))
+    ensures written { Writes (encoded (item_with live stamp identifier.now sets.now records.now))
         out.old result out.new }
-    ensures texts { is_text_item (item_with live stamp identifier.now sets.now formats.now) ≡ true }
+    ensures texts { is_text_item (item_with live stamp identifier.now sets.now records.now) ≡ true }
 {
     let mut at = put_live(out, live);
     at += put_stamp(&mut out[at..], stamp);
     at += put_text(&mut out[at..], identifier);
     at += put_sets(&mut out[at..], sets);
-    at += put_records(&mut out[at..], formats);
+    at += records.put(&mut out[at..]);
     at
 }
 
@@ -93,7 +94,7 @@ fn put_sets(out: &mut [u8], sets: &[SetSpec]) -> usize
 }
 
 /// Writes a list of records at the front.
-fn put_records(out: &mut [u8], records: &[(Prefix, Sequence<Field>)]) -> usize
+pub(crate) fn put_records(out: &mut [u8], records: &[(Prefix, Sequence<Field>)]) -> usize
     requires { length (encoded_list encoded_record records.now) ≤ length out.old }
     ensures written { Writes (encoded_list encoded_record records.now) out.old result out.new }
     ensures texts { list_all is_text_record records.now ≡ true }

@@ -4,6 +4,7 @@ ghost use Rattle.std.specs.Prelude.{◌≡◌, ◌≤◌, ◌&&◌, ℕ, List, S
 ghost use Rattle.oai_item.specs.Decoding.{item_in};
 ghost use Rattle.std.specs.List.{list_all};
 ghost use Rattle.oai_item.specs.Encoding.{Spells, encoded};
+ghost use Rattle.oai_item.specs.Held.{AreWhole, records_in};
 ghost use Rattle.oai_item.specs.Item.{IsItem, ItemState, are_rising, has_record, have_no_fields, may_be_records};
 ghost use Rattle.oai_item.specs.Membership.{is_in, neither_covers, none_covers};
 ghost use Rattle.oai_item.specs.Order.{item_cmp, place_cmp};
@@ -117,6 +118,15 @@ impl<'a> Spelling<'a> {
     {
         let (_, rest) = first_sets(self.rest);
         first_records(rest)
+    }
+
+    /// The bytes of the list of its records, the end of the spelling.
+    pub(crate) fn records_bytes(&self) -> &'a [u8]
+        ensures spelled { AreWhole result.now }
+        ensures records { records_in result.now ≡ self.now.formats }
+    {
+        let (_, rest) = first_sets(self.rest);
+        rest
     }
 
     /// How the item stands to another in the order of items.

@@ -1,18 +1,21 @@
 ghost use Rattle.std.specs.Prelude.{◌≡◌, ◌≢◌, ◌≤◌, ℕ, List, [], true, length, take, Result, IfOk};
-ghost use Rattle.std.specs.Option.{option_copied, option_map};
+ghost use Rattle.std.specs.List.{list_all};
+ghost use Rattle.std.specs.Option.{option_map};
 ghost use Rattle.oai_item.specs.Encoding.{GivesBack, IsDecoding, IsEncoding, IsMeasure, Spells, encoded};
 ghost use Rattle.oai_item.specs.declared.decodings.DecodeFault.{DecodeFault};
 ghost use Rattle.oai_item.specs.declared.sizes.TheConstants.{MAX_ITEM_BYTES};
 ghost use Rattle.oai_item.specs.Item.{IsItem, IsStamp, ItemState, are_prefixed, are_rising, has_record, live_item, record_named, tombstone_of};
 ghost use Rattle.oai_item.specs.Membership.{NoneCovers, is_in, reduced};
 
-use crate::copies::{copy_records, copy_sets, emptied, records_in_memory, sets_in_memory};
+use crate::copies::{copy_sets, emptied, sets_in_memory};
 use crate::decodings::DecodeFault;
 use crate::encodings::put_parts;
 use crate::fields::Field;
+use crate::held_records::HeldRecords;
 use crate::in_place::Spelling;
+use crate::item_records::{Fields, ItemRecords};
 use crate::reductions::reduced;
-use crate::sizes::{TooLarge, with_records, with_sets, with_text};
+use crate::sizes::{TooLarge, with_sets, with_text};
 use oai_names::{Identifier, Prefix, Sequence, SetSpec};
 use std::alloc::{AllocError, Global};
 use std::marker::Model;
@@ -29,7 +32,7 @@ pub struct Item {
     stamp: i64,
     live: bool,
     sets: Sequence<SetSpec>,
-    formats: Sequence<(Prefix, Sequence<Field>)>,
+    formats: HeldRecords,
 }
 
 impl Model for Item {
@@ -85,7 +88,7 @@ impl Item {
             stamp,
             live: true,
             sets: reduced(alloc, sets)?,
-            formats,
+            formats: HeldRecords::typed(formats),
         })
     }
 
@@ -98,7 +101,7 @@ impl Item {
             stamp: self.stamp,
             live: self.live,
             sets: copy_sets(alloc, self.sets.as_slice())?,
-            formats: copy_records(alloc, self.formats.as_slice())?,
+            formats: self.formats.copy(alloc)?,
         })
     }
 
@@ -114,7 +117,7 @@ impl Item {
             stamp,
             live: false,
             sets: copy_sets(alloc, self.sets.as_slice())?,
-            formats: emptied(alloc, self.formats.as_slice())?,
+            formats: HeldRecords::typed(emptied(alloc, self.formats.walk())?),
         })
     }
 
@@ -150,30 +153,40 @@ impl Item {
     }
 
     /// The record in each format, in the order of the prefixes, at least one.
-    pub fn formats(&self) -> &[(Prefix, Sequence<Field>)]
-        ensures formats { result.now ≡ self.now.formats }
+    pub fn formats(&self) -> ItemRecords<'_>
+        ensures formats { result ≡ self.now.formats }
         ensures valid { IsItem self.now }
     {
-        self.formats.as_slice()
+        self.formats.walk()
     }
 
     /// Whether the item has a record of that prefix. It takes no memory.
     pub fn has_record(&self, prefix: &str) -> bool
         ensures { result ≡ has_record prefix.now self.now.formats }
     {
-        record_named(prefix, self.formats.as_slice()).is_some()
+        has_record(self.formats(), prefix)
+    }
+
+    /// Whether the item has a record in each format of the other one. It takes no memory.
+    pub fn has_each_format(&self, other: &Item) -> bool
+        ensures { result ≡ list_all (λ format. has_record format.0 self.now.formats)
+            other.now.formats }
+    {
+        let mut formats = other.formats();
+        while let Some(format) = formats.next() {
+            if !self.has_record(format.prefix) {
+                return false;
+            }
+        }
+        true
     }
 
     /// The fields of the record of that prefix, or None where the item has no such record. It takes
     /// no memory.
-    pub fn fields_in(&self, prefix: &str) -> Option<&[Field]>
-        ensures { option_copied result
-            ≡ option_map (λ r. r.1) (record_named prefix.now self.now.formats) }
+    pub fn fields_in(&self, prefix: &str) -> Option<Fields<'_>>
+        ensures { result ≡ option_map (λ r. r.1) (record_named prefix.now self.now.formats) }
     {
-        match record_named(prefix, self.formats.as_slice()) {
-            Some((_, fields)) => Some(fields.as_slice()),
-            None => None,
-        }
+        fields_named(self.formats(), prefix)
     }
 
     /// The number of bytes of the item's spelling, where it is stored. The error: they are more than
@@ -183,7 +196,7 @@ impl Item {
     {
         let front = with_text(FIRST_BYTES, self.identifier.as_str())?;
         let middle = with_sets(front, self.sets.as_slice())?;
-        with_records(middle, self.formats.as_slice())
+        self.formats.measured(middle)
     }
 
     /// Writes the item's spelling at the front of the bytes, and leaves those behind it alone. The
@@ -197,8 +210,8 @@ impl Item {
         self.encoded_len()?;
         let identifier = self.identifier.as_str();
         let sets = self.sets.as_slice();
-        let formats = self.formats.as_slice();
-        Ok(put_parts(out, self.live, self.stamp, identifier, sets, formats))
+        let records = &self.formats;
+        Ok(put_parts(out, self.live, self.stamp, identifier, sets, records))
     }
 
     /// The item that the bytes spell, all of them, as `encode_into` writes it; each item has one
@@ -222,20 +235,35 @@ impl Item {
             stamp: spelling.stamp(),
             live: spelling.is_live(),
             sets: sets_in_memory(alloc, spelling.sets())?,
-            formats: records_in_memory(alloc, spelling.records())?,
+            formats: HeldRecords::spelled(alloc, spelling.records_bytes())?,
         })
     }
 }
 
-/// The record of that prefix.
+/// Whether one of the records is of that prefix.
 #[tactic(auto, unfolding(crate::specs::Item::record_named))]
-fn record_named<'a>(
-    prefix: &str,
-    formats: &'a [(Prefix, Sequence<Field>)],
-) -> Option<&'a (Prefix, Sequence<Field>)>
-    ensures { option_copied result ≡ record_named prefix.now formats.now }
+fn has_record(mut records: ItemRecords<'_>, prefix: &str) -> bool
+    ensures { result ≡ has_record prefix.now records.entry }
 {
-    formats.iter().find(|format| format.0.as_str() == prefix)
+    while let Some(format) = records.next() {
+        if format.prefix == prefix {
+            return true;
+        }
+    }
+    false
+}
+
+/// The fields of the record of that prefix.
+#[tactic(auto, unfolding(crate::specs::Item::record_named))]
+fn fields_named<'a>(mut records: ItemRecords<'a>, prefix: &str) -> Option<Fields<'a>>
+    ensures { result ≡ option_map (λ r. r.1) (record_named prefix.now records.entry) }
+{
+    while let Some(format) = records.next() {
+        if format.prefix == prefix {
+            return Some(format.fields);
+        }
+    }
+    None
 }
 
 /// Looks at each prefix, so that what its type says of it, its grammar and its length, is known of

@@ -25,7 +25,7 @@ pub fn limit_law()
 {}
 
 /// The sum, where it is at most `MAX_ITEM_BYTES`.
-fn plus(size: usize, more: usize) -> Result<usize, TooLarge>
+pub(crate) fn plus(size: usize, more: usize) -> Result<usize, TooLarge>
     ensures { IsMeasure (size + more) result }
 {
     match size.checked_add(more) {

@@ -68,9 +68,9 @@ impl<'a> SpelledSets<'a> {
     }
 }
 
-/// A field in the spelling of an item.
+/// The name and the text of a field, in memory or as they are spelled.
 #[derive(Drop)]
-pub struct SpelledField<'a> {
+pub struct FieldTexts<'a> {
     /// Its name.
     pub name: &'a str,
     /// Its text.
@@ -120,7 +120,7 @@ impl<'a> SpelledFields<'a> {
     }
 
     /// Takes the next field, if there is one.
-    pub fn next(&mut self) -> Option<SpelledField<'a>>
+    pub fn next(&mut self) -> Option<FieldTexts<'a>>
         ensures { MatchOption result (self.old ≡ [])
             (λ field. self.old
             ≡ record { name = field.name.now; text = field.text.now } ∷ self.new) }

@@ -1,6 +1,6 @@
 //! What tests say of an item that stands elsewhere.
 use crate::assertions::assert_same;
-use oai_item::{Field, Item};
+use oai_item::{Field, Fields, Item};
 use std::process::Abort;
 
 /// The item has that identifier and datestamp, is live or not, and is in so many sets.
@@ -23,7 +23,17 @@ pub(crate) fn assert_title_field(rt: &impl Abort, field: &Field) {
 /// The item has one field in oai_dc, the title `T`.
 pub(crate) fn assert_title(rt: &impl Abort, item: &Item) {
     match item.fields_in("oai_dc") {
-        Some([field]) => assert_title_field(rt, field),
-        _ => panic!(rt; "not one field"),
+        Some(fields) => assert_title_alone(rt, fields),
+        None => panic!(rt; "no oai_dc"),
     }
+}
+
+/// The fields are one, the title `T`.
+fn assert_title_alone(rt: &impl Abort, mut fields: Fields<'_>) {
+    assert_same(rt, fields.len(), 1);
+    match fields.next() {
+        Some(field) => assert_same(rt, (field.name, field.text), ("title", "T")),
+        None => panic!(rt; "no field"),
+    }
+    assert!(rt; fields.is_empty());
 }

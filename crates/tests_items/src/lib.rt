@@ -11,6 +11,8 @@ mod filled_stores;
 #[cfg(test)]
 mod formats;
 #[cfg(test)]
+mod held_records;
+#[cfg(test)]
 mod in_place;
 #[cfg(test)]
 mod item_assertions;

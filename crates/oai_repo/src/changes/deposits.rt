@@ -227,20 +227,9 @@ fn drops_format(replaced: Option<&Item>, item: &Item) -> bool
     ensures { result ≡ spec.drops_format (option_copied replaced.entry) item.now.formats }
 {
     match replaced {
-        Some(replaced) => !has_each_format(item, replaced),
+        Some(replaced) => !item.has_each_format(replaced),
         None => false,
     }
-}
-
-/// Whether the item has a record in each format of the other one.
-fn has_each_format(item: &Item, other: &Item) -> bool
-    ensures { result ≡ list_all (λ (metadata : Metadata). has_record metadata.0 item.now.formats)
-        other.now.formats }
-{
-    other
-        .formats()
-        .iter()
-        .all(|format| item.has_record(format.0.as_str()))
 }
 
 /// Whether no item is replaced, and the repository may have no more items than the `count` that it has.

@@ -21,5 +21,5 @@ pub returns : goal.returns
 returns c =
     let identifier : length (encoded_text c.as_str.result.now) ≡ length (encoded_text c.args.self.now.identifier) = ap (λ text. length (encoded_text text)) (c.as_str.ensures.text ∙ ap (λ i. i.identifier) c.self.view_is) in
     let sets : length (encoded_list encoded_text c.as_slice.result.now) ≡ length (encoded_list encoded_text c.args.self.now.sets) = ap (λ sets. length (encoded_list encoded_text sets)) (c.as_slice.ensures ∙ ap (λ i. i.sets) c.self.view_is) in
-    let formats : length (encoded_list encoded_record c.as_slice-2.result.now) ≡ length (encoded_list encoded_record c.args.self.now.formats) = ap (λ formats. length (encoded_list encoded_record formats)) (c.as_slice-2.ensures ∙ ap (λ i. i.formats) c.self.view_is) in
-    subst (λ n. IsMeasure n c.with_records.result) (omega (arith, length-encoded c.args.self.now, identifier, sets, formats, c.in_ok-front.ensures, c.in_ok-middle.ensures)) c.with_records.ensures
+    let formats : length (encoded_list encoded_record c.self.inside.formats) ≡ length (encoded_list encoded_record c.args.self.now.formats) = ap (λ i. length (encoded_list encoded_record i.formats)) c.self.view_is in
+    subst (λ n. IsMeasure n c.measured.result) (omega (arith, length-encoded c.args.self.now, identifier, sets, formats, c.in_ok-front.ensures, c.in_ok-middle.ensures)) c.measured.ensures

@@ -14,7 +14,7 @@ invariant_of-result c =
       stamp = c.stamp.result;
       live = c.is_live.result;
       sets = c.in_ok-sets_in_memory.field-0;
-      formats = c.in_ok-records_in_memory.field-0;
+      formats = c.in_ok-spelled.field-0;
     } in
     let identifier : made.identifier ≡ item.identifier = search rules in
     let sets : made.sets ≡ item.sets = search rules in

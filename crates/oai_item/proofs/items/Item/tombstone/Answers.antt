@@ -7,5 +7,5 @@ use Rattle.oai_item.proofs.items.Item.tombstone.Goals as goal
 pub invariant_of-result : goal.invariant_of-result
 invariant_of-result c =
     let fits : FitsSigned w64 c.args.stamp = c.ranges.stamp in
-    rw (c.in_ok-copy.ensures, c.in_ok-copy_sets.ensures, c.as_slice.ensures, c.in_ok-emptied.ensures, c.as_slice-2.ensures)
+    rw (c.in_ok-copy.ensures, c.in_ok-copy_sets.ensures, c.as_slice.ensures, c.typed.ensures, c.in_ok-emptied.ensures, c.walk.ensures)
     (simp to_z-of_z (tombstone_is_item c.args.stamp _ c.requires c.self.invariant))

@@ -1,0 +1,121 @@
+//! The records that an item owns: each in memory of its own, or all of them as the bytes of their spelling.
+
+ghost use Rattle.std.specs.Prelude.{◌≡◌, ◌≤◌, ◌+◌, true, length, IfOk};
+ghost use Rattle.std.specs.List.{list_all};
+ghost use Rattle.oai_item.specs.Encoding.{IsMeasure, encoded_list, encoded_record, is_text_record};
+ghost use Rattle.oai_item.specs.Held.{AreWhole, records_in};
+ghost use Rattle.oai_item.specs.SpellingParts.{Writes};
+
+use crate::copies::copy_records;
+use crate::encodings::{put_bytes, put_records};
+use crate::fields::Field;
+use crate::fronts::first_records;
+use crate::item_records::ItemRecords;
+use crate::sizes::{TooLarge, plus, with_records};
+use oai_names::{Prefix, Sequence};
+use std::alloc::{AllocError, Global};
+use std::marker::Model;
+
+/// How records are held.
+#[derive(Debug, Drop)]
+enum Held {
+    /// Each in memory of its own, as an item has them that is deposited: it may be larger than an item
+    /// that can be spelled.
+    Typed(Sequence<(Prefix, Sequence<Field>)>),
+    /// As the bytes of their spelling, one buffer, as an item has them that comes from a store.
+    Spelled(Sequence<u8>),
+}
+
+/// The records of an item.
+#[derive(Debug, Drop)]
+pub(crate) struct HeldRecords {
+    held: Held,
+}
+
+impl Model for HeldRecords {
+    ghost use Rattle.std.specs.Prelude.{List};
+    ghost use Rattle.oai_item.specs.Item.{Metadata};
+
+    ghost Value = { List Metadata };
+
+    ghost use Rattle.oai_item.specs.Held.{IsHeld, records_held};
+
+    ghost view = { λ records. records_held records.held };
+
+    ghost invariant = { λ records. IsHeld records.held };
+}
+
+impl HeldRecords {
+    /// These records, in the memory that they have.
+    pub(crate) fn typed(records: Sequence<(Prefix, Sequence<Field>)>) -> HeldRecords
+        ensures { result ≡ records }
+    {
+        HeldRecords {
+            held: Held::Typed(records),
+        }
+    }
+
+    /// The records that the bytes spell, all of them, which are copied. The error is out of memory.
+    pub(crate) fn spelled(alloc: Global, bytes: &[u8]) -> Result<HeldRecords, AllocError>
+        requires { AreWhole bytes.now }
+        ensures { IfOk result (λ records. records ≡ records_in bytes.now) }
+    {
+        Ok(HeldRecords {
+            held: Held::Spelled(copy_bytes(alloc, bytes)?),
+        })
+    }
+
+    /// Equal records. The error is out of memory.
+    pub(crate) fn copy(&self, alloc: Global) -> Result<HeldRecords, AllocError>
+        ensures { IfOk result (λ copy. copy ≡ self.now) }
+    {
+        match &self.held {
+            Held::Typed(records) => {
+                let copies = copy_records(alloc, records.as_slice())?;
+                Ok(HeldRecords::typed(copies))
+            }
+            Held::Spelled(bytes) => HeldRecords::spelled(alloc, bytes.as_slice()),
+        }
+    }
+
+    /// The records, one after the other.
+    pub(crate) fn walk(&self) -> ItemRecords<'_>
+        ensures { result ≡ self.now }
+    {
+        match &self.held {
+            Held::Typed(records) => ItemRecords::typed(records.as_slice()),
+            Held::Spelled(bytes) => ItemRecords::spelled(first_records(bytes.as_slice())),
+        }
+    }
+
+    /// So many bytes, and those of the list of the records, spelled.
+    pub(crate) fn measured(&self, size: usize) -> Result<usize, TooLarge>
+        ensures { IsMeasure (size + length (encoded_list encoded_record self.now)) result }
+    {
+        match &self.held {
+            Held::Typed(records) => with_records(size, records.as_slice()),
+            Held::Spelled(bytes) => plus(size, bytes.len()),
+        }
+    }
+
+    /// Writes the list of the records at the front, and says how many bytes it is.
+    pub(crate) fn put(&self, out: &mut [u8]) -> usize
+        requires { length (encoded_list encoded_record self.now) ≤ length out.old }
+        ensures written { Writes (encoded_list encoded_record self.now) out.old result out.new }
+        ensures texts { list_all is_text_record self.now ≡ true }
+    {
+        match &self.held {
+            Held::Typed(records) => put_records(out, records.as_slice()),
+            Held::Spelled(bytes) => put_bytes(out, bytes.as_slice()),
+        }
+    }
+}
+
+/// A copy of the bytes. The error is out of memory.
+fn copy_bytes(alloc: Global, bytes: &[u8]) -> Result<Sequence<u8>, AllocError>
+    ensures { IfOk result (λ copy. copy ≡ bytes.now) }
+{
+    let mut copy = Vec::with_capacity(alloc, bytes.len())?;
+    copy.extend_from_slice(bytes)?;
+    Ok(Sequence::new(copy))
+}

@@ -1,0 +1,191 @@
+//! Walks over the records of an item and their fields, in memory or as they are spelled.
+
+ghost use Rattle.std.specs.Prelude.{◌≡◌, ◌==◌, true, [], ◌∷◌, length, IfSome, MatchOption};
+ghost use Rattle.oai_names.specs.Names.{may_be_prefix};
+
+use crate::fields::Field;
+use crate::walks::{FieldTexts, SpelledFields, SpelledRecords};
+use oai_names::{Prefix, Sequence};
+use std::marker::Model;
+
+/// Where the fields stand that are still to come.
+#[derive(Drop)]
+enum FieldsLeft<'a> {
+    Typed(&'a [Field]),
+    Spelled(SpelledFields<'a>),
+}
+
+/// The fields of a record of an item that are still to come, in order.
+#[derive(Drop)]
+pub struct Fields<'a> {
+    left: FieldsLeft<'a>,
+}
+
+impl<'a> Model for Fields<'a> {
+    ghost use Rattle.std.specs.Prelude.{List};
+    ghost use Rattle.oai_item.specs.declared.fields.Field.{Field};
+
+    ghost Value = { List Field };
+
+    ghost use Rattle.oai_item.specs.Held.{fields_to_come};
+
+    ghost view = { λ fields. fields_to_come fields.left };
+}
+
+impl<'a> Fields<'a> {
+    /// No fields.
+    pub fn none() -> Fields<'a>
+        ensures { result ≡ [] }
+    {
+        Fields::typed(&[])
+    }
+
+    /// Fields in memory.
+    pub(crate) fn typed(fields: &'a [Field]) -> Fields<'a>
+        ensures { result ≡ fields.now }
+    {
+        Fields {
+            left: FieldsLeft::Typed(fields),
+        }
+    }
+
+    /// Fields as they are spelled.
+    pub(crate) fn spelled(fields: SpelledFields<'a>) -> Fields<'a>
+        ensures { result ≡ fields.entry }
+    {
+        Fields {
+            left: FieldsLeft::Spelled(fields),
+        }
+    }
+
+    /// How many fields are to come.
+    pub fn len(&self) -> usize
+        ensures { result ≡ length self.now }
+    {
+        match &self.left {
+            FieldsLeft::Typed(fields) => fields.len(),
+            FieldsLeft::Spelled(fields) => fields.len(),
+        }
+    }
+
+    /// Whether no field is to come.
+    pub fn is_empty(&self) -> bool
+        ensures { result ≡ (length self.now == 0) }
+    {
+        self.len() == 0
+    }
+
+    /// Takes the next field, if there is one.
+    pub fn next(&mut self) -> Option<FieldTexts<'a>>
+        ensures { MatchOption result (self.old ≡ [])
+            (λ field. self.old
+            ≡ record { name = field.name.now; text = field.text.now } ∷ self.new) }
+    {
+        match &mut self.left {
+            FieldsLeft::Typed(fields) => {
+                let (field, rest) = fields.split_first()?;
+                *fields = rest;
+                Some(FieldTexts {
+                    name: field.name.as_str(),
+                    text: field.text.as_str(),
+                })
+            }
+            FieldsLeft::Spelled(fields) => fields.next(),
+        }
+    }
+}
+
+/// A record of an item.
+#[derive(Drop)]
+pub struct ItemRecord<'a> {
+    /// The metadataPrefix of its format.
+    pub prefix: &'a str,
+    /// Its fields.
+    pub fields: Fields<'a>,
+}
+
+/// Where the records stand that are still to come.
+#[derive(Drop)]
+enum RecordsLeft<'a> {
+    Typed(&'a [(Prefix, Sequence<Field>)]),
+    Spelled(SpelledRecords<'a>),
+}
+
+/// The records of an item that are still to come, in the order of their prefixes.
+#[derive(Drop)]
+pub struct ItemRecords<'a> {
+    left: RecordsLeft<'a>,
+}
+
+impl<'a> Model for ItemRecords<'a> {
+    ghost use Rattle.std.specs.Prelude.{List};
+    ghost use Rattle.oai_item.specs.Item.{Metadata};
+
+    ghost Value = { List Metadata };
+
+    ghost use Rattle.oai_item.specs.Held.{records_to_come};
+
+    ghost view = { λ records. records_to_come records.left };
+}
+
+impl<'a> ItemRecords<'a> {
+    /// Records in memory.
+    pub(crate) fn typed(records: &'a [(Prefix, Sequence<Field>)]) -> ItemRecords<'a>
+        ensures { result ≡ records.now }
+    {
+        ItemRecords {
+            left: RecordsLeft::Typed(records),
+        }
+    }
+
+    /// Records as they are spelled.
+    pub(crate) fn spelled(records: SpelledRecords<'a>) -> ItemRecords<'a>
+        ensures { result ≡ records.entry }
+    {
+        ItemRecords {
+            left: RecordsLeft::Spelled(records),
+        }
+    }
+
+    /// How many records are to come.
+    pub fn len(&self) -> usize
+        ensures { result ≡ length self.now }
+    {
+        match &self.left {
+            RecordsLeft::Typed(records) => records.len(),
+            RecordsLeft::Spelled(records) => records.len(),
+        }
+    }
+
+    /// Whether no record is to come.
+    pub fn is_empty(&self) -> bool
+        ensures { result ≡ (length self.now == 0) }
+    {
+        self.len() == 0
+    }
+
+    /// Takes the next record, if there is one.
+    pub fn next(&mut self) -> Option<ItemRecord<'a>>
+        ensures next { MatchOption result (self.old ≡ [])
+            (λ format. self.old ≡ (format.prefix.now, format.fields) ∷ self.new) }
+        ensures name { IfSome result (λ format. may_be_prefix format.prefix.now ≡ true) }
+    {
+        match &mut self.left {
+            RecordsLeft::Typed(records) => {
+                let ((prefix, fields), rest) = records.split_first()?;
+                *records = rest;
+                Some(ItemRecord {
+                    prefix: prefix.as_str(),
+                    fields: Fields::typed(fields.as_slice()),
+                })
+            }
+            RecordsLeft::Spelled(records) => {
+                let format = records.next()?;
+                Some(ItemRecord {
+                    prefix: format.prefix,
+                    fields: Fields::spelled(format.fields),
+                })
+            }
+        }
+    }
+}
