@@ -70,9 +70,7 @@ pub(crate) fn calls_in(rt: &impl Abort, alloc: Global, transcript: &str) -> Vec<
     let mut calls = Vec::new(alloc);
     for line in transcript.lines() {
         if let Some(asked) = line.strip_prefix("> ") {
-            calls
-                .push(call_of(rt, alloc, asked))
-                .expect(rt, "memory");
+            calls.push(call_of(rt, alloc, asked)).expect(rt, "memory");
         }
     }
     calls
