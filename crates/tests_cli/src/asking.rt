@@ -8,7 +8,7 @@ use std::alloc::Global;
 use std::io::{Read, Write};
 use std::panic::Expect;
 use std::process::Abort;
-use tests_fixtures::{wanted_in, worked_configuration};
+use tests_fixtures::worked_configuration;
 
 /// The worked configuration.
 pub(crate) fn config(rt: &impl Abort, alloc: Global) -> Config {
@@ -61,23 +61,4 @@ pub(crate) fn assert_asked(rt: &impl Abort, alloc: Global, input: &str, wanted: 
     assert_same_at(rt, output.as_slice(), wanted.as_bytes(), input);
     let output = written_over_lists(rt, alloc, input);
     assert_same_at(rt, output.as_slice(), wanted.as_bytes(), input);
-}
-
-/// The lines that the transcript asks: those that begin with `> `.
-pub(crate) fn asked_in(rt: &impl Abort, alloc: Global, transcript: &str) -> String {
-    let mut input = String::new(alloc);
-    for line in transcript.lines() {
-        if let Some(asked) = line.strip_prefix("> ") {
-            input.push_str(asked).expect(rt, "memory");
-            input.push('\n').expect(rt, "memory");
-        }
-    }
-    input
-}
-
-/// The lines that the transcript asks are answered as it wants.
-pub(crate) fn assert_transcript(rt: &impl Abort, alloc: Global, transcript: &str) {
-    let input = asked_in(rt, alloc, transcript);
-    let wanted = wanted_in(alloc, transcript).expect(rt, "wanted_in");
-    assert_asked(rt, alloc, input.as_str(), wanted.as_str());
 }

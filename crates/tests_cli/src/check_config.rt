@@ -9,7 +9,7 @@ use std::process::Abort;
 use tests_fixtures::worked_configuration;
 
 /// The text, with another one at the first place where the old one stands.
-pub(crate) fn changed(rt: &impl Abort, alloc: Global, text: &str, old: &str, new: &str) -> String {
+fn changed(rt: &impl Abort, alloc: Global, text: &str, old: &str, new: &str) -> String {
     let Some((front, back)) = text.split_once(old) else {
         panic!(rt; "no {old}")
     };

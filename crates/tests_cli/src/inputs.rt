@@ -2,7 +2,6 @@
 //! where it, the output or memory fails.
 use crate::asking::{assert_asked, performed, stop_of, written};
 use crate::assertions::{assert_same, assert_same_at, assert_shown};
-use crate::transcripts;
 use oai_cli::{Stop, write_answer};
 use oai_host::{Answer, ReadFault, Status};
 use oai_names::Sequence;
@@ -10,7 +9,7 @@ use std::alloc::Global;
 use std::io::{self, ErrorKind, Read, Write};
 use std::panic::Expect;
 use std::process::Abort;
-use tests_fixtures::push_wanted;
+use tests_fixtures::{bad_verb_document, deposit_of_letters, push_wanted};
 
 /// A deposit, an empty line, a line that is no JSON, and a deposit that has no line end.
 fn script() -> &'static str {
@@ -114,7 +113,7 @@ fn long_line(rt: &impl Abort, alloc: Global, bytes: usize) -> String {
 /// What they are answered.
 fn long_line_answer(rt: &impl Abort, alloc: Global) -> String {
     let mut wanted = String::from_str(alloc, "200\n").expect(rt, "memory");
-    push_wanted(transcripts::bad_verb(), &mut wanted).expect(rt, "push_wanted");
+    push_wanted(bad_verb_document(), &mut wanted).expect(rt, "push_wanted");
     wanted.push_str(script_answer()).expect(rt, "memory");
     wanted
 }
@@ -128,24 +127,11 @@ fn line_longer_than_the_buffer(rt: HostRuntime) {
     assert_asked(&rt, alloc, text.as_str(), wanted.as_str());
 }
 
-/// A deposit line of 2,097,152 bytes, as many as a body of a message may have.
-fn longest_deposit(rt: &impl Abort, alloc: Global) -> String {
-    let mut text = String::from_str(alloc, transcripts::front_of_a_long_deposit()).expect(
-        rt, "memory",
-    );
-    for _ in 0..2_097_085u32 {
-        text.push('t').expect(rt, "memory");
-    }
-    text.push_str(transcripts::back_of_a_long_deposit())
-        .expect(rt, "memory");
-    text
-}
-
-/// It is read whole, and its item is too large.
+/// A deposit line of 2,097,152 bytes, as many as a body of a message may have, is read whole, and its item is too large.
 #[test]
 fn longest_deposit_line(rt: HostRuntime) {
     let alloc = rt.alloc();
-    let text = longest_deposit(&rt, alloc);
+    let text = deposit_of_letters(alloc, 2_097_085).expect(&rt, "deposit_of_letters");
     assert_asked(&rt, alloc, text.as_str(), "200\nrefused 11 too-large\n");
 }
 

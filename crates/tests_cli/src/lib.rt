@@ -10,28 +10,14 @@ mod check_config;
 #[cfg(test)]
 mod configurations;
 #[cfg(test)]
-mod exchanges;
-#[cfg(test)]
-mod failing_store;
-#[cfg(test)]
 mod failing_streams;
-#[cfg(test)]
-mod followed_list;
-#[cfg(test)]
-mod harvests;
 #[cfg(test)]
 mod inputs;
 #[cfg(test)]
-mod neighbours;
-#[cfg(test)]
 mod pages;
-#[cfg(test)]
-mod repositories;
 #[cfg(test)]
 mod serve_stream;
 #[cfg(test)]
-mod tokens;
+mod stops;
 #[cfg(test)]
 mod trace_lines;
-#[cfg(test)]
-mod transcripts;

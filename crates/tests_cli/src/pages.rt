@@ -1,6 +1,6 @@
 //! The file that has the pages of a host: how it is opened, what lies in it, and what comes of it where another program
 //! cuts it, or writes over a page.
-use crate::asking::{asked_in, config};
+use crate::asking::config;
 use crate::assertions::{assert_same, assert_same_at, assert_shown};
 use oai_cli::{Stop, ask_lines, empty_file, host_on, read_file};
 use oai_device::{FileDevice, PAGE_BYTES};
@@ -12,7 +12,7 @@ use std::io::{Seek, SeekFrom, Write};
 use std::panic::Expect;
 use std::process::Abort;
 use std::rt::Files;
-use tests_fixtures::wanted_in;
+use tests_fixtures::{asked_in, wanted_in};
 
 /// A host whose pages are in a file.
 type FiledHost = Host<PagedVersions<FileDevice>>;
@@ -130,7 +130,7 @@ fn file_of_pages(rt: HostRuntime) {
     assert_answers(&rt, alloc, &mut host, lines.as_str(), deposited());
     assert_length(&rt, path, 49_152);
     cut(&rt, path, 100);
-    let lines = asked_in(&rt, alloc, asked_of_a_cut_file());
+    let lines = asked_in(alloc, asked_of_a_cut_file()).expect(&rt, "asked_in");
     assert_answers(&rt, alloc, &mut host, lines.as_str(), asked_of_a_cut_file());
     fs::remove_file(&rt, path).expect(&rt, "fs::remove_file");
 }

@@ -7,7 +7,6 @@ use crate::trace_lines::{
     answer_with, but_the_last, later_set_answer, not_found, set_again_answer, set_answer,
     set_message,
 };
-use crate::transcripts;
 use oai_cli::{StreamFault, host_on, serve_stream};
 use oai_device::MemoryDevice;
 use oai_front::{ConnId, Front};
@@ -21,6 +20,7 @@ use std::panic::Expect;
 use std::process::Abort;
 use std::rt::Clock;
 use std::time::Duration;
+use tests_fixtures::identify_document;
 
 /// The moment 1704067200.
 struct StandingClock;
@@ -665,7 +665,7 @@ fn sockets(rt: HostRuntime) {
     let (listener, mut client) = connected(&rt).expect(&rt, "connected");
     let answers = answers_to(&rt, alloc, &mut client, &listener);
     let mut wanted = String::from_str(alloc, set_answer()).expect(&rt, "memory");
-    let document = answer_with(&rt, alloc, transcripts::identify());
+    let document = answer_with(&rt, alloc, identify_document());
     wanted.push_str(document.as_str()).expect(&rt, "memory");
     assert_same(&rt, answers.as_slice(), wanted.as_bytes());
 }

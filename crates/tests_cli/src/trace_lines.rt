@@ -3,7 +3,6 @@ use crate::asking::config;
 use crate::assertions::{assert_same, assert_same_at};
 use crate::failing_streams::{FailingReader, FailingWriter};
 use crate::inputs::{CountingWriter, EmptyLines};
-use crate::transcripts;
 use oai_catalogue::PlainVersions;
 use oai_cli::{MAX_CONNECTIONS, Stop, host_on, host_over, trace_lines};
 use oai_device::MemoryDevice;
@@ -12,7 +11,7 @@ use std::alloc::{AllocError, Global};
 use std::io::{Read, Write};
 use std::panic::Expect;
 use std::process::Abort;
-use tests_fixtures::push_wanted;
+use tests_fixtures::{identify_document, push_wanted};
 
 /// Traces the lines that the reader gives on a new host over pages in memory, as the program does; why that
 /// stopped, if it did.
@@ -337,7 +336,7 @@ fn bytes_in_turns(rt: HostRuntime) {
         );
     }
     let mut wanted = String::new(alloc);
-    push_document(&rt, alloc, 1, transcripts::identify(), &mut wanted);
+    push_document(&rt, alloc, 1, identify_document(), &mut wanted);
     push_document(&rt, alloc, 2, second(), &mut wanted);
     assert_traced(&rt, alloc, lines.as_str(), wanted.as_str(), Ok(()));
 }

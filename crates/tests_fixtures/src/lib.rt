@@ -1,13 +1,18 @@
-//! What tests of several crates share: the worked configuration and the shorthand of transcripts;
-//! repositories for tests, one with a store of its own, and two in one store. It holds no tests.
+//! What tests of several crates share: the worked configuration and texts of the worked exchanges; the
+//! shorthand of transcripts, and exchanges as their lines; repositories for tests, one with a store of its
+//! own, and two in one store. It holds no tests.
 #![tactic(auto)]
 
 mod archives;
+mod exchanges;
 mod shared;
 mod stocked;
 mod transcripts;
+mod worked;
 
 pub use archives::{Told, archive_a, archive_b, archive_c, settings_of};
+pub use exchanges::{ExchangeLine, answer_to, body_of, exchange_in, write_exchanged};
 pub use shared::{Shared, Which};
 pub use stocked::Stocked;
-pub use transcripts::{document_head, push_wanted, wanted_in, worked_configuration};
+pub use transcripts::{asked_in, document_head, push_wanted, wanted_in, worked_configuration};
+pub use worked::{bad_verb_document, deposit_of_letters, identify_document};

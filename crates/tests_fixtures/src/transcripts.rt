@@ -41,6 +41,18 @@ pub fn wanted_in(alloc: Global, transcript: &str) -> Result<String, AllocError> 
     Ok(wanted)
 }
 
+/// The lines that a transcript asks, without their `> `, each with its end. The error is out of memory.
+pub fn asked_in(alloc: Global, transcript: &str) -> Result<String, AllocError> {
+    let mut asked = String::new(alloc);
+    for line in transcript.lines() {
+        if let Some(line) = line.strip_prefix("> ") {
+            asked.push_str(line)?;
+            asked.push('\n')?;
+        }
+    }
+    Ok(asked)
+}
+
 /// Adds a line of what a transcript wants: `DOC ` in front stands for what every document begins with,
 /// and `{dc}` for the start tag of a record in oai_dc. The error is out of memory.
 pub fn push_wanted(line: &str, wanted: &mut String) -> Result<(), AllocError> {

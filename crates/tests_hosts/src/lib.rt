@@ -1,4 +1,4 @@
-//! Tests of many repositories behind one door (`oai_host`). It holds nothing else.
+//! Tests of many repositories behind one door (`oai_host`), as transcripts of their exchanges. It holds nothing else.
 #![tactic(auto)]
 
 #[cfg(test)]
@@ -16,24 +16,12 @@ mod limits;
 #[cfg(test)]
 mod many_sets;
 #[cfg(test)]
-mod neighbours;
-#[cfg(test)]
 mod pages;
 #[cfg(test)]
 mod refusals;
 #[cfg(test)]
 mod refused_memory;
 #[cfg(test)]
-mod runs;
-#[cfg(test)]
 mod sample_host;
-#[cfg(test)]
-mod script;
-#[cfg(test)]
-mod script_failures;
-#[cfg(test)]
-mod script_lies;
-#[cfg(test)]
-mod script_runs;
 #[cfg(test)]
 mod transcripts;

@@ -1,122 +1,28 @@
-//! Transcripts of a host: lines that begin with `> ` are exchanges, the others are answered. An exchange
-//! is a moment, the method and the target with a space between, and behind each of two ` | ` the type of
-//! the body, `-` where there is none, and the body; `¶` in a body is a line end. An answer is the number of
-//! its status, what else it has, each with a word before it, a line end, and its body. 1704067200 is
-//! 2024-01-01T00:00:00Z.
+//! Transcripts of a host: lines that begin with `> ` are exchanges, the others are answered, as the `exchanges` of
+//! `tests_fixtures` have it. 1704067200 is 2024-01-01T00:00:00Z.
 use crate::assertions::assert_same_at;
 use crate::sample_host::{host, paged};
 use oai_catalogue::{PlainVersions, Versions};
 use oai_device::MemoryDevice;
-use oai_host::{Answer, Exchange, Host};
-use oai_item::Fault;
-use std::alloc::{AllocError, Global};
-use std::io::{self, Write};
+use oai_host::Host;
+use std::alloc::Global;
 use std::panic::Expect;
 use std::process::Abort;
-use tests_fixtures::wanted_in;
-
-// ---- exchanges
-
-/// An exchange and its moment, as a line has them.
-#[derive(Clone, Copy)]
-pub(crate) struct Told<'a> {
-    pub(crate) moment: i64,
-    pub(crate) method: &'a str,
-    pub(crate) target: &'a str,
-    pub(crate) content_type: Option<&'a str>,
-    pub(crate) body: &'a str,
-}
-
-/// The exchange in the line, and its moment.
-pub(crate) fn told_in<'a>(rt: &impl Abort, line: &'a str) -> Told<'a> {
-    let mut parts = line.split(" | ");
-    let mut words = parts.next().unwrap_or("").split(' ');
-    let moment = words
-        .next()
-        .unwrap_or("")
-        .parse::<i64>()
-        .expect(rt, "parse");
-    let Some(method) = words.next() else {
-        panic!(rt; "no method: {line}")
-    };
-    let content_type = match parts.next() {
-        Some("-") => None,
-        other => other,
-    };
-    Told {
-        moment,
-        method,
-        target: words.next().unwrap_or(""),
-        content_type,
-        body: parts.next().unwrap_or(""),
-    }
-}
-
-/// The body, in which each `¶` is a line end.
-pub(crate) fn body_of(alloc: Global, told: Told<'_>) -> Result<String, AllocError> {
-    told.body.replace(alloc, "¶", "\n")
-}
-
-/// What the host answers to it, with that body.
-pub(crate) fn answer_to<V: Versions + Drop>(
-    host: &mut Host<V>,
-    told: Told<'_>,
-    body: &str,
-) -> Answer {
-    let exchange = Exchange {
-        method: told.method.as_bytes(),
-        target: told.target.as_bytes(),
-        content_type: match told.content_type {
-            Some(value) => Some(value.as_bytes()),
-            None => None,
-        },
-        body: body.as_bytes(),
-    };
-    host.exchange(told.moment, &exchange)
-}
-
-// ---- answers
-
-/// What a fault is called.
-fn name_of(fault: Fault) -> &'static str {
-    match fault {
-        Fault::NoMemory => "NoMemory",
-        Fault::Device => "Device",
-        Fault::Damaged => "Damaged",
-        Fault::TooManyPages => "TooManyPages",
-    }
-}
-
-/// Writes an answer.
-pub(crate) fn write_answer(answer: &Answer, output: &mut Vec<u8>) -> io::Result<()> {
-    write!(output, "{}", answer.status.number())?;
-    if let Some(seconds) = answer.seconds {
-        write!(output, " after {seconds}")?;
-    }
-    if let Some(done) = answer.done {
-        write!(output, " done {done}")?;
-    }
-    if let Some(fault) = answer.fault {
-        write!(output, " for {}", name_of(fault))?;
-    }
-    output.write_all(b"\n")?;
-    output.write_all(answer.body.as_slice())
-}
+use tests_fixtures::{answer_to, body_of, exchange_in, wanted_in, write_exchanged};
 
 /// Performs an exchange, and writes what it is answered.
 fn write_line<V: Versions + Drop>(
     rt: &impl Abort,
     alloc: Global,
     host: &mut Host<V>,
-    told: Told<'_>,
+    line: &str,
     output: &mut Vec<u8>,
 ) {
-    let body = body_of(alloc, told).expect(rt, "body_of");
-    let answer = answer_to(host, told, body.as_str());
-    write_answer(&answer, output).expect(rt, "write_answer");
+    let line = exchange_in(line).expect(rt, "exchange_in");
+    let body = body_of(alloc, line).expect(rt, "body_of");
+    let answer = answer_to(host, line, body.as_str());
+    write_exchanged(&answer, output).expect(rt, "write_exchanged");
 }
-
-// ---- transcripts
 
 /// What the host answers to the transcript's exchanges.
 fn answers_to_all<V: Versions + Drop>(
@@ -128,7 +34,7 @@ fn answers_to_all<V: Versions + Drop>(
     let mut output = Vec::new(alloc);
     for line in transcript.lines() {
         if let Some(asked) = line.strip_prefix("> ") {
-            write_line(rt, alloc, host, told_in(rt, asked), &mut output);
+            write_line(rt, alloc, host, asked, &mut output);
         }
     }
     output

@@ -3,7 +3,6 @@
 use crate::assertions::assert_same_at;
 use crate::sample_host::{host, paged};
 use crate::script::{Form, long, script, short};
-use crate::transcripts::{Told, answer_to, body_of, told_in, write_answer};
 use oai_catalogue::{PlainVersions, Versions};
 use oai_device::{FaultyDevice, MemoryDevice, PageDevice};
 use oai_host::{Answer, Host};
@@ -13,16 +12,16 @@ use std::alloc::Global;
 use std::panic::Expect;
 use std::process::Abort;
 use tests_devices::RefusingDevice;
-use tests_fixtures::wanted_in;
+use tests_fixtures::{ExchangeLine, answer_to, body_of, exchange_in, wanted_in, write_exchanged};
 use tests_stores::{failing, refusing};
 
 // ---- exchanges of a script
 
 /// An exchange of a transcript, and what it is answered.
-pub(crate) fn step_in<'a>(rt: &impl Abort, step: &'a str) -> (Told<'a>, &'a str) {
+pub(crate) fn step_in<'a>(rt: &impl Abort, step: &'a str) -> (ExchangeLine<'a>, &'a str) {
     let step = step.strip_prefix("> ").unwrap_or(step);
     match step.split_once("\n") {
-        Some((asked, wanted)) => (told_in(rt, asked), wanted),
+        Some((asked, wanted)) => (exchange_in(asked).expect(rt, "exchange_in"), wanted),
         None => panic!(rt; "no answer: {step}"),
     }
 }
@@ -32,7 +31,7 @@ pub(crate) fn answer_of<V: Versions + Drop>(
     rt: &impl Abort,
     alloc: Global,
     host: &mut Host<V>,
-    told: Told<'_>,
+    told: ExchangeLine<'_>,
 ) -> Answer {
     let body = body_of(alloc, told).expect(rt, "body_of");
     answer_to(host, told, body.as_str())
@@ -44,16 +43,16 @@ pub(crate) fn assert_written(
     alloc: Global,
     answer: &Answer,
     wanted: &str,
-    told: Told<'_>,
+    told: ExchangeLine<'_>,
 ) {
     let mut output = Vec::new(alloc);
-    write_answer(answer, &mut output).expect(rt, "write_answer");
+    write_exchanged(answer, &mut output).expect(rt, "write_exchanged");
     let wanted = wanted_in(alloc, wanted).expect(rt, "wanted_in");
     assert_same_at(rt, output.as_slice(), wanted.as_bytes(), told.target);
 }
 
 /// What an exchange is answered that fails for that cause; a deposit has one line, which is not done.
-pub(crate) fn failed(fault: Fault, told: Told<'_>) -> &'static str {
+pub(crate) fn failed(fault: Fault, told: ExchangeLine<'_>) -> &'static str {
     match (fault, told.body.is_empty()) {
         (Fault::NoMemory, true) => "503 after 60 for NoMemory",
         (Fault::NoMemory, false) => "503 after 60 done 0 for NoMemory",

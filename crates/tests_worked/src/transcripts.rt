@@ -9,10 +9,6 @@ pub(crate) fn asking_for_identify() -> &'static str {
 -9223372036854775808 GET /oai/a?verb=Identify ignored"
 }
 
-pub(crate) fn identify() -> &'static str {
-    r#"DOC <responseDate>2024-01-01T00:00:00Z</responseDate><request verb="Identify">http://host.example/oai/a</request><Identify><repositoryName>Archive A</repositoryName><baseURL>http://host.example/oai/a</baseURL><protocolVersion>2.0</protocolVersion><adminEmail>a@host.example</adminEmail><earliestDatestamp>2024-01-01T00:00:00Z</earliestDatestamp><deletedRecord>persistent</deletedRecord><granularity>YYYY-MM-DDThh:mm:ssZ</granularity></Identify></OAI-PMH>"#
-}
-
 pub(crate) fn with_bad_verbs() -> &'static str {
     "1704067200 GET /oai/a?verb=Identify&verb=Identify
 1704067200 GET /oai/a?
@@ -20,10 +16,6 @@ pub(crate) fn with_bad_verbs() -> &'static str {
 1704067200 GET /oai/a?verb=identify
 1704067200 GET /oai/a?verb=Identify%00
 1704067200 POST /oai/a?verb=Identify"
-}
-
-pub(crate) fn bad_verb() -> &'static str {
-    r#"DOC <responseDate>2024-01-01T00:00:00Z</responseDate><request>http://host.example/oai/a</request><error code="badVerb">The verb is missing, repeated or illegal.</error></OAI-PMH>"#
 }
 
 pub(crate) fn with_bad_arguments() -> &'static str {
@@ -201,16 +193,6 @@ pub(crate) fn short_deposit() -> &'static str {
     "1704067200 POST /deposit/a {\"deposit\":\"oai:a:1\",\"sets\":[],\"records\":{\"oai_dc\":[[\"title\",\"T\"]]}}\n"
 }
 
-/// What stands before the text of the title.
-pub(crate) fn front_of_a_long_deposit() -> &'static str {
-    "1704067200 POST /deposit/a {\"deposit\":\"oai:a:1\",\"sets\":[],\"records\":{\"oai_dc\":[[\"title\",\""
-}
-
-/// What stands behind it.
-pub(crate) fn back_of_a_long_deposit() -> &'static str {
-    "\"]]}}\n"
-}
-
 pub(crate) fn accepted() -> &'static str {
     "200\nok 2024-01-01T00:00:00Z\n"
 }
@@ -225,16 +207,4 @@ pub(crate) fn request_of_the_item() -> &'static str {
 
 pub(crate) fn short_record() -> &'static str {
     r#"DOC <responseDate>2024-01-01T00:00:00Z</responseDate><request verb="GetRecord" identifier="oai:a:1" metadataPrefix="oai_dc">http://host.example/oai/a</request><GetRecord><record><header><identifier>oai:a:1</identifier><datestamp>2024-01-01T00:00:00Z</datestamp></header><metadata>{dc}<dc:title>T</dc:title></oai_dc:dc></metadata></record></GetRecord></OAI-PMH>"#
-}
-
-pub(crate) fn bad_lines() -> &'static str {
-    "x
-1
-1 GET
-+1 GET /
-1.0 GET /
- 1 GET /
-9223372036854775808 GET /
-- GET /
- "
 }

@@ -5,7 +5,6 @@ ghost use Rattle.std.specs.Prelude.{◌≤◌};
 use crate::assertions::assert_same;
 use crate::runs::{answers_to, call};
 use crate::sample_host::paged;
-use crate::transcripts::write_answer;
 use oai_catalogue::PlainVersions;
 use oai_device::MemoryDevice;
 use oai_host::{Answer, Call};
@@ -13,6 +12,7 @@ use std::alloc::{AllocError, Global};
 use std::panic::Expect;
 use std::process::Abort;
 use std::str;
+use tests_fixtures::write_exchanged;
 
 /// How many exchanges there are; that of a number is at the repository of what is left of it by 3.
 const EXCHANGES: u8 = 200;
@@ -102,7 +102,7 @@ fn written(rt: &impl Abort, alloc: Global, answers: &[Answer], of: usize, by: us
     let mut output = Vec::new(alloc);
     for (number, answer) in answers.iter().enumerate() {
         if number % by == of {
-            write_answer(answer, &mut output).expect(rt, "write_answer");
+            write_exchanged(answer, &mut output).expect(rt, "write_exchanged");
         }
     }
     output

@@ -1,7 +1,6 @@
 //! Exchanges one after the other, as one call.
 use crate::assertions::{assert_same, assert_same_at};
 use crate::sample_host::{host, paged};
-use crate::transcripts::{Told, body_of, told_in, write_answer};
 use oai_catalogue::{PlainVersions, Versions};
 use oai_device::MemoryDevice;
 use oai_host::{Answer, Call, Host};
@@ -9,7 +8,7 @@ use oai_names::Sequence;
 use std::alloc::Global;
 use std::panic::Expect;
 use std::process::Abort;
-use tests_fixtures::wanted_in;
+use tests_fixtures::{ExchangeLine, body_of, exchange_in, wanted_in, write_exchanged};
 use tests_stores::failing;
 
 // ---- calls
@@ -44,16 +43,17 @@ pub(crate) fn call(
     }
 }
 
-/// The call that this describes.
-fn call_of(rt: &impl Abort, alloc: Global, told: Told<'_>) -> Call {
-    let body = body_of(alloc, told).expect(rt, "body_of");
-    let Told {
+/// The call that the line describes.
+fn call_of(rt: &impl Abort, alloc: Global, line: &str) -> Call {
+    let line = exchange_in(line).expect(rt, "exchange_in");
+    let body = body_of(alloc, line).expect(rt, "body_of");
+    let ExchangeLine {
         moment,
         method,
         target,
         content_type,
         ..
-    } = told;
+    } = line;
     call(
         rt,
         alloc,
@@ -70,9 +70,7 @@ pub(crate) fn calls_in(rt: &impl Abort, alloc: Global, transcript: &str) -> Vec<
     let mut calls = Vec::new(alloc);
     for line in transcript.lines() {
         if let Some(asked) = line.strip_prefix("> ") {
-            calls
-                .push(call_of(rt, alloc, told_in(rt, asked)))
-                .expect(rt, "memory");
+            calls.push(call_of(rt, alloc, asked)).expect(rt, "memory");
         }
     }
     calls
@@ -95,7 +93,7 @@ pub(crate) fn answers_to<V: Versions + Drop>(
 fn written(rt: &impl Abort, alloc: Global, answers: &[Answer]) -> Vec<u8> {
     let mut output = Vec::new(alloc);
     for answer in answers {
-        write_answer(answer, &mut output).expect(rt, "write_answer");
+        write_exchanged(answer, &mut output).expect(rt, "write_exchanged");
     }
     output
 }

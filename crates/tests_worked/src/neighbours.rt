@@ -1,8 +1,7 @@
 //! One repository while much is deposited at another: what it is asked, and what it is answered, are the same, however
 //! few pages the cache of both has.
-use crate::asking::{asked_in, assert_transcript};
+use crate::asking::assert_transcript;
 use crate::assertions::{assert_same, assert_same_at};
-use crate::check_config::changed;
 use oai_cli::{ask_lines, config_in, host_on};
 use oai_device::MemoryDevice;
 use oai_host::Host;
@@ -10,7 +9,7 @@ use oai_paged::PagedVersions;
 use std::alloc::Global;
 use std::panic::Expect;
 use std::process::Abort;
-use tests_fixtures::{wanted_in, worked_configuration};
+use tests_fixtures::{asked_in, wanted_in, worked_configuration};
 
 /// A host over pages in memory.
 type PagedHost = Host<PagedVersions<MemoryDevice>>;
@@ -46,8 +45,9 @@ const BETWEEN: u64 = 40;
 /// The worked configuration, with a cache of so many pages.
 fn configuration(rt: &impl Abort, alloc: Global, cache: u64) -> String {
     let told = format!(in alloc; "\"cache\":{cache},").expect(rt, "memory");
-    let text = worked_configuration();
-    changed(rt, alloc, text, "\"cache\":1,", told.as_str())
+    worked_configuration()
+        .replace(alloc, "\"cache\":1,", told.as_str())
+        .expect(rt, "memory")
 }
 
 /// The host of three repositories, whose cache has so many pages.
@@ -113,7 +113,7 @@ fn lists_alone(rt: HostRuntime) {
 /// What is answered where 200 records are deposited at the other repository meanwhile, with a cache of so many pages.
 fn answered_between(rt: &impl Abort, alloc: Global, cache: u64) -> Vec<u8> {
     let mut host = host(rt, alloc, cache);
-    let lines = asked_in(rt, alloc, lists_asked());
+    let lines = asked_in(alloc, lists_asked()).expect(rt, "asked_in");
     let mut output = Vec::new(alloc);
     ask_between(rt, alloc, &mut host, lines.as_str(), &mut output);
     output

@@ -1,0 +1,20 @@
+//! Tests of a host by many exchanges: as one run, of repositories in turns, and where each call of a store or a device fails in turn
+//! (`oai_host`, `oai_served`). It holds nothing else.
+#![tactic(auto)]
+
+#[cfg(test)]
+mod assertions;
+#[cfg(test)]
+mod neighbours;
+#[cfg(test)]
+mod runs;
+#[cfg(test)]
+mod sample_host;
+#[cfg(test)]
+mod script;
+#[cfg(test)]
+mod script_failures;
+#[cfg(test)]
+mod script_lies;
+#[cfg(test)]
+mod script_runs;

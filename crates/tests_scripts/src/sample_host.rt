@@ -1,0 +1,25 @@
+//! The host of the worked configuration.
+use oai_catalogue::Versions;
+use oai_device::PageDevice;
+use oai_host::{Config, Host};
+use oai_paged::PagedVersions;
+use oai_served::store_on;
+use std::alloc::Global;
+use std::panic::Expect;
+use std::process::Abort;
+use tests_fixtures::worked_configuration;
+
+/// The worked configuration.
+fn config(rt: &impl Abort, alloc: Global) -> Config {
+    Config::read(alloc, worked_configuration().as_bytes()).expect(rt, "Config::read")
+}
+
+/// A new host of it over the store.
+pub(crate) fn host<V: Versions + Drop>(rt: &impl Abort, alloc: Global, store: V) -> Host<V> {
+    Host::new(alloc, config(rt, alloc), store).expect(rt, "Host::new")
+}
+
+/// An empty store over pages of the device, with the cache of the worked configuration.
+pub(crate) fn paged<D: PageDevice>(rt: &impl Abort, alloc: Global, device: D) -> PagedVersions<D> {
+    store_on(alloc, &config(rt, alloc), device).expect(rt, "store_on")
+}
