@@ -7,11 +7,12 @@
 #              one, and behind an answered 503 the message
 #   clock      commands at a later moment, each on a host of its own: behind one that is refused, Identify at the first moment
 #   token      the token of a list's second part: where it is refused, that of the third part is none that was handed out; then the token again
-# Answers and pages must be those of the undisturbed run. Of each it prints how many requests for memory it makes behind those that make the host, how
+#   copy       a harvester's copy that catches up with one harvest after the other: where a call is refused, its items are as before; then it again
+# Answers and pages, and the items of the copy, must be those of the undisturbed run. Of each it prints how many requests for memory it makes behind those that make the host, how
 # many of them were refused and answered so, how many were refused with no answer changed, and each that ended in a fault or was answered
 # otherwise. The last line is `N refused, M differences`, and the status is 0 where M is 0. LETTERS is how long the title of the first item
 # is, 1 if not given. COPY is a folder for the copy, which then stays. It stands beside the gate, and needs rt and python3.
-# Usage: scripts/refuse-growth.sh [LETTERS [exchange|run|pieces|clock|token]..]
+# Usage: scripts/refuse-growth.sh [LETTERS [exchange|run|pieces|clock|token|copy]..]
 set -u
 cd "$(dirname "$0")/.." || exit 2
 if ! command -v rt >/dev/null; then
@@ -20,7 +21,7 @@ if ! command -v rt >/dev/null; then
 fi
 letters=${1:-1}
 shift $(($# > 0))
-(($#)) || set -- exchange run pieces clock token
+(($#)) || set -- exchange run pieces clock token copy
 copy=${COPY:-$(mktemp -d)}
 trap '[ -n "${COPY:-}" ] || rm -rf "$copy"' EXIT
 mkdir -p "$copy/crates"
@@ -33,19 +34,165 @@ for crate in crates/oai_*; do
 done
 {
     grep -E '^oai_' crates.txt
-    echo 'refuse_growth: oai_names oai_item oai_catalogue oai_device oai_pool oai_paged oai_http oai_host oai_front oai_served'
+    echo 'refuse_growth: oai_names oai_item oai_catalogue oai_device oai_pool oai_paged oai_http oai_host oai_front oai_served oai_copy'
 } >"$copy/crates.txt"
 program=$copy/crates/refuse_growth
 mkdir -p "$program"/{src,specs,proofs}
 : >"$program/specs/Lib.antt"
 : >"$program/proofs/Lib.antt"
 python3 -B scripts/refuse_growth.py steps "$letters" >"$program/src/steps.rt" || exit 2
+cat >"$program/src/copies.rt" <<'RATTLE'
+//! A harvester's copy while a request for memory is refused.
+use crate::{Course, Outside, spend};
+use oai_copy::Copy;
+use oai_item::{Field, Item};
+use oai_names::{Identifier, Prefix, Sequence, SetSpec, Text};
+use std::alloc::{AllocError, Global};
+use std::io::Write;
+use std::str::from_utf8;
+
+/// An item in short: the number in its identifier, the second of its datestamp, and whether it is live.
+type Told = (u8, u8, bool);
+
+/// How many harvests there are.
+const HARVESTS: u8 = 6;
+
+/// The items of a harvest: three of a new copy, thirty, some of these anew, several states of one, none, and one before all others.
+fn harvest(alloc: Global, number: u8) -> Result<Vec<Told>, AllocError> {
+    let mut told = Vec::new(alloc);
+    match number {
+        0 => told.extend_from_slice(&[(30, 0, true), (10, 0, true), (20, 0, true)])?,
+        1 => {
+            for item in 10..40u8 {
+                told.push((49u8.wrapping_sub(item), 1, true))?;
+            }
+        }
+        2 => told.extend_from_slice(&[(39, 2, true), (17, 2, false), (25, 2, true)])?,
+        3 => told.extend_from_slice(&[(25, 3, false), (60, 3, true), (25, 4, true), (60, 4, false), (25, 5, true)])?,
+        4 => (),
+        _ => told.push((0, 6, true))?,
+    }
+    Ok(told)
+}
+
+/// The value, or an error in place of any other fault.
+fn made<T: Drop, F: Drop>(answer: Result<T, F>) -> Result<T, AllocError> {
+    match answer {
+        Ok(value) => Ok(value),
+        Err(_) => Err(AllocError),
+    }
+}
+
+/// The identifier of that number.
+fn identifier(alloc: Global, number: u8) -> Result<Identifier, AllocError> {
+    let mut text = Vec::new(alloc);
+    made(write!(text, "oai:a:{number}"))?;
+    let text = made(from_utf8(text.as_slice()))?;
+    made(Identifier::read(alloc, text))
+}
+
+/// Records in oai_dc, with a title.
+fn records(alloc: Global) -> Result<Sequence<(Prefix, Sequence<Field>)>, AllocError> {
+    let mut fields = Vec::new(alloc);
+    let (name, text) = (Text::new(alloc, "title")?, Text::new(alloc, "T")?);
+    fields.push(Field { name, text })?;
+    let prefix = made(Prefix::read(alloc, "oai_dc"))?;
+    let mut records = Vec::new(alloc);
+    records.push((prefix, Sequence::new(fields)))?;
+    Ok(Sequence::new(records))
+}
+
+/// The item that this describes, which is in a set.
+fn item(alloc: Global, told: Told) -> Result<Item, AllocError> {
+    let (number, second, is_live) = told;
+    let stamp = 1_704_067_200i64.wrapping_add(i64::from(second));
+    let mut sets = Vec::new(alloc);
+    sets.push(made(SetSpec::read(alloc, "x"))?)?;
+    let item = Item::live(alloc, identifier(alloc, number)?, stamp, Sequence::new(sets), records(alloc)?)?;
+    if is_live {
+        return Ok(item);
+    }
+    item.tombstone(alloc, stamp)
+}
+
+/// The items of that harvest.
+fn items(alloc: Global, number: u8) -> Result<Vec<Item>, AllocError> {
+    let mut items = Vec::new(alloc);
+    for told in harvest(alloc, number)? {
+        items.push(item(alloc, told)?)?;
+    }
+    Ok(items)
+}
+
+/// What a copy holds that has caught up with so many harvests.
+fn caught_up(alloc: Global, harvests: u8) -> Result<Copy, AllocError> {
+    let mut copy = Copy::new(alloc);
+    for number in 0..harvests {
+        copy.catch_up(items(alloc, number)?.as_slice())?;
+    }
+    Ok(copy)
+}
+
+/// Whether the two items have the same bytes, where they are stored.
+fn is_same(first: &Item, second: &Item) -> bool {
+    let (mut one, mut other) = ([0u8; 200], [0u8; 200]);
+    let sizes = (first.encode_into(&mut one), second.encode_into(&mut other));
+    sizes.0.is_ok() && sizes.1.is_ok() && one.as_slice() == other.as_slice()
+}
+
+/// Whether the two copies hold the same items.
+fn are_same(first: &Copy, second: &Copy) -> bool {
+    let (one, other) = (first.items(), second.items());
+    one.len() == other.len() && one.iter().zip(other).all(|(a, b)| is_same(a, b))
+}
+
+/// A copy that catches up, once more where it is refused memory, goes from the one to the other.
+fn catch_up_course(copy: &mut Copy, harvest: &[Item], before: &Copy, behind: &Copy) -> Course {
+    if copy.catch_up(harvest).is_ok() {
+        return Course { refused: 0, differs: !are_same(copy, behind) };
+    }
+    let kept = are_same(copy, before);
+    let again = copy.catch_up(harvest).is_ok();
+    Course { refused: 1, differs: !kept || !again || !are_same(copy, behind) }
+}
+
+/// The copies of an undisturbed run, before the first harvest and behind each.
+fn undisturbed(alloc: Global) -> Result<Vec<Copy>, AllocError> {
+    let mut copies = Vec::new(alloc);
+    copies.push(Copy::new(alloc))?;
+    for number in 1..=HARVESTS {
+        copies.push(caught_up(alloc, number)?)?;
+    }
+    Ok(copies)
+}
+
+/// One harvest after the other.
+pub(crate) fn by_copy(alloc: Global, requests: u64) -> Result<Course, Outside> {
+    let copies = undisturbed(alloc)?;
+    let mut harvests = Vec::new(alloc);
+    for number in 0..HARVESTS {
+        harvests.push(items(alloc, number)?)?;
+    }
+    let mut course = Course { refused: 0, differs: false };
+    spend(alloc, requests)?;
+    let mut copy = Copy::new(alloc);
+    for (pair, harvest) in copies.as_slice().windows(2).zip(harvests.as_slice()) {
+        let [before, behind] = pair else { continue };
+        let one = catch_up_course(&mut copy, harvest.as_slice(), before, behind);
+        course.refused = course.refused.wrapping_add(one.refused);
+        course.differs = course.differs || one.differs;
+    }
+    Ok(course)
+}
+RATTLE
 cat >"$program/src/main.rt" <<'RATTLE'
 //! A script of exchanges while a request for memory is refused.
 #![tactic(auto)]
 
+mod copies;
 mod steps;
 
+use crate::copies::by_copy;
 use crate::steps::{Step, configuration, steps};
 use oai_device::MemoryDevice;
 use oai_front::{ConnId, Front, PieceFault};
@@ -64,9 +211,9 @@ type PagedHost = Host<PagedVersions<MemoryDevice>>;
 
 /// How a script went: how often memory was refused, and whether all else was as where it is not.
 #[derive(Clone, Copy)]
-struct Course {
-    refused: u32,
-    differs: bool,
+pub(crate) struct Course {
+    pub(crate) refused: u32,
+    pub(crate) differs: bool,
 }
 
 /// A host over pages in memory.
@@ -131,7 +278,7 @@ fn step_course(host: &mut PagedHost, step: Step, output: &mut Vec<u8>) -> Course
 
 /// A request for memory was refused outside of the script; of those that move it nearer, so many came before.
 #[derive(Clone, Copy)]
-struct Outside {
+pub(crate) struct Outside {
     before: u64,
 }
 
@@ -148,7 +295,7 @@ impl<T: Drop> From<AllocFailed<T>> for Outside {
 }
 
 /// Makes so many requests for memory, which move the one that is refused nearer; an error where it is one of them.
-fn spend(alloc: Global, requests: u64) -> Result<(), Outside> {
+pub(crate) fn spend(alloc: Global, requests: u64) -> Result<(), Outside> {
     let before = left(alloc, requests);
     if before < requests {
         return Err(Outside { before });
@@ -441,6 +588,7 @@ fn course_of(alloc: Global, word: &str, requests: u64) -> Result<Course, Outside
         "pieces" => by_pieces(alloc, requests),
         "clock" => by_clock(alloc, requests),
         "token" => by_token(alloc, requests),
+        "copy" => by_copy(alloc, requests),
         _ => Err(Outside { before: 0 }),
     }
 }
@@ -476,6 +624,7 @@ cd "$program" || exit 2
 # The toolchain refuses the request of one number, and builds the program for each number. So it is one number for all runs, and a run makes
 # requests of its own before its script, as many as leave the n-th of the script to be that one.
 far=100000
+rm -rf "$cases"
 mkdir -p "$cases"
 for word in "$@"; do
     : >"$cases/$word"

@@ -1,4 +1,4 @@
-"""What interop.py, bench.py, idle.py and fuzz.py share: a server of the program, and what is asked of it."""
+"""What interop.py, bench.py, idle.py, fuzz.py and full_disk.py share: a server of the program, and what is asked of it."""
 
 import http.client
 import json
@@ -19,17 +19,18 @@ PATIENCE = 600
 
 
 class Server:
-    """A server that runs on a free port, from here to the end of the `with`."""
+    """A server that runs on a free port, from here to the end of the `with`; with its pages in that file, or in one of its own."""
 
-    def __init__(self, configuration):
-        self.configuration = configuration
+    def __init__(self, configuration, spill=None):
+        self.configuration, self.spill = configuration, spill
 
     def __enter__(self):
         self.folder = tempfile.TemporaryDirectory(prefix="oaihost-")
         path = f"{self.folder.name}/config.json"
         with open(path, "w", encoding="utf-8") as it:
             json.dump(self.configuration, it)
-        command = [PROGRAM, "serve", path, "0", f"{self.folder.name}/spill", CONNECTIONS]
+        self.spill = self.spill or f"{self.folder.name}/spill"
+        command = [PROGRAM, "serve", path, "0", self.spill, CONNECTIONS]
         self.process = subprocess.Popen(command, stdout=subprocess.PIPE, text=True)
         said = self.process.stdout.readline()
         if not said.startswith("listening on 127.0.0.1:"):
@@ -54,7 +55,7 @@ class Server:
 
     def file_kilobytes(self):
         """How long the file of its pages is, in kilobytes."""
-        return os.path.getsize(f"{self.folder.name}/spill") / 1024
+        return os.path.getsize(self.spill) / 1024
 
     def processor(self):
         """For how many seconds of a processor's time it has worked."""
