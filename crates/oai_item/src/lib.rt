@@ -3,6 +3,7 @@
 
 mod changes;
 mod copies;
+mod covering;
 mod decodings;
 mod deleted_record;
 mod deposits;
