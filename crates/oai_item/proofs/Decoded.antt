@@ -1,14 +1,16 @@
 -- The item that bytes spell is what `item_in` reads from them.
-use Rattle.std.proofs.Common.{◌≡◌, ℕ, ◌≤◌, leb, Bool, true, false, ◌&&◌, List, length, Option, Some, None, refl, ap, subst, arith}
+use Rattle.std.proofs.Common.{◌≡◌, ℕ, ◌≤◌, leb, Bool, true, false, ◌&&◌, List, length, Option, Some, None, Err, refl, sym, ap, ◌∙◌, subst, arith}
 use Rattle.std.specs.Prelude.{int_le, neg_ℤ, pos, if◌then◌else◌}
 use Rattle.std.specs.Str.{bytes_eq}
 use Rattle.std.proofs.lemmas.Bool.{and_from, and_parts, le-leb, leb-true}
 use Rattle.std.proofs.lemmas.Option.{same_Some}
 use Rattle.std.proofs.lemmas.Slice.Eq.{bytes_eq-Decides}
 use Rattle.oai_names.specs.Names.{may_be_identifier}
+use Rattle.oai_item.specs.declared.decodings.DecodeFault.{DecodeFault}
+use Rattle.oai_item.specs.declared.decodings.DecodeFault.TheVariants.{Damaged, NoMemory}
 use Rattle.oai_item.specs.declared.sizes.TheConstants.{MAX_ITEM_BYTES}
-use Rattle.oai_item.specs.Decoding.{first_item, is_item, is_stamp, item_in, spells}
-use Rattle.oai_item.specs.Encoding.{Spells, encoded, is_text_item}
+use Rattle.oai_item.specs.Decoding.{IsReadInPlace, first_item, is_item, is_stamp, item_in, spells}
+use Rattle.oai_item.specs.Encoding.{IsDecoding, Spells, encoded, is_text_item}
 use Rattle.oai_item.specs.Item.{IsItem, ItemState, are_prefixed, are_set_specs, may_be_records}
 use Rattle.oai_item.specs.Membership.{none_covers}
 use Rattle.oai_item.proofs.Apart.{none_from, none_test}
@@ -97,3 +99,10 @@ encoded-some item = omega (arith, length-encoded item)
 
 pub item_in-some : (bytes : List ℕ) (item : ItemState) → item_in bytes ≡ Some item → 1 ≤ length bytes
 item_in-some bytes item h = omega (arith, ap length (item_in-bytes bytes item h), encoded-some item)
+
+-- what is not read in place is not decoded
+pub place_fails : (bytes : List ℕ) (fault : DecodeFault) → IsReadInPlace bytes (Err fault) → IsDecoding bytes (Err fault)
+place_fails bytes Damaged none = λ item s.
+    let differ : None ≡ Some item = sym none ∙ item_in-spelled bytes item s in
+    absurd cc
+place_fails bytes NoMemory few = few

@@ -115,13 +115,19 @@ above_from : (s t : List ℕ) → covers s t ≡ true → bytes_eq s t ≡ false
 unfolding is_above
 above_from s t covering other = and_from _ _ covering (not_from_false _ other)
 
+-- of setSpecs that stand once each, and are above none of them, neither of two covers the other
+pub apart_from : (sets : List (List ℕ)) → has_repeat sets ≡ false → ((s t : List ℕ) → Has sets s → Has sets t → is_above s t ≡ false) → NoneCovers sets
+apart_from sets single free i j s t at_i at_j apart =
+    false_from_ne_true (covers s t) (λ covering. elim (cases_Bool (bytes_eq s t)) [
+      | inl same ↦ apart (once sets i j s single at_i (at_j ∙ ap (λ u. Some u) (sym ((bytes_eq-Decides s t).0 same))))
+      | inr other ↦ both_ways _ (free s t (has_at _ i s at_i) (has_at _ j t at_j)) (above_from s t covering other)
+    ])
+
 -- of two setSpecs that stay neither covers the other
 pub reduced_apart : (sets : List (List ℕ)) → NoneCovers (reduced sets)
-reduced_apart sets i j s t at_i at_j apart =
-    false_from_ne_true (covers s t) (λ covering. elim (cases_Bool (bytes_eq s t)) [
-      | inl same ↦ apart (once (reduced sets) i j s (repeats_in_reduced sets) at_i (at_j ∙ ap (λ u. Some u) (sym ((bytes_eq-Decides s t).0 same))))
-      | inr other ↦ both_ways _ (stays sets s (has_at _ i s at_i)).0 (has_any (is_above s) sets t (stays sets t (has_at _ j t at_j)).1 (above_from s t covering other))
-    ])
+reduced_apart sets =
+    apart_from (reduced sets) (repeats_in_reduced sets) (λ s t has_s has_t.
+    false_from_ne_true _ (λ above. both_ways _ (stays sets s has_s).0 (has_any (is_above s) sets t (stays sets t has_t).1 above)))
 
 one_if : (b : Bool) (s : List ℕ) → cond b (s ∷ []) [] ≡ cond (not b) [] (s ∷ [])
 one_if true s = refl

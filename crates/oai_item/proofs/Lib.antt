@@ -19,6 +19,7 @@ pub mod Grammars
 pub mod Tombstones
 pub mod Kept
 pub mod SetLaws
+pub mod NewNames
 pub mod Members
 pub mod OrderLemmas
 pub mod Selecting

@@ -9,7 +9,7 @@ use Rattle.oai_names.specs.Sets.{Covers, covers}
 use Rattle.oai_item.proofs.Kept.{Has, any_has, has_any, has_reduced}
 use Rattle.oai_item.specs.Membership.{is_above, is_in, reduced}
 
-same_from_both : (a b : Bool) → (a ≡ true → b ≡ true) → (b ≡ true → a ≡ true) → a ≡ b
+pub same_from_both : (a b : Bool) → (a ≡ true → b ≡ true) → (b ≡ true → a ≡ true) → a ≡ b
 same_from_both true b there back = sym (there refl)
 same_from_both false true there back = back refl
 same_from_both false false there back = refl

@@ -1,10 +1,12 @@
 -- The item that bytes spell, as a function: the way back from `Encoding`. What is read from the front of bytes is a pair, a value and the
 -- bytes behind it. Each of these reads something from any bytes, and what was spelled there where a spelling stands in front.
-use Rattle.std.specs.Prelude.{ℕ, ℤ, int_le, nat_le, zero, suc, Bool, ◌==◌, ◌&&◌, if◌then◌else◌, List, [], ◌∷◌, length, take, drop, get_or, Option, Some, None}
+use Rattle.std.specs.Prelude.{◌≡◌, ◌≤◌, ℕ, ℤ, int_le, nat_le, zero, suc, Bool, ◌==◌, ◌&&◌, if◌then◌else◌, List, [], ◌∷◌, length, take, drop, get_or, Option, Some, None, Result, Ok, Err}
 use Rattle.std.specs.Int.{w32, w64, cast_signed, from_be_bytes}
 use Rattle.std.specs.Str.{bytes_eq}
 use Rattle.oai_names.specs.Names.{may_be_identifier}
 use Rattle.oai_time.specs.declared.text.TheConstants.{FIRST_SECOND, LAST_SECOND}
+use Rattle.oai_item.specs.declared.decodings.DecodeFault.{DecodeFault}
+use Rattle.oai_item.specs.declared.decodings.DecodeFault.TheVariants.{Damaged, NoMemory}
 use Rattle.oai_item.specs.declared.fields.Field.{Field}
 use Rattle.oai_item.specs.declared.sizes.TheConstants.{MAX_ITEM_BYTES}
 use Rattle.oai_item.specs.Encoding.{encoded, is_text_item}
@@ -98,3 +100,10 @@ spells bytes item =
 -- the item that the bytes spell, all of them, where they spell one
 unfoldable pub item_in : List ℕ → Option ItemState
 item_in bytes = if spells bytes (first_item bytes) then Some (first_item bytes) else None
+
+-- what reading an item in place answers: the item that the bytes spell; or that they spell none. Memory may be refused where they are not
+-- too many
+abbrev pub IsReadInPlace : List ℕ → Result ItemState DecodeFault → Type 0
+IsReadInPlace bytes (Ok item) = item_in bytes ≡ Some item
+IsReadInPlace bytes (Err Damaged) = item_in bytes ≡ None
+IsReadInPlace bytes (Err NoMemory) = length bytes ≤ MAX_ITEM_BYTES

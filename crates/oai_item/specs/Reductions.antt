@@ -1,13 +1,19 @@
--- How the sets of an item are reduced, step by step: words of private functions, on which no definition rests.
-use Rattle.std.specs.Prelude.{ℕ, Bool, cond, List, [], ◌∷◌}
+-- How the sets of an item are reduced, and tested, step by step: words of private functions, on which no definition rests.
+use Rattle.std.specs.Prelude.{ℕ, Bool, true, ◌&&◌, ◌||◌, not, cond, List, [], ◌∷◌}
 use Rattle.std.specs.BTreeSet.{BTreeSet, contains_by}
 use Rattle.std.specs.Cmp.Lexicographic.{slice_cmp}
 use Rattle.std.specs.Ordering.{nat_cmp}
+use Rattle.std.specs.Str.{bytes_eq}
 use denote.Ref.{Bor}
 
 -- the text is one of the sorted set
 abbrev pub holds : BTreeSet (Bor (List ℕ)) → List ℕ → Bool
 holds texts text = contains_by (λ k. slice_cmp nat_cmp text k.now) texts
+
+-- each of the texts is none of those that are taken, and of those before it
+abbrev pub are_new : (List ℕ → Bool) → List (List ℕ) → Bool
+are_new taken [] = true
+are_new taken (text ∷ texts) = not (taken text) && are_new (λ q. bytes_eq q text || taken q) texts
 
 -- those of the elements that stay, by a flag for each
 abbrev pub flagged : {X : Type 0} → List Bool → List X → List X

@@ -1,28 +1,30 @@
-//! Items that are read in place: the bytes of an item's spelling answer for the item, without memory.
+//! Items that are read in place: the bytes of an item's spelling answer for the item.
 
-ghost use Rattle.std.specs.Prelude.{◌≡◌, ◌≤◌, ◌&&◌, ℕ, List, Some, IsSome, is_some, length};
-ghost use Rattle.oai_item.specs.Decoding.{item_in};
-ghost use Rattle.std.specs.List.{list_all};
+ghost use Rattle.std.specs.Prelude.{◌≡◌, ◌≤◌, ◌&&◌, ℕ, List, Some, IfOk, IsSome, OnErr, is_some, length};
+ghost use Rattle.oai_item.specs.Decoding.{IsReadInPlace, item_in};
 ghost use Rattle.oai_item.specs.Encoding.{Spells, encoded};
 ghost use Rattle.oai_item.specs.Held.{AreWhole, records_in};
 ghost use Rattle.oai_item.specs.Item.{IsItem, ItemState, are_rising, has_record, have_no_fields, may_be_records};
-ghost use Rattle.oai_item.specs.Membership.{is_in, neither_covers, none_covers};
+ghost use Rattle.oai_item.specs.Membership.{is_in, none_covers};
 ghost use Rattle.oai_item.specs.Order.{item_cmp, place_cmp};
 ghost use Rattle.oai_item.specs.Selection.{is_in_given, passes};
 ghost use Rattle.oai_item.specs.SpellingParts.{ReadsParts};
+ghost use Rattle.oai_item.specs.declared.sizes.TheConstants.{MAX_ITEM_BYTES};
 
+use crate::covering::none_covers;
 use crate::decodings::{
-    read_identifier, read_live, read_records, read_sets, read_stamp, read_text,
+    DecodeFault, read_identifier, read_live, read_records, read_sets, read_stamp, read_text,
 };
 use crate::fronts::{first_records, first_sets};
 use crate::sizes::MAX_ITEM_BYTES;
 use crate::walks::{SpelledRecords, SpelledSets};
 use oai_names::{SetSpec, covers};
+use std::alloc::{AllocError, Global};
 use std::cmp::Ordering;
 use std::marker::Model;
 
 /// An item as the bytes of its spelling, which are lent. It answers as the item would, which `Item::decode`
-/// gives of these bytes, and takes no memory.
+/// gives of these bytes, and keeps nothing else in memory.
 #[derive(Drop)]
 pub struct Spelling<'a> {
     bytes: &'a [u8],
@@ -44,15 +46,17 @@ impl<'a> Model for Spelling<'a> {
 }
 
 impl<'a> Spelling<'a> {
-    /// The item that the bytes spell, all of them; None where they spell none, just where `Item::decode`
-    /// answers `Damaged`. It looks at all bytes.
-    pub fn read(bytes: &'a [u8]) -> Option<Spelling<'a>>
-        ensures { result ≡ item_in bytes.now }
+    /// The item that the bytes spell, all of them. It looks at all bytes. The errors: `Damaged` where they
+    /// spell none, just where `Item::decode` answers so; `NoMemory`, where memory is taken: of more than 16
+    /// setSpecs the names are kept, and those of the sets above them, until it is known that none covers
+    /// another.
+    pub fn read(alloc: Global, bytes: &'a [u8]) -> Result<Spelling<'a>, DecodeFault>
+        ensures { IsReadInPlace bytes.now result }
     {
-        if is_spelling(bytes) {
-            Some(Spelling::new(bytes))
+        if is_spelling(alloc, bytes)? {
+            Ok(Spelling::new(bytes))
         } else {
-            None
+            Err(DecodeFault::Damaged)
         }
     }
 
@@ -186,13 +190,16 @@ impl<'a> Spelling<'a> {
 }
 
 /// Whether the bytes, all of them, spell an item: just where `Item::decode` does not answer `Damaged`.
-/// It takes no memory.
-pub fn is_spelling(bytes: &[u8]) -> bool
-    ensures { result ≡ is_some (item_in bytes.now) }
+/// The error is out of memory. It takes none for up to 16 setSpecs, of which it compares each pair, nor
+/// where another part of the item is not good; of more it keeps the names, and those of the sets above
+/// them, in a sorted set until it answers.
+pub fn is_spelling(alloc: Global, bytes: &[u8]) -> Result<bool, AllocError>
+    ensures spells { IfOk result (λ spells. spells ≡ is_some (item_in bytes.now)) }
+    ensures few { OnErr result (length bytes.now ≤ MAX_ITEM_BYTES) }
 {
     match read_parts(bytes) {
-        Some(parts) => parts_agree(&parts),
-        None => false,
+        Some(parts) => parts_agree(alloc, &parts),
+        None => Ok(false),
     }
 }
 
@@ -230,38 +237,15 @@ fn read_parts(bytes: &[u8]) -> Option<Parts<'_>>
     })
 }
 
-/// Whether the parts may be those of one item.
-fn parts_agree(parts: &Parts<'_>) -> bool
-    ensures { result
-        ≡ (none_covers parts.now.sets && may_be_records parts.now.live parts.now.records) }
+/// Whether the parts may be those of one item. The error is out of memory.
+fn parts_agree(alloc: Global, parts: &Parts<'_>) -> Result<bool, AllocError>
+    ensures { IfOk result (λ agree. agree
+        ≡ (none_covers parts.now.sets && may_be_records parts.now.live parts.now.records)) }
 {
-    none_covers(&parts.sets) && may_be_records(parts.live, &parts.records)
-}
-
-/// Whether no setSpec covers another at a different place.
-fn none_covers(sets: &SpelledSets<'_>) -> bool
-    ensures { result ≡ none_covers sets.now }
-{
-    let mut rest = sets.copy();
-    while let Some(set) = rest.next() {
-        if !covers_none(set, &rest) {
-            return false;
-        }
+    if !may_be_records(parts.live, &parts.records) {
+        return Ok(false);
     }
-    true
-}
-
-/// Whether of that setSpec and each of these neither covers the other.
-fn covers_none(set: &str, others: &SpelledSets<'_>) -> bool
-    ensures { result ≡ list_all (neither_covers set.now) others.now }
-{
-    let mut rest = others.copy();
-    while let Some(other) = rest.next() {
-        if covers(set, other) || covers(other, set) {
-            return false;
-        }
-    }
-    true
+    none_covers(alloc, &parts.sets)
 }
 
 /// Whether the records may be those of an item that is live, or deleted: at least one, in the order

@@ -216,14 +216,13 @@ impl Item {
 
     /// The item that the bytes spell, all of them, as `encode_into` writes it; each item has one
     /// spelling. The errors: `Damaged` where they spell none, as with bytes left over, or are more
-    /// than 1,048,576; `NoMemory`. Memory is asked for once it is known that the bytes spell an item.
+    /// than 1,048,576; `NoMemory`. Memory for the item is asked for once it is known that the bytes spell
+    /// one; to know it, memory is taken as `is_spelling` says.
     pub fn decode(alloc: Global, bytes: &[u8]) -> Result<Item, DecodeFault>
         ensures { IsDecoding bytes.now result }
     {
-        match Spelling::read(bytes) {
-            Some(spelling) => Ok(Item::spelled(alloc, &spelling)?),
-            None => Err(DecodeFault::Damaged),
-        }
+        let spelling = Spelling::read(alloc, bytes)?;
+        Ok(Item::spelled(alloc, &spelling)?)
     }
 
     /// The item that was read in place, in memory of its own. The error is out of memory.

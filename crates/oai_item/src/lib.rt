@@ -3,6 +3,7 @@
 
 mod changes;
 mod copies;
+mod covering;
 mod decodings;
 mod deleted_record;
 mod deposits;
@@ -41,5 +42,4 @@ pub use selections::selection_law;
 pub use short_texts::{MAX_SHORT_TEXT_BYTES, is_short_text};
 pub use sizes::{MAX_ITEM_BYTES, TooLarge, limit_law};
 pub use untested::order_of_spelling;
-pub use walks::{SpelledField, SpelledFields, SpelledRecord, SpelledRecords, SpelledSets};
 pub use walks::{FieldTexts, SpelledFields, SpelledRecord, SpelledRecords, SpelledSets};

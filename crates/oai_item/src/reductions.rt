@@ -65,7 +65,7 @@ fn names_above(alloc: Global, sets: &[SetSpec]) -> Result<BTreeSet<&str>, AllocE
 }
 
 /// Adds the names of the sets above this one.
-fn add_above<'a>(names: &mut BTreeSet<&'a str>, spec: &'a str) -> Result<(), AllocError>
+pub(crate) fn add_above<'a>(names: &mut BTreeSet<&'a str>, spec: &'a str) -> Result<(), AllocError>
     ensures { OnOk result ((q : List ℕ)
         → holds names.new q ≡ (holds names.old q || is_above q spec.now)) }
 {

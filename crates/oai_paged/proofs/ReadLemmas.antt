@@ -1,5 +1,5 @@
 -- What stands in front of bytes that are read, and that nothing else does.
-use Rattle.std.proofs.Common.{◌≡◌, ◌∙◌, ◌==◌, ◌+◌, ◌-◌, ◌^◌, ◌<◌, ◌≤◌, ℕ, suc, zero, Bool, true, false, List, [], ◌∷◌, ◌++◌, Option, None, Some, is_some, length, take, drop, get_or, pos, Err, refl, sym, ap, subst, arith, inl, inr, append_assoc, length-append, length-take, length-drop}
+use Rattle.std.proofs.Common.{◌≡◌, ◌∙◌, ◌==◌, ◌+◌, ◌-◌, ◌^◌, ◌<◌, ◌≤◌, ℕ, suc, zero, Bool, true, false, List, [], ◌∷◌, ◌++◌, Option, None, Some, is_some, length, take, drop, get_or, pos, Err, IsErrOf, Result, refl, sym, ap, subst, arith, inl, inr, append_assoc, length-append, length-take, length-drop}
 use Rattle.std.specs.Prelude.{replicate}
 use Rattle.std.specs.List.{list_all}
 use Rattle.std.proofs.lemmas.Bool.{and_parts, cases_lt, eqb-true, false≢true}
@@ -13,7 +13,7 @@ use Rattle.oai_item.specs.declared.decodings.DecodeFault.TheVariants.{Damaged, N
 use Rattle.oai_item.proofs.Around.{only_place}
 use Rattle.oai_item.proofs.Numbers.{AreBytes}
 use Rattle.oai_item.specs.Decoding.{item_in}
-use Rattle.oai_paged.specs.Entries.{AreEntries, HasEntries, HasEntry, IsEntryReading, items_with}
+use Rattle.oai_paged.specs.Entries.{AreEntries, HasEntries, HasEntry, HasNoEntry, IsEntryReading, items_with}
 use Rattle.oai_paged.specs.Pages.{AreStorable, IsPage, IsPageReading, entries_of, entry_of, first_number, items_of_entries, size_of}
 use Rattle.oai_item.proofs.Decoded.{item_in-spelled, spelled-item_in}
 use Rattle.oai_paged.proofs.EntryLemmas.{are_entries, ends_from-append, entries_cut, entries_of-append, size_is, size_of-append, size_of-one, storable-append, storable-take, storable_at}
@@ -44,17 +44,17 @@ entry_read bytes item behind s e =
     )
 
 -- there is no entry in fewer than four bytes
-pub no_number : (bytes : List ℕ) → length bytes < 4 → IsEntryReading bytes None
+pub no_number : (bytes : List ℕ) → length bytes < 4 → HasNoEntry bytes
 no_number bytes short = λ item behind s e. omega (arith, short, ap length e, length-append (entry_of item) behind, length-entry item)
 
 -- nor in fewer than are said to follow
-pub no_room : (bytes : List ℕ) → length (drop 4 bytes) < first_number bytes → IsEntryReading bytes None
+pub no_room : (bytes : List ℕ) → length (drop 4 bytes) < first_number bytes → HasNoEntry bytes
 no_room bytes short = λ item behind s e.
     let read = entry_read bytes item behind s e in
     omega (arith, short, read.0, ap length read.1, length-append (encoded item) behind)
 
 -- nor where these spell no item
-pub no_spelling : (bytes : List ℕ) → item_in (take (first_number bytes) (drop 4 bytes)) ≡ None → IsEntryReading bytes None
+pub no_spelling : (bytes : List ℕ) → item_in (take (first_number bytes) (drop 4 bytes)) ≡ None → HasNoEntry bytes
 no_spelling bytes none = λ item behind s e.
     let read = entry_read bytes item behind s e in
     let text : take (first_number bytes) (drop 4 bytes) ≡ encoded item =
@@ -126,8 +126,17 @@ one_more bytes ends count size len so_far entry =
       ending = (λ k. so_far.ending k ++ end k ∷ []) ∙ sym (ends_from-append 0 items (item ∷ []));
     }
 
+-- where reading an entry answers that the bytes are damaged, none stands there
+pub no_entry_read : {T : Type 0} (bytes : List ℕ) (fault told : DecodeFault) (result : Result T DecodeFault)
+    → IsErrOf result Damaged → result ≡ Err told → told ≡ fault → IsEntryReading bytes (Err fault) → HasNoEntry bytes
+no_entry_read bytes Damaged told result damaged is same reading = reading
+no_entry_read bytes NoMemory told result damaged is same reading =
+    let refused : result ≡ Err NoMemory = is ∙ ap Err same in
+    let differ = sym refused ∙ damaged in
+    absurd cc
+
 -- where the next entry is none, there are not so many
-pub no_more : (bytes ends : List ℕ) (count size whole : ℕ) → HasEntries bytes ends count size → count < whole → IsEntryReading (drop size bytes) None
+pub no_more : (bytes ends : List ℕ) (count size whole : ℕ) → HasEntries bytes ends count size → count < whole → HasNoEntry (drop size bytes)
     → (items : List ItemState) (behind : List ℕ) → AreStorable items → length items ≡ whole → bytes ≡ entries_of items ++ behind → ⊥
 unfolding size_of
 no_more bytes ends count size whole so_far below none items behind storable many e =

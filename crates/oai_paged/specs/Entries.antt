@@ -1,7 +1,9 @@
 -- The entries of a page in memory, for private functions.
-use Rattle.std.specs.Prelude.{◌≡◌, ◌+◌, ℕ, List, [], ◌∷◌, ◌++◌, length, drop, Option, None, Some}
+use Rattle.std.specs.Prelude.{◌≡◌, ◌+◌, ℕ, List, [], ◌∷◌, ◌++◌, length, drop, Result, Ok, Err, ⊤}
 use Rattle.oai_item.specs.Encoding.{Spells, encoded}
 use Rattle.oai_item.specs.Item.{ItemState}
+use Rattle.oai_item.specs.declared.decodings.DecodeFault.{DecodeFault}
+use Rattle.oai_item.specs.declared.decodings.DecodeFault.TheVariants.{Damaged, NoMemory}
 use Rattle.oai_paged.specs.Pages.{AreStorable, entries_of, entry_of, items_of_entries, size_of}
 
 -- the items of entries, of which each ends at one of the numbers
@@ -26,11 +28,16 @@ pub record HasEntry (bytes : List ℕ) (len : ℕ) : Type 0 where
   pub long : len ≡ length (entry_of item)
   pub parts : bytes ≡ entry_of item ++ drop len bytes
 
--- what reading an entry in front of bytes answers: of how many bytes it is; or that there is none
-abbrev pub IsEntryReading : List ℕ → Option ℕ → Type 0
-IsEntryReading bytes (Some len) = HasEntry bytes len
-IsEntryReading bytes None =
+-- no entry stands in front of the bytes
+abbrev pub HasNoEntry : List ℕ → Type 0
+HasNoEntry bytes =
     (item : ItemState) (behind : List ℕ) → Spells (encoded item) item → ¬ (bytes ≡ entry_of item ++ behind)
+
+-- what reading an entry in front of bytes answers: of how many bytes it is; or that there is none, unless memory was refused
+abbrev pub IsEntryReading : List ℕ → Result ℕ DecodeFault → Type 0
+IsEntryReading bytes (Ok len) = HasEntry bytes len
+IsEntryReading bytes (Err Damaged) = HasNoEntry bytes
+IsEntryReading bytes (Err NoMemory) = ⊤
 
 -- so many entries stand in front of the bytes, which end at these numbers, and are of so many bytes together
 pub record HasEntries (bytes ends : List ℕ) (count size : ℕ) : Type 0 where

@@ -545,22 +545,23 @@ pub(crate) fn first_number(bytes: &[u8]) -> usize
     u32::from_be_bytes(number) as usize
 }
 
-/// How many bytes the entry has that stands in front of the bytes, or None where none does.
-fn entry_len(bytes: &[u8]) -> Option<usize>
+/// How many bytes the entry has that stands in front of the bytes. `Damaged` where none does; `NoMemory`, which is taken
+/// where its item is in many sets.
+fn entry_len(alloc: Global, bytes: &[u8]) -> Result<usize, DecodeFault>
     ensures { IsEntryReading bytes.now result }
 {
     if bytes.len() < NUMBER_BYTES {
-        return None;
+        return Err(DecodeFault::Damaged);
     }
     let len = first_number(bytes);
     let rest = &bytes[NUMBER_BYTES..];
     if rest.len() < len {
-        return None;
+        return Err(DecodeFault::Damaged);
     }
-    if !is_spelling(&rest[..len]) {
-        return None;
+    if !is_spelling(alloc, &rest[..len])? {
+        return Err(DecodeFault::Damaged);
     }
-    Some(NUMBER_BYTES + len)
+    Ok(NUMBER_BYTES + len)
 }
 
 /// Where each of so many entries in front of the bytes ends, and the last of them. `Damaged` where there are not so
@@ -574,10 +575,8 @@ fn read_ends(alloc: Global, bytes: &[u8], count: usize) -> Result<(Vec<usize>, u
     let mut ends = Vec::new(alloc);
     let mut end = 0;
     for _ in 0..count {
-        match entry_len(&bytes[end..]) {
-            Some(len) => end += len,
-            None => return Err(DecodeFault::Damaged),
-        }
+        let len = entry_len(alloc, &bytes[end..])?;
+        end += len;
         push_end(&mut ends, end)?;
     }
     Ok((ends, end))

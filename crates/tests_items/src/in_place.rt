@@ -3,7 +3,9 @@
 use crate::assertions::assert_same;
 use crate::encodings::{assert_spelled, deleted_spelling, spelling};
 use crate::samples::STAMP;
-use oai_item::{Item, MAX_ITEM_BYTES, SpelledRecord, Spelling, is_spelling, spelling_law};
+use oai_item::{
+    DecodeFault, Item, MAX_ITEM_BYTES, SpelledRecord, Spelling, is_spelling, spelling_law,
+};
 use oai_names::SetSpec;
 use std::alloc::Global;
 use std::cmp::Ordering;
@@ -75,7 +77,7 @@ fn passes(
 #[test]
 fn worked_item_in_place(rt: HostRuntime) {
     let bytes = spelling();
-    let item = Spelling::read(bytes.as_slice()).expect(&rt, "Spelling::read");
+    let item = Spelling::read(rt.alloc(), bytes.as_slice()).expect(&rt, "Spelling::read");
     assert_told(&rt, &item, "oai:a:1", (1_704_067_200, true), (0, 1));
     assert_title(&rt, &item);
     assert_same(&rt, item.bytes().len(), 56);
@@ -84,7 +86,7 @@ fn worked_item_in_place(rt: HostRuntime) {
 
 #[test]
 fn deleted_item_in_place(rt: HostRuntime) {
-    let item = Spelling::read(deleted_spelling()).expect(&rt, "Spelling::read");
+    let item = Spelling::read(rt.alloc(), deleted_spelling()).expect(&rt, "Spelling::read");
     assert_told(&rt, &item, "a:b", (-62_167_219_200, false), (2, 2));
     let mut records = item.records();
     let format = records.next().expect(&rt, "SpelledRecords::next");
@@ -96,7 +98,7 @@ fn deleted_item_in_place(rt: HostRuntime) {
 
 #[test]
 fn records_in_place(rt: HostRuntime) {
-    let item = Spelling::read(spelling_of_two()).expect(&rt, "Spelling::read");
+    let item = Spelling::read(rt.alloc(), spelling_of_two()).expect(&rt, "Spelling::read");
     assert_told(&rt, &item, "oai:b:2", (STAMP, true), (2, 2));
     let mut records = item.records();
     let format = records.next().expect(&rt, "SpelledRecords::next");
@@ -108,7 +110,7 @@ fn records_in_place(rt: HostRuntime) {
 
 #[test]
 fn prefixes_in_place(rt: HostRuntime) {
-    let item = Spelling::read(spelling_of_two()).expect(&rt, "Spelling::read");
+    let item = Spelling::read(rt.alloc(), spelling_of_two()).expect(&rt, "Spelling::read");
     for prefix in ["jnl", "oai_dc"] {
         assert!(rt; item.has_record(prefix));
     }
@@ -119,7 +121,7 @@ fn prefixes_in_place(rt: HostRuntime) {
 
 #[test]
 fn sets_in_place(rt: HostRuntime) {
-    let item = Spelling::read(spelling_of_two()).expect(&rt, "Spelling::read");
+    let item = Spelling::read(rt.alloc(), spelling_of_two()).expect(&rt, "Spelling::read");
     let mut sets = item.sets();
     assert_same(&rt, sets.next(), Some("a:b"));
     assert_same(&rt, sets.copy().next(), Some("c"));
@@ -135,7 +137,7 @@ fn sets_in_place(rt: HostRuntime) {
 
 #[test]
 fn filter_in_place(rt: HostRuntime) {
-    let item = Spelling::read(spelling_of_two()).expect(&rt, "Spelling::read");
+    let item = Spelling::read(rt.alloc(), spelling_of_two()).expect(&rt, "Spelling::read");
     assert!(rt; item.passes("oai_dc", STAMP, STAMP, &None));
     assert!(rt; item.passes("jnl", STAMP - 1, STAMP + 1, &None));
     assert!(rt; !item.passes("marc", STAMP, STAMP, &None));
@@ -145,7 +147,7 @@ fn filter_in_place(rt: HostRuntime) {
 
 #[test]
 fn filter_with_a_set_in_place(rt: HostRuntime) {
-    let item = Spelling::read(spelling_of_two()).expect(&rt, "Spelling::read");
+    let item = Spelling::read(rt.alloc(), spelling_of_two()).expect(&rt, "Spelling::read");
     assert!(rt; passes(&rt, rt.alloc(), &item, (STAMP, STAMP), "a"));
     assert!(rt; passes(&rt, rt.alloc(), &item, (STAMP, STAMP), "c"));
     assert!(rt; !passes(&rt, rt.alloc(), &item, (STAMP, STAMP), "b"));
@@ -155,8 +157,8 @@ fn filter_with_a_set_in_place(rt: HostRuntime) {
 #[test]
 fn order_in_place(rt: HostRuntime) {
     let first = spelling();
-    let first = Spelling::read(first.as_slice()).expect(&rt, "Spelling::read");
-    let second = Spelling::read(spelling_of_two()).expect(&rt, "Spelling::read");
+    let first = Spelling::read(rt.alloc(), first.as_slice()).expect(&rt, "Spelling::read");
+    let second = Spelling::read(rt.alloc(), spelling_of_two()).expect(&rt, "Spelling::read");
     assert_same(&rt, first.order(&second), Ordering::Less);
     assert_same(&rt, second.order(&first), Ordering::Greater);
     assert_same(&rt, first.order_to(STAMP, "oai:a:1"), Ordering::Equal);
@@ -167,7 +169,7 @@ fn order_in_place(rt: HostRuntime) {
 
 /// The item that is copied into memory is written as these bytes.
 fn assert_copied(rt: &impl Abort, alloc: Global, bytes: &[u8]) {
-    let spelling = Spelling::read(bytes).expect(rt, "Spelling::read");
+    let spelling = Spelling::read(alloc, bytes).expect(rt, "Spelling::read");
     let item = Item::spelled(alloc, &spelling).expect(rt, "Item::spelled");
     assert_spelled(rt, alloc, &item, bytes);
 }
@@ -180,8 +182,8 @@ fn copies_of_items_in_place(rt: HostRuntime) {
 }
 
 /// The bytes are read anew, without a test, as the item of that identifier.
-fn assert_known(rt: &impl Abort, bytes: &[u8], identifier: &str) {
-    if is_spelling(bytes) {
+fn assert_known(rt: &impl Abort, alloc: Global, bytes: &[u8], identifier: &str) {
+    if is_spelling(alloc, bytes).expect(rt, "is_spelling") {
         assert_same(rt, Spelling::new(bytes).identifier(), identifier);
     } else {
         panic!(rt; "no spelling");
@@ -190,15 +192,17 @@ fn assert_known(rt: &impl Abort, bytes: &[u8], identifier: &str) {
 
 #[test]
 fn known_items_in_place(rt: HostRuntime) {
-    assert_known(&rt, spelling().as_slice(), "oai:a:1");
-    assert_known(&rt, deleted_spelling(), "a:b");
-    assert_known(&rt, spelling_of_two(), "oai:b:2");
+    assert_known(&rt, rt.alloc(), spelling().as_slice(), "oai:a:1");
+    assert_known(&rt, rt.alloc(), deleted_spelling(), "a:b");
+    assert_known(&rt, rt.alloc(), spelling_of_two(), "oai:b:2");
 }
 
 /// The bytes spell no item, and are not decoded.
 fn assert_damaged(rt: &impl Abort, alloc: Global, bytes: &[u8]) {
-    assert!(rt; Spelling::read(bytes).is_none());
-    assert!(rt; Item::decode(alloc, bytes).is_err());
+    let damaged = Some(DecodeFault::Damaged);
+    assert_same(rt, is_spelling(alloc, bytes).ok(), Some(false));
+    assert_same(rt, Spelling::read(alloc, bytes).err(), damaged);
+    assert_same(rt, Item::decode(alloc, bytes).err(), damaged);
 }
 
 /// Spellings that are not one of an item for one cause each: neither live nor deleted, of year 10000, of a year before 0000, of an
@@ -263,7 +267,7 @@ fn damaged_bytes_in_place(rt: HostRuntime) {
 #[test]
 fn sound_bytes_in_place(rt: HostRuntime) {
     for bytes in sound_items() {
-        assert_known(&rt, bytes, "a:b");
+        assert_known(&rt, rt.alloc(), bytes, "a:b");
     }
 }
 
@@ -283,7 +287,8 @@ fn too_many_bytes_in_place(rt: HostRuntime) {
 
 /// The bytes are read in place just where they are decoded.
 fn assert_as_decoded(rt: &impl Abort, alloc: Global, bytes: &[u8]) {
-    assert_same(rt, is_spelling(bytes), Item::decode(alloc, bytes).is_ok());
+    let spells = is_spelling(alloc, bytes).expect(rt, "is_spelling");
+    assert_same(rt, spells, Item::decode(alloc, bytes).is_ok());
 }
 
 #[test]

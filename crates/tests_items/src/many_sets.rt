@@ -1,16 +1,18 @@
-//! An item as bytes that is in as many sets as the bytes have room for.
+//! Items as bytes that are in many sets: in as many as the bytes have room for, and in as many as are compared by pairs, and one
+//! more.
 use crate::assertions::assert_same;
 use crate::item_assertions::assert_told;
-use oai_item::{DecodeFault, Item};
+use oai_item::{DecodeFault, Item, Spelling};
 use std::alloc::Global;
 use std::panic::Expect;
 use std::process::Abort;
 
-/// In how many sets an item is at most here: each is spelled in ten bytes.
-const SETS: usize = 100_000;
+/// In how many sets an item of 1,048,576 bytes is at most here: each is spelled in ten bytes, and 42 bytes are of no set, those of
+/// the front, of the number of sets, and of the back.
+const MOST_SETS: usize = 104_853;
 
-/// How many bytes of an item are of no set: the front, the number of sets, and the back.
-const OTHER_BYTES: usize = 42;
+/// The first set of each item. The others have numbers of six digits.
+const FIRST_SET: &str = "a:bcde";
 
 /// What stands before the number of sets: the live item `oai:a:1` of 2024-01-01T00:00:00Z.
 fn front() -> &'static [u8] {
@@ -22,56 +24,85 @@ fn back() -> &'static [u8] {
     b"\x00\x00\x00\x01\x00\x00\x00\x06oai_dc\x00\x00\x00\x00"
 }
 
-/// How many sets an item of so many bytes has room for, and at most `SETS`.
-fn sets_of(bytes: usize) -> usize {
-    (bytes.saturating_sub(OTHER_BYTES) / 10).min(SETS)
-}
-
 /// Adds a number of four bytes.
-fn push_number(rt: &impl Abort, alloc: Global, number: usize, bytes: &mut Vec<u8>) {
+fn push_number(rt: &impl Abort, number: usize, bytes: &mut Vec<u8>) {
     let number = u32::try_from(number).unwrap_or(u32::MAX);
     bytes
         .extend_from_slice(&number.to_be_bytes())
         .expect(rt, "memory");
 }
 
-/// Adds the set of that number, of six digits.
-fn push_set(rt: &impl Abort, alloc: Global, number: usize, bytes: &mut Vec<u8>) {
-    push_number(rt, alloc, 6, bytes);
-    let digits = format!(in alloc; "{}", number.saturating_add(100_000)).expect(rt, "memory");
-    bytes
-        .extend_from_slice(digits.as_bytes())
-        .expect(rt, "memory");
+/// Adds the set.
+fn push_set(rt: &impl Abort, set: &str, bytes: &mut Vec<u8>) {
+    push_number(rt, set.len(), bytes);
+    bytes.extend_from_slice(set.as_bytes()).expect(rt, "memory");
 }
 
-/// The item in so many sets, and in one of them again where `twice`.
-fn item_in(rt: &impl Abort, alloc: Global, sets: usize, twice: bool) -> Vec<u8> {
+/// Adds the set of that number, of six digits.
+fn push_numbered(rt: &impl Abort, alloc: Global, number: usize, bytes: &mut Vec<u8>) {
+    let set = format!(in alloc; "{}", number.saturating_add(100_000)).expect(rt, "memory");
+    push_set(rt, set.as_str(), bytes);
+}
+
+/// The item in so many sets, two at least, of which that one is the last.
+fn item_in(rt: &impl Abort, alloc: Global, sets: usize, last: &str) -> Vec<u8> {
     let mut bytes = Vec::from_slice(alloc, front()).expect(rt, "Vec::from_slice");
-    push_number(rt, alloc, sets, &mut bytes);
-    for number in 1..sets {
-        push_set(rt, alloc, number, &mut bytes);
+    push_number(rt, sets, &mut bytes);
+    push_set(rt, FIRST_SET, &mut bytes);
+    for number in 2..sets {
+        push_numbered(rt, alloc, number, &mut bytes);
     }
-    push_set(rt, alloc, if twice { 1 } else { sets }, &mut bytes);
+    push_set(rt, last, &mut bytes);
     bytes.extend_from_slice(back()).expect(rt, "memory");
     bytes
 }
 
-/// An item of at most so many bytes is read with its sets; a set that stands there twice is none of an item.
-fn assert_read(rt: &impl Abort, alloc: Global, bytes: usize) {
-    let sets = sets_of(bytes);
-    let spelling = item_in(rt, alloc, sets, false);
-    assert!(rt; spelling.len() <= bytes && bytes.saturating_sub(spelling.len()) < 10);
-    let item = Item::decode(alloc, spelling.as_slice()).expect(rt, "Item::decode");
+/// The bytes are read in place, and decoded, as an item of so many sets.
+fn assert_read(rt: &impl Abort, alloc: Global, bytes: &[u8], sets: usize) {
+    let spelling = Spelling::read(alloc, bytes).expect(rt, "Spelling::read");
+    assert_same(rt, spelling.sets().len(), sets);
+    let item = Item::decode(alloc, bytes).expect(rt, "Item::decode");
     assert_told(rt, &item, "oai:a:1", (1_704_067_200, true, sets));
-    let spelling = item_in(rt, alloc, sets, true);
-    assert_same(
-        rt,
-        Item::decode(alloc, spelling.as_slice()).err(),
-        Some(DecodeFault::Damaged),
-    );
+}
+
+/// The bytes are neither read in place nor decoded.
+fn assert_damaged(rt: &impl Abort, alloc: Global, bytes: &[u8]) {
+    let damaged = Some(DecodeFault::Damaged);
+    assert_same(rt, Spelling::read(alloc, bytes).err(), damaged);
+    assert_same(rt, Item::decode(alloc, bytes).err(), damaged);
+}
+
+/// An item in so many sets is read. One is none in which the last set covers the first, is the first once more, or lies below it.
+fn assert_sets(rt: &impl Abort, alloc: Global, sets: usize) {
+    let bytes = item_in(rt, alloc, sets, "999999");
+    assert_read(rt, alloc, bytes.as_slice(), sets);
+    for last in ["a", FIRST_SET, "a:bcde:f"] {
+        let bytes = item_in(rt, alloc, sets, last);
+        assert_damaged(rt, alloc, bytes.as_slice());
+    }
 }
 
 #[test]
-fn item_in_many_sets(rt: HostRuntime) {
-    assert_read(&rt, rt.alloc(), 16_000);
+fn sets_compared_by_pairs(rt: HostRuntime) {
+    assert_sets(&rt, rt.alloc(), 16);
+}
+
+#[test]
+fn sets_searched_for(rt: HostRuntime) {
+    assert_sets(&rt, rt.alloc(), 17);
+}
+
+#[test]
+fn sets_beside_one_another(rt: HostRuntime) {
+    let bytes = item_in(&rt, rt.alloc(), 17, "a:bcd");
+    assert_read(&rt, rt.alloc(), bytes.as_slice(), 17);
+}
+
+#[test]
+fn item_in_the_most_sets(rt: HostRuntime) {
+    let bytes = item_in(&rt, rt.alloc(), MOST_SETS, "999999");
+    assert_same(&rt, bytes.len(), 1_048_572);
+    assert_read(&rt, rt.alloc(), bytes.as_slice(), MOST_SETS);
+    let bytes = item_in(&rt, rt.alloc(), MOST_SETS, "a");
+    assert_damaged(&rt, rt.alloc(), bytes.as_slice());
 }

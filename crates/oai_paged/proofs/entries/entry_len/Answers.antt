@@ -14,19 +14,19 @@ returns-then-rest-len c =
     let len : c.first_number-len.result ≡ first_number c.args.bytes.now = c.first_number-len.ensures in
     no_room c.args.bytes.now (omega (arith, c.if-rest-len.true, ap length (take_rest c.args.bytes.now 4), len))
 
-pub returns-then-not-is_spelling : goal.returns-then-not-is_spelling
-returns-then-not-is_spelling c =
+pub returns-then-not-branch : goal.returns-then-not-branch
+returns-then-not-branch c =
     let len : c.first_number-len.result ≡ first_number c.args.bytes.now = c.first_number-len.ensures in
     let rest = take_rest c.args.bytes.now 4 in
     no_spelling c.args.bytes.now
     (none_from (item_in (take (first_number c.args.bytes.now) (drop 4 c.args.bytes.now)))
-    (sym (c.is_spelling.ensures ∙ (λ k. is_some (item_in (take (len k) (rest k))))) ∙ c.if-not-is_spelling.true))
+    (sym (c.in_ok-is_spelling.ensures.spells ∙ (λ k. is_some (item_in (take (len k) (rest k))))) ∙ c.if-not-branch.true))
 
 pub returns : goal.returns
 returns c =
     let len : c.first_number-len.result ≡ first_number c.args.bytes.now = c.first_number-len.ensures in
     let rest = take_rest c.args.bytes.now 4 in
     let found = some_from (item_in (take (first_number c.args.bytes.now) (drop 4 c.args.bytes.now)))
-    (sym (c.is_spelling.ensures ∙ (λ k. is_some (item_in (take (len k) (rest k))))) ∙ c.if-not-is_spelling.false) in
+    (sym (c.in_ok-is_spelling.ensures.spells ∙ (λ k. is_some (item_in (take (len k) (rest k))))) ∙ c.if-not-branch.false) in
     subst (λ (n : ℕ). HasEntry c.args.bytes.now (4 + n)) (sym len)
     (has_entry c.args.bytes.now found.0 (λ i. omega (arith, c.type_inv.bytes i)) c.if-bytes-lt-NUMBER_BYTES.false (omega (arith, c.if-rest-len.false, ap length (take_rest c.args.bytes.now 4), len)) found.1)

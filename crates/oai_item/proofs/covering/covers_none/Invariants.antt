@@ -1,7 +1,7 @@
 use Rattle.std.proofs.Common.{◌≡◌, length}
 use Rattle.std.specs.List.{list_all}
 use Rattle.oai_item.specs.Membership.{neither_covers}
-use Rattle.oai_item.proofs.in_place.covers_none.Given as goal
+use Rattle.oai_item.proofs.covering.covers_none.Given as goal
 
 abbrev pub invariant-loop-other : goal.invariant-loop-other
 invariant-loop-other l = list_all (neither_covers l.set) l.rest ≡ list_all (neither_covers l.set) l.others

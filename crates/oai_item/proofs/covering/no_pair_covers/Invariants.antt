@@ -1,6 +1,6 @@
 use Rattle.std.proofs.Common.{◌≡◌, length}
 use Rattle.oai_item.specs.Membership.{none_covers}
-use Rattle.oai_item.proofs.in_place.none_covers.Given as goal
+use Rattle.oai_item.proofs.covering.no_pair_covers.Given as goal
 
 abbrev pub invariant-loop-set : goal.invariant-loop-set
 invariant-loop-set l = none_covers l.rest ≡ none_covers l.sets
