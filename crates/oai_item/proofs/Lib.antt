@@ -2,6 +2,7 @@ pub mod FormatLemmas
 pub mod Repeats
 pub mod Declarations
 pub mod Lengths
+pub mod Ascii
 pub mod Spellings
 pub mod Numbers
 pub mod Wholes

@@ -1,6 +1,8 @@
 //! Items from bytes: what reads the parts of an item's spelling, in place. No function here takes memory.
 
-ghost use Rattle.std.specs.Prelude.{◌≡◌, ◌↔◌, ◌≤◌, length, true, IsTrue};
+ghost use Rattle.std.specs.Prelude.{◌≡◌, ◌↔◌, ◌≤◌, length, false, nat_lt, true, IsTrue, MatchOption};
+ghost use Rattle.std.specs.List.{list_all};
+ghost use Rattle.std.specs.Str.{is_utf8};
 ghost use Rattle.oai_names.specs.Names.{may_be_identifier, may_be_prefix};
 ghost use Rattle.oai_names.specs.Sets.{may_be_set_spec};
 ghost use Rattle.oai_item.specs.Encoding.{is_text_field, encoded_bool, encoded_count, encoded_field, encoded_list, encoded_record, encoded_stamp, encoded_text};
@@ -14,7 +16,7 @@ use crate::walks::{FieldTexts, SpelledFields, SpelledRecord, SpelledRecords, Spe
 use oai_names::{may_be_identifier, may_be_prefix, may_be_set_spec};
 use oai_time::{FIRST_SECOND, LAST_SECOND};
 use std::alloc::AllocError;
-use std::str::from_utf8;
+use std::str::{from_utf8, from_utf8_unchecked};
 use thiserror::Error;
 
 /// The least bytes of a text in the spelling of an item, those of its length.
@@ -85,7 +87,7 @@ pub(crate) fn read_count(bytes: &[u8]) -> Option<(usize, &[u8])>
 }
 
 /// A text from the front, and the bytes after it.
-pub(crate) fn read_text(bytes: &[u8]) -> Option<(&str, &[u8])>
+fn read_text(bytes: &[u8]) -> Option<(&str, &[u8])>
     ensures { Reads (λ a. (a.0.now, a.1.now)) encoded_text IsText bytes.now result }
 {
     let (len, rest) = read_count(bytes)?;
@@ -93,10 +95,35 @@ pub(crate) fn read_text(bytes: &[u8]) -> Option<(&str, &[u8])>
         return None;
     }
     let (text, rest) = rest.split_at(len);
-    match from_utf8(text) {
-        Ok(text) => Some((text, rest)),
+    let text = text_of(text)?;
+    Some((text, rest))
+}
+
+/// The bytes as a text, where they are UTF-8. Where all of them are ASCII, as in most texts, no character is looked at.
+fn text_of(bytes: &[u8]) -> Option<&str>
+    ensures { MatchOption result (is_utf8 bytes.now ≡ false)
+        (λ text. (text.now ≡ bytes.now) × (is_utf8 bytes.now ≡ true)) }
+{
+    if are_ascii(bytes) {
+        return Some(unsafe { from_utf8_unchecked(bytes) });
+    }
+    match from_utf8(bytes) {
+        Ok(text) => Some(text),
         Err(_) => None,
     }
+}
+
+/// Whether each byte is ASCII. The loop has no other end than the last byte, and what it finds is handed out of a
+/// function of its own, so that many bytes are tested at a time.
+#[inline(never)]
+fn are_ascii(bytes: &[u8]) -> bool
+    ensures { result ≡ list_all (λ byte. nat_lt byte 128) bytes.now }
+{
+    let mut ascii = true;
+    for byte in bytes {
+        ascii = ascii & (*byte < 0x80);
+    }
+    ascii
 }
 
 /// An identifier from the front, and the bytes after it.
@@ -112,7 +139,7 @@ pub(crate) fn read_identifier(bytes: &[u8]) -> Option<(&str, &[u8])>
 }
 
 /// A setSpec from the front, and the bytes after it.
-pub(crate) fn read_set(bytes: &[u8]) -> Option<(&str, &[u8])>
+fn read_set(bytes: &[u8]) -> Option<(&str, &[u8])>
     ensures { Reads (λ a. (a.0.now, a.1.now)) encoded_text (IsNamed may_be_set_spec)
         bytes.now result }
 {
@@ -136,7 +163,7 @@ fn read_prefix(bytes: &[u8]) -> Option<(&str, &[u8])>
 }
 
 /// A field from the front, and the bytes after it.
-pub(crate) fn read_field(bytes: &[u8]) -> Option<(FieldTexts<'_>, &[u8])>
+fn read_field(bytes: &[u8]) -> Option<(FieldTexts<'_>, &[u8])>
     ensures { Reads (λ a. (record { name = a.0.name.now; text = a.0.text.now }, a.1.now))
         encoded_field (λ field. is_text_field field ≡ true) bytes.now result }
 {
@@ -146,7 +173,7 @@ pub(crate) fn read_field(bytes: &[u8]) -> Option<(FieldTexts<'_>, &[u8])>
 }
 
 /// A record from the front, and the bytes after it.
-pub(crate) fn read_record(bytes: &[u8]) -> Option<(SpelledRecord<'_>, &[u8])>
+fn read_record(bytes: &[u8]) -> Option<(SpelledRecord<'_>, &[u8])>
     requires { length bytes.now ≤ MAX_ITEM_BYTES }
     ensures { Reads (λ a. ((a.0.prefix.now, a.0.fields), a.1.now))
         encoded_record (λ format. is_record format ≡ true) bytes.now result }

@@ -1,4 +1,4 @@
-//! What is known to stand in front of bytes, read by the lengths alone: texts are passed over, and not tested again.
+//! What is known to stand in front of bytes, read by the lengths alone: texts are not tested again.
 //! No function here takes memory.
 
 ghost use Rattle.std.specs.Prelude.{◌≡◌, ◌++◌, true};
@@ -8,17 +8,39 @@ ghost use Rattle.oai_item.specs.Encoding.{encoded_field, encoded_list, encoded_r
 ghost use Rattle.oai_item.specs.SpellingParts.{IsFront, IsNamed, IsText, Stands, are_records, are_sets};
 ghost use Rattle.oai_item.specs.Walks.{are_fields, is_record};
 
-use crate::decodings::{read_count, read_text};
-use crate::walks::{SpelledFields, SpelledRecord, SpelledRecords, SpelledSets};
+use crate::decodings::read_count;
+use crate::walks::{FieldTexts, SpelledFields, SpelledRecord, SpelledRecords, SpelledSets};
+use std::str::from_utf8_unchecked;
+
+/// The text that stands in front, and the bytes after it.
+pub(crate) fn first_text(bytes: &[u8]) -> (&str, &[u8])
+    requires { Stands encoded_text IsText bytes.now }
+    ensures { IsFront encoded_text IsText result.0.now bytes.now result.1.now }
+{
+    let (len, rest) = read_count(bytes).unwrap();
+    let (text, after) = rest.split_at(len);
+    // A text stands there, so these bytes are UTF-8.
+    (unsafe { from_utf8_unchecked(text) }, after)
+}
 
 /// The bytes after the text that stands in front.
 fn after_text(bytes: &[u8]) -> &[u8]
     requires { Stands encoded_text IsText bytes.now }
     ensures { IsFront encoded_text IsText (first_text bytes.now).0 bytes.now result.now }
 {
-    let (len, rest) = read_count(bytes).unwrap();
-    let (_, after) = rest.split_at(len);
+    let (_, after) = first_text(bytes);
     after
+}
+
+/// The field that stands in front, and the bytes after it.
+pub(crate) fn first_field(bytes: &[u8]) -> (FieldTexts<'_>, &[u8])
+    requires { Stands encoded_field (λ field. is_text_field field ≡ true) bytes.now }
+    ensures { IsFront encoded_field (λ field. is_text_field field ≡ true)
+        (record { name = result.0.name.now; text = result.0.text.now }) bytes.now result.1.now }
+{
+    let (name, rest) = first_text(bytes);
+    let (text, rest) = first_text(rest);
+    (FieldTexts { name, text }, rest)
 }
 
 /// The bytes after the field that stands in front.
@@ -42,6 +64,14 @@ fn first_fields(bytes: &[u8]) -> (SpelledFields<'_>, &[u8])
         rest = after_field(rest);
     }
     (SpelledFields::new(count, start), rest)
+}
+
+/// The setSpec that stands in front, and the bytes after it.
+pub(crate) fn first_set(bytes: &[u8]) -> (&str, &[u8])
+    requires { Stands encoded_text (IsNamed may_be_set_spec) bytes.now }
+    ensures { IsFront encoded_text (IsNamed may_be_set_spec) result.0.now bytes.now result.1.now }
+{
+    first_text(bytes)
 }
 
 /// The bytes after the setSpec that stands in front.
@@ -73,7 +103,7 @@ pub(crate) fn first_record(bytes: &[u8]) -> (SpelledRecord<'_>, &[u8])
     ensures { IsFront encoded_record (λ format. is_record format ≡ true)
         (result.0.prefix.now, result.0.fields) bytes.now result.1.now }
 {
-    let (prefix, rest) = read_text(bytes).unwrap();
+    let (prefix, rest) = first_text(bytes);
     let (fields, rest) = first_fields(rest);
     (SpelledRecord { prefix, fields }, rest)
 }

@@ -13,9 +13,9 @@ ghost use Rattle.oai_item.specs.declared.sizes.TheConstants.{MAX_ITEM_BYTES};
 
 use crate::covering::none_covers;
 use crate::decodings::{
-    DecodeFault, read_identifier, read_live, read_records, read_sets, read_stamp, read_text,
+    DecodeFault, read_identifier, read_live, read_records, read_sets, read_stamp,
 };
-use crate::fronts::{first_records, first_sets};
+use crate::fronts::{first_records, first_sets, first_text};
 use crate::sizes::MAX_ITEM_BYTES;
 use crate::walks::{SpelledRecords, SpelledSets};
 use oai_names::{SetSpec, covers};
@@ -68,7 +68,7 @@ impl<'a> Spelling<'a> {
     {
         let (live, rest) = read_live(bytes).unwrap();
         let (stamp, rest) = read_stamp(rest).unwrap();
-        let (identifier, rest) = read_text(rest).unwrap();
+        let (identifier, rest) = first_text(rest);
         Spelling {
             bytes,
             live,

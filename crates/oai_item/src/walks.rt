@@ -5,8 +5,7 @@ ghost use Rattle.oai_names.specs.Names.{may_be_prefix};
 ghost use Rattle.oai_names.specs.Sets.{may_be_set_spec};
 ghost use Rattle.oai_item.specs.Walks.{AreFields, AreRecords, AreSets, fields_left, records_left, sets_left};
 
-use crate::decodings::{read_field, read_set};
-use crate::fronts::first_record;
+use crate::fronts::{first_field, first_record, first_set};
 use std::marker::Model;
 
 /// The setSpecs in the spelling of an item that are still to come.
@@ -61,7 +60,7 @@ impl<'a> SpelledSets<'a> {
         if self.left == 0 {
             return None;
         }
-        let (set, rest) = read_set(self.rest)?;
+        let (set, rest) = first_set(self.rest);
         self.left -= 1;
         self.rest = rest;
         Some(set)
@@ -128,7 +127,7 @@ impl<'a> SpelledFields<'a> {
         if self.left == 0 {
             return None;
         }
-        let (field, rest) = read_field(self.rest)?;
+        let (field, rest) = first_field(self.rest);
         self.left -= 1;
         self.rest = rest;
         Some(field)

@@ -368,10 +368,17 @@ impl Entries {
     fn are_rising(&self) -> bool
         ensures { result ≡ are_in_order self.now }
     {
-        for at in 1..self.len() {
-            if self.spelled(at - 1).order(&self.spelled(at)) != Ordering::Less {
+        let len = self.len();
+        if len == 0 {
+            return true;
+        }
+        let mut before = self.spelled(0);
+        for at in 1..len {
+            let item = self.spelled(at);
+            if before.order(&item) != Ordering::Less {
                 return false;
             }
+            before = item;
         }
         true
     }

@@ -7,12 +7,15 @@ use std::alloc::Global;
 use std::panic::Expect;
 use std::process::Abort;
 
-/// In how many sets an item of 1,048,576 bytes is at most here: each is spelled in ten bytes, and 42 bytes are of no set, those of
-/// the front, of the number of sets, and of the back.
+/// In how many sets an item of 1,048,576 bytes is at most here: the first is spelled in twelve bytes, each other one in ten, and 42
+/// bytes are of no set, those of the front, of the number of sets, and of the back.
 const MOST_SETS: usize = 104_853;
 
-/// The first set of each item. The others have numbers of six digits.
-const FIRST_SET: &str = "a:bcde";
+/// The first set of each item. The others are of six bytes.
+const FIRST_SET: &str = "abcdef:g";
+
+/// How many bytes stand behind the last set but one: ten of the last, and the back.
+const END_BYTES: usize = 28;
 
 /// What stands before the number of sets: the live item `oai:a:1` of 2024-01-01T00:00:00Z.
 fn front() -> &'static [u8] {
@@ -44,25 +47,35 @@ fn push_numbered(rt: &impl Abort, alloc: Global, number: usize, bytes: &mut Vec<
     push_set(rt, set.as_str(), bytes);
 }
 
-/// The item in so many sets, two at least, of which that one is the last.
-fn item_in(rt: &impl Abort, alloc: Global, sets: usize, last: &str) -> Vec<u8> {
+/// Takes the last set and the back away, and adds that set, and the back again.
+fn end_with(rt: &impl Abort, set: &str, bytes: &mut Vec<u8>) {
+    bytes.truncate(bytes.len().saturating_sub(END_BYTES));
+    push_set(rt, set, bytes);
+    bytes.extend_from_slice(back()).expect(rt, "memory");
+}
+
+/// The item in so many sets, two at least. The last is of six bytes.
+fn item_in(rt: &impl Abort, alloc: Global, sets: usize) -> Vec<u8> {
     let mut bytes = Vec::from_slice(alloc, front()).expect(rt, "Vec::from_slice");
     push_number(rt, sets, &mut bytes);
     push_set(rt, FIRST_SET, &mut bytes);
-    for number in 2..sets {
+    for number in 1..sets {
         push_numbered(rt, alloc, number, &mut bytes);
     }
-    push_set(rt, last, &mut bytes);
     bytes.extend_from_slice(back()).expect(rt, "memory");
     bytes
 }
 
-/// The bytes are read in place, and decoded, as an item of so many sets.
+/// The bytes are decoded as an item of so many sets.
+fn assert_decoded(rt: &impl Abort, alloc: Global, bytes: &[u8], sets: usize) {
+    let item = Item::decode(alloc, bytes).expect(rt, "Item::decode");
+    assert_told(rt, &item, "oai:a:1", (1_704_067_200, true, sets));
+}
+
+/// The bytes are read in place as an item of so many sets.
 fn assert_read(rt: &impl Abort, alloc: Global, bytes: &[u8], sets: usize) {
     let spelling = Spelling::read(alloc, bytes).expect(rt, "Spelling::read");
     assert_same(rt, spelling.sets().len(), sets);
-    let item = Item::decode(alloc, bytes).expect(rt, "Item::decode");
-    assert_told(rt, &item, "oai:a:1", (1_704_067_200, true, sets));
 }
 
 /// The bytes are neither read in place nor decoded.
@@ -72,12 +85,23 @@ fn assert_damaged(rt: &impl Abort, alloc: Global, bytes: &[u8]) {
     assert_same(rt, Item::decode(alloc, bytes).err(), damaged);
 }
 
-/// An item in so many sets is read. One is none in which the last set covers the first, is the first once more, or lies below it.
+/// An item in so many sets is read, and decoded. One is none in which the last set covers the first, is the first once more, or lies
+/// below it. A set that only begins like another is beside it.
 fn assert_sets(rt: &impl Abort, alloc: Global, sets: usize) {
-    let bytes = item_in(rt, alloc, sets, "999999");
+    let mut bytes = item_in(rt, alloc, sets);
     assert_read(rt, alloc, bytes.as_slice(), sets);
-    for last in ["a", FIRST_SET, "a:bcde:f"] {
-        let bytes = item_in(rt, alloc, sets, last);
+    assert_decoded(rt, alloc, bytes.as_slice(), sets);
+    end_with(rt, "abcdeg", &mut bytes);
+    assert_read(rt, alloc, bytes.as_slice(), sets);
+    end_with(rt, "abcdef", &mut bytes);
+    assert_damaged(rt, alloc, bytes.as_slice());
+}
+
+/// An item in so many sets is none where the first set stands at its end once more, nor where one that lies below it does.
+fn assert_ends(rt: &impl Abort, alloc: Global, sets: usize) {
+    for last in [FIRST_SET, "abcdef:g:h"] {
+        let mut bytes = item_in(rt, alloc, sets);
+        end_with(rt, last, &mut bytes);
         assert_damaged(rt, alloc, bytes.as_slice());
     }
 }
@@ -85,24 +109,21 @@ fn assert_sets(rt: &impl Abort, alloc: Global, sets: usize) {
 #[test]
 fn sets_compared_by_pairs(rt: HostRuntime) {
     assert_sets(&rt, rt.alloc(), 16);
+    assert_ends(&rt, rt.alloc(), 16);
 }
 
 #[test]
 fn sets_searched_for(rt: HostRuntime) {
     assert_sets(&rt, rt.alloc(), 17);
-}
-
-#[test]
-fn sets_beside_one_another(rt: HostRuntime) {
-    let bytes = item_in(&rt, rt.alloc(), 17, "a:bcd");
-    assert_read(&rt, rt.alloc(), bytes.as_slice(), 17);
+    assert_ends(&rt, rt.alloc(), 17);
 }
 
 #[test]
 fn item_in_the_most_sets(rt: HostRuntime) {
-    let bytes = item_in(&rt, rt.alloc(), MOST_SETS, "999999");
-    assert_same(&rt, bytes.len(), 1_048_572);
+    let mut bytes = item_in(&rt, rt.alloc(), MOST_SETS);
+    assert_same(&rt, bytes.len(), 1_048_574);
     assert_read(&rt, rt.alloc(), bytes.as_slice(), MOST_SETS);
-    let bytes = item_in(&rt, rt.alloc(), MOST_SETS, "a");
+    assert_decoded(&rt, rt.alloc(), bytes.as_slice(), MOST_SETS);
+    end_with(&rt, "abcdef", &mut bytes);
     assert_damaged(&rt, rt.alloc(), bytes.as_slice());
 }
