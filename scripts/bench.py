@@ -7,7 +7,9 @@ import re
 import shutil
 import subprocess
 import sys
+import tempfile
 import time
+from typing import NamedTuple
 
 from generated import body_of, configuration, deposit, plain_text
 from served import Server, get, post_body
@@ -15,6 +17,11 @@ from served import Server, get, post_body
 SEED = 21
 
 SIZES = [1_000, 10_000, 100_000]
+
+# How many pages the cache has, and where the file of the pages is: in memory, or on a disk.
+CACHES = [int(it) for it in os.environ.get("CACHES", "64 4096").split()]
+PLACES = os.environ.get("PLACES", "memory file").split()
+FOLDERS = {"memory": "/dev/shm", "file": None}
 
 # How many lines a body has: each line is below 2 kB, and a body may have 1 MiB.
 BODY = 500
@@ -25,34 +32,30 @@ CHUNK = 100
 # How many letters the description of an item has: its record has some 1,600 bytes of XML, from <record> to </record>.
 DESCRIPTION = 940
 
-# For how many seconds redeposits, and then first parts, are made; and for how many a record is asked for.
+# For how many seconds records are changed, and for how many most else is done.
 LONG = float(os.environ.get("LONG", "30"))
-SHORT = 5
+SHORT = min(5.0, LONG)
+
+# After how many seconds without a request a list ends.
+LIFETIME = 2
 
 TOKEN = re.compile(rb"<resumptionToken [^>]*>([^<]+)</resumptionToken>")
 
-# How many lists are opened, and stay open, before the memory is looked at again.
+# How many lists are open while records are changed, and for how many seconds that goes: they do not end meanwhile.
 OPEN = 20
+MEANWHILE = LIFETIME / 2
 
-COLUMNS = {
-    "items": "items",
-    "deposits": "deposit lines/s",
-    "records": "ListRecords records/s",
-    "gets": "GetRecord/s",
-    "memory": "peak memory MB",
-    "open": f"peak memory MB, {OPEN} lists more open",
-    "file": "file MB",
-    "redeposits": "redeposits/s of its processor",
-    "grown": "file MB, with these",
-    "firsts": "first parts/s of its processor",
-}
+# The set in which every tenth item is.
+SET = "tenth"
+
+LISTED = "metadataPrefix=oai_dc"
 
 
 def identifier_of(number):
     return f"oai:host.example:{number:06}"
 
 
-def item(number, version=0):
+def item(number, version=0, sets=()):
     """The line of an item, in one of its versions: the same whenever it is asked for."""
     chance = random.Random(SEED * 1_000_000_000_000 + version * 1_000_000 + number)
     fields = {
@@ -63,13 +66,12 @@ def item(number, version=0):
         "date": "2024",
         "type": "article",
     }
-    return deposit(identifier_of(number), [], {"oai_dc": list(fields.items())})
+    return deposit(identifier_of(number), list(sets), {"oai_dc": list(fields.items())})
 
 
-def seconds(work):
-    begun = time.perf_counter()
-    work()
-    return time.perf_counter() - begun
+def in_set(number, version=0):
+    """The same, where every tenth item is in a set."""
+    return item(number, version, [SET] if number % 10 == 0 else [])
 
 
 def bodies_of(lines):
@@ -79,130 +81,182 @@ def bodies_of(lines):
         yield body_of(part)
 
 
-def post_all(connection, bodies):
-    """Posts the bodies; for how many seconds answers were waited for. The time in which the bodies are generated is not counted."""
-    spent = 0.0
-    for body in bodies:
-        said = []
-        spent += seconds(lambda: said.extend(post_body(connection, body)))
-        if not all(it.startswith("ok ") for it in said):
-            raise SystemExit(f"a line was refused: {said[:3]}")
-    return spent
+def as_many(work, most):
+    """What the work counts, which is done again for so many seconds, once at least."""
+    count, end = 0, time.monotonic() + most
+    while True:
+        count += work()
+        if time.monotonic() >= end:
+            return count
 
 
-def load(connection, size):
-    """Deposits so many items; for how many seconds answers were waited for."""
-    return post_all(connection, bodies_of(item(number) for number in range(size)))
+class Client:
+    """A connection to a server, and for how many seconds its answers were waited for."""
 
+    def __init__(self, server):
+        self.connection, self.waited = server.connect(), 0.0
 
-def read_all(connection, size):
-    """Reads all records by their tokens."""
-    read = 0
-    query = "verb=ListRecords&metadataPrefix=oai_dc"
-    while query:
-        status, document = get(connection, query)
+    def timed(self, work, *arguments):
+        begun = time.perf_counter()
+        answer = work(self.connection, *arguments)
+        self.waited += time.perf_counter() - begun
+        return answer
+
+    def get(self, query):
+        """The document that answers a request."""
+        status, document = self.timed(get, query)
         if status != 200:
             raise SystemExit(f"{query} was answered {status}")
-        read += document.count(b"</record>")
-        token = TOKEN.search(document)
-        query = token and f"verb=ListRecords&resumptionToken={token[1].decode()}"
-    if read != size:
-        raise SystemExit(f"{read} records were read in place of {size}")
+        return document
+
+    def post(self, bodies):
+        """Posts the bodies; the lines that answer. The time in which the bodies are generated is not waited for."""
+        said = []
+        for body in bodies:
+            said += self.timed(post_body, body)
+        if not all(it.startswith("ok ") for it in said):
+            raise SystemExit(f"a line was refused: {[it for it in said if not it.startswith('ok ')][:3]}")
+        return said
+
+    def harvest(self, verb):
+        """Reads a list to its end; how many headers it has, and its tokens."""
+        count, tokens, query = 0, [], f"verb={verb}&{LISTED}"
+        while query:
+            document = self.get(query)
+            count += document.count(b"</header>")
+            token = TOKEN.search(document)
+            tokens += [it[1].decode() for it in (token,) if it]
+            query = token and f"verb={verb}&resumptionToken={tokens[-1]}"
+        return count, tokens
 
 
-def gets_by_wrk(server, size):
-    """How many records a second wrk reads on one connection, each time another one."""
-    command = ["wrk", "-t1", "-c1", f"-d{SHORT}s", "-s", "scripts/bench.lua", server.base(), "--", str(size), str(SEED)]
-    said = subprocess.run(command, stdout=subprocess.PIPE, text=True, check=True).stdout
-    if "Non-2xx" in said or "Socket errors" in said:
-        raise SystemExit(f"wrk met errors:\n{said}")
-    return float(re.search(r"Requests/sec: +([0-9.]+)", said)[1])
+class Figures(NamedTuple):
+    """What was counted, for each second of the server's processor and for each in which its answers were waited for; the most memory that it had
+    meanwhile, and how long the file of its pages is then, in megabytes."""
+
+    by_processor: int
+    by_clock: int
+    memory: int
+    file: int
 
 
-def gets_by_loop(server, size):
-    """The same by a loop of this script, which costs more than the server itself may cost."""
-    chance = random.Random(SEED)
-    query = "verb=GetRecord&metadataPrefix=oai_dc&identifier="
-    connection = server.connect()
-    count = as_many(lambda: get(connection, query + identifier_of(chance.randrange(size))), SHORT)
-    connection.close()
-    return count / SHORT
+class Bench:
+    """Measures a server of so many items, operation by operation."""
+
+    def __init__(self, server, size):
+        self.server, self.size = server, size
+        self.client = Client(server)
+        self.chance = random.Random(SEED)
+        self.versions = itertools.count(1)
+        self.figures, self.stamps, self.tokens = {}, [], []
+
+    def measure(self, name, work):
+        self.server.forget_memory()
+        begun, waited = self.server.processor(), self.client.waited
+        count = work()
+        spent = self.server.processor() - begun, self.client.waited - waited
+        megabytes = round(self.server.most_memory() / 1024), round(self.server.file_kilobytes() / 1024)
+        self.figures[name] = Figures(*(round(count / max(it, 1e-6)) for it in spent), *megabytes)
+
+    def load(self):
+        """Deposits all items, and keeps their datestamps."""
+        said = self.client.post(bodies_of(in_set(number) for number in range(self.size)))
+        self.stamps = sorted({it.split(" ")[1] for it in said})
+        return len(said)
+
+    def get_record(self):
+        self.client.get(f"verb=GetRecord&{LISTED}&identifier={identifier_of(self.chance.randrange(self.size))}")
+        return 1
+
+    def harvest(self, verb):
+        count, self.tokens = self.client.harvest(verb)
+        if count != self.size:
+            raise SystemExit(f"{count} records were read in place of {self.size}")
+        return count
+
+    def part(self, token):
+        self.client.get(f"verb=ListIdentifiers&resumptionToken={token}")
+        return 1
+
+    def first_part(self, arguments=""):
+        self.client.get(f"verb=ListRecords&{LISTED}{arguments}")
+        return 1
+
+    def within(self):
+        """Arguments with bounds: the middle half of the datestamps of the load, which are all where it took no second."""
+        quarter = len(self.stamps) // 4
+        return f"&from={self.stamps[quarter]}&until={self.stamps[-1 - quarter]}"
+
+    def change(self):
+        """Another state of an item at random, in a message of its own."""
+        number = self.chance.randrange(self.size)
+        return len(self.client.post([body_of([in_set(number, next(self.versions))])]))
+
+    def delete(self, numbers):
+        """Deletes items, each in a message of its own, for LONG seconds."""
+        end = time.monotonic() + LONG
+        return sum(len(self.client.post([body_of([{"delete": identifier_of(it)}])])) for it in numbers if time.monotonic() < end)
+
+    def rest(self):
+        """Waits until all lists have ended."""
+        time.sleep(LIFETIME + 1)
+        self.client.get("verb=Identify")
+
+    def read(self):
+        self.measure("GetRecord", lambda: as_many(self.get_record, SHORT))
+        self.measure("records of ListRecords, whole", lambda: as_many(lambda: self.harvest("ListRecords"), SHORT))
+        self.measure("headers of ListIdentifiers, whole", lambda: as_many(lambda: self.harvest("ListIdentifiers"), SHORT))
+        tokens = self.tokens
+        self.measure("the tenth part, again", lambda: as_many(lambda: self.part(tokens[:9][-1]), SHORT))
+        self.part(tokens[-1])
+        self.measure("the last part, again", lambda: as_many(lambda: self.part(tokens[-1]), SHORT))
+
+    def begin_lists(self, behind):
+        for name, arguments in {
+            "": "",
+            " within bounds": self.within(),
+            " of a set": f"&set={SET}",
+            " of a set, within bounds": f"&set={SET}" + self.within(),
+        }.items():
+            self.rest()
+            self.measure(f"first parts{name}{behind}", lambda it=arguments: as_many(lambda: self.first_part(it), SHORT))
+        self.rest()
+
+    def write(self):
+        self.measure(f"{OPEN} lists begin", lambda: sum(self.first_part() for _ in range(OPEN)))
+        self.measure(f"changed records, {OPEN} lists open", lambda: as_many(self.change, MEANWHILE))
+        self.rest()
+        self.measure("changed records", lambda: as_many(self.change, LONG))
+        self.measure("first parts, behind the changes", lambda: as_many(self.first_part, SHORT))
+        self.rest()
+        self.measure("deletions", lambda: self.delete(self.chance.sample(range(self.size), self.size // 2)))
+
+    def run(self):
+        self.client.post([body_of([{"set": SET, "name": "S"}])])
+        self.measure("deposit lines", self.load)
+        self.read()
+        self.begin_lists("")
+        self.write()
+        self.client.connection.close()
+        return self.figures
 
 
-def as_many(work, most):
-    """How often the work is done in so many seconds."""
-    count = 0
-    end = time.monotonic() + most
-    while time.monotonic() < end:
-        work()
-        count += 1
-    return count
+def measured(place, cache, size):
+    """The figures of each operation, with the pages in that place."""
+    made = configuration(CHUNK, LIFETIME, 10_000, min(2 * size, 1_000_000)) | {"cache": cache}
+    with tempfile.TemporaryDirectory(prefix="oaihost-", dir=FOLDERS[place]) as folder, Server(made, f"{folder}/spill") as server:
+        return Bench(server, size).run()
 
 
-def by_processor(server, work):
-    """What the work counts, for each second of processor time that the server has spent on it."""
-    begun = server.processor()
-    count = work()
-    return round(count / (server.processor() - begun))
-
-
-def redeposits(connection, size):
-    """How many items get another state in LONG seconds, each by a message of its own."""
-    chance = random.Random(SEED)
-    versions = iter(range(1, 1_000_000_000))
-    return as_many(lambda: post_all(connection, bodies_of([item(chance.randrange(size), next(versions))])), LONG)
-
-
-def begin_list(connection):
-    """Begins a list of all records."""
-    status, _ = get(connection, "verb=ListRecords&metadataPrefix=oai_dc")
-    if status != 200:
-        raise SystemExit(f"the first part of a list was answered {status}")
-
-
-def first_parts(connection):
-    """How many lists begin in LONG seconds."""
-    return as_many(lambda: begin_list(connection), LONG)
-
-
-def megabytes(kilobytes):
-    return round(kilobytes / 1024)
-
-
-def measure(size):
-    """The row of one size. The lists of the second server end after a second, since many are begun."""
-    row = {"items": size}
-    with Server(configuration(CHUNK, 3600, 2 * OPEN, 2 * size)) as server:
-        connection = server.connect()
-        row["deposits"] = round(size / load(connection, size))
-        row["records"] = round(size / seconds(lambda: read_all(connection, size)))
-        connection.close()
-        row["gets"] = round((gets_by_wrk if shutil.which("wrk") else gets_by_loop)(server, size))
-        row["memory"] = megabytes(server.most_memory())
-        connection = server.connect()
-        for _ in range(OPEN):
-            begin_list(connection)
-        connection.close()
-        row["open"] = megabytes(server.most_memory())
-        row["file"] = megabytes(server.file_kilobytes())
-    with Server(configuration(CHUNK, 1, 10_000, 2 * size)) as server:
-        connection = server.connect()
-        load(connection, size)
-        row["redeposits"] = by_processor(server, lambda: redeposits(connection, size))
-        row["grown"] = megabytes(server.file_kilobytes())
-        row["firsts"] = by_processor(server, lambda: first_parts(connection))
-        connection.close()
-    return row
-
-
-def measure_sets(count):
-    """The row of so many sets: how many a second are added, and told by ListSets."""
+def measured_sets(count):
+    """The row of so many sets: how many a second of the server's processor are added, and told by ListSets."""
     with Server(configuration(CHUNK, 3600, 10, 10)) as server:
-        connection = server.connect()
-        added = post_all(connection, bodies_of({"set": f"s{number}", "name": "S"} for number in range(count)))
-        told = as_many(lambda: get(connection, "verb=ListSets"), SHORT)
-        connection.close()
-    return {"sets": count, "added": round(count / added), "told": round(count * told / SHORT)}
+        bench = Bench(server, 0)
+        bodies = list(bodies_of({"set": f"s{number}", "name": "S"} for number in range(count)))
+        bench.measure("added", lambda: len(bench.client.post(bodies)))
+        bench.measure("told", lambda: as_many(lambda: bench.client.get("verb=ListSets").count(b"</setSpec>"), SHORT))
+        bench.client.connection.close()
+    return {"sets": count} | {name: it.by_processor for name, it in bench.figures.items()}
 
 
 def print_table(heads, rows):
@@ -213,31 +267,52 @@ def print_table(heads, rows):
     print("\n".join(lines), flush=True)
 
 
-def plot(rows, folder):
-    """Writes a plot of each column against the number of items into the folder."""
+# The three tables: what their figures are, and how one is told.
+TABLES = {
+    "for each second of the server's processor": lambda it: f"{it.by_processor:,}",
+    "for each second in which answers were waited for": lambda it: f"{it.by_clock:,}",
+    "MB of memory at most, and of the file then": lambda it: f"{it.memory:,}, {it.file:,}",
+}
+
+
+def print_tables(place, cache, runs):
+    """The tables of one place and one cache: a row for each operation, a column for each size."""
+    names = list(next(iter(runs.values())))
+    for title, told in TABLES.items():
+        print(f"\nPages in {'memory' if place == 'memory' else 'a file'}, a cache of {cache:,} pages, {title}:\n")
+        rows = [{"": name} | {size: told(figures[name]) for size, figures in runs.items()} for name in names]
+        print_table(["", *(f"{size:,} items" for size in runs)], rows)
+
+
+def plot(tables, folder):
+    """Writes a plot of each operation against the number of items into the folder: a line for each place and cache."""
     os.makedirs(folder, exist_ok=True)
-    for name in list(COLUMNS)[1:]:
-        points = "\n".join(f"{row['items']} {str(row[name]).split()[0]}" for row in rows)
-        script = (
-            f"set terminal svg; set output '{folder}/{name}.svg'; set logscale xy; set xlabel 'items'; set key off\n"
-            f"set title '{COLUMNS[name]}'\n$points << end\n{points}\nend\nplot $points with linespoints\n"
-        )
-        subprocess.run(["gnuplot"], input=script, text=True, check=True)
+    for name in next(iter(next(iter(tables.values())).values())):
+        script = f"set terminal svg; set logscale xy; set xlabel 'items'; set key outside below\nset title '{name}, {next(iter(TABLES))}'\n".replace("server's", "server''s")
+        script += f"set output '{folder}/{re.sub('[^A-Za-z0-9]+', '-', name)}.svg'\n"
+        lines = []
+        for number, ((place, cache), runs) in enumerate(tables.items()):
+            points = "\n".join(f"{size} {figures[name].by_processor}" for size, figures in runs.items())
+            script += f"$p{number} << end\n{points}\nend\n"
+            lines.append(f"$p{number} with linespoints title '{place}, {cache} pages'")
+        subprocess.run(["gnuplot"], input=script + f"plot {', '.join(lines)}\n", text=True, check=True)
     print(f"plots: {folder}")
 
 
 def main(arguments):
     folder = arguments[0] if arguments else None
     sizes = [int(it) for it in arguments[1:]] or SIZES
-    print("GetRecord is asked for by " + ("wrk" if shutil.which("wrk") else "a loop of this script, since wrk is missing"), flush=True)
-    rows = []
-    for size in sizes:
-        rows.append(measure(size))
-        print_table(COLUMNS.values(), rows[-1:])
-    print_table(COLUMNS.values(), rows)
-    print_table(["sets", "added/s", "told/s by ListSets"], [measure_sets(it) for it in (1_000, 10_000)])
+    tables = {}
+    for place, cache in itertools.product(PLACES, CACHES):
+        runs = tables[place, cache] = {}
+        for size in sizes:
+            print(f"{size:,} items, pages in {place}, a cache of {cache:,}: {time.strftime('%H:%M:%S')}", file=sys.stderr, flush=True)
+            runs[size] = measured(place, cache, size)
+        print_tables(place, cache, runs)
+    print("\nSets, for each second of the server's processor:\n")
+    print_table(["sets", "added", "told by ListSets"], [measured_sets(it) for it in (1_000, 10_000)])
     if folder and shutil.which("gnuplot"):
-        plot(rows, folder)
+        plot(tables, folder)
     print("bench: done")
 
 

@@ -40,6 +40,19 @@ def deposited(number, moment, version=0):
     return exchange(moment, "POST", f"/deposit/{NAME}", body_of([item(number, version)]).decode())
 
 
+def counted(command, given, patience=None):
+    """How many instructions the command takes for the input, and what it writes; TimeoutExpired where it takes longer than so many seconds."""
+    ran = subprocess.run(
+        ["valgrind", "--tool=callgrind", "--callgrind-out-file=/dev/null", *command],
+        input=given,
+        capture_output=True,
+        env=os.environ | {"GLIBC_TUNABLES": TUNABLES},
+        timeout=patience,
+        check=True,
+    )
+    return int(COUNTED.search(ran.stderr.decode())[1]), ran.stdout
+
+
 class Counter:
     """Runs the program with an input, in a folder that has its configuration."""
 
@@ -55,16 +68,7 @@ class Counter:
 
     def instructions(self, text):
         """How many instructions the program takes to load the items and to answer the text."""
-        counting = ["valgrind", "--tool=callgrind", "--callgrind-out-file=/dev/null"]
-        ran = subprocess.run(
-            counting + self.command,
-            input=(self.loaded + text).encode(),
-            stdout=subprocess.DEVNULL,
-            stderr=subprocess.PIPE,
-            env=os.environ | {"GLIBC_TUNABLES": TUNABLES},
-            check=True,
-        )
-        return int(COUNTED.search(ran.stderr.decode())[1])
+        return counted(self.command, (self.loaded + text).encode())[0]
 
     def harvests(self, verb, count):
         """So many harvests, each up to its end. The program itself is asked for the first token of each, which has the number of its list."""

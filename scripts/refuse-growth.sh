@@ -615,8 +615,9 @@ fn main(rt: HostRuntime) -> io::Result<ExitCode> {
     Ok(ExitCode::SUCCESS)
 }
 RATTLE
+# (a longer item has a page and overflow pages of its own, and the two others one behind it)
 pages=1
-((letters > 15940)) && pages=$((1 + (letters + 60 - 600 + 16383) / 16384))
+((letters > 15940)) && pages=$((2 + (letters + 60 - 600 + 16383) / 16384))
 sed -i "s/^type PagedHost/\/\/\/ How many pages are named at the end of the script.\nconst PAGES: usize = $pages;\n\ntype PagedHost/" "$program/src/main.rt"
 top=$PWD
 cases=$copy/cases

@@ -131,4 +131,5 @@ def main() -> None:
             sys.exit(__doc__)
 
 
-main()
+if __name__ == "__main__":
+    main()

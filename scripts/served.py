@@ -59,12 +59,16 @@ class Server:
 
     def processor(self):
         """For how many seconds of a processor's time it has worked."""
-        with open(f"/proc/{self.process.pid}/stat", encoding="ascii") as it:
-            user, system = it.read().rsplit(")", 1)[1].split()[11:13]
-        return (int(user) + int(system)) / os.sysconf("SC_CLK_TCK")
+        with open(f"/proc/{self.process.pid}/schedstat", encoding="ascii") as it:
+            return int(it.read().split()[0]) / 1e9
+
+    def forget_memory(self):
+        """From now on the most memory is counted anew (proc(5), clear_refs)."""
+        with open(f"/proc/{self.process.pid}/clear_refs", "w", encoding="ascii") as it:
+            it.write("5")
 
     def most_memory(self):
-        """The most memory that the server has had, in kilobytes."""
+        """The most memory that the server has had since then, in kilobytes."""
         with open(f"/proc/{self.process.pid}/status", encoding="ascii") as it:
             return next(int(line.split()[1]) for line in it if line.startswith("VmHWM:"))
 
