@@ -459,6 +459,18 @@ fn declared_record(rt: HostRuntime) {
     assert_record_in_journal(&rt, alloc, &item, expected::declared_record());
 }
 
+/// The bytes of that item, as it is stored.
+fn stored_bytes() -> &'static [u8] {
+    b"\x01\x00\x00\x00\x00\x65\x92\x00\x80\x00\x00\x00\x07oai:a:2\x00\x00\x00\x02\x00\x00\x00\x03x:y\x00\x00\x00\x01z\x00\x00\x00\x02\x00\x00\x00\x03jnl\x00\x00\x00\x01\x00\x00\x00\x06volume\x00\x00\x00\x017\x00\x00\x00\x06oai_dc\x00\x00\x00\x01\x00\x00\x00\x05title\x00\x00\x00\x01T"
+}
+
+#[test]
+fn declared_record_of_a_stored_item(rt: HostRuntime) {
+    let alloc = rt.alloc();
+    let item = Item::decode(alloc, stored_bytes()).expect(&rt, "Item::decode");
+    assert_record_in_journal(&rt, alloc, &item, expected::declared_record());
+}
+
 #[test]
 fn deleted_record(rt: HostRuntime) {
     let item = deleted(&rt, rt.alloc());

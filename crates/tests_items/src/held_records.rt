@@ -59,7 +59,8 @@ fn fields_of_a_decoded_item(rt: HostRuntime) {
 
 /// A copy of the item of two records.
 fn copied(rt: &impl Abort, alloc: Global) -> Item {
-    item_of_two(rt, alloc).copy(alloc).expect(rt, "memory")
+    let item = item_of_two(rt, alloc);
+    item.copy(alloc).expect(rt, "memory")
 }
 
 #[test]

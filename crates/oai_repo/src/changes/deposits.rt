@@ -8,7 +8,7 @@ ghost use Rattle.oai_item.specs.Encoding.{encoded};
 ghost use Rattle.oai_item.specs.Items.{item_named};
 ghost use Rattle.oai_item.specs.declared.sizes.TheConstants.{MAX_ITEM_BYTES};
 ghost use Rattle.oai_catalogue.specs.Calls.{Uses};
-ghost use Rattle.oai_item.specs.Item.{IsStamp, Metadata, has_record, live_item, record_named};
+ghost use Rattle.oai_item.specs.Item.{IsStamp, has_record, live_item, record_named};
 ghost use Rattle.oai_item.specs.Known.{are_fields_of, has_format, has_known_fields};
 ghost use Rattle.oai_item.specs.Membership.{reduced};
 ghost use Rattle.oai_repo.specs.Calls.{fault_in};
