@@ -49,7 +49,8 @@ fn push_numbered(rt: &impl Abort, alloc: Global, number: usize, bytes: &mut Vec<
 
 /// Takes the last set and the back away, and adds that set, and the back again.
 fn end_with(rt: &impl Abort, set: &str, bytes: &mut Vec<u8>) {
-    bytes.truncate(bytes.len().saturating_sub(END_BYTES));
+    let len = bytes.len().saturating_sub(END_BYTES);
+    bytes.truncate(len);
     push_set(rt, set, bytes);
     bytes.extend_from_slice(back()).expect(rt, "memory");
 }
