@@ -9,7 +9,7 @@ use Rattle.std.proofs.lemmas.Bool.{and_from, and_parts, both_ways, false≢true,
 use Rattle.std.proofs.lemmas.Slice.Eq.{bytes_eq-Decides}
 use Rattle.oai_names.specs.Sets.{covers}
 use Rattle.oai_item.specs.Membership.{is_above, neither_covers, none_covers}
-use Rattle.oai_item.specs.Reductions.{are_new, holds}
+use Rattle.oai_item.specs.Reductions.{are_fresh, holds}
 use Rattle.oai_item.specs.Rules.{has_repeat}
 use Rattle.oai_item.proofs.Above.{holds_more}
 use Rattle.oai_item.proofs.Apart.{none_test}
@@ -23,11 +23,11 @@ record AreFree (taken : List ℕ → Bool) (texts : List (List ℕ)) : Type 0 wh
   pub once : has_repeat texts ≡ false
   pub free : (t : List ℕ) → Has texts t → taken t ≡ false
 
-new_are_free : (taken : List ℕ → Bool) (texts : List (List ℕ)) → are_new taken texts ≡ true → AreFree taken texts
+new_are_free : (taken : List ℕ → Bool) (texts : List (List ℕ)) → are_fresh taken texts ≡ true → AreFree taken texts
 new_are_free taken [] new = record { once = refl; free = λ t has. absurd (false≢true has) }
 new_are_free taken (x ∷ texts) new =
     let more : List ℕ → Bool = λ q. bytes_eq q x || taken q in
-    let parts = and_parts (not (taken x)) (are_new more texts) new in
+    let parts = and_parts (not (taken x)) (are_fresh more texts) new in
     let rest = new_are_free more texts parts.1 in
     record {
       once = or_from _ _
@@ -39,7 +39,7 @@ new_are_free taken (x ∷ texts) new =
       ];
     }
 
-free_are_new : (taken : List ℕ → Bool) (texts : List (List ℕ)) → AreFree taken texts → are_new taken texts ≡ true
+free_are_new : (taken : List ℕ → Bool) (texts : List (List ℕ)) → AreFree taken texts → are_fresh taken texts ≡ true
 free_are_new taken [] are = refl
 free_are_new taken (x ∷ texts) are =
     let more : List ℕ → Bool = λ q. bytes_eq q x || taken q in
@@ -100,7 +100,7 @@ apart_are_free (x ∷ sets) apart =
       ];
     }
 
-pub new_is_apart : (sets : List (List ℕ)) → are_new (λ q. list_any (is_above q) sets) sets ≡ none_covers sets
+pub new_is_apart : (sets : List (List ℕ)) → are_fresh (λ q. list_any (is_above q) sets) sets ≡ none_covers sets
 new_is_apart sets =
     same_from_both _ _
     (λ new.
@@ -112,8 +112,8 @@ new_is_apart sets =
 
 -- the rest is new to a set of names that took in the first, just where all are new to those that it had
 pub new_more : (old new : BTreeSet (Bor (List ℕ))) (key : Bor (List ℕ)) (texts rest : List (List ℕ)) → Updates (λ x y. slice_cmp nat_cmp x.now y.now) old new key true
-    → not (holds old key.now) ≡ true → texts ≡ key.now ∷ rest → are_new (holds new) rest ≡ are_new (holds old) texts
+    → not (holds old key.now) ≡ true → texts ≡ key.now ∷ rest → are_fresh (holds new) rest ≡ are_fresh (holds old) texts
 new_more old new key texts rest updates first is =
-    (λ k. are_new (λ q. holds_more old new key updates q k) rest)
-    ∙ sym (ap (λ b. b && are_new (λ q. bytes_eq q key.now || holds old q) rest) first)
-    ∙ ap (are_new (holds old)) (sym is)
+    (λ k. are_fresh (λ q. holds_more old new key updates q k) rest)
+    ∙ sym (ap (λ b. b && are_fresh (λ q. bytes_eq q key.now || holds old q) rest) first)
+    ∙ ap (are_fresh (holds old)) (sym is)

@@ -30,9 +30,9 @@ records_held (held.Typed those) = those
 records_held (held.Spelled bytes) = records_in bytes
 
 -- where they are held as bytes, these are their spelling
-abbrev pub IsHeld : Held → Type 0
-IsHeld (held.Typed those) = Unit {0}
-IsHeld (held.Spelled bytes) = AreWhole bytes
+abbrev pub AreHeld : Held → Type 0
+AreHeld (held.Typed those) = Unit {0}
+AreHeld (held.Spelled bytes) = AreWhole bytes
 
 -- the fields that a walk has before it
 abbrev pub fields_to_come : FieldsLeft → List Field

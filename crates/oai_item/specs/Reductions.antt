@@ -11,9 +11,9 @@ abbrev pub holds : BTreeSet (Bor (List ℕ)) → List ℕ → Bool
 holds texts text = contains_by (λ k. slice_cmp nat_cmp text k.now) texts
 
 -- each of the texts is none of those that are taken, and of those before it
-abbrev pub are_new : (List ℕ → Bool) → List (List ℕ) → Bool
-are_new taken [] = true
-are_new taken (text ∷ texts) = not (taken text) && are_new (λ q. bytes_eq q text || taken q) texts
+abbrev pub are_fresh : (List ℕ → Bool) → List (List ℕ) → Bool
+are_fresh taken [] = true
+are_fresh taken (text ∷ texts) = not (taken text) && are_fresh (λ q. bytes_eq q text || taken q) texts
 
 -- those of the elements that stay, by a flag for each
 abbrev pub flagged : {X : Type 0} → List Bool → List X → List X

@@ -1,9 +1,9 @@
 //! Whether of the setSpecs in the spelling of an item none covers another.
 
-ghost use Rattle.std.specs.Prelude.{◌≡◌, ◌||◌, ℕ, List, IfOk, OnOk};
+ghost use Rattle.std.specs.Prelude.{◌≡◌, ℕ, List, IfOk};
 ghost use Rattle.std.specs.List.{list_all, list_any};
 ghost use Rattle.oai_item.specs.Membership.{is_above, neither_covers, none_covers};
-ghost use Rattle.oai_item.specs.Reductions.{are_new, holds};
+ghost use Rattle.oai_item.specs.Reductions.{are_fresh, holds};
 
 use crate::reductions::add_above;
 use crate::walks::SpelledSets;
@@ -67,7 +67,7 @@ fn names_above<'a>(alloc: Global, sets: &SpelledSets<'a>) -> Result<BTreeSet<&'a
 
 /// Whether each setSpec is none of the names, and stands once.
 fn are_new<'a>(mut names: BTreeSet<&'a str>, sets: &SpelledSets<'a>) -> Result<bool, AllocError>
-    ensures { IfOk result (λ new. new ≡ are_new (holds names.entry) sets.now) }
+    ensures { IfOk result (λ new. new ≡ are_fresh (holds names.entry) sets.now) }
 {
     let mut rest = sets.copy();
     while let Some(set) = rest.next() {

@@ -38,11 +38,11 @@ impl Model for HeldRecords {
 
     ghost Value = { List Metadata };
 
-    ghost use Rattle.oai_item.specs.Held.{IsHeld, records_held};
+    ghost use Rattle.oai_item.specs.Held.{AreHeld, records_held};
 
     ghost view = { λ records. records_held records.held };
 
-    ghost invariant = { λ records. IsHeld records.held };
+    ghost invariant = { λ records. AreHeld records.held };
 }
 
 impl HeldRecords {

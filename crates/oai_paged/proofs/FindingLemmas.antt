@@ -20,7 +20,7 @@ use Rattle.oai_item.proofs.Around.{item_at-missing, only_place}
 use Rattle.oai_item.proofs.Decoded.{item_in-spelled}
 use Rattle.oai_item.proofs.OrderLemmas.{behind-precedes, is_at-Equal, precedes-trans}
 use Rattle.oai_item.proofs.Spelled.{same_spelled}
-use Rattle.oai_paged.specs.Finding.{IsFinding, IsLeftToFind, IsRead, IsSoughtBehind}
+use Rattle.oai_paged.specs.Finding.{IsFinding, IsLeftToFind, IsItemRead, IsSoughtBehind}
 use Rattle.oai_paged.specs.Pages.{AreStorable, IsPage, begins_at, entries_of, entry_of, first_number, size_of}
 use Rattle.oai_paged.proofs.PageLemmas.{behind_number, entries_of-cons, entry_parts, number_back}
 use Rattle.oai_paged.proofs.ReadLemmas.{page_read}
@@ -48,12 +48,12 @@ order_seen stamp identifier spelling item order s e told = told item (ap item_in
 pub read_is : (bytes : List ℕ) (read item : ItemState) → Spells bytes read → Spells bytes item → Some read ≡ Some item
 read_is bytes read item s t = ap Some (same_spelled bytes item read t s)
 
-pub read_fails : (bytes : List ℕ) (fault : DecodeFault) (item : ItemState) → IsDecoding bytes (Err fault) → Spells bytes item → IsRead item (Err fault)
+pub read_fails : (bytes : List ℕ) (fault : DecodeFault) (item : ItemState) → IsDecoding bytes (Err fault) → Spells bytes item → IsItemRead item (Err fault)
 read_fails bytes Damaged item h s = h item s
 read_fails bytes NoMemory item h s = tt
 
 -- an item that was read is the one that was looked for
-pub finding_is : (stamp : ℤ) (identifier : List ℕ) (items : List ItemState) (item : ItemState) (result : Result (Option ItemState) DecodeFault) → IsRead item result
+pub finding_is : (stamp : ℤ) (identifier : List ℕ) (items : List ItemState) (item : ItemState) (result : Result (Option ItemState) DecodeFault) → IsItemRead item result
     → item_at stamp identifier items ≡ Some item → IsFinding stamp identifier items result
 finding_is stamp identifier items item (Ok read) h found = h ∙ sym found
 finding_is stamp identifier items item (Err Damaged) h found = h

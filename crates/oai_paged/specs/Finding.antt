@@ -16,10 +16,10 @@ IsEntryParted item behind (Some parts) = (parts.0.now ≡ encoded item) × (part
 IsEntryParted item behind None = ⊥
 
 -- what reading bytes that spell the item answers: that item; or out of memory
-abbrev pub IsRead : ItemState → Result (Option ItemState) DecodeFault → Type 0
-IsRead item (Ok read) = read ≡ Some item
-IsRead item (Err Damaged) = ⊥
-IsRead item (Err NoMemory) = ⊤
+abbrev pub IsItemRead : ItemState → Result (Option ItemState) DecodeFault → Type 0
+IsItemRead item (Ok read) = read ≡ Some item
+IsItemRead item (Err Damaged) = ⊥
+IsItemRead item (Err NoMemory) = ⊤
 
 -- what looking for the item of that datestamp and identifier among the items answers: that item, or that there is none; or out of memory
 abbrev pub IsFinding : ℤ → List ℕ → List ItemState → Result (Option ItemState) DecodeFault → Type 0

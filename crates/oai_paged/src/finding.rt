@@ -5,7 +5,7 @@ ghost use Rattle.oai_item.specs.Decoding.{item_in};
 ghost use Rattle.oai_item.specs.Encoding.{Spells, encoded};
 ghost use Rattle.oai_item.specs.Item.{ItemState};
 ghost use Rattle.oai_item.specs.Items.{is_at};
-ghost use Rattle.oai_paged.specs.Finding.{IsEntryParted, IsFinding, IsRead};
+ghost use Rattle.oai_paged.specs.Finding.{IsEntryParted, IsFinding, IsItemRead};
 ghost use Rattle.oai_paged.specs.Pages.{IsPage, begins_at, entry_of};
 
 use crate::entries::first_number;
@@ -83,7 +83,7 @@ fn first_entry(bytes: &[u8]) -> Option<(&[u8], &[u8])>
 
 /// The item that was found, which the bytes spell. `Damaged` where they spell none; `NoMemory`.
 fn found(alloc: Global, spelling: &[u8]) -> Result<Option<Item>, DecodeFault>
-    ensures { (item : ItemState) → Spells spelling.now item → IsRead item result }
+    ensures { (item : ItemState) → Spells spelling.now item → IsItemRead item result }
 {
     match Item::decode(alloc, spelling) {
         Ok(item) => Ok(Some(item)),
