@@ -87,7 +87,7 @@ pub(crate) fn read_count(bytes: &[u8]) -> Option<(usize, &[u8])>
 }
 
 /// A text from the front, and the bytes after it.
-fn read_text(bytes: &[u8]) -> Option<(&str, &[u8])>
+pub(crate) fn read_text(bytes: &[u8]) -> Option<(&str, &[u8])>
     ensures { Reads (λ a. (a.0.now, a.1.now)) encoded_text IsText bytes.now result }
 {
     let (len, rest) = read_count(bytes)?;
