@@ -122,7 +122,7 @@ def in_sets(sets):
 
 def titled(text):
     """What comes before where an item is asked for whose title is made of that."""
-    return lambda n: item_line([], [["title", text * (n // len(text))]])
+    return lambda n: item_line([], [["title", text * (n // len(text.encode()))]])
 
 
 GET = f"verb=GetRecord&metadataPrefix=oai_dc&identifier={ITEM}"
@@ -326,7 +326,7 @@ def main(parts):
     kinds = [it for it in all_inputs() if not parts or any(part in it.name for part in parts)]
     with tempfile.TemporaryDirectory(prefix="oaihost-") as folder, ThreadPoolExecutor(JOBS) as pool:
         rows = list(pool.map(Counter(folder).row, kinds))
-    print_table(["input", "n", "n", "instructions", "instructions", "their ratio over that of n", "answered at last"], [row for row, _ in rows])
+    print_table(["input", "n", "and n", "instructions", "and", "their ratio over that of n", "answered at last"], [row for row, _ in rows])
     faster = sum(grows for _, grows in rows)
     print(f"{len(rows)} inputs, {faster} grow faster")
     raise SystemExit(faster > 0)
