@@ -1,6 +1,6 @@
 //! An item that is looked for on a page, of which no other item is tested.
 
-ghost use Rattle.std.specs.Prelude.{◌≤◌, ◌≡◌, ◌++◌, ℕ, List, Some, length};
+ghost use Rattle.std.specs.Prelude.{◌≤◌, ◌≡◌, ◌==◌, ◌++◌, ℕ, List, Some, length};
 ghost use Rattle.oai_item.specs.Decoding.{item_in};
 ghost use Rattle.oai_item.specs.Encoding.{Spells, encoded};
 ghost use Rattle.oai_item.specs.Item.{ItemState};
@@ -40,6 +40,14 @@ pub(crate) fn find_on_page(
         rest = behind;
     }
     Ok(None)
+}
+
+/// Whether the page has so many items.
+pub(crate) fn has_items(page: &[u8], len: usize) -> bool
+    requires { 4 ≤ length page.now }
+    ensures { (items : List ItemState) → IsPage page.now items → result ≡ (length items == len) }
+{
+    first_number(page) == len
 }
 
 /// Whether the first item of the page has this datestamp, in seconds from 1970 on, and identifier.

@@ -18,7 +18,7 @@ ghost use Rattle.oai_paged.specs.Searches.{MayBeAt, StartsAt};
 
 use crate::entries::{Entries, are_zeros};
 use crate::faults::fault_of;
-use crate::finding::{begins_on_page, find_on_page};
+use crate::finding::{begins_on_page, find_on_page, has_items};
 use crate::places::SharedPlace;
 use crate::searches::place_of;
 use crate::sizes::FRONT_BYTES;
@@ -242,6 +242,9 @@ fn find_at<P: PagePool>(
         Ok(page) => page,
         Err(fault) => return Err(fault_of(fault)),
     };
+    if !has_items(&page[..], place.len()) {
+        return Err(Fault::Damaged);
+    }
     if !begins_on_page(&page[..], place.stamp(), place.identifier()) {
         return Err(Fault::Damaged);
     }
