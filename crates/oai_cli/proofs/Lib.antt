@@ -5,6 +5,7 @@ mod KnownLemmas
 mod LineLemmas
 mod NumeralLemmas
 mod ReadLemmas
+mod SpaceLemmas
 mod TraceLemmas
 mod Traced
 mod PieceLemmas

@@ -3,7 +3,7 @@ ghost use Rattle.std.specs.Prelude.{◌≡◌};
 ghost use Rattle.std.specs.Option.{option_copied, option_map};
 ghost use Rattle.oai_cli.specs.ExchangeLines as spec;
 
-use crate::input::parts::{cut, read_moment, spaces};
+use crate::input::parts::{cut, has_two_spaces, read_moment};
 use oai_http::{Exchange, FORM};
 
 /// Reads a line: three or four parts between single spaces, of which the last goes to the end. It is a
@@ -12,7 +12,7 @@ use oai_http::{Exchange, FORM};
 pub(crate) fn parse_exchange(line: &[u8]) -> Option<(i64, Exchange<'_>)>
     ensures { option_map spec.call_by result ≡ spec.parse_exchange line.now }
 {
-    if spaces(line) < 2 {
+    if !has_two_spaces(line) {
         return None;
     }
     let (moment, rest) = cut(line);

@@ -1,6 +1,6 @@
 //! The parts of a line, between single spaces, and the numbers that they spell.
-ghost use Rattle.std.specs.Prelude.{◌≡◌, ◌≤◌, length};
-ghost use Rattle.std.specs.List.{count_by, position, position_or_len};
+ghost use Rattle.std.specs.Prelude.{◌≡◌, ◌≤◌, length, nat_le};
+ghost use Rattle.std.specs.List.{count_by, list_any, position, position_or_len};
 ghost use Rattle.oai_cli.specs.ExchangeLines as spec;
 ghost use Rattle.oai_cli.specs.Numbers.{moment_of, number_in};
 
@@ -12,6 +12,21 @@ pub(crate) fn spaces(text: &[u8]) -> usize
     ensures { result ≡ count_by spec.is_separator text.now }
 {
     text.iter().filter(|b| **b == b' ').count()
+}
+
+/// Whether the text has two spaces or more. It looks at no byte behind the second.
+pub(crate) fn has_two_spaces(text: &[u8]) -> bool
+    ensures { result ≡ nat_le 2 (count_by spec.is_separator text.now) }
+{
+    let (_, rest) = cut(text);
+    has_space(rest)
+}
+
+/// Whether the text has a space. It looks at no byte behind it.
+fn has_space(text: &[u8]) -> bool
+    ensures { result ≡ list_any spec.is_separator text.now }
+{
+    text.iter().any(|b| *b == b' ')
 }
 
 /// What stands before the first space, and what stands after it; all and nothing where none does.
