@@ -14,6 +14,7 @@ from generated import NAME, body_of, configuration
 from served import PROGRAM
 
 PAGE = "docs/PERFORMANCE.md"
+SECTION = "\n## Instructions of five operations\n"
 
 START = 1_704_067_200  # 2024-01-01T00:00:00Z
 
@@ -113,13 +114,14 @@ OPERATIONS = {
 
 
 def last_figures():
-    """The last figure of each operation in the page, as it stands there."""
+    """The last figure of each operation in the page's section on them, as it stands there."""
     figures = {}
     with open(PAGE, encoding="utf-8") as page:
-        for line in page:
-            cells = [it.strip() for it in line.strip().strip("|").split("|")]
-            if cells[0] in OPERATIONS:
-                figures[cells[0]] = cells[-1]
+        section = page.read().split(SECTION, 1)[1].split("\n## ", 1)[0]
+    for line in section.splitlines():
+        cells = [it.strip() for it in line.strip().strip("|").split("|")]
+        if cells[0] in OPERATIONS:
+            figures[cells[0]] = cells[-1]
     return figures
 
 
