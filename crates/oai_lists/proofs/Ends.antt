@@ -5,11 +5,12 @@ use Rattle.std.specs.Int.{int_min}
 use Rattle.std.specs.List.{after_first, before_first, list_all, position_or_len, remove}
 use Rattle.std.proofs.lemmas.Bool.{false≢true, and_from, and_parts, cond-true, cond-false, cond_both, cases_Bool, eqb-false, le-leb, lt-leb, lt-ltb, ltb-true, not-true, not_from_false}
 use Rattle.std.proofs.lemmas.Int.{ints}
-use Rattle.std.proofs.lemmas.List.{drop_all, get_or-take, get_or_default, length-take-le, take_all}
+use Rattle.std.proofs.lemmas.List.{drop_all, get_or-take, get_or_default, length-take-le, take_all, take_more}
+use Rattle.std.proofs.lemmas.List.Elements.{All-nil, All-push, All-weaker, Contains-append_left, Contains-push, filter-append}
 use Rattle.std.proofs.lemmas.List.Folds.{list_all-append}
 use Rattle.std.proofs.lemmas.List.Quantifiers.{position-Some}
 use Rattle.std.proofs.lemmas.List.Sums.{AllPass-from_list_all, list_all-from_AllPass, position_or_len_is}
-use Rattle.oai_lists.specs.HeldTable.{IsHeldTable}
+use Rattle.oai_lists.specs.HeldTable.{IsHeldTable, earlier}
 use Rattle.oai_lists.specs.OpenLists.{IsEarliest, IsListOpening, Table, number_or_fault, are_numbered_lists, has_ended, is_open, list_numbered, list_number, open_fault, open_ones, with_opened}
 use Rattle.oai_lists.specs.declared.lists.OpenFault.{OpenFault}
 use Rattle.oai_lists.specs.declared.lists.OpenFault.TheVariants.{Full, NumbersSpent}
@@ -26,6 +27,9 @@ ended_not earliest now list early bound = let e : has_ended now list ≡ false =
 
 open_yet : (earliest now : ℤ) (list : OpenList) → now <ℤ earliest → int_le earliest list.end ≡ true → is_open now list ≡ true
 open_yet earliest now list early bound = grind (arith, ints)
+
+lasts_yet : (now : ℤ) (list : OpenList) → not (has_ended now list) ≡ true → is_open now list ≡ true
+lasts_yet now list h = grind (arith, ints)
 
 le_test : (a b : ℤ) → a ≤ℤ b → int_le a b ≡ true
 le_test a b h = grind (arith, ints)
@@ -141,11 +145,64 @@ none_passes p (x ∷ lists) h =
     let parts = none_more p x lists h in
     and_from (not (p x)) (list_all (λ list. not (p list)) lists) (not_from_false (p x) parts.0) (none_passes p lists parts.1)
 
+-- where none has ended, all are open
+pub all_last : (now : ℤ) (lists : List OpenList) → list_all (λ list. not (has_ended now list)) lists ≡ true → open_ones now lists ≡ lists
+all_last now lists none = filter_all (is_open now) lists (all-weaker (λ (list : OpenList). not (has_ended now list)) (is_open now) (λ list h. lasts_yet now list h) lists none)
+
 -- ---- the earliest end
+
+open_taken : (now : ℤ) (lists : List OpenList) (i : ℕ) (x : OpenList) → i < length lists → x ≡ get_or lists i x → open_ones now (take (i + 1) lists) ≡ open_ones now (take i lists) ++ open_ones now (x ∷ [])
+open_taken now lists i x within is =
+    ap (open_ones now) (take_more lists i x within ∙ ap (λ (y : OpenList). take i lists ++ y ∷ []) (sym is)) ∙ filter-append (is_open now) (take i lists) (x ∷ [])
 
 pub earliest_bounds : (lists : List OpenList) (end : Option ℤ) (d : ℤ) → IsEarliest lists end → list_all (λ list. int_le (unwrap_or end d) list.end) lists ≡ true
 earliest_bounds lists None d h = ap (list_all (λ list. int_le d list.end)) h
 earliest_bounds lists (Some end) d h = list_all-from_AllPass (λ list. int_le end list.end) lists (λ k e within. le_test end (get_or lists k e).end (h.1 k e within))
+
+to_test : (a b : ℤ) → int_lt a b ≡ true → a ≤ℤ b
+to_test a b h = grind (arith, ints)
+
+to_other : (a b : ℤ) → int_lt a b ≡ false → b ≤ℤ a
+to_other a b h = grind (arith, ints)
+
+itself_below : (a : ℤ) → a ≤ℤ a
+itself_below a = grind (arith, ints)
+
+below_both : (a b c : ℤ) → a ≤ℤ b → b ≤ℤ c → a ≤ℤ c
+below_both a b c h g = omega (arith, ints)
+
+-- one more list
+pub earliest_pushed : (lists : List OpenList) (end : Option ℤ) (x : OpenList) → IsEarliest lists end → IsEarliest (lists ++ x ∷ []) (Some (earlier end x.end))
+earliest_pushed lists None x none =
+    subst (λ (ls : List OpenList). IsEarliest (ls ++ x ∷ []) (Some x.end)) (sym none)
+    ((x, Contains-push [] x, refl), All-push (λ (list : OpenList). x.end ≤ℤ list.end) [] x (All-nil (λ (list : OpenList). x.end ≤ℤ list.end)) (itself_below x.end))
+earliest_pushed lists (Some end) x is =
+    cond_both (int_lt x.end end) x.end end (λ m. IsEarliest (lists ++ x ∷ []) (Some m))
+    (λ less. (
+      (x, Contains-push lists x, refl),
+      All-push (λ (list : OpenList). x.end ≤ℤ list.end) lists x
+          (All-weaker (λ (list : OpenList). end ≤ℤ list.end) (λ (list : OpenList). x.end ≤ℤ list.end) (λ list h. below_both x.end end list.end (to_test x.end end less) h) lists is.1)
+          (itself_below x.end),
+    ))
+    (λ least. (
+      (is.0.0, Contains-append_left lists (x ∷ []) is.0.0 is.0.1, is.0.2),
+      All-push (λ (list : OpenList). end ≤ℤ list.end) lists x is.1 (to_other x.end end least),
+    ))
+
+-- one list more is looked at, which is open, or has ended
+pub earliest_more : (now : ℤ) (lists : List OpenList) (i : ℕ) (x : OpenList) (end : Option ℤ) → i < length lists → x ≡ get_or lists i x → is_open now x ≡ true → IsEarliest (open_ones now (take i lists)) end
+    → IsEarliest (open_ones now (take (i + 1) lists)) (Some (earlier end x.end))
+earliest_more now lists i x end within is lasts so_far =
+    subst (λ (ls : List OpenList). IsEarliest ls (Some (earlier end x.end)))
+    (sym (open_taken now lists i x within is ∙ ap (λ ls. open_ones now (take i lists) ++ ls) (cond-true (is_open now x) (x ∷ []) [] lasts)))
+    (earliest_pushed (open_ones now (take i lists)) end x so_far)
+
+pub earliest_kept : (now : ℤ) (lists : List OpenList) (i : ℕ) (x : OpenList) (end : Option ℤ) → i < length lists → x ≡ get_or lists i x → is_open now x ≡ false → IsEarliest (open_ones now (take i lists)) end
+    → IsEarliest (open_ones now (take (i + 1) lists)) end
+earliest_kept now lists i x end within is over so_far =
+    subst (λ (ls : List OpenList). IsEarliest ls end)
+    (sym (open_taken now lists i x within is ∙ ap (λ ls. open_ones now (take i lists) ++ ls) (cond-false (is_open now x) (x ∷ []) [] over) ∙ append-nil (open_ones now (take i lists))))
+    so_far
 
 -- ---- what a table keeps
 

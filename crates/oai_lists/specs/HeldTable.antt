@@ -1,5 +1,6 @@
 -- What the table of open lists keeps beside its lists, and what this crate's private functions find. No definition rests on it.
-use Rattle.std.specs.Prelude.{◌≡◌, ◌<◌, ◌^◌, ℕ, ℤ, int_le, true, List, decimal, Option}
+use Rattle.std.specs.Prelude.{◌≡◌, ◌<◌, ◌^◌, ℕ, ℤ, int_le, true, List, decimal, Option, None, Some}
+use Rattle.std.specs.Int.{int_min}
 use Rattle.std.specs.List.{list_all}
 use Rattle.oai_names.specs.Numbered.{IsPlaceOf, none_has}
 use Rattle.oai_lists.specs.OpenLists.{Table, IsListTable, list_number}
@@ -10,6 +11,11 @@ use Rattle.oai_lists.specs.declared.tokens.Token.{Token}
 pub record IsHeldTable (table : Table) (earliest : ℤ) : Type 0 where
   pub numbers : IsListTable table
   pub bound : list_all (λ list. int_le earliest list.end) table.lists ≡ true
+
+-- the lower of two moments, of which the first may be missing
+abbrev pub earlier : Option ℤ → ℤ → ℤ
+earlier None second = second
+earlier (Some first) second = int_min first second
 
 -- none of the lists has that number
 abbrev pub no_list_numbered : ℕ → List OpenList → Type 0

@@ -2,7 +2,7 @@ ghost use Rattle.std.specs.Prelude.{◌≡◌, ◌<◌, [], get_or, vec_len, tru
 ghost use Rattle.std.specs.List.{find, remove};
 ghost use Rattle.oai_lists.specs.declared.open_lists.OpenList.{OpenList as Opened};
 ghost use Rattle.std.specs.Option.{option_copied, option_map};
-ghost use Rattle.oai_lists.specs.HeldTable.{IsListPlace};
+ghost use Rattle.oai_lists.specs.HeldTable.{IsListPlace, earlier};
 ghost use Rattle.oai_lists.specs.OpenLists.{IsEarliest, IsListOpening, IsListTable, number_or_fault, are_numbered_lists, has_ended, list_numbered, next_list, given_too, open_fault, open_numbered, open_ones, open_until, with_change, with_mark, without_ended};
 
 use crate::open_lists::{Mark, OpenList};
@@ -197,18 +197,18 @@ impl Lists {
         match ended_at(self.lists.as_slice(), now) {
             Some(at) => Some(drop_at(&mut self.lists, at)),
             None => {
-                self.earliest = earliest(self.lists.as_slice()).unwrap_or(i64::MAX);
+                self.earliest = earliest(self.lists.as_slice(), now).unwrap_or(i64::MAX);
                 None
             }
         }
     }
 
-    /// The end of the list that ends first, in seconds from 1970 on, or None where no list is held. It
-    /// takes no memory. It looks at each list.
-    pub fn earliest_end(&self) -> Option<i64>
-        ensures { IsEarliest self.now.lists result }
+    /// The end of the list that ends first of those that are open at `now`, or None where none is open. Both
+    /// moments are in seconds from 1970 on. It takes no memory. It looks at each list.
+    pub fn earliest_end(&self, now: i64) -> Option<i64>
+        ensures { IsEarliest (open_ones now self.now.lists) result }
     {
-        earliest(self.lists.as_slice())
+        earliest(self.lists.as_slice(), now)
     }
 
     /// How many lists are held. Lists that have ended and were not dropped yet are counted.
@@ -261,17 +261,27 @@ fn drop_at(lists: &mut Vec<OpenList>, at: usize) -> u64
     lists.remove(at).version
 }
 
-/// The end of the list that ends first, or None where there is no list.
-fn earliest(lists: &[OpenList]) -> Option<i64>
-    ensures { IsEarliest lists.now result }
+/// The end of the list that ends first of those whose end is above `now`, or None where there is none.
+fn earliest(lists: &[OpenList], now: i64) -> Option<i64>
+    ensures { IsEarliest (open_ones now lists.now) result }
 {
-    let mut earliest = lists.first()?;
+    let mut earliest = None;
     for list in lists {
-        if list.end < earliest.end {
-            earliest = list;
+        if now < list.end {
+            earliest = Some(earlier(earliest, list.end));
         }
     }
-    Some(earliest.end)
+    earliest
+}
+
+/// The lower of two moments, of which the first may be missing.
+fn earlier(first: Option<i64>, second: i64) -> i64
+    ensures { result ≡ earlier first second }
+{
+    match first {
+        Some(first) => first.min(second),
+        None => second,
+    }
 }
 
 /// How many of the lists have an end above `now`.

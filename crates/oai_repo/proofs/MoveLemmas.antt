@@ -1,21 +1,17 @@
--- A clock that moves on drops the lists that have ended, and changes nothing else.
+-- A clock that moves on drops the first of the lists that have ended, and changes nothing else.
 use Rattle.std.proofs.Common.{◌≡◌, ◌∙◌, ℤ, ◌≤ℤ◌, List, [], Option, unwrap_or, sym, ap}
 use Rattle.oai_item.specs.Item.{ItemState}
 use Rattle.oai_catalogue.specs.Store.{Lists, list_at}
-use Rattle.oai_lists.specs.OpenLists.{Table, open_ones}
+use Rattle.oai_lists.specs.OpenLists.{Table}
 use Rattle.oai_settings.specs.Config.{Config}
 use Rattle.oai_repo.specs.Fields.{RepoFields, IsStored, KeepsOthers, ItemIndex, StandsIn, open_lists_of, numbers_of, state_of}
 use Rattle.oai_repo.specs.State.{NamedSet, OpenLists, RepoState, at_clock}
-use Rattle.oai_repo.specs.Tables.{versions_ended, without_lists}
+use Rattle.oai_repo.specs.Tables.{dropped_at, version_ended, without_version}
 use Rattle.oai_repo.proofs.OpenListLemmas.{open_lists_dropped, items_dropped, indexed_same, still_same, table_agrees_dropped}
 use Rattle.oai_repo.proofs.EndLemmas.{in_use_dropped, kept_dropped}
 
 abbrev pub held_with : Config → ℤ → ItemIndex → List NamedSet → Table → RepoFields
 held_with config clock index sets table = record { config = config; clock = clock; index = index; sets = sets; table = table }
-
--- the table without the lists that have ended
-abbrev pub dropped : ℤ → Table → Table
-dropped now table = record table { lists = open_ones now table.lists }
 
 -- the same state in other words, where nothing but the clock is another
 pub state_moved : (config : Config) (c now t : ℤ) (index a : ItemIndex) (sets b : List NamedSet) (table : Table) (before between : Lists) → now ≡ t → a ≡ index → b ≡ sets → between ≡ before
@@ -28,25 +24,25 @@ state_moved config c now t index a sets b table before between is same_shelf sam
     ∙ ap (λ (clock : ℤ). after clock index sets before) is
 
 pub state_dropped : (config : Config) (c now : ℤ) (index : ItemIndex) (sets : List NamedSet) (table : Table) (all : Lists) → c ≤ℤ now → StandsIn (held_with config c index sets table) all
-    → state_of (held_with config now index sets (dropped now table)) (without_lists (versions_ended now table) all) ≡ at_clock now (state_of (held_with config c index sets table) all)
+    → state_of (held_with config now index sets (dropped_at now table)) (without_version (version_ended now table) all) ≡ at_clock now (state_of (held_with config c index sets table) all)
 state_dropped config c now index sets table all later stands =
     let made : List ItemState → OpenLists → RepoState = λ items open_lists. record { clock = now; holdings = record { items = items; sets = sets }; open_lists = open_lists } in
-    let after : Lists = without_lists (versions_ended now table) all in
+    let after : Lists = without_version (version_ended now table) all in
     let items : list_at after index.version ≡ list_at all index.version = ap (λ (o : Option (List ItemState)). unwrap_or o []) (items_dropped now index.version table all stands.apart) in
-    ap (λ xs. made xs (open_lists_of now (dropped now table) after)) items
+    ap (λ xs. made xs (open_lists_of now (dropped_at now table) after)) items
     ∙ ap (made (list_at all index.version)) (open_lists_dropped now index.version table all stands.apart ∙ sym (still_same c now table all later))
 
 pub stands_dropped : (config : Config) (c now : ℤ) (index : ItemIndex) (sets : List NamedSet) (table : Table) (all : Lists) → StandsIn (held_with config c index sets table) all
-    → StandsIn (held_with config now index sets (dropped now table)) (without_lists (versions_ended now table) all)
-stands_dropped config c now index sets table all stands = in_use_dropped now index.version table.lists all stands
+    → StandsIn (held_with config now index sets (dropped_at now table)) (without_version (version_ended now table) all)
+stands_dropped config c now index sets table all stands = in_use_dropped now index.version table all stands
 
 pub held_dropped : (config : Config) (c now : ℤ) (index : ItemIndex) (sets : List NamedSet) (table : Table) (all : Lists) → StandsIn (held_with config c index sets table) all
-    → IsStored (held_with config c index sets table) all → IsStored (held_with config now index sets (dropped now table)) (without_lists (versions_ended now table) all)
+    → IsStored (held_with config c index sets table) all → IsStored (held_with config now index sets (dropped_at now table)) (without_version (version_ended now table) all)
 held_dropped config c now index sets table all stands held = record {
-  indexed = indexed_same config index sets all (without_lists (versions_ended now table) all) (items_dropped now index.version table all stands.apart) held.indexed;
+  indexed = indexed_same config index sets all (without_version (version_ended now table) all) (items_dropped now index.version table all stands.apart) held.indexed;
   agrees = table_agrees_dropped now index.version table all stands.apart held.agrees;
 }
 
 pub others_dropped : (config : Config) (c now : ℤ) (index : ItemIndex) (sets : List NamedSet) (table : Table) (all : Lists)
-    → KeepsOthers (numbers_of (held_with config c index sets table)) all (numbers_of (held_with config now index sets (dropped now table))) (without_lists (versions_ended now table) all)
-others_dropped config c now index sets table all = kept_dropped now index.version table.lists all
+    → KeepsOthers (numbers_of (held_with config c index sets table)) all (numbers_of (held_with config now index sets (dropped_at now table))) (without_version (version_ended now table) all)
+others_dropped config c now index sets table all = kept_dropped now index.version table all

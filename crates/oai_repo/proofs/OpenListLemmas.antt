@@ -8,7 +8,7 @@ use Rattle.std.proofs.lemmas.Bool.Decides.{nat_tests}
 use Rattle.std.proofs.lemmas.Int.{ints}
 use Rattle.std.proofs.lemmas.List.{map-append}
 use Rattle.std.proofs.lemmas.List.Elements.{filter-append}
-use Rattle.oai_names.proofs.Lists.{all-weaker}
+use Rattle.oai_names.proofs.Lists.{all-weaker, find_none}
 use Rattle.oai_names.specs.Numbered.{is_lower}
 use Rattle.oai_item.specs.Item.{ItemState}
 use Rattle.oai_item.specs.Selection.{selected}
@@ -16,7 +16,7 @@ use Rattle.oai_catalogue.specs.Store.{Lists, list_at, with_list}
 use Rattle.oai_catalogue.proofs.ListsLemmas.{list_at-with}
 use Rattle.oai_lists.proofs.Changes.{change-last, changed_twice, unchanged_lists}
 use Rattle.oai_lists.specs.HeldTable.{no_list_numbered}
-use Rattle.oai_lists.specs.OpenLists.{IsListTable, Table, are_numbered_lists, changed_one, given_too, has_list_number, is_open, list_number, list_numbered, open_numbered, open_ones, open_until, with_change, with_mark, with_opened as opening}
+use Rattle.oai_lists.specs.OpenLists.{IsListTable, Table, are_numbered_lists, changed_one, given_too, has_list_number, is_open, list_number, list_numbered, open_numbered, open_ones, open_until, with_change, with_mark, with_opened as opening, without_ended}
 use Rattle.oai_lists.specs.declared.open_lists.Mark.{Mark}
 use Rattle.oai_lists.specs.declared.open_lists.OpenList.{OpenList}
 use Rattle.oai_settings.specs.Config.{Config}
@@ -24,8 +24,8 @@ use Rattle.oai_repo.specs.Fields.{AreInUse, IndexAgrees, IsIndexed, KeepsOthers,
 use Rattle.oai_repo.specs.Kept.{AreKept}
 use Rattle.oai_repo.specs.Listing.{carried_on, carried_on_at, is_of_number, with_carried_on, with_new_list}
 use Rattle.oai_repo.specs.State.{FrozenList, NamedSet, OpenLists, is_open_at, still_open}
-use Rattle.oai_repo.specs.Tables.{IsKeptTable, IsLeftOpen, has_end, kept_open, versions_ended, without_lists}
-use Rattle.oai_repo.proofs.EndLemmas.{in_use_dropped, kept_dropped, left_same, open_here, open_later, versions}
+use Rattle.oai_repo.specs.Tables.{IsKeptTable, IsLeftOpen, dropped_at, has_end, kept_open, version_ended, without_version}
+use Rattle.oai_repo.proofs.EndLemmas.{left_same, open_here, open_later, open_same, rest_all, versions}
 use Rattle.oai_repo.proofs.NumberLemmas.{clash, in_use_end, kept_end, kept_same, same_number, turned, unused_lacks}
 
 -- ---- what a version holds is all that counts
@@ -123,64 +123,38 @@ still_same c now table all later =
     let made : List FrozenList → OpenLists = λ lists. record { lists = lists; next = table.next } in
     ap made (filtered c now all table.lists later)
 
--- ---- those that have ended are dropped
-
-open_twice : (now : ℤ) (lists : List OpenList) → open_ones now (open_ones now lists) ≡ open_ones now lists
-open_twice now [] = refl
-open_twice now (x ∷ lists) =
-    elim (cases_Bool (is_open now x)) [
-      | inl lasts ↦
-          ap (open_ones now) (open_here now x lists lasts) ∙ open_here now x (open_ones now lists) lasts ∙ ap (λ ls. x ∷ ls) (open_twice now lists) ∙ sym (open_here now x lists lasts)
-      | inr over ↦ ap (open_ones now) (open_later now x lists over) ∙ open_twice now lists ∙ sym (open_later now x lists over)
-    ]
+-- ---- the first that has ended is dropped
 
 pub open_lists_dropped : (now : ℤ) (v : ℕ) (table : Table) (all : Lists) → are_different (v ∷ versions_in table) ≡ true
-    → open_lists_of now (record table { lists = open_ones now table.lists }) (without_lists (versions_ended now table) all) ≡ open_lists_of now table all
+    → open_lists_of now (dropped_at now table) (without_version (version_ended now table) all) ≡ open_lists_of now table all
 open_lists_dropped now v table all apart =
     let made : List FrozenList → OpenLists = λ lists. record { lists = lists; next = table.next } in
-    let after : Lists = without_lists (versions_ended now table) all in
-    ap made (ap (map (frozen_in after)) (open_twice now table.lists)
-    ∙ map_frozen all after (open_ones now table.lists)
-    (λ n there. left_same now v table.lists all apart n (or_right (eqb v n) (has (versions (open_ones now table.lists)) n) there)))
-
-pub some_all : (p : OpenList → Bool) (now : ℤ) (lists : List OpenList) → list_all p lists ≡ true → list_all p (open_ones now lists) ≡ true
-some_all p now [] h = refl
-some_all p now (x ∷ lists) h =
-    let parts = and_parts (p x) (list_all p lists) h in
-    elim (cases_Bool (is_open now x)) [
-      | inl lasts ↦ ap (list_all p) (open_here now x lists lasts) ∙ and_from (p x) (list_all p (open_ones now lists)) parts.0 (some_all p now lists parts.1)
-      | inr over ↦ ap (list_all p) (open_later now x lists over) ∙ some_all p now lists parts.1
-    ]
-
--- those that are left are open
-pub all_open : (now : ℤ) (lists : List OpenList) → list_all (is_open now) (open_ones now lists) ≡ true
-all_open now [] = refl
-all_open now (x ∷ lists) =
-    elim (cases_Bool (is_open now x)) [
-      | inl lasts ↦ ap (list_all (is_open now)) (open_here now x lists lasts) ∙ and_from (is_open now x) (list_all (is_open now) (open_ones now lists)) lasts (all_open now lists)
-      | inr over ↦ ap (list_all (is_open now)) (open_later now x lists over) ∙ all_open now lists
-    ]
+    let left : List OpenList = without_ended now table.lists in
+    ap made (map_frozen all (without_version (version_ended now table) all) (open_ones now left)
+    (λ n there. left_same now v table all apart n (or_right (eqb v n) (has (versions left) n) (open_there now left n there)))
+    ∙ ap (map (frozen_in all)) (open_same now table.lists))
 
 all_dropped : (q : OpenList → List ItemState → Bool) (now : ℤ) (v : ℕ) (table : Table) (all : Lists) → are_different (v ∷ versions_in table) ≡ true → list_all (agrees_by q all) table.lists ≡ true
-    → list_all (agrees_by q (without_lists (versions_ended now table) all)) (open_ones now table.lists) ≡ true
+    → list_all (agrees_by q (without_version (version_ended now table) all)) (without_ended now table.lists) ≡ true
 all_dropped q now v table all apart h =
-    all_agree q all (without_lists (versions_ended now table) all) (open_ones now table.lists)
-    (λ n there. left_same now v table.lists all apart n (or_right (eqb v n) (has (versions (open_ones now table.lists)) n) there))
-    (some_all (agrees_by q all) now table.lists h)
+    let left : List OpenList = without_ended now table.lists in
+    all_agree q all (without_version (version_ended now table) all) left
+    (λ n there. left_same now v table all apart n (or_right (eqb v n) (has (versions left) n) there))
+    (rest_all (agrees_by q all) now table.lists h)
 
 pub table_agrees_dropped : (now : ℤ) (v : ℕ) (table : Table) (all : Lists) → are_different (v ∷ versions_in table) ≡ true → TableAgrees table all
-    → TableAgrees (record table { lists = open_ones now table.lists }) (without_lists (versions_ended now table) all)
+    → TableAgrees (dropped_at now table) (without_version (version_ended now table) all)
 table_agrees_dropped now v table all apart agrees = record {
   counted = all_dropped by_size now v table all apart agrees.counted;
   marked = all_dropped by_mark now v table all apart agrees.marked;
 }
 
-pub table_dropped : (config : Config) (now : ℤ) (table : Table) → IsKeptTable config table → IsKeptTable config (record table { lists = open_ones now table.lists })
-table_dropped config now table kept = record { limit = kept.limit; ends = some_all has_end now table.lists kept.ends }
+pub table_dropped : (config : Config) (now : ℤ) (table : Table) → IsKeptTable config table → IsKeptTable config (dropped_at now table)
+table_dropped config now table kept = record { limit = kept.limit; ends = rest_all has_end now table.lists kept.ends }
 
 -- the items stand as they did
-pub items_dropped : (now : ℤ) (v : ℕ) (table : Table) (all : Lists) → are_different (v ∷ versions_in table) ≡ true → without_lists (versions_ended now table) all v ≡ all v
-items_dropped now v table all apart = left_same now v table.lists all apart v (or_left (eqb v v) (has (versions (open_ones now table.lists)) v) (same_number v))
+pub items_dropped : (now : ℤ) (v : ℕ) (table : Table) (all : Lists) → are_different (v ∷ versions_in table) ≡ true → without_version (version_ended now table) all v ≡ all v
+items_dropped now v table all apart = left_same now v table all apart v (or_left (eqb v v) (has (versions (without_ended now table.lists)) v) (same_number v))
 
 -- ---- the items of a repository, where its version has not changed
 
@@ -227,22 +201,16 @@ pub all_true : (lists : List OpenList) → list_all (λ _. true) lists ≡ true
 all_true [] = refl
 all_true (x ∷ lists) = all_true lists
 
--- it is among those that are open
-pub numbered_left : (number : ℕ) (now : ℤ) (lists : List OpenList) (x : OpenList) → open_numbered number now lists ≡ Some x → IsSome (list_numbered number (open_ones now lists))
+-- it is one of those of its number
+pub numbered_there : (number : ℕ) (now : ℤ) (lists : List OpenList) (x : OpenList) → open_numbered number now lists ≡ Some x → IsSome (list_numbered number lists)
 unfolding open_numbered list_numbered
-numbered_left number now [] x found = cc
-numbered_left number now (y ∷ lists) x found =
-    elim (cases_Bool (is_open now y)) [
-      | inl lasts ↦
-          subst (λ (ls : List OpenList). IsSome (find (has_list_number number) ls)) (sym (open_here now y lists lasts)) (elim (cases_Bool (has_list_number number y)) [
-            | inl here ↦ subst (λ (o : Option OpenList). IsSome o) (sym (cond-true (has_list_number number y) (Some y) (find (has_list_number number) (open_ones now lists)) here)) refl
-            | inr other ↦
-                subst (λ (o : Option OpenList). IsSome o) (sym (cond-false (has_list_number number y) (Some y) (find (has_list_number number) (open_ones now lists)) other))
-                (numbered_left number now lists x (sym (cond-false (opened_as number now y) (Some y) (find (opened_as number now) lists) (and_left (has_list_number number y) (is_open now y) other)) ∙ found))
-          ])
-      | inr over ↦
-          subst (λ (ls : List OpenList). IsSome (find (has_list_number number) ls)) (sym (open_later now y lists over))
-          (numbered_left number now lists x (sym (cond-false (opened_as number now y) (Some y) (find (opened_as number now) lists) (and_right (has_list_number number y) (is_open now y) over)) ∙ found))
+numbered_there number now [] x found = cc
+numbered_there number now (y ∷ lists) x found =
+    elim (cases_Bool (has_list_number number y)) [
+      | inl here ↦ subst (λ (o : Option OpenList). IsSome o) (sym (cond-true (has_list_number number y) (Some y) (find (has_list_number number) lists) here)) refl
+      | inr other ↦
+          subst (λ (o : Option OpenList). IsSome o) (sym (cond-false (has_list_number number y) (Some y) (find (has_list_number number) lists) other))
+          (numbered_there number now lists x (sym (cond-false (opened_as number now y) (Some y) (find (opened_as number now) lists) (and_left (has_list_number number y) (is_open now y) other)) ∙ found))
     ]
 
 -- the same list, as the state has it
@@ -289,21 +257,34 @@ kept_frozen config now end next mark number all x is =
           ∙ sym (cond-false (has_list_number number x) (carried_on config now next (frozen_in all x)) (frozen_in all x) other)
     ]
 
+-- each list of that number is open
+abbrev pub is_open_as : ℤ → ℕ → OpenList → Bool
+is_open_as now number list = not (has_list_number number list) || is_open now list
+
+-- one that has ended has another number, and stays as it was
+kept_over : (now end : ℤ) (next : Option ℕ) (mark : Option Mark) (number : ℕ) (x : OpenList) → is_open_as now number x ≡ true → is_open now x ≡ false → is_open now (changed_one number (kept_open end next mark) x) ≡ false
+kept_over now end next mark number x alone over =
+    elim (cases_Bool (has_list_number number x)) [
+      | inl here ↦ let lasts : is_open now x ≡ true = sym (ap (λ b. not b || is_open now x) here) ∙ alone in clash (is_open now x) lasts over
+      | inr other ↦ ap (is_open now) (cond-false (has_list_number number x) (kept_open end next mark x) x other) ∙ over
+    ]
+
 kept_lists : (config : Config) (now end : ℤ) (next : Option ℕ) (mark : Option Mark) (number : ℕ) (all : Lists) (lists : List OpenList) → end ≡ now +ℤ pos config.lifetime → int_lt now end ≡ true
-    → map (frozen_in all) (open_ones now (with_change number (kept_open end next mark) (open_ones now lists))) ≡ map (carried_on_at config now number next) (map (frozen_in all) (open_ones now lists))
-kept_lists config now end next mark number all [] is later = refl
-kept_lists config now end next mark number all (x ∷ lists) is later =
+    → list_all (is_open_as now number) lists ≡ true
+    → map (frozen_in all) (open_ones now (with_change number (kept_open end next mark) lists)) ≡ map (carried_on_at config now number next) (map (frozen_in all) (open_ones now lists))
+kept_lists config now end next mark number all [] is later alone = refl
+kept_lists config now end next mark number all (x ∷ lists) is later alone =
     let change : OpenList → OpenList = kept_open end next mark in
-    let rest = kept_lists config now end next mark number all lists is later in
+    let parts = and_parts (is_open_as now number x) (list_all (is_open_as now number) lists) alone in
+    let rest = kept_lists config now end next mark number all lists is later parts.1 in
     elim (cases_Bool (is_open now x)) [
       | inl lasts ↦
-          ap (λ ls. map (frozen_in all) (open_ones now (with_change number change ls))) (open_here now x lists lasts)
-          ∙ ap (map (frozen_in all)) (open_here now (changed_one number change x) (with_change number change (open_ones now lists)) (kept_stays now end next mark number x later lasts))
-          ∙ ap (λ (list : FrozenList). list ∷ map (frozen_in all) (open_ones now (with_change number change (open_ones now lists)))) (kept_frozen config now end next mark number all x is)
+          ap (map (frozen_in all)) (open_here now (changed_one number change x) (with_change number change lists) (kept_stays now end next mark number x later lasts))
+          ∙ ap (λ (list : FrozenList). list ∷ map (frozen_in all) (open_ones now (with_change number change lists))) (kept_frozen config now end next mark number all x is)
           ∙ ap (λ ls. carried_on_at config now number next (frozen_in all x) ∷ ls) rest
           ∙ ap (λ ls. map (carried_on_at config now number next) (map (frozen_in all) ls)) (sym (open_here now x lists lasts))
       | inr over ↦
-          ap (λ ls. map (frozen_in all) (open_ones now (with_change number change ls))) (open_later now x lists over)
+          ap (map (frozen_in all)) (open_later now (changed_one number change x) (with_change number change lists) (kept_over now end next mark number x parts.0 over))
           ∙ rest
           ∙ ap (λ ls. map (carried_on_at config now number next) (map (frozen_in all) ls)) (sym (open_later now x lists over))
     ]
@@ -319,18 +300,9 @@ pub kept_without : (number : ℕ) (end : ℤ) (mark : Option Mark) (lists : List
     → with_change number (with_mark mark) (with_change number (open_until end) lists) ≡ with_change number (kept_open end None mark) lists
 kept_without number end mark lists = changed_twice number (open_until end) (with_mark mark) (λ x. refl) lists
 
--- the table in which the others are dropped, and that one is kept open
-abbrev pub kept_table : ℤ → ℤ → Option ℕ → Option Mark → ℕ → Table → Table
-kept_table now end next mark number table = record table { lists = with_change number (kept_open end next mark) (open_ones now table.lists) }
-
-pub open_lists_kept : (config : Config) (now end : ℤ) (next : Option ℕ) (mark : Option Mark) (number v : ℕ) (table : Table) (all : Lists) → end ≡ now +ℤ pos config.lifetime → int_lt now end ≡ true → are_different (v ∷ versions_in table) ≡ true
-    → open_lists_of now (kept_table now end next mark number table) (without_lists (versions_ended now table) all) ≡ with_carried_on config now number next (open_lists_of now table all)
-open_lists_kept config now end next mark number v table all is later apart =
-    let made : List FrozenList → OpenLists = λ lists. record { lists = lists; next = table.next } in
-    let after : Lists = without_lists (versions_ended now table) all in
-    ap made (kept_lists config now end next mark number after table.lists is later
-    ∙ ap (map (carried_on_at config now number next)) (map_frozen all after (open_ones now table.lists)
-    (λ n there. left_same now v table.lists all apart n (or_right (eqb v n) (has (versions (open_ones now table.lists)) n) there))))
+-- the table in which that list is kept open
+abbrev pub kept_table : ℤ → Option ℕ → Option Mark → ℕ → Table → Table
+kept_table end next mark number table = record table { lists = with_change number (kept_open end next mark) table.lists }
 
 -- the versions stay, and what is true of each
 kept_versions : (end : ℤ) (next : Option ℕ) (mark : Option Mark) (number : ℕ) (lists : List OpenList) → versions (with_change number (kept_open end next mark) lists) ≡ versions lists
@@ -357,91 +329,84 @@ higher_apart number y lists here above =
     other n m is more = grind (arith, nat_tests)
 
 one_changed : (now : ℤ) (number : ℕ) (q : OpenList → Bool) (change : OpenList → OpenList) (lists : List OpenList) (x : OpenList) → are_numbered_lists lists ≡ true → open_numbered number now lists ≡ Some x → q (change x) ≡ true → list_all q lists ≡ true
-    → list_all q (with_change number change (open_ones now lists)) ≡ true
+    → (list_all q (with_change number change lists) ≡ true) × (list_all (is_open_as now number) lists ≡ true)
 unfolding open_numbered
-one_changed now number q change [] x rising found changed h = refl
+one_changed now number q change [] x rising found changed h = (refl, refl)
 one_changed now number q change (y ∷ lists) x rising found changed h =
     let parts = and_parts (q y) (list_all q lists) h in
     let order = and_parts (list_all (is_lower list_number y) lists) (are_numbered_lists lists) rising in
     elim (cases_Bool (has_list_number number y)) [
       | inl here ↦
           let none : no_list_numbered number lists = higher_apart number y lists here order.0 in
-          let rest : list_all q (with_change number change (open_ones now lists)) ≡ true =
-          ap (list_all q) (unchanged_lists number change (open_ones now lists) (some_all (λ list. not (has_list_number number list)) now lists none)) ∙ some_all q now lists parts.1
-          in
           elim (cases_Bool (is_open now y)) [
             | inl lasts ↦
                 let e : Some y ≡ Some x = sym (cond-true (opened_as number now y) (Some y) (find (opened_as number now) lists) (and_from (has_list_number number y) (is_open now y) here lasts)) ∙ found in
-                let same : y ≡ x = cc in
-                ap (λ ls. list_all q (with_change number change ls)) (open_here now y lists lasts)
-                ∙ and_from (q (changed_one number change y)) (list_all q (with_change number change (open_ones now lists)))
-                (ap q (cond-true (has_list_number number y) (change y) y here ∙ ap change same) ∙ changed) rest
-            | inr over ↦ ap (λ ls. list_all q (with_change number change ls)) (open_later now y lists over) ∙ rest
+                let same : y ≡ x = cc in (
+                  and_from (q (changed_one number change y)) (list_all q (with_change number change lists))
+                      (ap q (cond-true (has_list_number number y) (change y) y here ∙ ap change same) ∙ changed)
+                      (ap (list_all q) (unchanged_lists number change lists none) ∙ parts.1),
+                  and_from (is_open_as now number y) (list_all (is_open_as now number) lists) (or_right (not (has_list_number number y)) (is_open now y) lasts)
+                      (all-weaker (λ (list : OpenList). not (has_list_number number list)) (is_open_as now number) (λ list lacks. or_left (not (has_list_number number list)) (is_open now list) lacks) lists none),
+                )
+            | inr over ↦
+                let later : find (opened_as number now) lists ≡ Some x =
+                sym (cond-false (opened_as number now y) (Some y) (find (opened_as number now) lists) (and_right (has_list_number number y) (is_open now y) over)) ∙ found
+                in
+                let lacks : find (opened_as number now) lists ≡ None =
+                find_none (opened_as number now) lists
+                (all-weaker (λ (list : OpenList). not (has_list_number number list)) (λ list. not (opened_as number now list)) (λ list other. ap not (and_left (has_list_number number list) (is_open now list) (not-true (has_list_number number list) other))) lists none)
+                in
+                cc
           ]
       | inr other ↦
-          let rest : list_all q (with_change number change (open_ones now lists)) ≡ true =
-          one_changed now number q change lists x order.1 (sym (cond-false (opened_as number now y) (Some y) (find (opened_as number now) lists) (and_left (has_list_number number y) (is_open now y) other)) ∙ found) changed parts.1
-          in
-          elim (cases_Bool (is_open now y)) [
-            | inl lasts ↦
-                ap (λ ls. list_all q (with_change number change ls)) (open_here now y lists lasts)
-                ∙ and_from (q (changed_one number change y)) (list_all q (with_change number change (open_ones now lists)))
-                (ap q (cond-false (has_list_number number y) (change y) y other) ∙ parts.0) rest
-            | inr over ↦ ap (λ ls. list_all q (with_change number change ls)) (open_later now y lists over) ∙ rest
-          ]
+          let rest = one_changed now number q change lists x order.1 (sym (cond-false (opened_as number now y) (Some y) (find (opened_as number now) lists) (and_left (has_list_number number y) (is_open now y) other)) ∙ found) changed parts.1 in (
+            and_from (q (changed_one number change y)) (list_all q (with_change number change lists))
+                (ap q (cond-false (has_list_number number y) (change y) y other) ∙ parts.0) rest.0,
+            and_from (is_open_as now number y) (list_all (is_open_as now number) lists) (or_left (not (has_list_number number y)) (is_open now y) (ap not other)) rest.1,
+          )
     ]
 
+pub open_lists_kept : (config : Config) (now end : ℤ) (next : Option ℕ) (mark : Option Mark) (number : ℕ) (table : Table) (all : Lists) (x : OpenList) → end ≡ now +ℤ pos config.lifetime → int_lt now end ≡ true → IsListTable table → open_numbered number now table.lists ≡ Some x
+    → open_lists_of now (kept_table end next mark number table) all ≡ with_carried_on config now number next (open_lists_of now table all)
+open_lists_kept config now end next mark number table all x is later numbers found =
+    let made : List FrozenList → OpenLists = λ lists. record { lists = lists; next = table.next } in
+    ap made (kept_lists config now end next mark number all table.lists is later (one_changed now number (λ _. true) (kept_open end next mark) table.lists x numbers.numbered found refl (all_true table.lists)).1)
+
 -- the list of the number has a place among its items for a mark
-pub table_agrees_kept : (now end : ℤ) (next : Option ℕ) (mark : Option Mark) (number v : ℕ) (table : Table) (all : Lists) (x : OpenList) → are_different (v ∷ versions_in table) ≡ true → IsListTable table → open_numbered number now table.lists ≡ Some x
-    → is_place_in (items_frozen all x) mark ≡ true → TableAgrees table all → TableAgrees (kept_table now end next mark number table) (without_lists (versions_ended now table) all)
-table_agrees_kept now end next mark number v table all x apart numbers found place agrees =
-    let after : Lists = without_lists (versions_ended now table) all in
+pub table_agrees_kept : (now end : ℤ) (next : Option ℕ) (mark : Option Mark) (number : ℕ) (table : Table) (all : Lists) (x : OpenList) → IsListTable table → open_numbered number now table.lists ≡ Some x
+    → is_place_in (items_frozen all x) mark ≡ true → TableAgrees table all → TableAgrees (kept_table end next mark number table) all
+table_agrees_kept now end next mark number table all x numbers found place agrees =
     let change : OpenList → OpenList = kept_open end next mark in
-    let same : (n : ℕ) → has (versions (open_ones now table.lists)) n ≡ true → after n ≡ all n = λ n there. left_same now v table.lists all apart n (or_right (eqb v n) (has (versions (open_ones now table.lists)) n) there) in
     record {
-      counted = changed_all (is_counted after) number change (open_ones now table.lists) (λ y counted. counted) (all_dropped by_size now v table all apart agrees.counted);
-      marked =
-          all_agree by_mark all after (with_change number change (open_ones now table.lists))
-          (λ n there. same n (ap (λ vs. has vs n) (sym (kept_versions end next mark number (open_ones now table.lists))) ∙ there))
-          (one_changed now number (is_marked all) change table.lists x numbers.numbered found place agrees.marked);
+      counted = changed_all (is_counted all) number change table.lists (λ y counted. counted) agrees.counted;
+      marked = (one_changed now number (is_marked all) change table.lists x numbers.numbered found place agrees.marked).0;
     }
 
-pub table_kept : (config : Config) (now end : ℤ) (next : Option ℕ) (mark : Option Mark) (number : ℕ) (table : Table) → int_le end (pos 253_402_300_799) ≡ true → IsKeptTable config table → IsKeptTable config (kept_table now end next mark number table)
-table_kept config now end next mark number table fits kept = record {
+pub table_kept : (config : Config) (end : ℤ) (next : Option ℕ) (mark : Option Mark) (number : ℕ) (table : Table) → int_le end (pos 253_402_300_799) ≡ true → IsKeptTable config table → IsKeptTable config (kept_table end next mark number table)
+table_kept config end next mark number table fits kept = record {
   limit = kept.limit;
-  ends = changed_all has_end number (kept_open end next mark) (open_ones now table.lists) (λ x h. fits) (some_all has_end now table.lists kept.ends);
+  ends = changed_all has_end number (kept_open end next mark) table.lists (λ x h. fits) kept.ends;
 }
 
 -- a table with the same numbers as another
 pub in_use_same : (v : ℕ) (a b : List ℕ) (all : Lists) → b ≡ a → AreInUse (v ∷ a) all → AreInUse (v ∷ b) all
 in_use_same v a b all same stands = subst (λ (ns : List ℕ). AreInUse (v ∷ ns) all) (sym same) stands
 
-pub left_kept : (config : Config) (now end : ℤ) (next : Option ℕ) (mark : Option Mark) (number v : ℕ) (table : Table) (all : Lists) → int_le end (pos 253_402_300_799) ≡ true → IsKeptTable config table → AreInUse (v ∷ versions_in table) all
-    → IsLeftOpen config now v table all (kept_table now end next mark number table) (without_lists (versions_ended now table) all)
-left_kept config now end next mark number v table all fits kept stands =
-    let after : Lists = without_lists (versions_ended now table) all in
-    let same : versions_in (kept_table now end next mark number table) ≡ versions (open_ones now table.lists) = kept_versions end next mark number (open_ones now table.lists) in
+pub left_kept : (config : Config) (end : ℤ) (next : Option ℕ) (mark : Option Mark) (number v : ℕ) (table : Table) (all : Lists) → int_le end (pos 253_402_300_799) ≡ true → IsKeptTable config table → AreInUse (v ∷ versions_in table) all
+    → IsLeftOpen config v table all (kept_table end next mark number table) all
+left_kept config end next mark number v table all fits kept stands =
+    let same : versions_in (kept_table end next mark number table) ≡ versions_in table = kept_versions end next mark number table.lists in
     record {
-      asked = inr (inr (inl (number, end, next, mark, refl)));
-      kept = table_kept config now end next mark number table fits kept;
-      stands = in_use_same v (versions (open_ones now table.lists)) (versions_in (kept_table now end next mark number table)) after same (in_use_dropped now v table.lists all stands);
-      others = subst (λ (ns : List ℕ). KeepsOthers (v ∷ versions_in table) all (v ∷ ns) after) (sym same) (kept_dropped now v table.lists all);
-      items = ap (λ (o : Option (List ItemState)). unwrap_or o []) (items_dropped now v table all stands.apart);
+      asked = inr (inl (number, end, next, mark, refl));
+      kept = table_kept config end next mark number table fits kept;
+      stands = in_use_same v (versions_in table) (versions_in (kept_table end next mark number table)) all same stands;
+      others = subst (λ (ns : List ℕ). KeepsOthers (v ∷ versions_in table) all (v ∷ ns) all) (sym same) (kept_same (v ∷ versions_in table) all);
+      items = refl;
     }
 
 -- what is left where nothing is opened
-pub left_same_table : (config : Config) (now : ℤ) (v : ℕ) (table : Table) (all : Lists) → IsKeptTable config table → AreInUse (v ∷ versions_in table) all → IsLeftOpen config now v table all table all
-left_same_table config now v table all kept stands = record { asked = inl refl; kept = kept; stands = stands; others = kept_same (v ∷ versions_in table) all; items = refl }
-
-pub left_dropped : (config : Config) (now : ℤ) (v : ℕ) (table : Table) (all : Lists) → IsKeptTable config table → AreInUse (v ∷ versions_in table) all
-    → IsLeftOpen config now v table all (record table { lists = open_ones now table.lists }) (without_lists (versions_ended now table) all)
-left_dropped config now v table all kept stands = record {
-  asked = inr (inl refl);
-  kept = table_dropped config now table kept;
-  stands = in_use_dropped now v table.lists all stands;
-  others = kept_dropped now v table.lists all;
-  items = ap (λ (o : Option (List ItemState)). unwrap_or o []) (items_dropped now v table all stands.apart);
-}
+pub left_same_table : (config : Config) (v : ℕ) (table : Table) (all : Lists) → IsKeptTable config table → AreInUse (v ∷ versions_in table) all → IsLeftOpen config v table all table all
+left_same_table config v table all kept stands = record { asked = inl refl; kept = kept; stands = stands; others = kept_same (v ∷ versions_in table) all; items = refl }
 
 -- ---- a list that begins
 
@@ -509,13 +474,13 @@ table_agrees_opened v table all list items stands free size place agrees = recor
   marked = opened_agrees by_mark v table all list items stands free agrees.marked place;
 }
 
-pub left_opened : (config : Config) (now : ℤ) (v : ℕ) (table : Table) (all : Lists) (list : OpenList) (items : List ItemState) → IsKeptTable config table → AreInUse (v ∷ versions_in table) all → all list.version ≡ None
-    → int_le list.end (pos 253_402_300_799) ≡ true → list.number ≡ table.next → IsLeftOpen config now v table all (opening table list) (with_list list.version items all)
-left_opened config now v table all list items kept stands free fits numbered =
+pub left_opened : (config : Config) (v : ℕ) (table : Table) (all : Lists) (list : OpenList) (items : List ItemState) → IsKeptTable config table → AreInUse (v ∷ versions_in table) all → all list.version ≡ None
+    → int_le list.end (pos 253_402_300_799) ≡ true → list.number ≡ table.next → IsLeftOpen config v table all (opening table list) (with_list list.version items all)
+left_opened config v table all list items kept stands free fits numbered =
     let after : Lists = with_list list.version items all in
     let same : versions_in (opening table list) ≡ versions_in table ++ list.version ∷ [] = versions_end table.lists list in
     record {
-      asked = inr (inr (inr (list, numbered, refl)));
+      asked = inr (inr (list, numbered, refl));
       kept = record { limit = kept.limit; ends = all_end has_end table.lists list kept.ends fits };
       stands = subst (λ (ns : List ℕ). AreInUse (v ∷ ns) after) (sym same) (in_use_end (v ∷ versions_in table) list.version items all stands free);
       others = subst (λ (ns : List ℕ). KeepsOthers (v ∷ versions_in table) all (v ∷ ns) after) (sym same) (kept_end (v ∷ versions_in table) list.version items all free);

@@ -116,10 +116,6 @@ pub record IsStored (held : RepoFields) (lists : Lists) : Type 0 where
   pub indexed : IsIndexed held.config held.index held.sets lists
   pub agrees : TableAgrees held.table lists
 
--- no list that has ended is held any more
-abbrev pub HoldsOpenLists : RepoFields → Type 0
-HoldsOpenLists held = list_all (is_open held.clock) held.table.lists ≡ true
-
 -- ---- whose lists they are
 
 -- the numbers of the versions of open lists, and of such as have ended and are still to be dropped

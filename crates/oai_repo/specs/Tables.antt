@@ -1,28 +1,30 @@
 -- What becomes of the open lists of a repository behind its calls: this repository's own.
-use Rattle.std.specs.Prelude.{◌≡◌, ◌⊎◌, ◌≤◌, ℕ, ℤ, int_le, Bool, true, List, ◌∷◌, filter, length, map, Option, None, Some, if◌then◌else◌}
+use Rattle.std.specs.Prelude.{◌≡◌, ◌⊎◌, ◌≤◌, ℕ, ℤ, int_le, Bool, true, List, ◌∷◌, find, length, Option, None, Some, if◌then◌else◌}
 use Rattle.oai_time.specs.declared.text.TheConstants.{LAST_SECOND}
 use Rattle.std.specs.List.{list_all}
-use Rattle.oai_catalogue.specs.Store.{Lists, list_at}
+use Rattle.std.specs.Option.{option_map}
+use Rattle.oai_catalogue.specs.Store.{Lists, list_at, without_list}
 use Rattle.oai_item.specs.Item.{ItemState}
 use Rattle.oai_names.specs.declared.list_verbs.ListVerb.{ListVerb}
-use Rattle.oai_lists.specs.OpenLists.{Table, has_ended, open_numbered, open_ones, with_change, with_opened}
+use Rattle.oai_lists.specs.OpenLists.{Table, has_ended, open_numbered, with_change, with_opened, without_ended}
 use Rattle.oai_lists.specs.declared.tokens.Token.{Token}
 use Rattle.oai_lists.specs.declared.open_lists.Mark.{Mark}
 use Rattle.oai_lists.specs.declared.open_lists.OpenList.{OpenList}
 use Rattle.oai_settings.specs.Config.{Config, is_in_years}
 use Rattle.oai_repo.specs.Entries.{Entries}
-use Rattle.oai_repo.specs.Fields.{AreInUse, KeepsOthers, ends_at, has, versions_in}
+use Rattle.oai_repo.specs.Fields.{AreInUse, KeepsOthers, ends_at, versions_in}
 use Rattle.oai_repo.specs.Listing.{highest_given, is_continued}
 
 -- ---- what has ended
 
--- the versions of the lists that have ended
-abbrev pub versions_ended : ℤ → Table → List ℕ
-versions_ended now table = map (λ (list : OpenList). list.version) (filter (has_ended now) table.lists)
+-- the version of the first list that has ended
+abbrev pub version_ended : ℤ → Table → Option ℕ
+version_ended now table = option_map (λ (list : OpenList). list.version) (find (has_ended now) table.lists)
 
--- the lists without those under the numbers
-abbrev pub without_lists : List ℕ → Lists → Lists
-without_lists numbers lists n = if has numbers n then None else lists n
+-- the lists without that one, where there is one
+abbrev pub without_version : Option ℕ → Lists → Lists
+without_version None lists = lists
+without_version (Some v) lists = without_list v lists
 
 -- ---- what a repository keeps of its table
 
@@ -43,9 +45,9 @@ pub record IsRepo (config : Config) (clock : ℤ) (entries : Entries) (table : T
 
 -- ---- what a request leaves
 
--- the lists that have ended are gone
+-- the first list that has ended is gone
 abbrev pub dropped_at : ℤ → Table → Table
-dropped_at now table = record table { lists = open_ones now table.lists }
+dropped_at now table = record table { lists = without_ended now table.lists }
 
 -- the list of which a part was answered: it has another end and another mark, and a token with that cursor was given, where there is one
 abbrev pub kept_open : ℤ → Option ℕ → Option Mark → OpenList → OpenList
@@ -55,24 +57,23 @@ kept_open end next mark list = record list { end = end; given = highest_given ne
 abbrev pub IsMarkBehind : List ItemState → ℕ → Mark → Type 0
 IsMarkBehind items next mark = (mark.cursor ≡ next) × (ends_at mark.stamp mark.identifier items ≡ true)
 
--- what a request makes of the table at that moment: nothing; the lists that have ended go; then a part of one of the open ones may have been
--- answered; or a list begins, with the next number
-abbrev pub IsAskedTable : ℤ → Table → Table → Type 0
-IsAskedTable now old new =
-    (new ≡ old) ⊎ (new ≡ dropped_at now old)
+-- what a request makes of the table: nothing; a part of one of the lists may have been answered; or a list begins, with the next number
+abbrev pub IsAskedTable : Table → Table → Type 0
+IsAskedTable old new =
+    (new ≡ old)
     ⊎ ((number : ℕ) × (end : ℤ) × (next : Option ℕ) × (mark : Option Mark)
-    × (new ≡ record old { lists = with_change number (kept_open end next mark) (open_ones now old.lists) }))
+    × (new ≡ record old { lists = with_change number (kept_open end next mark) old.lists }))
     ⊎ ((list : OpenList) × (list.number ≡ old.next) × (new ≡ with_opened old list))
 
--- what a request makes of the table, without the lists that have ended by then
+-- what a request makes of the table, without the first list that has ended by then
 pub record IsAskedOf (now : ℤ) (old new : Table) : Type 0 where
   pub made : Table
-  pub asked : IsAskedTable now old made
+  pub asked : IsAskedTable old made
   pub dropped : new ≡ dropped_at now made
 
 -- the table is one that a request makes, and is kept, the numbers are in use, of others nothing has changed, and the items stand as they did
-pub record IsLeftOpen (config : Config) (now : ℤ) (v : ℕ) (old : Table) (before : Lists) (new : Table) (after : Lists) : Type 0 where
-  pub asked : IsAskedTable now old new
+pub record IsLeftOpen (config : Config) (v : ℕ) (old : Table) (before : Lists) (new : Table) (after : Lists) : Type 0 where
+  pub asked : IsAskedTable old new
   pub kept : IsKeptTable config new
   pub stands : AreInUse (v ∷ versions_in new) after
   pub others : KeepsOthers (v ∷ versions_in old) before (v ∷ versions_in new) after

@@ -8,12 +8,12 @@ ghost use Rattle.oai_answers.specs.Answers.{HasWritableEnd, HasWritableTimes};
 ghost use Rattle.oai_answers.specs.Borrowed.{body_answer, continuation_of, page_of};
 ghost use Rattle.oai_catalogue.specs.Calls.{Frees, OnlyReads, Uses};
 ghost use Rattle.oai_catalogue.specs.Store.{Lists as Versioned};
-ghost use Rattle.oai_lists.specs.OpenLists.{number_or_fault, open_fault, open_ones};
+ghost use Rattle.oai_lists.specs.OpenLists.{number_or_fault, open_fault};
 ghost use Rattle.oai_settings.specs.Config.{is_in_years};
 ghost use Rattle.oai_repo.specs.Answers as spec;
 ghost use Rattle.oai_repo.specs.Fields.{AreInUse, open_lists_of, versions_in};
 ghost use Rattle.oai_repo.specs.Listing as listing;
-ghost use Rattle.oai_repo.specs.Tables.{has_end, versions_ended, without_lists};
+ghost use Rattle.oai_repo.specs.Tables.{dropped_at, has_end, version_ended, without_version};
 ghost use Rattle.oai_repo.specs.Views.{IsFilter, IsReady, IsViewReply, Leaves, first_items, view_list_response, view_new_list, view_selected, view_selection_response, view_wait};
 
 use crate::parts::mark_behind;
@@ -159,7 +159,7 @@ fn open_list<V: Versions>(
 {
     match lists.next(repo.clock) {
         Ok(number) => start_list(repo, lists, store, selection, first, number),
-        Err(OpenFault::Full) => Ok(Reply::Later(seconds_to_end(lists, store, repo.clock))),
+        Err(OpenFault::Full) => Ok(Reply::Later(seconds_to_end(lists, repo.clock))),
         Err(OpenFault::NumbersSpent) => Ok(Reply::Later(repo.lifetime())),
         Err(OpenFault::NoMemory) => Err(Fault::NoMemory),
     }
@@ -303,35 +303,29 @@ fn upper_given(until: &Option<Text>) -> i64
     }
 }
 
-/// Drops the lists that have ended at `now`, in seconds from 1970 on, and releases their versions. It
-/// takes no memory and cannot fail.
-pub(crate) fn drop_ended<V: Versions>(lists: &mut Lists, store: &mut V, now: i64)
+/// Drops the first of the lists that have ended at `now`, in seconds from 1970 on, and releases its
+/// version. It takes no memory and cannot fail.
+pub(crate) fn drop_first_ended<V: Versions>(lists: &mut Lists, store: &mut V, now: i64)
     requires stands { AreInUse (versions_in lists.old) (V.lists store.old) }
-    ensures table { lists.new ≡ record lists.old { lists = open_ones now lists.old.lists } }
+    ensures table { lists.new ≡ dropped_at now lists.old }
     ensures released { V.lists store.new
-        ≡ without_lists (versions_ended now lists.old) (V.lists store.old) }
+        ≡ without_version (version_ended now lists.old) (V.lists store.old) }
     ensures store { Frees V.Versions store.old store.new }
 {
-    while let Some(version) = lists.expire(now) {
-        store.release(version);
+    match lists.expire(now) {
+        Some(version) => store.release(version),
+        None => {}
     }
 }
 
-/// Drops the lists that have ended, and returns the seconds until the first of the others ends; 0 where
-/// there is none.
-pub(crate) fn seconds_to_end<V: Versions>(lists: &mut Lists, store: &mut V, now: i64) -> i64
+/// The seconds until the first of the open lists ends; 0 where none is open.
+fn seconds_to_end(lists: &Lists, now: i64) -> i64
     requires dated { is_in_years now ≡ true }
-    requires ends { list_all has_end lists.old.lists ≡ true }
-    requires stands { AreInUse (versions_in lists.old) (V.lists store.old) }
-    ensures seconds { (all : Versioned)
-        → result ≡ listing.seconds_to_end now (open_lists_of now lists.old all).lists }
-    ensures table { lists.new ≡ record lists.old { lists = open_ones now lists.old.lists } }
-    ensures released { V.lists store.new
-        ≡ without_lists (versions_ended now lists.old) (V.lists store.old) }
-    ensures store { Frees V.Versions store.old store.new }
+    requires ends { list_all has_end lists.now.lists ≡ true }
+    ensures { (all : Versioned)
+        → result ≡ listing.seconds_to_end now (open_lists_of now lists.now all).lists }
 {
-    drop_ended(lists, store, now);
-    match lists.earliest_end() {
+    match lists.earliest_end(now) {
         Some(end) => seconds_until(now, end),
         None => 0,
     }

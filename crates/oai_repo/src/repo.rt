@@ -4,13 +4,13 @@ ghost use Rattle.oai_args.specs.Requests.{request_of};
 ghost use Rattle.oai_catalogue.specs.Calls.{Frees, Uses};
 ghost use Rattle.oai_settings.specs.Config.{is_in_years};
 ghost use Rattle.oai_repo.specs.Calls.{DropsEnded, IsAccepted, IsAsked, IsChanged, IsClockAt, IsRefusedAt, OnRefused, fault_in, room_to_ask, room_to_change};
-ghost use Rattle.oai_repo.specs.Fields.{HoldsOpenLists, IsNew, Keeps, Owns, holdings_of, state_of};
+ghost use Rattle.oai_repo.specs.Fields.{IsNew, Keeps, Owns, holdings_of, state_of};
 ghost use Rattle.oai_repo.specs.State.{at_clock, moved};
 ghost use Rattle.oai_repo.specs.Tables.{IsAskedOf};
 
 use crate::changes::{ChangeContext, make_change};
 use crate::item_index::ItemIndex;
-use crate::lists::drop_ended;
+use crate::lists::drop_first_ended;
 use crate::requests::reply_to_query;
 use crate::responses::Reply;
 use crate::view::RepoView;
@@ -83,7 +83,9 @@ impl Repo {
     }
 
     /// Performs a request of OAI-PMH, by the bytes of its query, at the moment, in seconds from 1970
-    /// on: it moves the clock and replies with a document, or with how long to wait. After a fault everything
+    /// on: it moves the clock and replies with a document, or with how long to wait. Of the lists that have
+    /// ended it drops the first, as each call that succeeds does, so that many that end at once do not all
+    /// wait for one call; a list that has ended is answered no more, dropped or not. After a fault everything
     /// is as it was, the clock and the store's lists included. Any fault may come, and `TooManyPages`
     /// only where the request may begin a list and the store may lack room for one call.
     ///
@@ -109,7 +111,6 @@ impl Repo {
             ≡ holdings_of self.old.index self.old.sets (V.lists store.old) }
         ensures index { self.new.index ≡ self.old.index }
         ensures table { OnOk result (IsAskedOf self.new.clock self.old.table self.new.table) }
-        ensures dropped { OnOk result (HoldsOpenLists self.new) }
         ensures keeps { Keeps (V.honest store.old) self.old (V.lists store.old) self.new
             (V.lists store.new) }
         ensures store { Uses V.Versions (room_to_ask
@@ -132,9 +133,9 @@ impl Repo {
     }
 
     /// Makes a change at the moment, and answers its datestamp, both in seconds from 1970 on; the
-    /// datestamp is of the years 0000 to 9999. A change that is refused moves the clock, drops the lists that
-    /// have ended, and changes nothing else. After a fault everything is as it was, the clock and the store's
-    /// lists included. Any fault may come. A deposit or a deletion ends with `TooManyPages` only where the
+    /// datestamp is of the years 0000 to 9999. A change that is refused moves the clock, drops the first of the
+    /// lists that have ended, and changes nothing else. After a fault everything is as it was, the clock and
+    /// the store's lists included. Any fault may come. A deposit or a deletion ends with `TooManyPages` only where the
     /// store may lack room for one call, a purge only where it may lack room for one call more than there are
     /// items, and a new set never.
     ///
@@ -188,8 +189,8 @@ impl Repo {
         }
     }
 
-    /// Moves the clock to the moment, in seconds from 1970 on, and changes nothing else but that lists
-    /// end. It takes no memory and cannot fail.
+    /// Moves the clock to the moment, in seconds from 1970 on, drops the first of the lists that have ended,
+    /// and changes nothing else. It takes no memory and cannot fail.
     pub fn advance<V: Versions>(&mut self, store: &mut V, moment: i64)
         requires { Owns (V.honest store.old) self.old (V.lists store.old) }
         ensures moved { state_of self.new (V.lists store.new)
@@ -205,7 +206,7 @@ impl Repo {
         self.move_to(store, clock);
     }
 
-    /// Moves the clock there, and drops the lists that have ended.
+    /// Moves the clock there, and drops the first of the lists that have ended.
     fn move_to<V: Versions>(&mut self, store: &mut V, clock: Clock)
         requires later { self.old.clock ≤ℤ clock }
         requires dated { is_in_years clock ≡ true }
@@ -218,7 +219,7 @@ impl Repo {
             (V.lists store.new) }
         ensures store { Frees V.Versions store.old store.new }
     {
-        drop_ended(&mut self.lists, store, clock.now());
+        drop_first_ended(&mut self.lists, store, clock.now());
         self.clock = clock;
     }
 

@@ -12,7 +12,7 @@ ghost use Rattle.oai_repo.specs.Listing as listing;
 ghost use Rattle.oai_repo.specs.Tables.{kept_open, table_continued};
 ghost use Rattle.oai_repo.specs.Views.{IsReady, IsViewReply, Leaves, document_reply, view_token_response};
 
-use crate::lists::{answer_by_verb, drop_ended};
+use crate::lists::answer_by_verb;
 use crate::parts::{mark_behind, read_part};
 use crate::responses::{Reply, make_reply, reply_with_error};
 use crate::view::RepoView;
@@ -67,7 +67,6 @@ pub(crate) fn reply_with_next_part<V: Versions>(
     };
     let number = list.number;
     let part = reply_from(repo, store, verb, list, cursor)?;
-    drop_ended(lists, store, repo.clock);
     carry_on(lists, number, repo.end(), part.next, part.mark);
     Ok(part.reply)
 }

@@ -1,11 +1,7 @@
-use Rattle.std.proofs.Common.{◌≤ℤ◌, take}
-use Rattle.std.specs.List.{All, Contains}
-use Rattle.oai_lists.specs.declared.open_lists.OpenList.{OpenList}
+use Rattle.std.proofs.Common.{take}
+use Rattle.oai_lists.specs.OpenLists.{IsEarliest, open_ones}
 use Rattle.oai_lists.proofs.lists.earliest.Given as goal
 
--- it is one of the lists, and ends no later than any so far
+-- of those so far that are open none ends before it
 abbrev pub invariant-loop-list : goal.invariant-loop-list
-invariant-loop-list l = record {
-  of_one : Contains l.lists l.earliest;
-  least : All (λ (list : OpenList). l.earliest.end ≤ℤ list.end) (take l.list-index l.lists);
-}
+invariant-loop-list l = IsEarliest (open_ones l.now (take l.list-index l.lists)) l.earliest

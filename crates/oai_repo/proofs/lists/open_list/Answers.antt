@@ -4,7 +4,6 @@ use Rattle.std.proofs.lemmas.Int.{to_z-of_z}
 use Rattle.oai_lists.specs.OpenLists.{number_or_fault, open_fault}
 use Rattle.oai_lists.specs.declared.lists.OpenFault.TheVariants.{Full, NumbersSpent}
 use Rattle.oai_repo.specs.declared.responses.Reply.TheVariants.{Later}
-use Rattle.oai_repo.proofs.OpenListLemmas.{open_lists_dropped, left_dropped, table_agrees_dropped}
 use Rattle.oai_repo.proofs.ClockLemmas.{years_fit}
 use Rattle.oai_repo.proofs.WaitLemmas.{may_begin, waits_full, waits_spent}
 use Rattle.oai_repo.proofs.lists.open_list.Goals as goal
@@ -28,25 +27,8 @@ returns-in-Err-Full-clause-reply g c = λ honest.
     let all = g.V.Versions.lists c.args.store.now in
     let next : number_or_fault (open_fault table repo.clock) table.next ≡ Err Full = simp to_z-of_z at (sym c.next.ensures ∙ c.in-Err-Full.is ∙ ap (λ f. Err f) c.in-Err-Full.field-0-is) in
     let full = waits_full repo.config.now repo.clock table all c.requires.ready.kept.limit next in
-    let seconds = simp to_z-of_z at (c.seconds_to_end.ensures.seconds all) in
-    let dropped = simp to_z-of_z at c.seconds_to_end.ensures.table in
-    let released = simp to_z-of_z at c.seconds_to_end.ensures.released in
-    rw (full, dropped, released) (simp to_z-of_z (record { written = ap (λ (s : ℤ). Later s) seconds; open_lists = open_lists_dropped repo.clock repo.index.now.version table all c.requires.ready.stands.apart }))
-
-pub returns-in-Err-Full-clause-left : goal.returns-in-Err-Full-clause-left
-returns-in-Err-Full-clause-left g c =
-    let fits_now : FitsSigned w64 c.args.repo.now.clock = years_fit c.args.repo.now.clock c.requires.ready.dated in
-    let repo = c.args.repo.now in
-    let table = c.args.lists.now in
-    let all = g.V.Versions.lists c.args.store.now in
-    let dropped = simp to_z-of_z at c.seconds_to_end.ensures.table in
-    let released = simp to_z-of_z at c.seconds_to_end.ensures.released in
-    record {
-      left = rw (dropped, released) (left_dropped repo.config.now repo.clock repo.index.now.version table all c.requires.ready.kept c.requires.ready.stands);
-      agrees = λ honest. rw (dropped, released) (table_agrees_dropped repo.clock repo.index.now.version table all c.requires.ready.stands.apart (c.requires.ready.agrees honest));
-      err = tt;
-      err_lists = tt;
-    }
+    let seconds = simp to_z-of_z at (c.seconds_to_end.ensures all) in
+    rw full (simp to_z-of_z (record { written = ap (λ (s : ℤ). Later s) seconds; open_lists = refl }))
 
 pub returns-in-Err-NumbersSpent-clause-reply : goal.returns-in-Err-NumbersSpent-clause-reply
 returns-in-Err-NumbersSpent-clause-reply g c = λ honest.

@@ -6,7 +6,7 @@ use Rattle.oai_answers.specs.Borrowed.{attributes_of}
 use Rattle.oai_lists.specs.Tokens.{token_of}
 use Rattle.oai_repo.specs.Fields.{has, is_counted, is_marked, open_lists_of, versions_in}
 use Rattle.oai_repo.specs.Listing.{with_carried_on}
-use Rattle.oai_repo.proofs.OpenListLemmas.{all_true, open_lists_kept, table_agrees_kept, left_kept, numbered_left, open_parts}
+use Rattle.oai_repo.proofs.OpenListLemmas.{all_true, open_lists_kept, table_agrees_kept, left_kept, numbered_there, open_parts}
 use Rattle.oai_repo.proofs.ClockLemmas.{years_fit}
 use Rattle.oai_repo.proofs.NumberLemmas.{some_true, used_at}
 use Rattle.oai_repo.proofs.TokenLemmas.{goes_on, stops, token_found, valid_within}
@@ -50,8 +50,7 @@ carry_on-requires g c =
     let found = token_found c.args.repo.now.clock c.chunk_of-chunk.result c.args.verb c.args.lists.now.lists (token_of c.args.token.now) c.in-Some.list.now c.in-Some.cursor (simp to_z-of_z at c.in-Some.ensures.found) in
     let lists = c.args.lists.now.lists in
     let parts = open_parts found.0.list c.args.repo.now.clock (λ _. true) lists c.in-Some.list.now found.2.there (all_true lists) in
-    let dropped = simp to_z-of_z at c.drop_ended.ensures.table in
-    record { held = rw (dropped, parts.0) (numbered_left found.0.list c.args.repo.now.clock lists c.in-Some.list.now found.2.there) }
+    record { held = rw parts.0 (numbered_there found.0.list c.args.repo.now.clock lists c.in-Some.list.now found.2.there) }
 
 pub returns-in_default-clause-reply : goal.returns-in_default-clause-reply
 returns-in_default-clause-reply g c = λ honest.
@@ -76,15 +75,15 @@ returns-clause-reply g c = λ honest.
     let some = rw c.chunk_of-chunk.ensures.chunk at (simp to_z-of_z at c.in-Some.ensures.found) in
     let token = token_found repo.clock config.chunk c.args.verb table.lists (token_of c.args.token.now) list c.in-Some.cursor some in
     let on = goes_on config repo.clock c.args.verb table all list c.in-Some.cursor (token_of c.args.token.now) token.0 token.1 token.2 (c.requires.ready.agrees honest).counted in
+    let there = open_parts token.0.list repo.clock (λ _. true) table.lists list token.2.there (all_true table.lists) in
+    let opened = rw (sym there.0) at token.2.there in
     let left =
-    open_lists_kept config repo.clock c.end.result part.next part.mark list.number repo.index.now.version table all c.end.ensures.end c.end.ensures.later c.requires.ready.stands.apart
+    open_lists_kept config repo.clock c.end.result part.next part.mark list.number table all list c.end.ensures.end c.end.ensures.later c.in-Some.ensures.valid opened
     ∙ ap (λ (next : Option ℕ). with_carried_on config repo.clock list.number next (open_lists_of repo.clock table all)) (c.in_ok-part.ensures.next honest)
     in
-    let dropped = simp to_z-of_z at c.drop_ended.ensures.table in
-    let released = simp to_z-of_z at c.drop_ended.ensures.released in
     let kept = simp to_z-of_z at c.carry_on.ensures in
-    reply_as repo (attributes_of repo.asked) _ _ part.reply c.carry_on.new.lists (g.V.Versions.lists c.drop_ended.new.store) on
-    (rw (kept, dropped, released, c.reply_from.ensures.reads.same) ((record { written = c.in_ok-part.ensures.reply honest; open_lists = left })))
+    reply_as repo (attributes_of repo.asked) _ _ part.reply c.carry_on.new.lists (g.V.Versions.lists c.reply_from.new.store) on
+    (rw (kept, c.reply_from.ensures.reads.same) ((record { written = c.in_ok-part.ensures.reply honest; open_lists = left })))
 
 pub returns-clause-left : goal.returns-clause-left
 returns-clause-left g c =
@@ -99,16 +98,14 @@ returns-clause-left g c =
     let found = token_found repo.clock c.chunk_of-chunk.result c.args.verb table.lists (token_of c.args.token.now) list c.in-Some.cursor (simp to_z-of_z at c.in-Some.ensures.found) in
     let there = open_parts found.0.list repo.clock (λ _. true) table.lists list found.2.there (all_true table.lists) in
     let opened = rw (sym there.0) at found.2.there in
-    let dropped = simp to_z-of_z at c.drop_ended.ensures.table in
-    let released = simp to_z-of_z at c.drop_ended.ensures.released in
     let kept = simp to_z-of_z at c.carry_on.ensures in
     record {
       left =
-          rw (kept, dropped, released, c.reply_from.ensures.reads.same)
-          (left_kept repo.config.now repo.clock c.end.result part.next part.mark list.number v table all c.end.ensures.last c.requires.ready.kept c.requires.ready.stands);
+          rw (kept, c.reply_from.ensures.reads.same)
+          (left_kept repo.config.now c.end.result part.next part.mark list.number v table all c.end.ensures.last c.requires.ready.kept c.requires.ready.stands);
       agrees = λ honest.
-          rw (kept, dropped, released, c.reply_from.ensures.reads.same)
-          (table_agrees_kept repo.clock c.end.result part.next part.mark list.number v table all list c.requires.ready.stands.apart c.in-Some.ensures.valid opened (c.in_ok-part.ensures.mark honest) (c.requires.ready.agrees honest));
+          rw (kept, c.reply_from.ensures.reads.same)
+          (table_agrees_kept repo.clock c.end.result part.next part.mark list.number table all list c.in-Some.ensures.valid opened (c.in_ok-part.ensures.mark honest) (c.requires.ready.agrees honest));
       err = tt;
       err_lists = tt;
     }

@@ -1,11 +1,11 @@
-use Rattle.std.proofs.Common.{rules, ◌≡◌, ◌∙◌, ◌<ℤ◌, ◌++◌, ℕ, FitsSigned, List, None, Some, arith, ap, option_map, sym, true, w64}
+use Rattle.std.proofs.Common.{rules, ◌≡◌, ◌∙◌, ◌<ℤ◌, ◌++◌, ℕ, FitsSigned, List, None, Some, arith, ap, option_map, subst, sym, true, w64}
 use Rattle.std.specs.Prelude.{find, int_le, position}
 use Rattle.std.specs.List.{after_first, before_first, list_all}
 use Rattle.std.proofs.lemmas.Int.{ints, to_z-of_z}
-use Rattle.oai_lists.specs.OpenLists.{Table, has_ended}
+use Rattle.oai_lists.specs.OpenLists.{IsEarliest, Table, has_ended, open_ones}
 use Rattle.oai_lists.specs.declared.open_lists.OpenList.{OpenList}
 use Rattle.oai_names.proofs.Lists.{find_none}
-use Rattle.oai_lists.proofs.Ends.{earliest_bounds, first_left, first_place, found_first, held_removed, none_ended, none_left, none_passes, some_item}
+use Rattle.oai_lists.proofs.Ends.{all_last, earliest_bounds, first_left, first_place, found_first, held_removed, none_ended, none_left, none_passes, some_item}
 use Rattle.oai_lists.proofs.lists.Lists.expire.Goals as goal
 
 pub returns-then-now-self-clause-version : goal.returns-then-now-self-clause-version
@@ -35,9 +35,13 @@ invariant_of-self c =
 
 pub invariant_of-self-in-None : goal.invariant_of-self-in-None
 invariant_of-self-in-None c =
+    let fits : FitsSigned w64 c.args.now = c.ranges.now in
     let fits_end : FitsSigned w64 c.unwrap_or-self-inside.result = record { sfits = c.unwrap_or-self-inside.type_inv } in
-    let bounds : list_all (λ (list : OpenList). int_le c.unwrap_or-self-inside.result list.end) c.self.inside.lists.items ≡ true =
-    rw c.unwrap_or-self-inside.ensures (earliest_bounds c.self.inside.lists.items c.earliest.result _ (rw c.as_slice-in-None.ensures.value at c.earliest.ensures)) in
+    let items : List OpenList = c.self.inside.lists.items in
+    let place : position (has_ended c.args.now) items ≡ None = sym (rw c.as_slice.ensures.value at (simp to_z-of_z at c.in-None.ensures)) in
+    let of_open : IsEarliest (open_ones c.args.now items) c.earliest.result = rw c.as_slice-in-None.ensures.value at (simp to_z-of_z at c.earliest.ensures) in
+    let of_all : IsEarliest items c.earliest.result = subst (λ (ls : List OpenList). IsEarliest ls c.earliest.result) (all_last c.args.now items (none_passes (has_ended c.args.now) items place)) of_open in
+    let bounds : list_all (λ (list : OpenList). int_le c.unwrap_or-self-inside.result list.end) items ≡ true = rw c.unwrap_or-self-inside.ensures (earliest_bounds items c.earliest.result _ of_all) in
     simp to_z-of_z (record { numbers = c.self.invariant.numbers; bound = bounds })
 
 pub returns-in-Some-clause-version : goal.returns-in-Some-clause-version

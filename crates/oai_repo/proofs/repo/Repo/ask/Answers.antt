@@ -84,7 +84,7 @@ returns-clause-keeps g c =
 pub returns-clause-table : goal.returns-clause-table
 returns-clause-table g c =
     let fits_now : FitsSigned w64 c.now.result = record { sfits = c.now.type_inv } in
-    let asked = rw c.now.ensures at (simp to_z-of_z at c.in_ok-reply.ensures.left.left.asked) in
+    let asked = c.in_ok-reply.ensures.left.left.asked in
     let clock = ap (λ (s : RepoState). s.clock) c.move_to.ensures.moved in
-    let dropped = rw clock at c.move_to.ensures.dropped.table in
+    let dropped = rw clock at c.move_to.ensures.dropped in
     rw (← c.self.view_is, clock) (record { made = c.reply_to_query.new.lists; asked = asked; dropped = dropped })

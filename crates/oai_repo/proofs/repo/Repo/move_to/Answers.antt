@@ -1,21 +1,21 @@
--- The lists that have ended are dropped at the clock, over the fields that the repository is opened to.
+-- The first of the lists that have ended is dropped at the clock, over the fields that the repository is opened to.
 use Rattle.std.proofs.Common.{FitsSigned, w64, refl}
 use Rattle.std.proofs.lemmas.Int.{to_z-of_z}
-use Rattle.oai_repo.proofs.OpenListLemmas.{all_open, table_dropped}
+use Rattle.oai_repo.proofs.OpenListLemmas.{table_dropped}
 use Rattle.oai_repo.proofs.MoveLemmas.{held_dropped, others_dropped, stands_dropped, state_dropped}
 use Rattle.oai_repo.proofs.repo.Repo.move_to.Goals as goal
 
 pub invariant_of-self : goal.invariant_of-self
 invariant_of-self g c =
     let fits : FitsSigned w64 c.now.result = record { sfits = c.now.type_inv } in
-    let table = rw c.now.ensures at (simp to_z-of_z at c.drop_ended.ensures.table) in
+    let table = rw c.now.ensures at (simp to_z-of_z at c.drop_first_ended.ensures.table) in
     rw table (record { dated = c.requires.dated; few = c.self.invariant.few; open_lists = table_dropped c.self.inside.config c.args.clock c.self.inside.lists c.self.invariant.open_lists })
 
 pub returns-clause-moved : goal.returns-clause-moved
 returns-clause-moved g c =
     let fits : FitsSigned w64 c.now.result = record { sfits = c.now.type_inv } in
-    let table = rw c.now.ensures at (simp to_z-of_z at c.drop_ended.ensures.table) in
-    let released = rw c.now.ensures at (simp to_z-of_z at c.drop_ended.ensures.released) in
+    let table = rw c.now.ensures at (simp to_z-of_z at c.drop_first_ended.ensures.table) in
+    let released = rw c.now.ensures at (simp to_z-of_z at c.drop_first_ended.ensures.released) in
     let inside = c.self.inside in
     let owns = rw (← c.self.view_is) at c.requires.owns in
     let later = rw (← c.self.view_is) at c.requires.later in
@@ -25,14 +25,14 @@ returns-clause-moved g c =
 pub returns-clause-dropped : goal.returns-clause-dropped
 returns-clause-dropped g c =
     let fits : FitsSigned w64 c.now.result = record { sfits = c.now.type_inv } in
-    let table = rw c.now.ensures at (simp to_z-of_z at c.drop_ended.ensures.table) in
-    rw (← c.self.view_is) (record { table = table; open_ones = rw table (all_open c.args.clock c.self.inside.lists.lists) })
+    let table = rw c.now.ensures at (simp to_z-of_z at c.drop_first_ended.ensures.table) in
+    rw (← c.self.view_is) table
 
 pub returns-clause-keeps : goal.returns-clause-keeps
 returns-clause-keeps g c =
     let fits : FitsSigned w64 c.now.result = record { sfits = c.now.type_inv } in
-    let table = rw c.now.ensures at (simp to_z-of_z at c.drop_ended.ensures.table) in
-    let released = rw c.now.ensures at (simp to_z-of_z at c.drop_ended.ensures.released) in
+    let table = rw c.now.ensures at (simp to_z-of_z at c.drop_first_ended.ensures.table) in
+    let released = rw c.now.ensures at (simp to_z-of_z at c.drop_first_ended.ensures.released) in
     let inside = c.self.inside in
     let all = g.V.Versions.lists c.args.store.now in
     let owns = rw (← c.self.view_is) at c.requires.owns in
