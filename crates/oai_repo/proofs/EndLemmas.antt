@@ -1,15 +1,16 @@
 -- Lists that have ended: what stands of a table, and of the store, when the first of them is dropped.
-use Rattle.std.proofs.Common.{◌≡◌, ◌∙◌, inl, inr, ℕ, ℤ, suc, ◌+◌, Bool, true, false, not, ◌||◌, eqb, List, [], ◌∷◌, ◌++◌, take, drop, map, Option, None, Some, IsSome, is_some, refl, sym, ap, subst, arith}
-use Rattle.std.specs.Prelude.{find}
+use Rattle.std.proofs.Common.{◌≡◌, ◌∙◌, inl, inr, ℕ, ℤ, suc, ◌+◌, ◌<◌, ◌≤◌, Bool, true, false, not, ◌||◌, eqb, List, [], ◌∷◌, ◌++◌, length, take, drop, map, Option, None, Some, IsSome, is_some, refl, sym, ap, subst, arith}
+use Rattle.std.specs.Prelude.{find, nat_lt}
 use Rattle.std.specs.Option.{option_map}
 use Rattle.std.specs.List.{list_all, position_or_len}
-use Rattle.std.proofs.lemmas.Bool.{and_from, and_parts, cases_Bool, cond-true, cond-false, eq-eqb, eqb-true, false_from_ne_true, not-true, not_from_false, or_from, or_left, or_parts, or_right}
+use Rattle.std.proofs.lemmas.Bool.{and_from, and_parts, cases_Bool, cond-true, cond-false, eq-eqb, eqb-true, false_from_ne_true, ltb-false, ltb-true, not-true, not_from_false, or_from, or_left, or_parts}
 use Rattle.std.proofs.lemmas.Int.{ints}
-use Rattle.oai_catalogue.specs.Store.{Lists, without_list}
-use Rattle.oai_lists.specs.OpenLists.{Table, has_ended, is_open, open_ones, without_ended}
+use Rattle.std.proofs.lemmas.List.{length-map, length_push}
+use Rattle.oai_catalogue.specs.Store.{Lists}
+use Rattle.oai_lists.specs.OpenLists.{Table, changed_one, has_ended, is_open, open_ones, with_change, without_ended}
 use Rattle.oai_lists.specs.declared.open_lists.OpenList.{OpenList}
 use Rattle.oai_repo.specs.Fields.{AreInUse, KeepsOthers, are_different, has, versions_in}
-use Rattle.oai_repo.specs.Tables.{version_ended, without_version}
+use Rattle.oai_repo.specs.Tables.{HoldsFew, IsAskedTable, dropped_at, kept_open, version_ended, without_version}
 use Rattle.oai_repo.proofs.NumberLemmas.{clash, kept_same, some_true, turned, used_at, used_each}
 
 abbrev pub versions : List OpenList → List ℕ
@@ -126,6 +127,66 @@ ended_used now table all v stands h =
     some_true (all v)
     (used_at (versions table.lists) all v stands.used
     (has_rest now table.lists y.0 v y.1 ∙ or_left (eqb y.0.version v) (has rest v) (eq-eqb y.0.version v (sym y.2))))
+
+-- ---- how many are left
+
+pub rest_fewer : (now : ℤ) (lists : List OpenList) → length (without_ended now lists) ≤ length lists
+rest_fewer now [] = omega arith
+rest_fewer now (x ∷ lists) =
+    elim (cases_Bool (has_ended now x)) [
+      | inl over ↦ omega (arith, ap length (rest_here now x lists over))
+      | inr lasts ↦ omega (arith, ap length (rest_later now x lists lasts), rest_fewer now lists)
+    ]
+
+-- where not all are open, the first that has ended goes
+pub one_less : (now : ℤ) (lists : List OpenList) → length (open_ones now lists) < length lists → length (without_ended now lists) < length lists
+one_less now [] fewer = absurd (omega (arith, fewer))
+one_less now (x ∷ lists) fewer =
+    elim (cases_Bool (has_ended now x)) [
+      | inl over ↦ omega (arith, ap length (rest_here now x lists over))
+      | inr lasts ↦
+          let among : length (open_ones now lists) < length lists = omega (arith, fewer, ap length (open_here now x lists (open_else now x lasts))) in
+          omega (arith, ap length (rest_later now x lists lasts), one_less now lists among)
+    ]
+
+-- a request that begins a list leaves no more than may be open
+asked_of : (now : ℤ) (old : Table) (list : OpenList) → HoldsFew old → length (open_ones now old.lists) < old.limit → length (without_ended now (old.lists ++ list ∷ [])) ≤ old.limit
+asked_of now old list few room =
+    let made : List OpenList = old.lists ++ list ∷ [] in
+    let more : length made ≡ length old.lists + 1 = length_push old.lists list in
+    let most : length (open_ones now made) ≤ length (open_ones now old.lists) + 1 = open_push now old.lists list in
+    elim (cases_Bool (nat_lt (length old.lists) old.limit)) [
+      | inl below ↦ omega (arith, more, ltb-true (length old.lists) old.limit below, rest_fewer now made)
+      | inr above ↦
+          let fewer : length (open_ones now made) < length made = omega (arith, more, most, room, ltb-false (length old.lists) old.limit above) in
+          omega (arith, few, more, one_less now made fewer)
+    ]
+  where
+    open_push : (now : ℤ) (lists : List OpenList) (list : OpenList) → length (open_ones now (lists ++ list ∷ [])) ≤ length (open_ones now lists) + 1
+    open_push now [] list = elim (cases_Bool (is_open now list)) [
+      | inl lasts ↦ omega (arith, ap length (open_here now list [] lasts))
+      | inr over ↦ omega (arith, ap length (open_later now list [] over))
+    ]
+    open_push now (x ∷ lists) list = elim (cases_Bool (is_open now x)) [
+      | inl lasts ↦ omega (arith, ap length (open_here now x (lists ++ list ∷ []) lasts), ap length (open_here now x lists lasts), open_push now lists list)
+      | inr over ↦ omega (arith, ap length (open_later now x (lists ++ list ∷ []) over), ap length (open_later now x lists over), open_push now lists list)
+    ]
+
+pub few_dropped : (now : ℤ) (table : Table) → HoldsFew table → HoldsFew (dropped_at now table)
+few_dropped now table few = omega (arith, few, rest_fewer now table.lists)
+
+pub few_asked : (now : ℤ) (old made new : Table) → IsAskedTable now old made → new ≡ dropped_at now made → HoldsFew old → HoldsFew new
+few_asked now old made new asked dropped few =
+    subst (λ (table : Table). HoldsFew table) (sym dropped) (elim asked [
+      | inl same ↦ subst (λ (table : Table). HoldsFew (dropped_at now table)) (sym same) (few_dropped now old few)
+      | inr other ↦ elim other [
+        | inl part ↦
+            let kept : Table = record old { lists = with_change part.0 (kept_open part.1 part.2 part.3) old.lists } in
+            let long : HoldsFew kept = omega (arith, few, length-map old.lists (changed_one part.0 (kept_open part.1 part.2 part.3))) in
+            subst (λ (table : Table). HoldsFew (dropped_at now table)) (sym part.4) (few_dropped now kept long)
+        | inr begun ↦ subst (λ (table : Table). HoldsFew (dropped_at now table)) (sym begun.3) (asked_of now old begun.0 few begun.2)
+      ]
+    ])
 
 -- ---- what is left of a repository's numbers
 

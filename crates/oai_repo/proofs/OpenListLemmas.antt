@@ -1,5 +1,5 @@
 -- The open lists of a repository, as its table and its store have them.
-use Rattle.std.proofs.Common.{◌≡◌, ◌∙◌, inl, inr, ℕ, ℤ, pos, ◌+◌, ◌+ℤ◌, ◌≤ℤ◌, Bool, true, false, not, ◌&&◌, ◌||◌, eqb, List, [], ◌∷◌, ◌++◌, length, map, Option, None, Some, IsSome, unwrap_or, refl, sym, ap, subst, arith}
+use Rattle.std.proofs.Common.{◌≡◌, ◌∙◌, inl, inr, ℕ, ℤ, pos, ◌+◌, ◌+ℤ◌, ◌<◌, ◌≤ℤ◌, Bool, true, false, not, ◌&&◌, ◌||◌, eqb, List, [], ◌∷◌, ◌++◌, length, map, Option, None, Some, IsSome, unwrap_or, refl, sym, ap, subst, arith}
 use Rattle.std.specs.Prelude.{filter, find, int_le, int_lt, nat_lt}
 use Rattle.std.specs.List.{list_all}
 use Rattle.std.specs.Option.{option_map}
@@ -392,9 +392,9 @@ table_kept config end next mark number table fits kept = record {
 pub in_use_same : (v : ℕ) (a b : List ℕ) (all : Lists) → b ≡ a → AreInUse (v ∷ a) all → AreInUse (v ∷ b) all
 in_use_same v a b all same stands = subst (λ (ns : List ℕ). AreInUse (v ∷ ns) all) (sym same) stands
 
-pub left_kept : (config : Config) (end : ℤ) (next : Option ℕ) (mark : Option Mark) (number v : ℕ) (table : Table) (all : Lists) → int_le end (pos 253_402_300_799) ≡ true → IsKeptTable config table → AreInUse (v ∷ versions_in table) all
-    → IsLeftOpen config v table all (kept_table end next mark number table) all
-left_kept config end next mark number v table all fits kept stands =
+pub left_kept : (config : Config) (now end : ℤ) (next : Option ℕ) (mark : Option Mark) (number v : ℕ) (table : Table) (all : Lists) → int_le end (pos 253_402_300_799) ≡ true → IsKeptTable config table → AreInUse (v ∷ versions_in table) all
+    → IsLeftOpen config now v table all (kept_table end next mark number table) all
+left_kept config now end next mark number v table all fits kept stands =
     let same : versions_in (kept_table end next mark number table) ≡ versions_in table = kept_versions end next mark number table.lists in
     record {
       asked = inr (inl (number, end, next, mark, refl));
@@ -405,8 +405,8 @@ left_kept config end next mark number v table all fits kept stands =
     }
 
 -- what is left where nothing is opened
-pub left_same_table : (config : Config) (v : ℕ) (table : Table) (all : Lists) → IsKeptTable config table → AreInUse (v ∷ versions_in table) all → IsLeftOpen config v table all table all
-left_same_table config v table all kept stands = record { asked = inl refl; kept = kept; stands = stands; others = kept_same (v ∷ versions_in table) all; items = refl }
+pub left_same_table : (config : Config) (now : ℤ) (v : ℕ) (table : Table) (all : Lists) → IsKeptTable config table → AreInUse (v ∷ versions_in table) all → IsLeftOpen config now v table all table all
+left_same_table config now v table all kept stands = record { asked = inl refl; kept = kept; stands = stands; others = kept_same (v ∷ versions_in table) all; items = refl }
 
 -- ---- a list that begins
 
@@ -474,13 +474,13 @@ table_agrees_opened v table all list items stands free size place agrees = recor
   marked = opened_agrees by_mark v table all list items stands free agrees.marked place;
 }
 
-pub left_opened : (config : Config) (v : ℕ) (table : Table) (all : Lists) (list : OpenList) (items : List ItemState) → IsKeptTable config table → AreInUse (v ∷ versions_in table) all → all list.version ≡ None
-    → int_le list.end (pos 253_402_300_799) ≡ true → list.number ≡ table.next → IsLeftOpen config v table all (opening table list) (with_list list.version items all)
-left_opened config v table all list items kept stands free fits numbered =
+pub left_opened : (config : Config) (now : ℤ) (v : ℕ) (table : Table) (all : Lists) (list : OpenList) (items : List ItemState) → IsKeptTable config table → AreInUse (v ∷ versions_in table) all → all list.version ≡ None
+    → int_le list.end (pos 253_402_300_799) ≡ true → list.number ≡ table.next → length (open_ones now table.lists) < table.limit → IsLeftOpen config now v table all (opening table list) (with_list list.version items all)
+left_opened config now v table all list items kept stands free fits numbered few =
     let after : Lists = with_list list.version items all in
     let same : versions_in (opening table list) ≡ versions_in table ++ list.version ∷ [] = versions_end table.lists list in
     record {
-      asked = inr (inr (list, numbered, refl));
+      asked = inr (inr (list, numbered, few, refl));
       kept = record { limit = kept.limit; ends = all_end has_end table.lists list kept.ends fits };
       stands = subst (λ (ns : List ℕ). AreInUse (v ∷ ns) after) (sym same) (in_use_end (v ∷ versions_in table) list.version items all stands free);
       others = subst (λ (ns : List ℕ). KeepsOthers (v ∷ versions_in table) all (v ∷ ns) after) (sym same) (kept_end (v ∷ versions_in table) list.version items all free);

@@ -1,6 +1,7 @@
 -- Whether a further list may begin, by the table and by the state that it stands for.
-use Rattle.std.proofs.Common.{◌≡◌, ◌∙◌, ℕ, ℤ, pos, Bool, true, false, eqb, cond, length, Option, None, Some, Ok, Err, refl, sym, ap}
+use Rattle.std.proofs.Common.{◌≡◌, ◌∙◌, ℕ, ℤ, pos, Bool, true, false, eqb, cond, length, Option, None, Some, Ok, Err, ◌<◌, refl, sym, ap, arith}
 use Rattle.std.specs.Prelude.{nat_le}
+use Rattle.std.proofs.lemmas.Bool.{leb-false}
 use Rattle.std.proofs.lemmas.List.{length-map}
 use Rattle.oai_catalogue.specs.Store.{Lists}
 use Rattle.oai_lists.specs.OpenLists.{IsListOpening, Table, number_or_fault, open_fault, open_ones}
@@ -51,6 +52,17 @@ unfolding wait_at waits_of full_in
 waits_is config now table all limit =
     ap (λ n. cond (nat_le config.lists n) (Some (seconds_to_end now (open_lists_of now table all).lists)) (cond (eqb table.next LAST_NUMBER) (Some (pos config.lifetime)) None)) (length-map (open_ones now table.lists) (frozen_in all))
     ∙ ap (λ n. cond (nat_le n (length (open_ones now table.lists))) (Some (seconds_to_end now (open_lists_of now table all).lists)) (cond (eqb table.next LAST_NUMBER) (Some (pos config.lifetime)) None)) (sym limit)
+
+-- where none refuses a list, fewer are open than may be
+not_full : (full spent : Bool) → fault_of full spent ≡ None → full ≡ false
+unfolding fault_of
+not_full true spent h = cc
+not_full false spent h = refl
+
+pub room_for_one : (table : Table) (now : ℤ) → open_fault table now ≡ None → length (open_ones now table.lists) < table.limit
+unfolding full_in
+room_for_one table now h =
+    omega (arith, leb-false table.limit (length (open_ones now table.lists)) (not_full (full_in table now) (eqb table.next LAST_NUMBER) (sym (fault_is table now) ∙ h)))
 
 pub may_begin : (config : Config) (now : ℤ) (table : Table) (all : Lists) (number : ℕ) → table.limit ≡ config.lists → number_or_fault (open_fault table now) table.next ≡ Ok number
     → (wait_at config now (open_lists_of now table all) ≡ None) × (number ≡ table.next)

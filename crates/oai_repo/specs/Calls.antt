@@ -17,7 +17,7 @@ use Rattle.oai_settings.specs.Config.{Config}
 use Rattle.oai_repo.specs.Fields.{RepoFields, holdings_of, state_of}
 use Rattle.oai_repo.specs.Machine.{Output, act_at, accepted, bytes, changing, query, refused_with, step, wait}
 use Rattle.oai_repo.specs.State.{Holdings, moved}
-use Rattle.oai_repo.specs.Tables.{dropped_at}
+use Rattle.oai_repo.specs.Tables.{HoldsFew, dropped_at}
 use Rattle.oai_item.specs.declared.refusals.Refusal.{Refusal}
 use Rattle.oai_item.specs.declared.refusals.Refusal.TheVariants as refusal
 use Rattle.oai_repo.specs.declared.responses.Reply.{Reply}
@@ -83,9 +83,11 @@ abbrev pub IsClockAt : {A : Type 0} → Result A Fault → ℤ → RepoFields �
 IsClockAt (Ok _) moment old before new after = new.clock ≡ tick old.clock moment
 IsClockAt (Err fault) moment old before new after = (new ≡ old) × (after ≡ before)
 
--- the first of the lists that have ended is gone from the table, and nothing else is changed in it
-abbrev pub DropsEnded : RepoFields → RepoFields → Type 0
-DropsEnded old new = new.table ≡ dropped_at new.clock old.table
+-- the first of the lists that have ended is gone from the table, and nothing else is changed in it; so no more are held than may be open, where
+-- no more were
+pub record DropsEnded (old new : RepoFields) : Type 0 where
+  pub table : new.table ≡ dropped_at new.clock old.table
+  pub few : HoldsFew old.table → HoldsFew new.table
 
 -- a change was refused: the state is the one at the moment, and the index is as it was
 pub record IsRefusedAt (moment : ℤ) (old : RepoFields) (before : Lists) (new : RepoFields) (after : Lists) : Type 0 where

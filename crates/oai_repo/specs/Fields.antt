@@ -8,7 +8,7 @@ use Rattle.oai_item.specs.Item.{ItemState}
 use Rattle.oai_item.specs.Items.{are_apart, is_at, item_named}
 use Rattle.oai_item.specs.Selection.{selected}
 use Rattle.oai_catalogue.specs.Store.{Lists, list_at, with_list}
-use Rattle.oai_lists.specs.OpenLists.{Table, is_open, open_ones}
+use Rattle.oai_lists.specs.OpenLists.{Table, open_ones}
 use Rattle.oai_lists.specs.declared.open_lists.Mark.{Mark}
 use Rattle.oai_lists.specs.declared.open_lists.OpenList.{OpenList}
 use Rattle.oai_settings.specs.Config.{Config}

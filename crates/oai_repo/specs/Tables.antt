@@ -1,12 +1,12 @@
 -- What becomes of the open lists of a repository behind its calls: this repository's own.
-use Rattle.std.specs.Prelude.{◌≡◌, ◌⊎◌, ◌≤◌, ℕ, ℤ, int_le, Bool, true, List, ◌∷◌, find, length, Option, None, Some, if◌then◌else◌}
+use Rattle.std.specs.Prelude.{◌≡◌, ◌⊎◌, ◌<◌, ◌≤◌, ℕ, ℤ, int_le, Bool, true, List, ◌∷◌, find, length, Option, None, Some, if◌then◌else◌}
 use Rattle.oai_time.specs.declared.text.TheConstants.{LAST_SECOND}
 use Rattle.std.specs.List.{list_all}
 use Rattle.std.specs.Option.{option_map}
 use Rattle.oai_catalogue.specs.Store.{Lists, list_at, without_list}
 use Rattle.oai_item.specs.Item.{ItemState}
 use Rattle.oai_names.specs.declared.list_verbs.ListVerb.{ListVerb}
-use Rattle.oai_lists.specs.OpenLists.{Table, has_ended, open_numbered, with_change, with_opened, without_ended}
+use Rattle.oai_lists.specs.OpenLists.{Table, has_ended, open_numbered, open_ones, with_change, with_opened, without_ended}
 use Rattle.oai_lists.specs.declared.tokens.Token.{Token}
 use Rattle.oai_lists.specs.declared.open_lists.Mark.{Mark}
 use Rattle.oai_lists.specs.declared.open_lists.OpenList.{OpenList}
@@ -57,23 +57,30 @@ kept_open end next mark list = record list { end = end; given = highest_given ne
 abbrev pub IsMarkBehind : List ItemState → ℕ → Mark → Type 0
 IsMarkBehind items next mark = (mark.cursor ≡ next) × (ends_at mark.stamp mark.identifier items ≡ true)
 
--- what a request makes of the table: nothing; a part of one of the lists may have been answered; or a list begins, with the next number
-abbrev pub IsAskedTable : Table → Table → Type 0
-IsAskedTable old new =
+-- what a request makes of the table at that moment: nothing; a part of one of the lists may have been answered; or a list begins, with the
+-- next number, where fewer are open than may be
+abbrev pub IsAskedTable : ℤ → Table → Table → Type 0
+IsAskedTable now old new =
     (new ≡ old)
     ⊎ ((number : ℕ) × (end : ℤ) × (next : Option ℕ) × (mark : Option Mark)
     × (new ≡ record old { lists = with_change number (kept_open end next mark) old.lists }))
-    ⊎ ((list : OpenList) × (list.number ≡ old.next) × (new ≡ with_opened old list))
+    ⊎ ((list : OpenList) × (list.number ≡ old.next) × (length (open_ones now old.lists) < old.limit)
+    × (new ≡ with_opened old list))
 
--- what a request makes of the table, without the first list that has ended by then
+-- no more lists are held than may be open
+abbrev pub HoldsFew : Table → Type 0
+HoldsFew table = length table.lists ≤ table.limit
+
+-- what a request makes of the table, without the first list that has ended by then; so no more are held than may be open, where no more were
 pub record IsAskedOf (now : ℤ) (old new : Table) : Type 0 where
   pub made : Table
-  pub asked : IsAskedTable old made
+  pub asked : IsAskedTable now old made
   pub dropped : new ≡ dropped_at now made
+  pub few : HoldsFew old → HoldsFew new
 
 -- the table is one that a request makes, and is kept, the numbers are in use, of others nothing has changed, and the items stand as they did
-pub record IsLeftOpen (config : Config) (v : ℕ) (old : Table) (before : Lists) (new : Table) (after : Lists) : Type 0 where
-  pub asked : IsAskedTable old new
+pub record IsLeftOpen (config : Config) (now : ℤ) (v : ℕ) (old : Table) (before : Lists) (new : Table) (after : Lists) : Type 0 where
+  pub asked : IsAskedTable now old new
   pub kept : IsKeptTable config new
   pub stands : AreInUse (v ∷ versions_in new) after
   pub others : KeepsOthers (v ∷ versions_in old) before (v ∷ versions_in new) after

@@ -95,7 +95,7 @@ pub record IsReady {V : Type 0} (g : Ghosts V) (repo : RepoView) (table : Table)
 
 -- what a request leaves of the table and of the lists, and that one which failed has left both as they were
 pub record Leaves {V A : Type 0} (g : Ghosts V) (result : Result A Fault) (repo : RepoView) (old : Table) (before : V) (new : Table) (after : V) : Type 0 where
-  pub left : IsLeftOpen repo.config.now repo.index.now.version old (g.lists before) new (g.lists after)
+  pub left : IsLeftOpen repo.config.now repo.clock repo.index.now.version old (g.lists before) new (g.lists after)
   pub agrees : IsTrue (g.honest before) → TableAgrees new (g.lists after)
   pub err : OnErr result (new ≡ old)
   pub err_lists : OnErr result (g.lists after ≡ g.lists before)

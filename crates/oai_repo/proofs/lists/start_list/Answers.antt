@@ -17,7 +17,7 @@ use Rattle.oai_repo.proofs.OpenListLemmas.{numbered_last, open_lists_opened, ope
 use Rattle.oai_repo.proofs.MarkLemmas.{mark_first}
 use Rattle.oai_repo.proofs.ClockLemmas.{years_fit}
 use Rattle.oai_repo.proofs.PartLemmas.{part_is}
-use Rattle.oai_repo.proofs.WaitLemmas.{may_begin, opening_failed}
+use Rattle.oai_repo.proofs.WaitLemmas.{may_begin, room_for_one, opening_failed}
 use Rattle.oai_repo.proofs.lists.start_list.Goals as goal
 
 pub set_mark-requires : goal.set_mark-requires
@@ -88,7 +88,7 @@ returns-in-Ok-clause-left g c =
     let marked = opened_marked c.args.number table c.open.new.self c.set_mark.new.self entry mark c.in-Ok.ensures.valid number refl opened.2 c.set_mark.ensures in
     let behind = rw (c.as_slice-2.ensures, c.chunk.ensures.chunk, c.chunk-2.ensures.chunk) at c.mark_behind-mark.ensures in
     record {
-      left = rw (marked, frozen) (left_opened config v table all (with_mark mark entry) (list_at all v) c.requires.ready.kept c.requires.ready.stands unused c.end.ensures.last refl);
+      left = rw (marked, frozen) (left_opened config repo.clock v table all (with_mark mark entry) (list_at all v) c.requires.ready.kept c.requires.ready.stands unused c.end.ensures.last refl (room_for_one table repo.clock opened.0));
       agrees = λ honest.
           rw (marked, frozen)
           (table_agrees_opened v table all (with_mark mark entry) (list_at all v) c.requires.ready.stands unused (c.in_ok-size.ensures.size honest)
@@ -114,7 +114,7 @@ returns-clause-left g c =
     let entry : OpenList = record { number = table.next; verb = c.args.selection.verb; filter = c.args.selection.filter; version = c.in_ok-frozen.frozen; size = c.in_ok-size.size; end = to_z w64 (of_z w64 c.end.result); given = c.chunk-3.result; mark = None } in
     let same_table = opening_failed table (to_z w64 (of_z w64 repo.clock)) entry c.in-Err.field-0 c.open.new.self c.in-Err.ensures.opened in
     record {
-      left = rw (same_table, same_lists) (left_same_table repo.config.now repo.index.now.version table all c.requires.ready.kept c.requires.ready.stands);
+      left = rw (same_table, same_lists) (left_same_table repo.config.now repo.clock repo.index.now.version table all c.requires.ready.kept c.requires.ready.stands);
       agrees = λ honest. rw (same_table, same_lists) (c.requires.ready.agrees honest);
       err = same_table;
       err_lists = same_lists;

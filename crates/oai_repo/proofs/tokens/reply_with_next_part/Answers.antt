@@ -102,7 +102,7 @@ returns-clause-left g c =
     record {
       left =
           rw (kept, c.reply_from.ensures.reads.same)
-          (left_kept repo.config.now c.end.result part.next part.mark list.number v table all c.end.ensures.last c.requires.ready.kept c.requires.ready.stands);
+          (left_kept repo.config.now repo.clock c.end.result part.next part.mark list.number v table all c.end.ensures.last c.requires.ready.kept c.requires.ready.stands);
       agrees = λ honest.
           rw (kept, c.reply_from.ensures.reads.same)
           (table_agrees_kept repo.clock c.end.result part.next part.mark list.number table all list c.in-Some.ensures.valid opened (c.in_ok-part.ensures.mark honest) (c.requires.ready.agrees honest));

@@ -11,6 +11,7 @@ use Rattle.oai_repo.specs.Calls.{output_of_reply}
 use Rattle.oai_repo.specs.Fields.{open_lists_of, holdings_of, numbers_of, versions_in}
 use Rattle.oai_repo.specs.Machine.{Output}
 use Rattle.oai_repo.specs.State.{Holdings, OpenLists, RepoState}
+use Rattle.oai_repo.proofs.EndLemmas.{few_asked}
 use Rattle.oai_repo.proofs.OpenListLemmas.{indexed_at, still_same}
 use Rattle.oai_repo.proofs.ClockLemmas.{in_years-tick}
 use Rattle.oai_repo.proofs.NumberLemmas.{kept_twice}
@@ -84,7 +85,7 @@ returns-clause-keeps g c =
 pub returns-clause-table : goal.returns-clause-table
 returns-clause-table g c =
     let fits_now : FitsSigned w64 c.now.result = record { sfits = c.now.type_inv } in
-    let asked = c.in_ok-reply.ensures.left.left.asked in
+    let asked = rw c.now.ensures at (simp to_z-of_z at c.in_ok-reply.ensures.left.left.asked) in
     let clock = ap (λ (s : RepoState). s.clock) c.move_to.ensures.moved in
-    let dropped = rw clock at c.move_to.ensures.dropped in
-    rw (← c.self.view_is, clock) (record { made = c.reply_to_query.new.lists; asked = asked; dropped = dropped })
+    let dropped = rw clock at c.move_to.ensures.dropped.table in
+    rw (← c.self.view_is, clock) (record { made = c.reply_to_query.new.lists; asked = asked; dropped = dropped; few = few_asked c.tick.new.self c.self.inside.lists c.reply_to_query.new.lists c.move_to.new.self.table asked dropped })

@@ -216,3 +216,9 @@ returns-in-Ok-clause-accepted g c =
       kept = record { entries = rw (← ap (λ (s : ItemIndex). s.entries) c.move_to.ensures.index) at kept.entries; sets = ap (λ (s : RepoState). s.holdings.sets) c.move_to.ensures.moved ∙ kept.sets };
       open_lists = ap (λ (s : RepoState). s.open_lists) c.move_to.ensures.moved ∙ ap (still_open c.tick.new.self) same_open ∙ ap (λ (clock : ℤ). still_open clock (open_lists_of inside.clock inside.lists before)) moved;
     }))
+
+pub returns-in-Ok-clause-dropped : goal.returns-in-Ok-clause-dropped
+returns-in-Ok-clause-dropped g c = rw (← c.self.view_is) (record { table = c.move_to.ensures.dropped.table; few = c.move_to.ensures.dropped.few })
+
+pub returns-in-Err-Refused-clause-dropped : goal.returns-in-Err-Refused-clause-dropped
+returns-in-Err-Refused-clause-dropped g c = rw (← c.self.view_is) (record { table = c.move_to-in-Err-Refused.ensures.dropped.table; few = c.move_to-in-Err-Refused.ensures.dropped.few })

@@ -1,6 +1,7 @@
 -- The first of the lists that have ended is dropped at the clock, over the fields that the repository is opened to.
 use Rattle.std.proofs.Common.{FitsSigned, w64, refl}
 use Rattle.std.proofs.lemmas.Int.{to_z-of_z}
+use Rattle.oai_repo.proofs.EndLemmas.{few_dropped}
 use Rattle.oai_repo.proofs.OpenListLemmas.{table_dropped}
 use Rattle.oai_repo.proofs.MoveLemmas.{held_dropped, others_dropped, stands_dropped, state_dropped}
 use Rattle.oai_repo.proofs.repo.Repo.move_to.Goals as goal
@@ -26,7 +27,7 @@ pub returns-clause-dropped : goal.returns-clause-dropped
 returns-clause-dropped g c =
     let fits : FitsSigned w64 c.now.result = record { sfits = c.now.type_inv } in
     let table = rw c.now.ensures at (simp to_z-of_z at c.drop_first_ended.ensures.table) in
-    rw (← c.self.view_is) table
+    rw (← c.self.view_is) (record { table = table; few = rw table (few_dropped c.args.clock c.self.inside.lists) })
 
 pub returns-clause-keeps : goal.returns-clause-keeps
 returns-clause-keeps g c =
