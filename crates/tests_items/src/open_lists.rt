@@ -104,7 +104,7 @@ fn empty_list_is_opened(rt: HostRuntime) {
 
 /// An empty table of one opens a list, and no other beside it.
 fn assert_one_list(rt: &impl Abort, alloc: Global, lists: &mut Lists) {
-    assert_same(rt, (lists.earliest_end(), lists.next(0)), (None, Ok(1)));
+    assert_same(rt, (lists.earliest_end(0), lists.next(0)), (None, Ok(1)));
     assert_opened(rt, alloc, lists, 0, 60, 7, Ok(1));
     assert_same(rt, lists.next(59), Err(OpenFault::Full));
     assert_opened(rt, alloc, lists, 59, 119, 8, Err(OpenFault::Full));
@@ -124,7 +124,8 @@ fn assert_renewed(rt: &impl Abort, lists: &mut Lists) {
 /// The list drops at the end to which it was moved.
 fn assert_dropped(rt: &impl Abort, lists: &mut Lists) {
     assert_same(rt, lists.expire(60), None);
-    assert_same(rt, (lists.earliest_end(), lists.len()), (Some(61), 1));
+    assert_same(rt, (lists.earliest_end(60), lists.len()), (Some(61), 1));
+    assert_same(rt, lists.earliest_end(61), None);
     assert_same(rt, lists.next(61), Ok(2));
     assert_same(rt, (lists.expire(61), lists.expire(61)), (Some(7), None));
 }
@@ -157,12 +158,20 @@ fn the_number_before_the_last(rt: HostRuntime) {
     assert_opened(&rt, alloc, &mut lists, 0, 60, 2, spent);
 }
 
+/// Of the lists that are open then, the first ends there.
+fn assert_first_end(rt: &impl Abort, lists: &Lists, now: i64, end: Option<i64>) {
+    assert_same(rt, lists.earliest_end(now), end);
+}
+
 /// Lists that end at 60, 70 and 50 are dropped where they ended, in the order of their numbers.
 fn assert_three_lists(rt: &impl Abort, alloc: Global, lists: &mut Lists) {
     assert_opened(rt, alloc, lists, 0, 60, 11, Ok(1));
     assert_opened(rt, alloc, lists, 0, 70, 12, Ok(2));
     assert_opened(rt, alloc, lists, 0, 50, 13, Ok(3));
-    assert_same(rt, lists.earliest_end(), Some(50));
+    assert_first_end(rt, lists, 49, Some(50));
+    assert_first_end(rt, lists, 50, Some(60));
+    assert_first_end(rt, lists, 69, Some(70));
+    assert_first_end(rt, lists, 70, None);
     assert_same(rt, lists.expire(60), Some(11));
     assert_same(rt, lists.expire(60), Some(13));
     assert_same(rt, (lists.expire(60), lists.len()), (None, 1));

@@ -5,6 +5,8 @@
 #[cfg(test)]
 mod assertions;
 #[cfg(test)]
+mod ended_lists;
+#[cfg(test)]
 mod first_deposit;
 #[cfg(test)]
 mod full_store;

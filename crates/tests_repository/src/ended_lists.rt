@@ -1,0 +1,101 @@
+//! Lists that end together: each call drops one, and none is answered any more.
+use crate::assertions::assert_same;
+use crate::outcomes::page_of;
+use crate::samples::BEGIN;
+use oai_deposit::read_line;
+use oai_device::MemoryDevice;
+use oai_paged::PagedVersions;
+use oai_pool::Pool;
+use oai_settings::RepoConfig;
+use std::alloc::Global;
+use std::panic::Expect;
+use std::process::Abort;
+use std::str::from_utf8;
+use tests_fixtures::{Stocked, Told, archive_a, settings_of};
+
+/// Archive A over pages in memory.
+type Paged = Stocked<PagedVersions<MemoryDevice>>;
+
+/// The moment at which the lists end that began at the first one.
+const END: i64 = BEGIN + 60;
+
+/// A new one, with room for three open lists.
+fn archive_of_three_lists(rt: &impl Abort, alloc: Global) -> Paged {
+    let told = Told {
+        lists: Some(3),
+        ..archive_a()
+    };
+    let settings = settings_of(alloc, told).expect(rt, "settings_of");
+    let config = RepoConfig::new(alloc, settings).expect(rt, "RepoConfig::new");
+    let pool = Pool::new(alloc, MemoryDevice::new(alloc), 1).expect(rt, "Pool::new");
+    Stocked::new(alloc, config, PagedVersions::new(alloc, pool)).expect(rt, "Stocked::new")
+}
+
+/// Makes the change that the line asks for.
+fn make(rt: &impl Abort, alloc: Global, repo: &mut Paged, line: &str) {
+    let change = read_line(alloc, line.as_bytes()).expect(rt, "read_line");
+    assert!(rt; repo.change(BEGIN, &change).is_ok());
+}
+
+/// Deposits three items, which stand on one page, one more than a part may have.
+fn fill(rt: &impl Abort, alloc: Global, repo: &mut Paged) {
+    for number in 1..4 {
+        let line = format!(in alloc;
+            "{{\"deposit\":\"oai:a:{number}\",\"sets\":[],\"records\":{{\"oai_dc\":[]}}}}"
+        ).expect(rt, "memory");
+        make(rt, alloc, repo, line.as_str());
+    }
+}
+
+/// Begins a list, and changes an item: the page as it was is the list's alone then.
+fn begin_and_change(rt: &impl Abort, alloc: Global, repo: &mut Paged, title: &str) {
+    let query = "verb=ListIdentifiers&metadataPrefix=oai_dc";
+    assert!(rt; is_page_with(rt, repo, BEGIN, query, "completeListSize=\"3\""));
+    let line = format!(in alloc;
+        "{{\"deposit\":\"oai:a:1\",\"sets\":[],\"records\":{{\"oai_dc\":[[\"title\",\"{title}\"]]}}}}"
+    ).expect(rt, "memory");
+    make(rt, alloc, repo, line.as_str());
+}
+
+/// Whether the page that is answered at the moment has that text.
+fn is_page_with(rt: &impl Abort, repo: &mut Paged, moment: i64, query: &str, text: &str) -> bool {
+    let page = page_of(rt, repo, moment, query);
+    match from_utf8(page.as_slice()) {
+        Ok(page) => page.contains(text),
+        Err(_) => false,
+    }
+}
+
+/// The token is refused at the end, and so many pages are named then.
+fn assert_refused(rt: &impl Abort, repo: &mut Paged, token: &str, pages: usize) {
+    let bad = "badResumptionToken";
+    assert!(rt; is_page_with(rt, repo, END, token, bad), "{token}");
+    assert_same(rt, repo.store().pool().used(), pages);
+}
+
+/// Begins three lists, each of a page that is changed behind it: three pages are theirs alone, and one is of now.
+fn begin_three(rt: &impl Abort, alloc: Global, repo: &mut Paged) {
+    for title in ["One", "Two", "Three"] {
+        begin_and_change(rt, alloc, repo, title);
+    }
+    assert_same(rt, repo.store().pool().used(), 4);
+}
+
+/// Three lists end at once. The first call drops one of them and begins another, though the other two are still
+/// held; and each call that comes then drops one, whichever it asks for.
+#[test]
+fn lists_that_end_together(rt: HostRuntime) {
+    let alloc = rt.alloc();
+    let mut repo = archive_of_three_lists(&rt, alloc);
+    fill(&rt, alloc, &mut repo);
+    begin_three(&rt, alloc, &mut repo);
+    let query = "verb=ListRecords&metadataPrefix=oai_dc";
+    assert!(&rt; is_page_with(&rt, &mut repo, END, query, ">4.2</resumptionToken>"));
+    assert_same(&rt, repo.store().pool().used(), 3);
+    for (token, pages) in [("3.2", 2), ("3.2", 1), ("1.2", 1), ("2.2", 1)] {
+        let query = format!(in alloc; "verb=ListIdentifiers&resumptionToken={token}").expect(
+            &rt, "memory",
+        );
+        assert_refused(&rt, &mut repo, query.as_str(), pages);
+    }
+}
