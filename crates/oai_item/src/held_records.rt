@@ -1,9 +1,10 @@
 //! The records that an item owns: each in memory of its own, or all of them as the bytes of their spelling.
 
-ghost use Rattle.std.specs.Prelude.{◌≡◌, ◌≤◌, ◌+◌, true, length, IfOk};
+ghost use Rattle.std.specs.Prelude.{◌≡◌, ◌≤◌, ◌+◌, true, length, IfOk, IfSome};
 ghost use Rattle.std.specs.List.{list_all};
 ghost use Rattle.oai_item.specs.Encoding.{IsMeasure, encoded_list, encoded_record, is_text_record};
 ghost use Rattle.oai_item.specs.Held.{AreWhole, records_in};
+ghost use Rattle.oai_item.specs.Item.{are_prefixed};
 ghost use Rattle.oai_item.specs.SpellingParts.{Writes};
 
 use crate::copies::copy_records;
@@ -12,17 +13,18 @@ use crate::fields::Field;
 use crate::fronts::first_records;
 use crate::item_records::ItemRecords;
 use crate::sizes::{TooLarge, plus, with_records};
-use oai_names::{Prefix, Sequence};
+use oai_names::{Prefix, Sequence, Text};
 use std::alloc::{AllocError, Global};
 use std::marker::Model;
 
 /// How records are held.
 #[derive(Debug, Drop)]
 enum Held {
-    /// Each in memory of its own, as an item has them that is deposited: it may be larger than an item
-    /// that can be spelled.
+    /// Each in memory of its own, as an item has them that is made of its parts, or that is larger than an
+    /// item can be that is spelled.
     Typed(Sequence<(Prefix, Sequence<Field>)>),
-    /// As the bytes of their spelling, one buffer, as an item has them that comes from a store.
+    /// As the bytes of their spelling, one buffer, as an item has them that is deposited or comes from a
+    /// store.
     Spelled(Sequence<u8>),
 }
 
@@ -63,6 +65,25 @@ impl HeldRecords {
         Ok(HeldRecords {
             held: Held::Spelled(copy_bytes(alloc, bytes)?),
         })
+    }
+
+    /// These records of a deposit, each under a prefix, as the bytes of their spelling, which one buffer holds; None
+    /// where they are more bytes than an item can have. The error is out of memory.
+    pub(crate) fn deposited(
+        alloc: Global,
+        records: &[(Text, Sequence<Field>)],
+    ) -> Result<Option<HeldRecords>, AllocError>
+        requires { are_prefixed records.now ≡ true }
+        ensures { IfOk result (λ held. IfSome held (λ held. held ≡ records.now)) }
+    {
+        let Ok(size) = with_records(0, records) else {
+            return Ok(None);
+        };
+        let mut bytes = Vec::from_elem(alloc, 0u8, size)?;
+        put_records(&mut bytes[..], records);
+        Ok(Some(HeldRecords {
+            held: Held::Spelled(Sequence::new(bytes)),
+        }))
     }
 
     /// Equal records. The error is out of memory.
