@@ -1,6 +1,6 @@
 //! The records that an item owns: each in memory of its own, or all of them as the bytes of their spelling.
 
-ghost use Rattle.std.specs.Prelude.{◌≡◌, ◌≤◌, ◌+◌, true, length, IfOk, IfSome};
+ghost use Rattle.std.specs.Prelude.{◌≡◌, ◌<◌, ◌≤◌, ◌+◌, true, length, IfOk, MatchOption};
 ghost use Rattle.std.specs.List.{list_all};
 ghost use Rattle.oai_item.specs.Encoding.{IsMeasure, encoded_list, encoded_record, is_text_record};
 ghost use Rattle.oai_item.specs.Held.{AreWhole, records_in};
@@ -12,7 +12,7 @@ use crate::encodings::{put_bytes, put_records};
 use crate::fields::Field;
 use crate::fronts::first_records;
 use crate::item_records::ItemRecords;
-use crate::sizes::{TooLarge, plus, with_records};
+use crate::sizes::{MAX_ITEM_BYTES, TooLarge, plus, with_records};
 use oai_names::{Prefix, Sequence, Text};
 use std::alloc::{AllocError, Global};
 use std::marker::Model;
@@ -20,11 +20,10 @@ use std::marker::Model;
 /// How records are held.
 #[derive(Debug, Drop)]
 enum Held {
-    /// Each in memory of its own, as an item has them that is made of its parts, or that is larger than an
-    /// item can be that is spelled.
+    /// Each in memory of its own: those of an item that was made of its parts, those that a deletion leaves, and those
+    /// of a deposit that are too many bytes to be spelled.
     Typed(Sequence<(Prefix, Sequence<Field>)>),
-    /// As the bytes of their spelling, one buffer, as an item has them that is deposited or comes from a
-    /// store.
+    /// As the bytes of their spelling, one buffer: those of a deposit, and those of an item that comes from a store.
     Spelled(Sequence<u8>),
 }
 
@@ -74,7 +73,9 @@ impl HeldRecords {
         records: &[(Text, Sequence<Field>)],
     ) -> Result<Option<HeldRecords>, AllocError>
         requires { are_prefixed records.now ≡ true }
-        ensures { IfOk result (λ held. IfSome held (λ held. held ≡ records.now)) }
+        ensures { IfOk result (λ held. MatchOption held
+            (MAX_ITEM_BYTES < length (encoded_list encoded_record records.now))
+            (λ held. held ≡ records.now)) }
     {
         let Ok(size) = with_records(0, records) else {
             return Ok(None);
