@@ -1,15 +1,16 @@
 -- Records that an item holds as the bytes of their spelling.
-use Rattle.std.proofs.Common.{◌≡◌, ◌∙◌, ℕ, true, List, [], ◌++◌, sym, ap}
+use Rattle.std.proofs.Common.{◌≡◌, ◌∙◌, ◌+◌, ◌≤◌, ℕ, true, List, [], ◌++◌, length, take, drop, Ok, sym, ap, subst, arith}
 use Rattle.std.specs.List.{list_all}
-use Rattle.std.proofs.lemmas.List.{append-nil}
-use Rattle.oai_item.specs.Encoding.{Spells, encoded_list, encoded_record, encoded_text, is_text_record}
+use Rattle.std.proofs.lemmas.List.{append-nil, drop_all, take_at}
+use Rattle.oai_item.specs.Encoding.{IsMeasure, Spells, encoded_list, encoded_record, encoded_text, is_text_record}
 use Rattle.oai_item.specs.Held.{AreWhole, records_in}
-use Rattle.oai_item.specs.Item.{ItemState}
-use Rattle.oai_item.specs.SpellingParts.{Stands, are_records}
+use Rattle.oai_item.specs.Item.{ItemState, Metadata, are_prefixed}
+use Rattle.oai_item.specs.declared.sizes.TheConstants.{MAX_ITEM_BYTES}
+use Rattle.oai_item.specs.SpellingParts.{Stands, Writes, are_records}
 use Rattle.oai_item.specs.Walks.{is_record}
 use Rattle.oai_item.proofs.Placed.{few_left}
 use Rattle.oai_item.proofs.ReadBack.{records_back}
-use Rattle.oai_item.proofs.Spelled.{all_so, parts_spelled, text_record_from}
+use Rattle.oai_item.proofs.Spelled.{all_so, parts_spelled, records_from, text_record_from}
 use Rattle.oai_item.proofs.Spellings.{few_behind}
 use Rattle.oai_item.proofs.Wholes.{after_sets, behind_identifier}
 
@@ -27,23 +28,37 @@ whole_stands bytes whole = record {
   few = whole.few;
 }
 
--- the bytes spell the records of the item, and nothing else
-pub record AreRecordsOf (item : ItemState) (bytes : List ℕ) : Type 0 where
+-- the bytes spell these records, and nothing else
+pub record AreRecordsOf (formats : List Metadata) (bytes : List ℕ) : Type 0 where
   pub whole : AreWhole bytes
-  pub same : records_in bytes ≡ item.formats
+  pub same : records_in bytes ≡ formats
 
--- so do those behind the sets in the item's spelling
-pub records_end : (bytes rest after : List ℕ) (item : ItemState) (sets : List (List ℕ)) → Spells bytes item → rest ≡ behind_identifier item → rest ≡ encoded_list encoded_text sets ++ after → AreRecordsOf item after
-records_end bytes rest after item sets s e f =
-    let few = few_left bytes rest item s e in
-    let few_after = few_behind rest (encoded_list encoded_text sets) after f few in
-    let is : after ≡ encoded_list encoded_record item.formats = sym (after_sets item rest after sets few (sym e) f).1 in
-    let same : records_in after ≡ item.formats = (records_back.back after item.formats [] few_after (is ∙ sym (append-nil (encoded_list encoded_record item.formats)))).0 in
+-- so does their spelling, where they may be an item's
+pub records_whole : (formats : List Metadata) (bytes : List ℕ) → bytes ≡ encoded_list encoded_record formats → length bytes ≤ MAX_ITEM_BYTES → are_records formats ≡ true → AreRecordsOf formats bytes
+records_whole formats bytes is few good =
+    let same : records_in bytes ≡ formats = (records_back.back bytes formats [] few (is ∙ sym (append-nil (encoded_list encoded_record formats)))).0 in
     record {
       whole = record {
-        good = ap (list_all is_record) same ∙ (parts_spelled bytes item s).parts.of_formats;
+        good = ap (list_all is_record) same ∙ good;
         parts = is ∙ ap (encoded_list encoded_record) (sym same);
-        few = few_after;
+        few = few;
       };
       same = same;
     }
+
+-- so do the bytes behind the sets in an item's spelling
+pub records_end : (bytes rest after : List ℕ) (item : ItemState) (sets : List (List ℕ)) → Spells bytes item → rest ≡ behind_identifier item → rest ≡ encoded_list encoded_text sets ++ after → AreRecordsOf item.formats after
+records_end bytes rest after item sets s e f =
+    let few = few_left bytes rest item s e in
+    records_whole item.formats after (sym (after_sets item rest after sets few (sym e) f).1) (few_behind rest (encoded_list encoded_text sets) after f few) (parts_spelled bytes item s).parts.of_formats
+
+-- so do the bytes of a vector of that length, into which it was written
+pub records_written : (formats : List Metadata) (old new items bytes : List ℕ) (n size len : ℕ) → are_prefixed formats ≡ true → list_all is_text_record formats ≡ true → IsMeasure (0 + length (encoded_list encoded_record formats)) (Ok size) → length old ≡ len → len ≡ size
+    → Writes (encoded_list encoded_record formats) old n new → bytes ≡ take len (new ++ drop (length new) items) → AreRecordsOf formats bytes
+records_written formats old new items bytes n size len prefixed texts measure long made written same =
+    let piece = encoded_list encoded_record formats in
+    let few : length piece ≤ MAX_ITEM_BYTES = omega (arith, measure.1) in
+    let is : new ≡ piece = written.1 ∙ ap (λ rest. piece ++ rest) (drop_all (length piece) old (omega (arith, measure.0))) ∙ append-nil piece in
+    let size_is : length new ≡ length piece = ap length is in
+    let whole : bytes ≡ piece = same ∙ take_at new (drop (length new) items) len (omega (arith, measure.0)) ∙ is in
+    records_whole formats bytes whole (subst (λ m. m ≤ MAX_ITEM_BYTES) (sym (ap length whole)) few) (records_from formats prefixed texts)

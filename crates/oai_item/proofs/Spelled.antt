@@ -36,7 +36,7 @@ record_from format h =
     let b = and_parts (is_utf8 format.0) (are_fields format.1) a.1 in
     and_from _ _ (and_from _ _ a.0 b.0) b.1
 
-records_from : (formats : List Metadata) → are_prefixed formats ≡ true → list_all is_text_record formats ≡ true → are_records formats ≡ true
+pub records_from : (formats : List Metadata) → are_prefixed formats ≡ true → list_all is_text_record formats ≡ true → are_records formats ≡ true
 unfolding are_prefixed
 records_from formats prefixed texts =
     all_so (λ format. may_be_prefix format.0 && is_text_record format) is_record record_from formats (all_both (λ format. may_be_prefix format.0) is_text_record formats prefixed texts)

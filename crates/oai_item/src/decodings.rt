@@ -1,6 +1,6 @@
 //! Items from bytes: what reads the parts of an item's spelling, in place. No function here takes memory.
 
-ghost use Rattle.std.specs.Prelude.{◌≡◌, ◌↔◌, ◌≤◌, length, false, nat_lt, true, IsTrue, MatchOption};
+ghost use Rattle.std.specs.Prelude.{◌≡◌, ◌↔◌, ◌<◌, ◌≤◌, length, false, nat_lt, true, IsTrue, MatchOption};
 ghost use Rattle.std.specs.List.{list_all};
 ghost use Rattle.std.specs.Str.{is_utf8};
 ghost use Rattle.oai_names.specs.Names.{may_be_identifier, may_be_prefix};
@@ -113,10 +113,53 @@ fn text_of(bytes: &[u8]) -> Option<&str>
     }
 }
 
-/// Whether each byte is ASCII. The loop has no other end than the last byte, and what it finds is handed out of a
-/// function of its own, so that many bytes are tested at a time.
+/// Whether each byte is ASCII, by the largest chunks that fit in. What is found is handed out of a function of its
+/// own, so that the bytes of a chunk are tested all at once.
 #[inline(never)]
 fn are_ascii(bytes: &[u8]) -> bool
+    ensures { result ≡ list_all (λ byte. nat_lt byte 128) bytes.now }
+{
+    if bytes.len() >= 32 {
+        return are_ascii_by::<32>(bytes);
+    }
+    if bytes.len() >= 16 {
+        return are_ascii_by::<16>(bytes);
+    }
+    if bytes.len() >= 8 {
+        return are_ascii_by::<8>(bytes);
+    }
+    is_each_ascii(bytes)
+}
+
+/// Whether each byte is ASCII, where there are N or more: as many chunks of N as there are, and then the last N bytes,
+/// some of which are tested again. So no byte is tested by itself.
+fn are_ascii_by<const N: usize>(bytes: &[u8]) -> bool
+    requires fits { (0 < N) × (N ≤ 32) }
+    requires long { N ≤ length bytes.now }
+    ensures { result ≡ list_all (λ byte. nat_lt byte 128) bytes.now }
+{
+    let Some(last) = bytes.last_chunk::<N>() else {
+        unreachable!()
+    };
+    let (chunks, _) = bytes.as_chunks::<N>();
+    are_chunks_ascii(chunks) && is_each_ascii(last)
+}
+
+/// Whether each byte of each chunk is ASCII.
+fn are_chunks_ascii<const N: usize>(chunks: &[[u8; N]]) -> bool
+    ensures { result ≡ list_all (list_all (λ byte. nat_lt byte 128)) chunks.now }
+{
+    for chunk in chunks {
+        if !is_each_ascii(chunk) {
+            return false;
+        }
+    }
+    true
+}
+
+/// Whether each byte is ASCII. The loop has no other end than the last byte, so that the bytes of a chunk, whose number
+/// is known, are tested all at once.
+fn is_each_ascii(bytes: &[u8]) -> bool
     ensures { result ≡ list_all (λ byte. nat_lt byte 128) bytes.now }
 {
     let mut ascii = true;

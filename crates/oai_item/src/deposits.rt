@@ -1,6 +1,5 @@
 ghost use Rattle.std.specs.Prelude.{◌≡◌, ◌≢◌, [], true, IfOk};
 ghost use Rattle.std.specs.List.{list_all};
-ghost use Rattle.oai_names.specs.Names.{may_be_prefix};
 ghost use Rattle.oai_item.specs.Item.{IsStamp, are_prefixed, live_item};
 ghost use Rattle.oai_item.specs.Known.{has_format};
 ghost use Rattle.oai_item.specs.Membership.{reduced};
@@ -8,6 +7,7 @@ ghost use Rattle.oai_item.specs.Membership.{reduced};
 use crate::copies::{copy_fields, copy_sets};
 use crate::fields::Field;
 use crate::formats::Formats;
+use crate::held_records::HeldRecords;
 use crate::items::Item;
 use crate::records::Records;
 use oai_names::{Identifier, Prefix, Sequence, SetSpec, Text};
@@ -36,20 +36,58 @@ impl Item {
             identifier.copy(alloc)?,
             stamp,
             copy_sets(alloc, sets)?,
-            typed_records(alloc, formats, records.as_slice())?,
+            held_records(alloc, formats, records.as_slice())?,
         )
     }
 }
 
-/// The records under the prefixes of their formats.
+/// The records under the prefixes of their formats, in one buffer where they are not too many bytes.
+fn held_records(
+    alloc: Global,
+    formats: &Formats,
+    records: &[(Text, Sequence<Field>)],
+) -> Result<HeldRecords, AllocError>
+    requires { list_all (has_format formats.now) records.now ≡ true }
+    ensures held { IfOk result (λ held. held ≡ records.now) }
+    ensures prefixed { are_prefixed records.now ≡ true }
+{
+    see_prefixes(formats, records);
+    match HeldRecords::deposited(alloc, records)? {
+        Some(held) => Ok(held),
+        None => Ok(HeldRecords::typed(typed_records(alloc, formats, records)?)),
+    }
+}
+
+/// Looks at the prefix of each record's format, so that what its type says of it, its grammar and its length, is known
+/// of the record's. It changes nothing.
+fn see_prefixes(formats: &Formats, records: &[(Text, Sequence<Field>)])
+    requires { list_all (has_format formats.now) records.now ≡ true }
+    ensures { are_prefixed records.now ≡ true }
+{
+    for deposited in records {
+        prefix_of(formats, deposited).as_str();
+    }
+}
+
+/// The prefix of the record's format.
+fn prefix_of<'a>(formats: &'a Formats, deposited: &(Text, Sequence<Field>)) -> &'a Prefix
+    requires { has_format formats.now deposited.now ≡ true }
+    ensures { result.now ≡ deposited.now.0 }
+{
+    let Some(format) = formats.find_named(deposited.0.as_str()) else {
+        unreachable!()
+    };
+    &format.prefix
+}
+
+/// The records under the prefixes of their formats, in memory of their own.
 fn typed_records(
     alloc: Global,
     formats: &Formats,
     records: &[(Text, Sequence<Field>)],
 ) -> Result<Sequence<(Prefix, Sequence<Field>)>, AllocError>
     requires { list_all (has_format formats.now) records.now ≡ true }
-    ensures typed { IfOk result (λ typed. typed ≡ records.now) }
-    ensures prefixed { IfOk result (λ typed. are_prefixed typed ≡ true) }
+    ensures { IfOk result (λ typed. typed ≡ records.now) }
 {
     let mut typed = Vec::with_capacity(alloc, records.len())?;
     for deposited in records {
@@ -65,14 +103,10 @@ fn typed_record(
     deposited: &(Text, Sequence<Field>),
 ) -> Result<(Prefix, Sequence<Field>), AllocError>
     requires { has_format formats.now deposited.now ≡ true }
-    ensures typed { IfOk result (λ typed. typed ≡ deposited.now) }
-    ensures prefixed { IfOk result (λ typed. may_be_prefix typed.0 ≡ true) }
+    ensures { IfOk result (λ typed. typed ≡ deposited.now) }
 {
-    let Some(format) = formats.find_named(deposited.0.as_str()) else {
-        unreachable!()
-    };
     Ok((
-        format.prefix.copy(alloc)?,
+        prefix_of(formats, deposited).copy(alloc)?,
         copy_fields(alloc, deposited.1.as_slice())?,
     ))
 }

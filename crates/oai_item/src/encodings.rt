@@ -8,7 +8,8 @@ ghost use Rattle.oai_item.specs.SpellingParts.{Writes, item_with};
 
 use crate::fields::Field;
 use crate::held_records::HeldRecords;
-use oai_names::{Prefix, Sequence, SetSpec};
+use crate::memory_records::MemoryRecord;
+use oai_names::SetSpec;
 
 /// Writes the bytes at the front, and says how many they are.
 pub(crate) fn put_bytes(out: &mut [u8], bytes: &[u8]) -> usize
@@ -94,10 +95,11 @@ fn put_sets(out: &mut [u8], sets: &[SetSpec]) -> usize
 }
 
 /// Writes a list of records at the front.
-pub(crate) fn put_records(out: &mut [u8], records: &[(Prefix, Sequence<Field>)]) -> usize
-    requires { length (encoded_list encoded_record records.now) ≤ length out.old }
-    ensures written { Writes (encoded_list encoded_record records.now) out.old result out.new }
-    ensures texts { list_all is_text_record records.now ≡ true }
+pub(crate) fn put_records<R: MemoryRecord>(out: &mut [u8], records: &[R]) -> usize
+    requires { length (encoded_list (λ r. encoded_record (R.record_of r)) records.now) ≤ length out.old }
+    ensures written { Writes (encoded_list (λ r. encoded_record (R.record_of r)) records.now)
+        out.old result out.new }
+    ensures texts { list_all (λ r. is_text_record (R.record_of r)) records.now ≡ true }
 {
     let mut at = put_count(out, records.len());
     for format in records {
@@ -107,14 +109,13 @@ pub(crate) fn put_records(out: &mut [u8], records: &[(Prefix, Sequence<Field>)])
 }
 
 /// Writes a record at the front.
-fn put_record(out: &mut [u8], format: &(Prefix, Sequence<Field>)) -> usize
-    requires { length (encoded_record format.now) ≤ length out.old }
-    ensures written { Writes (encoded_record format.now) out.old result out.new }
-    ensures texts { is_text_record format.now ≡ true }
+fn put_record<R: MemoryRecord>(out: &mut [u8], format: &R) -> usize
+    requires { length (encoded_record (R.record_of format.now)) ≤ length out.old }
+    ensures written { Writes (encoded_record (R.record_of format.now)) out.old result out.new }
+    ensures texts { is_text_record (R.record_of format.now) ≡ true }
 {
-    let (prefix, fields) = format;
-    let at = put_text(out, prefix.as_str());
-    at + put_fields(&mut out[at..], fields.as_slice())
+    let at = put_text(out, format.prefix());
+    at + put_fields(&mut out[at..], format.fields())
 }
 
 /// Writes a list of fields at the front.

@@ -1,9 +1,10 @@
 //! The records that an item owns: each in memory of its own, or all of them as the bytes of their spelling.
 
-ghost use Rattle.std.specs.Prelude.{◌≡◌, ◌≤◌, ◌+◌, true, length, IfOk};
+ghost use Rattle.std.specs.Prelude.{◌≡◌, ◌<◌, ◌≤◌, ◌+◌, true, length, IfOk, MatchOption};
 ghost use Rattle.std.specs.List.{list_all};
 ghost use Rattle.oai_item.specs.Encoding.{IsMeasure, encoded_list, encoded_record, is_text_record};
 ghost use Rattle.oai_item.specs.Held.{AreWhole, records_in};
+ghost use Rattle.oai_item.specs.Item.{are_prefixed};
 ghost use Rattle.oai_item.specs.SpellingParts.{Writes};
 
 use crate::copies::copy_records;
@@ -11,18 +12,18 @@ use crate::encodings::{put_bytes, put_records};
 use crate::fields::Field;
 use crate::fronts::first_records;
 use crate::item_records::ItemRecords;
-use crate::sizes::{TooLarge, plus, with_records};
-use oai_names::{Prefix, Sequence};
+use crate::sizes::{MAX_ITEM_BYTES, TooLarge, plus, with_records};
+use oai_names::{Prefix, Sequence, Text};
 use std::alloc::{AllocError, Global};
 use std::marker::Model;
 
 /// How records are held.
 #[derive(Debug, Drop)]
 enum Held {
-    /// Each in memory of its own, as an item has them that is deposited: it may be larger than an item
-    /// that can be spelled.
+    /// Each in memory of its own: those of an item that was made of its parts, those that a deletion leaves, and those
+    /// of a deposit that are too many bytes to be spelled.
     Typed(Sequence<(Prefix, Sequence<Field>)>),
-    /// As the bytes of their spelling, one buffer, as an item has them that comes from a store.
+    /// As the bytes of their spelling, one buffer: those of a deposit, and those of an item that comes from a store.
     Spelled(Sequence<u8>),
 }
 
@@ -63,6 +64,27 @@ impl HeldRecords {
         Ok(HeldRecords {
             held: Held::Spelled(copy_bytes(alloc, bytes)?),
         })
+    }
+
+    /// These records of a deposit, each under a prefix, as the bytes of their spelling, which one buffer holds; None
+    /// where they are more bytes than an item can have. The error is out of memory.
+    pub(crate) fn deposited(
+        alloc: Global,
+        records: &[(Text, Sequence<Field>)],
+    ) -> Result<Option<HeldRecords>, AllocError>
+        requires { are_prefixed records.now ≡ true }
+        ensures { IfOk result (λ held. MatchOption held
+            (MAX_ITEM_BYTES < length (encoded_list encoded_record records.now))
+            (λ held. held ≡ records.now)) }
+    {
+        let Ok(size) = with_records(0, records) else {
+            return Ok(None);
+        };
+        let mut bytes = Vec::from_elem(alloc, 0u8, size)?;
+        put_records(&mut bytes[..], records);
+        Ok(Some(HeldRecords {
+            held: Held::Spelled(Sequence::new(bytes)),
+        }))
     }
 
     /// Equal records. The error is out of memory.

@@ -66,7 +66,7 @@ impl Item {
         ensures { IfOk result (λ item. item ≡ live_item identifier stamp (reduced sets) formats) }
     {
         see_prefixes(formats.as_slice());
-        Item::with_prefixed(alloc, identifier, stamp, sets, formats)
+        Item::with_prefixed(alloc, identifier, stamp, sets, HeldRecords::typed(formats))
     }
 
     /// A live item, of records whose prefixes are known to be of their grammar and length.
@@ -75,7 +75,7 @@ impl Item {
         identifier: Identifier,
         stamp: i64,
         sets: Sequence<SetSpec>,
-        formats: Sequence<(Prefix, Sequence<Field>)>,
+        formats: HeldRecords,
     ) -> Result<Item, AllocError>
         requires stamped { IsStamp stamp }
         requires prefixed { are_prefixed formats ≡ true }
@@ -88,7 +88,7 @@ impl Item {
             stamp,
             live: true,
             sets: reduced(alloc, sets)?,
-            formats: HeldRecords::typed(formats),
+            formats,
         })
     }
 

@@ -16,6 +16,7 @@ mod held_records;
 mod in_place;
 mod item_records;
 mod items;
+mod memory_records;
 mod order;
 mod records;
 mod reductions;

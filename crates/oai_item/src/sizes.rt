@@ -2,8 +2,9 @@ ghost use Rattle.std.specs.Prelude.{◌≡◌, ◌+◌, length};
 ghost use Rattle.oai_item.specs.Encoding.{IsMeasure, encoded_field, encoded_list, encoded_record, encoded_text};
 
 use crate::fields::Field;
+use crate::memory_records::MemoryRecord;
 use crate::short_texts::MAX_SHORT_TEXT_BYTES;
-use oai_names::{Prefix, Sequence, SetSpec};
+use oai_names::SetSpec;
 use thiserror::Error;
 
 /// The most bytes that the spelling of an item has.
@@ -54,11 +55,8 @@ pub(crate) fn with_sets(size: usize, sets: &[SetSpec]) -> Result<usize, TooLarge
 }
 
 /// So many bytes, and those of the list of records.
-pub(crate) fn with_records(
-    size: usize,
-    records: &[(Prefix, Sequence<Field>)],
-) -> Result<usize, TooLarge>
-    ensures { IsMeasure (size + length (encoded_list encoded_record records.now)) result }
+pub(crate) fn with_records<R: MemoryRecord>(size: usize, records: &[R]) -> Result<usize, TooLarge>
+    ensures { IsMeasure (size + length (encoded_list (λ r. encoded_record (R.record_of r)) records.now)) result }
 {
     let mut sum = plus(size, COUNT_BYTES)?;
     for format in records {
@@ -68,12 +66,11 @@ pub(crate) fn with_records(
 }
 
 /// So many bytes, and those of a record.
-fn with_record(size: usize, format: &(Prefix, Sequence<Field>)) -> Result<usize, TooLarge>
-    ensures { IsMeasure (size + length (encoded_record format.now)) result }
+fn with_record<R: MemoryRecord>(size: usize, format: &R) -> Result<usize, TooLarge>
+    ensures { IsMeasure (size + length (encoded_record (R.record_of format.now))) result }
 {
-    let (prefix, fields) = format;
-    let front = with_text(size, prefix.as_str())?;
-    with_fields(front, fields.as_slice())
+    let front = with_text(size, format.prefix())?;
+    with_fields(front, format.fields())
 }
 
 /// So many bytes, and those of the list of fields.

@@ -1,9 +1,8 @@
 use Rattle.std.proofs.Common.{◌≡◌, take, drop, true}
 use Rattle.std.specs.List.{list_all}
-use Rattle.oai_item.specs.Item.{are_prefixed}
 use Rattle.oai_item.specs.Known.{has_format}
 use Rattle.oai_item.proofs.deposits.typed_records.Given as goal
 
--- the records so far, each under a prefix, and what is required of the others
+-- the records so far, and what is required of the others
 abbrev pub invariant-loop-deposited : goal.invariant-loop-deposited
-invariant-loop-deposited l = (l.typed.items ≡ take l.deposited-index l.records) × (are_prefixed l.typed.items ≡ true) × (list_all (has_format l.formats) (drop l.deposited-index l.records) ≡ true)
+invariant-loop-deposited l = (l.typed.items ≡ take l.deposited-index l.records) × (list_all (has_format l.formats) (drop l.deposited-index l.records) ≡ true)

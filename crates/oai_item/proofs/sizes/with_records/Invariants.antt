@@ -5,4 +5,4 @@ use Rattle.oai_item.proofs.sizes.with_records.Given as goal
 
 -- the count, and the elements so far
 abbrev pub invariant-loop-format : goal.invariant-loop-format
-invariant-loop-format l = IsMeasure (l.fn.size + 4 + length (flat_map encoded_record (take l.format-index l.records))) (Ok l.sum)
+invariant-loop-format g l = IsMeasure (l.fn.size + 4 + length (flat_map (λ r. encoded_record (g.R.MemoryRecord.record_of r)) (take l.format-index l.records))) (Ok l.sum)

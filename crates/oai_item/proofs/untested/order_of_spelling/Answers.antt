@@ -1,4 +1,4 @@
-use Rattle.std.proofs.Common.{◌≡◌, ◌∙◌, ℤ, List, ℕ, FitsSigned, Some, ap, subst, sym, w64}
+use Rattle.std.proofs.Common.{◌∙◌, ℤ, List, ℕ, FitsSigned, Some, ap, subst, sym, w64}
 use Rattle.std.specs.Ordering.{int_cmp, nat_cmp, ordering_then}
 use Rattle.std.specs.Cmp.Lexicographic.{slice_cmp}
 use Rattle.std.proofs.lemmas.Int.{to_z-of_z}

@@ -1,6 +1,6 @@
 use Rattle.std.proofs.Common.{◌≡◌, nat_lt, take}
 use Rattle.std.specs.List.{list_all}
-use Rattle.oai_item.proofs.decodings.are_ascii.Given as goal
+use Rattle.oai_item.proofs.decodings.is_each_ascii.Given as goal
 
 -- whether the bytes so far are ASCII
 abbrev pub invariant-loop-byte : goal.invariant-loop-byte
