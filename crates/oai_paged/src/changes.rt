@@ -70,7 +70,7 @@ pub(crate) fn change<P: PagePool>(
             })
         }
         Err(_) => {
-            drop_all(pages, others.as_slice());
+            drop_all(pages, others);
             Err(Fault::NoMemory)
         }
     }
@@ -89,7 +89,7 @@ pub(crate) fn undo<P: PagePool>(pages: &mut P, places: &mut Vec<SharedPlace>, ch
 {
     let mut others = changed.gone;
     exchange(places, changed.at, changed.len, &mut others);
-    drop_all(pages, others.as_slice());
+    drop_all(pages, others);
 }
 
 /// Adds the pages of the entries, which are cut at these places, and returns their places. Any fault but `Damaged` may come; the pages are then as
@@ -110,7 +110,7 @@ fn add_all<P: PagePool>(
     match add_parts(alloc, pages, entries, cuts, &mut added) {
         Ok(()) => Ok(added),
         Err(fault) => {
-            drop_all(pages, added.as_slice());
+            drop_all(pages, added);
             Err(fault)
         }
     }
