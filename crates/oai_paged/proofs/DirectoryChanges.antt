@@ -36,22 +36,6 @@ items_removed g stamp identifier items entries at new_at new_len gone before aft
     ∙ ap (λ zs. items_on (g.pages old) (take at before) ++ (zs ++ items_on (g.pages old) (drop (at + 1) before))) (made ∙ ap (without_at stamp identifier) read)
     ∙ sym (without_at-cut (g.pages old) before stamp identifier at h.directory within belongs)
 
--- the first item of a directory
-pub first_put : {P : Type 0} (g : Ghosts P) (item : ItemState) (entries : List ItemState) (new_at new_len : ℕ) (gone before after : List PlaceState) (old new : P) → StandsIn g old before
-    → before ≡ [] → IsDirectoryChanged g entries 0 0 new_at new_len gone before after old new → entries ≡ with_item item []
-    → items_on (g.pages new) after ≡ with_item item (items_on (g.pages old) before)
-first_put g item entries new_at new_len gone before after old new h none changed made =
-    let no_items : items_on (g.pages old) before ≡ [] = ap (items_on (g.pages old)) none ∙ items_on-nil (g.pages old) in
-    changed_items g entries 0 0 new_at new_len gone before after old new h changed
-    ∙ ap (λ zs. zs ++ (entries ++ items_on (g.pages old) before)) (items_on-nil (g.pages old))
-    ∙ ap (λ zs. entries ++ zs) no_items ∙ append-nil entries ∙ made ∙ ap (with_item item) (sym no_items)
-
-pub may_stand_first : (pages : Pages) (item : ItemState) (entries : List ItemState) (places : List PlaceState) → places ≡ [] → entries ≡ with_item item [] → MayStand pages places 0 0 entries
-may_stand_first pages item entries places none made =
-    ap (λ zs. are_in_order (zs ++ (entries ++ items_on pages places))) (items_on-nil pages)
-    ∙ ap (λ zs. are_in_order (entries ++ zs)) (ap (items_on pages) none ∙ items_on-nil pages)
-    ∙ ap are_in_order (append-nil entries ∙ made) ∙ in_order-with_item item [] refl
-
 -- a directory that is not empty has a place
 pub some_place : (len : ℕ) (places : List PlaceState) → len ≡ length places → eqb len 0 ≡ false → 0 < length places
 some_place zero places many some = cc

@@ -16,6 +16,7 @@ use crate::exchanges::{exchange, reserve};
 use crate::faults::fault_of;
 use crate::names::{drop_all, drop_numbers};
 use crate::places::SharedPlace;
+use oai_device::PAGE_BYTES;
 use oai_item::Fault;
 use oai_pool::{PageNo, PagePool};
 use std::alloc::Global;
@@ -133,9 +134,10 @@ fn add_parts<P: PagePool>(
     ensures some { OnErr result ((items : List ItemState) × Adds P.PagePool items added.new.items pages.old pages.new) }
     ensures pool { AddsPages P.PagePool entries.now result pages.old pages.new }
 {
+    let len = entries.len();
     add_part(alloc, pages, entries, 0, cuts.first, added)?;
     add_part(alloc, pages, entries, cuts.first, cuts.second, added)?;
-    add_part(alloc, pages, entries, cuts.second, entries.len(), added)
+    add_part(alloc, pages, entries, cuts.second, len, added)
 }
 
 /// Adds the pages of the entries from the one place up to the other, where there are any, and puts their place behind the others. Any fault but
@@ -159,8 +161,7 @@ fn add_part<P: PagePool>(
         → OnErr result (Adds P.PagePool items added.new.items first pages.new) }
     ensures left { vec_capacity added.old + vec_len added.new ≤ vec_capacity added.new + vec_len added.old + 1 }
     ensures none { from ≡ to → Takes P.PagePool 0 result pages.old pages.new }
-    ensures one { fit_one (between from to entries.now) ≡ true → Takes P.PagePool 1 result pages.old pages.new }
-    ensures pool { Takes P.PagePool (1 + MAX_OVERFLOW_PAGES) result pages.old pages.new }
+    ensures pool { Takes P.PagePool (1 + overflow_of (between from to entries.now)) result pages.old pages.new }
 {
     if from == to {
         return Ok(());
@@ -228,8 +229,10 @@ fn add_numbers<P: PagePool>(
     let _all = entries.len();
     let overflow = entries.overflow(from, to);
     let mut numbers = Vec::with_capacity(alloc, 1 + overflow)?;
+    let mut page = [0; PAGE_BYTES];
     for at in 0..1 + overflow {
-        match pages.add(&entries.page_at(from, to, at)) {
+        entries.fill_page(from, to, at, &mut page);
+        match pages.add(&page) {
             Ok(number) => numbers.push(number).unwrap(),
             Err(fault) => {
                 drop_numbers(pages, numbers.as_slice());
