@@ -1,17 +1,16 @@
 -- What a change of a directory makes of its items.
-use Rattle.std.proofs.Common.{◌≡◌, ◌∙◌, ◌+◌, ◌<◌, ℕ, ℤ, suc, zero, true, false, not, eqb, List, [], ◌++◌, Result, None, length, take, drop, get_or, refl, sym, ap, subst, arith, append-nil}
+use Rattle.std.proofs.Common.{◌≡◌, ◌∙◌, ◌+◌, ◌<◌, ℕ, ℤ, suc, zero, true, false, not, eqb, List, [], ◌++◌, Result, None, length, take, drop, get_or, sym, ap, subst, arith}
 use Rattle.std.specs.Prelude.{is_some}
 use Rattle.oai_item.specs.Item.{ItemState}
 use Rattle.oai_item.specs.Items.{is_at, item_at, with_item, without_at}
 use Rattle.oai_item.specs.declared.faults.Fault.{Fault}
-use Rattle.oai_item.specs.Order.{are_in_order}
 use Rattle.oai_item.proofs.Around.{only_place}
-use Rattle.oai_item.proofs.OrderLemmas.{in_order-with_item, none_at-from}
+use Rattle.oai_item.proofs.OrderLemmas.{none_at-from}
 use Rattle.oai_names.proofs.Lists.{filter_all}
 use Rattle.oai_pool.specs.Counts.{count_of}
 use Rattle.oai_pool.specs.declared.pools.PagePool.{Ghosts}
 use Rattle.oai_paged.specs.Calls.{IsDirectoryChanged, IsRemoved, ReadsPages}
-use Rattle.oai_paged.specs.Directory.{IsDirectory, MayStand, StandsIn}
+use Rattle.oai_paged.specs.Directory.{IsDirectory, StandsIn}
 use Rattle.oai_paged.specs.Places.{Pages, PlaceState, items_at, items_on}
 use Rattle.oai_paged.specs.Searches.{BelongsAt}
 use Rattle.oai_paged.proofs.ChangedLemmas.{changed_items}

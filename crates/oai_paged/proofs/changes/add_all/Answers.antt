@@ -1,5 +1,3 @@
-use Rattle.std.proofs.Common.{ap, arith}
-use Rattle.oai_paged.specs.Places.{named_in}
 use Rattle.oai_paged.proofs.RenamedLemmas.{added_named}
 use Rattle.oai_paged.proofs.changes.add_all.Goals as goal
 

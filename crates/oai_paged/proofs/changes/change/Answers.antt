@@ -1,4 +1,4 @@
-use Rattle.std.proofs.Common.{◌≡◌, ◌∙◌, ◌+◌, ◌++◌, List, ap, arith, drop, length, take}
+use Rattle.std.proofs.Common.{◌∙◌, ◌+◌, ◌++◌, List, ap, arith, drop, length, take}
 use Rattle.oai_item.specs.Item.{ItemState}
 use Rattle.oai_item.proofs.Around.{in_order-append}
 use Rattle.oai_paged.specs.Places.{PlaceState, items_on, named_in}

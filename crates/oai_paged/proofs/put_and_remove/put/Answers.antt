@@ -1,5 +1,4 @@
-use Rattle.std.proofs.Common.{◌∙◌, ap, arith}
-use Rattle.oai_paged.specs.Places.{named_in}
+use Rattle.std.proofs.Common.{◌∙◌}
 use Rattle.oai_paged.proofs.RenamedLemmas.{gone_named, settled}
 use Rattle.oai_paged.proofs.TakenLemmas.{takes_freed_ok}
 use Rattle.oai_paged.proofs.put_and_remove.put.Goals as goal

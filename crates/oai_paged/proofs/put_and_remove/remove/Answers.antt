@@ -1,7 +1,7 @@
-use Rattle.std.proofs.Common.{◌∙◌, ℤ, true, false, ap, arith, w64}
+use Rattle.std.proofs.Common.{◌∙◌, ℤ, true, false, ap, w64}
 use Rattle.std.proofs.lemmas.Int.{to_z-of_z}
 use Rattle.oai_item.specs.Items.{without_at}
-use Rattle.oai_paged.specs.Places.{items_on, named_in}
+use Rattle.oai_paged.specs.Places.{items_on}
 use Rattle.oai_paged.proofs.RenamedLemmas.{gone_named, settled}
 use Rattle.oai_paged.proofs.ReplaceLemmas.{changed_nothing}
 use Rattle.oai_paged.proofs.TakenLemmas.{takes_freed_ok}

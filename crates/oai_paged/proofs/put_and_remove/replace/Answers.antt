@@ -1,8 +1,8 @@
-use Rattle.std.proofs.Common.{◌∙◌, ℤ, true, false, IsTrue, List, ap, arith, w64}
+use Rattle.std.proofs.Common.{◌∙◌, ℤ, true, false, IsTrue, List, ap, w64}
 use Rattle.std.proofs.lemmas.Int.{to_z-of_z}
 use Rattle.oai_item.specs.Item.{ItemState}
 use Rattle.oai_item.specs.Items.{with_item, without_at}
-use Rattle.oai_paged.specs.Places.{PlaceState, items_on, named_in}
+use Rattle.oai_paged.specs.Places.{PlaceState, items_on}
 use Rattle.oai_paged.proofs.RenamedLemmas.{gone_named}
 use Rattle.oai_paged.proofs.ReplaceLemmas.{changes_after, first_gone_named, replaced, stands_same, taken_back}
 use Rattle.oai_paged.proofs.TakenLemmas.{ok_of, takes_both, takes_freed_ok}
