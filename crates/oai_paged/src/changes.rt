@@ -6,10 +6,9 @@ ghost use Rattle.oai_item.specs.Order.{are_in_order};
 ghost use Rattle.oai_pool.specs.Counts.{count_of};
 ghost use Rattle.oai_paged.specs.Calls.{Adds, AddsPages, ChangesNothing, FreesPages, HasWayBack, IsDirectoryChanged, Renames, Takes};
 ghost use Rattle.oai_paged.specs.Directory.{MayStand, StandsIn};
-ghost use Rattle.oai_paged.specs.Pages.{AreCuts, FitAlone, between, fit_one, overflow_of, pages_of};
+ghost use Rattle.oai_paged.specs.Pages.{AreCuts, FitAlone, between, overflow_of, pages_of};
 ghost use Rattle.oai_paged.specs.Places.{named_in};
 ghost use Rattle.oai_paged.specs.Recounts.{AddsNumbers, Recounts};
-ghost use Rattle.oai_paged.specs.declared.sizes.TheConstants.{MAX_OVERFLOW_PAGES};
 
 use crate::entries::{Cuts, Entries};
 use crate::exchanges::{exchange, reserve};

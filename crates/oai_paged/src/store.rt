@@ -1,11 +1,11 @@
-ghost use Rattle.std.specs.Prelude.{◌≡◌, ◌≢◌, ◌+◌, ◌*◌, ◌/◌, ◌≤◌, ◌<◌, ℕ, List, [], None, Some, IsSome, IsTrue, IfErr, IfOk, OnErr, OnOk, option_copied, length};
+ghost use Rattle.std.specs.Prelude.{◌≡◌, ◌≢◌, ◌+◌, ◌*◌, ◌/◌, ◌≤◌, ◌<◌, ℕ, List, [], None, Some, IsTrue, IfErr, IfOk, OnErr, OnOk, option_copied, length};
 ghost use Rattle.std.specs.List.{Contains};
 ghost use Rattle.oai_catalogue.specs.Store.{list_at, no_lists};
 ghost use Rattle.oai_item.specs.Item.{ItemState};
 ghost use Rattle.oai_pool.specs.Counts.{used_of};
 ghost use Rattle.oai_pool.specs.declared.pools.TheConstants.{MAX_PAGES};
 ghost use Rattle.oai_paged.specs.Props.{shelved_props};
-ghost use Rattle.oai_paged.specs.Shelves.{AreShelved, StandsOnPages, calls_left, directory_at, items_below};
+ghost use Rattle.oai_paged.specs.Shelves.{AreShelved, StandsOnPages, calls_left, items_below};
 
 use crate::directories::Directory;
 use crate::names::{drop_all, share_all};
