@@ -1,8 +1,8 @@
 -- Where entries are cut, and the page of some of them.
-use Rattle.std.proofs.Common.{◌≡◌, ◌∙◌, ◌+◌, ◌-◌, ◌*◌, ◌^◌, ◌<◌, ◌≤◌, ℕ, List, ◌++◌, length, take, drop, refl, sym, ap, arith, inl, inr, append_assoc, length-append}
+use Rattle.std.proofs.Common.{◌≡◌, ◌∙◌, ◌+◌, ◌-◌, ◌*◌, ◌^◌, ◌<◌, ◌≤◌, ℕ, List, [], ◌++◌, length, take, drop, refl, sym, ap, arith, inl, inr, append_assoc, append-nil, length-append}
 use Rattle.std.specs.Prelude.{replicate}
 use Rattle.std.proofs.lemmas.Bool.{cases_lt}
-use Rattle.std.proofs.lemmas.List.{drop-drop, drop_at, length-drop, length-replicate, length-take-le, replicate-append-replicate, take_all, take_at}
+use Rattle.std.proofs.lemmas.List.{drop_all, length-drop, length-take-le, take_all, take_at}
 use Rattle.oai_item.specs.Item.{ItemState}
 use Rattle.oai_device.specs.declared.devices.TheConstants.{PAGE_BYTES}
 use Rattle.oai_paged.specs.Pages.{AreStorable, FitAlone, between, filled, size_of}
@@ -43,15 +43,6 @@ third_fits items first second goal all half order within some most =
 
 -- ---- a page that is written
 
-abbrev zeros : ℕ → List ℕ
-zeros n = replicate n 0
-
-drop-zeros : (n m : ℕ) → n ≤ m → drop n (zeros m) ≡ zeros (m - n)
-drop-zeros n m le =
-    let whole : n + (m - n) ≡ m = omega (arith, le) in
-    let parts : zeros m ≡ zeros n ++ zeros (m - n) = ap zeros (sym whole) ∙ sym (replicate-append-replicate n (m - n) 0) in
-    ap (λ (bytes : List ℕ). drop n bytes) parts ∙ drop_at (zeros n) (zeros (m - n)) n (length-replicate n 0)
-
 -- a number is as many bytes as four
 pub few_between : (items : List ItemState) (from to : ℕ) → from ≤ to → to ≤ length items → AreStorable items → FitAlone (between from to items) → (length (between from to items) ≡ to - from) × (to - from < 2 ^ 32)
 unfolding between
@@ -62,18 +53,22 @@ few_between items from to order within storable alone =
       few (inl fits) = omega (arith, length-between from to items within, (fit_parts (between from to items) fits).0, size_of-least (between from to items))
       few (inr one) = omega (arith, length-between from to items within, one)
 
--- a page of two parts, and zeros behind them
-pub page_filled : (front back first second : List ℕ) → length front + length back ≤ PAGE_BYTES
-    → first ≡ take 0 (zeros PAGE_BYTES) ++ (front ++ drop (0 + length front) (zeros PAGE_BYTES))
-    → second ≡ take (length front) first ++ (back ++ drop (length front + length back) first) → second ≡ filled (front ++ back)
+-- a page over which two parts were written, and zeros behind them
+pub page_filled : (front back old first second cleared : List ℕ) → length front + length back ≤ PAGE_BYTES → length second ≡ PAGE_BYTES
+    → first ≡ take 0 old ++ (front ++ drop (0 + length front) old)
+    → second ≡ take (length front) first ++ (back ++ drop (length front + length back) first)
+    → cleared ≡ replicate (length (take (PAGE_BYTES - (length front + length back)) (drop (length front + length back) second))) 0
+    → take (length front + length back) second
+    ++ (cleared ++ drop (PAGE_BYTES - (length front + length back)) (drop (length front + length back) second)) ≡ filled (front ++ back)
 unfolding filled
-page_filled front back first second fits f g =
-    let none : PAGE_BYTES - (0 + length front) ≡ PAGE_BYTES - length front = omega arith in
-    let half : first ≡ front ++ zeros (PAGE_BYTES - length front) = f ∙ ap (λ bytes. front ++ bytes) (drop-zeros (0 + length front) PAGE_BYTES (omega (arith, fits)) ∙ ap zeros none) in
-    let head : take (length front) first ≡ front = ap (take (length front)) half ∙ take_at front (zeros (PAGE_BYTES - length front)) (length front) refl in
-    let behind : drop (length front) first ≡ zeros (PAGE_BYTES - length front) = ap (drop (length front)) half ∙ drop_at front (zeros (PAGE_BYTES - length front)) (length front) refl in
-    let left : PAGE_BYTES - length front - length back ≡ PAGE_BYTES - length (front ++ back) = omega (arith, length-append front back) in
-    let rest : drop (length front + length back) first ≡ zeros (PAGE_BYTES - length (front ++ back)) =
-    sym (drop-drop (length back) (length front) first) ∙ ap (drop (length back)) behind ∙ drop-zeros (length back) (PAGE_BYTES - length front) (omega (arith, fits)) ∙ ap zeros left
-    in
-    g ∙ (λ k. head k ++ (back ++ rest k)) ∙ sym (append_assoc front back (zeros (PAGE_BYTES - length (front ++ back))))
+page_filled front back old first second cleared fits long f g zeros =
+    let at = length front + length back in
+    let rest : List ℕ = drop at first in
+    let head : take (length front) first ≡ front = ap (take (length front)) f ∙ take_at front (drop (0 + length front) old) (length front) refl in
+    let both : take at second ≡ front ++ back =
+    ap (take at) (g ∙ ap (λ bytes. bytes ++ (back ++ rest)) head ∙ sym (append_assoc front back rest)) ∙ take_at (front ++ back) rest at (length-append front back) in
+    let many : length (take (PAGE_BYTES - at) (drop at second)) ≡ PAGE_BYTES - length (front ++ back) =
+    length-take-le (PAGE_BYTES - at) (drop at second) (omega (arith, length-drop at second, long)) ∙ ap (λ n. PAGE_BYTES - n) (sym (length-append front back)) in
+    let blank : cleared ≡ replicate (PAGE_BYTES - length (front ++ back)) 0 = zeros ∙ ap (λ (n : ℕ). replicate n 0) many in
+    let none : drop (PAGE_BYTES - at) (drop at second) ≡ [] = drop_all (PAGE_BYTES - at) (drop at second) (omega (arith, length-drop at second, long)) in
+    (λ k. both k ++ (blank k ++ none k)) ∙ ap (λ bytes. front ++ back ++ bytes) (append-nil (replicate (PAGE_BYTES - length (front ++ back)) 0))

@@ -1,17 +1,16 @@
 -- What a change of a directory makes of its items.
-use Rattle.std.proofs.Common.{◌≡◌, ◌∙◌, ◌+◌, ◌<◌, ℕ, ℤ, suc, zero, true, false, not, eqb, List, [], ◌++◌, Result, None, length, take, drop, get_or, refl, sym, ap, subst, arith, append-nil}
+use Rattle.std.proofs.Common.{◌≡◌, ◌∙◌, ◌+◌, ◌<◌, ℕ, ℤ, suc, zero, true, false, not, eqb, List, [], ◌++◌, Result, None, length, take, drop, get_or, sym, ap, subst, arith}
 use Rattle.std.specs.Prelude.{is_some}
 use Rattle.oai_item.specs.Item.{ItemState}
 use Rattle.oai_item.specs.Items.{is_at, item_at, with_item, without_at}
 use Rattle.oai_item.specs.declared.faults.Fault.{Fault}
-use Rattle.oai_item.specs.Order.{are_in_order}
 use Rattle.oai_item.proofs.Around.{only_place}
-use Rattle.oai_item.proofs.OrderLemmas.{in_order-with_item, none_at-from}
+use Rattle.oai_item.proofs.OrderLemmas.{none_at-from}
 use Rattle.oai_names.proofs.Lists.{filter_all}
 use Rattle.oai_pool.specs.Counts.{count_of}
 use Rattle.oai_pool.specs.declared.pools.PagePool.{Ghosts}
 use Rattle.oai_paged.specs.Calls.{IsDirectoryChanged, IsRemoved, ReadsPages}
-use Rattle.oai_paged.specs.Directory.{IsDirectory, MayStand, StandsIn}
+use Rattle.oai_paged.specs.Directory.{IsDirectory, StandsIn}
 use Rattle.oai_paged.specs.Places.{Pages, PlaceState, items_at, items_on}
 use Rattle.oai_paged.specs.Searches.{BelongsAt}
 use Rattle.oai_paged.proofs.ChangedLemmas.{changed_items}
@@ -35,22 +34,6 @@ items_removed g stamp identifier items entries at new_at new_len gone before aft
     changed_items g entries at 1 new_at new_len gone before after old new h changed
     ∙ ap (λ zs. items_on (g.pages old) (take at before) ++ (zs ++ items_on (g.pages old) (drop (at + 1) before))) (made ∙ ap (without_at stamp identifier) read)
     ∙ sym (without_at-cut (g.pages old) before stamp identifier at h.directory within belongs)
-
--- the first item of a directory
-pub first_put : {P : Type 0} (g : Ghosts P) (item : ItemState) (entries : List ItemState) (new_at new_len : ℕ) (gone before after : List PlaceState) (old new : P) → StandsIn g old before
-    → before ≡ [] → IsDirectoryChanged g entries 0 0 new_at new_len gone before after old new → entries ≡ with_item item []
-    → items_on (g.pages new) after ≡ with_item item (items_on (g.pages old) before)
-first_put g item entries new_at new_len gone before after old new h none changed made =
-    let no_items : items_on (g.pages old) before ≡ [] = ap (items_on (g.pages old)) none ∙ items_on-nil (g.pages old) in
-    changed_items g entries 0 0 new_at new_len gone before after old new h changed
-    ∙ ap (λ zs. zs ++ (entries ++ items_on (g.pages old) before)) (items_on-nil (g.pages old))
-    ∙ ap (λ zs. entries ++ zs) no_items ∙ append-nil entries ∙ made ∙ ap (with_item item) (sym no_items)
-
-pub may_stand_first : (pages : Pages) (item : ItemState) (entries : List ItemState) (places : List PlaceState) → places ≡ [] → entries ≡ with_item item [] → MayStand pages places 0 0 entries
-may_stand_first pages item entries places none made =
-    ap (λ zs. are_in_order (zs ++ (entries ++ items_on pages places))) (items_on-nil pages)
-    ∙ ap (λ zs. are_in_order (entries ++ zs)) (ap (items_on pages) none ∙ items_on-nil pages)
-    ∙ ap are_in_order (append-nil entries ∙ made) ∙ in_order-with_item item [] refl
 
 -- a directory that is not empty has a place
 pub some_place : (len : ℕ) (places : List PlaceState) → len ≡ length places → eqb len 0 ≡ false → 0 < length places

@@ -1,16 +1,18 @@
 -- How often numbers are named after calls that name them once more, or once less.
-use Rattle.std.proofs.Common.{◌≡◌, ◌∙◌, ◌+◌, ◌<◌, ◌≤◌, ◌==◌, if◌then◌else◌, ℕ, List, [], ◌∷◌, ◌++◌, length, take, drop, get_or, refl, sym, ap, subst, arith}
+use Rattle.std.proofs.Common.{◌≡◌, ◌∙◌, ◌+◌, ◌<◌, ◌≤◌, ◌==◌, if◌then◌else◌, ℕ, List, [], ◌∷◌, ◌++◌, length, take, drop, get_or, inl, inr, refl, sym, ap, subst, arith}
 use Rattle.std.proofs.lemmas.List.{append-nil, take-append-drop, take_more}
 use Rattle.std.specs.Cmp.{nat_eq_equiv}
+use Rattle.oai_item.specs.declared.faults.Fault.{Fault}
+use Rattle.oai_item.specs.declared.faults.Fault.TheVariants as told
 use Rattle.oai_pool.specs.Counts.{AddsName, KeepsNamed, count_of}
 use Rattle.oai_pool.specs.Names.{times}
 use Rattle.oai_pool.specs.Calls as pools
 use Rattle.oai_pool.specs.declared.pools.PagePool.{Ghosts}
 use Rattle.oai_pool.specs.declared.pools.TheConstants.{MAX_PAGES}
-use Rattle.oai_paged.specs.Calls.{FreesPages, Renames, RunsOut}
+use Rattle.oai_paged.specs.Calls.{FreesPages, IsShareFault, Renames, RunsOut}
 use Rattle.oai_paged.specs.Places.{PlaceState, named_in, page_numbers}
 use Rattle.oai_paged.specs.Recounts.{HasFull, Recounts}
-use Rattle.oai_paged.proofs.NameLemmas.{named_in-append, page_numbers-append, times-append, times-nil, times-one}
+use Rattle.oai_paged.proofs.NameLemmas.{named_in-append, named_in-cons, page_numbers-append, times-append, times-nil, times-one}
 
 -- ---- the first of some numbers, and of some places
 
@@ -58,6 +60,25 @@ named_in-own n i place places within is =
     let all : named_in places n ≡ named_in (take (i + 1) places) n + named_in (drop (i + 1) places) n
     = ap (λ ps. named_in ps n) (sym (take-append-drop (i + 1) places)) ∙ named_in-append n (take (i + 1) places) (drop (i + 1) places) in
     omega (arith, more, all)
+
+-- what is full on the one account is full on the other
+pub full_of : (here all : Type 0) → (here → all) → (cause : Fault) → IsShareFault here cause → IsShareFault all cause
+full_of here all more cause (inl memory) = inl memory
+full_of here all more cause (inr full) = inr (full.0, more full.1)
+
+-- where a page is full, it is named as often as it can be
+pub only_full : (full : Type 0) (cause : Fault) → IsShareFault full cause → cause ≡ told.TooManyPages → full
+only_full full cause (inl memory) many = absurd (cc (memory, many))
+only_full full cause (inr all) many = all.1
+
+-- no other fault comes
+pub not_device : (full : Type 0) (cause : Fault) → IsShareFault full cause → ¬ (cause ≡ told.Device)
+not_device full cause (inl memory) is = cc (memory, is)
+not_device full cause (inr all) is = let many = all.0 in cc (many, is)
+
+pub not_damaged : (full : Type 0) (cause : Fault) → IsShareFault full cause → ¬ (cause ≡ told.Damaged)
+not_damaged full cause (inl memory) is = cc (memory, is)
+not_damaged full cause (inr all) is = let many = all.0 in cc (many, is)
 
 -- ---- over a pool
 
@@ -153,14 +174,6 @@ module _ {P : Type 0} (g : Ghosts P) where
 
   -- ---- one more of the places
 
-  pub dropped_place : (i : ℕ) (place : PlaceState) (places : List PlaceState) (p q r : P) → i < length places
-      → place ≡ get_or places i place
-      → Recounts g (page_numbers (take i places)) [] p q → Recounts g place.pages [] q r
-      → Recounts g (page_numbers (take (i + 1) places)) [] p r
-  dropped_place i place places p q r within is first second =
-      subst (λ (some : List ℕ). Recounts g some [] p r) (sym (page_numbers-more i place places within is))
-      (recounts_then (page_numbers (take i places)) [] place.pages [] p q r first second)
-
   pub shared_place : (i : ℕ) (place : PlaceState) (places : List PlaceState) (p q r : P) → i < length places → place ≡ get_or places i place
       → Recounts g [] (page_numbers (take i places)) p q → Recounts g [] place.pages q r
       → Recounts g [] (page_numbers (take (i + 1) places)) p r
@@ -169,13 +182,6 @@ module _ {P : Type 0} (g : Ghosts P) where
       (recounts_then [] (page_numbers (take i places)) [] place.pages p q r first second)
 
   -- its pages are still named
-  pub place_after_drops : (i : ℕ) (place : PlaceState) (places : List PlaceState) (p q : P) → i < length places
-      → place ≡ get_or places i place
-      → ((n : ℕ) → named_in places n ≤ count_of (g.counts p) n) → Recounts g (page_numbers (take i places)) [] p q → (n : ℕ)
-      → times n place.pages ≤ count_of (g.counts q) n
-  place_after_drops i place places p q within is named so_far n =
-      omega (arith, named_in-own n i place places within is, named n, so_far.counts n, times-nil n)
-
   pub place_after_shares : (i : ℕ) (place : PlaceState) (places : List PlaceState) (p q : P) → i < length places
       → place ≡ get_or places i place
       → ((n : ℕ) → named_in places n ≤ count_of (g.counts p) n) → Recounts g [] (page_numbers (take i places)) p q → (n : ℕ)
@@ -198,6 +204,29 @@ module _ {P : Type 0} (g : Ghosts P) where
       let here = full.1 in
       let most = full.2 in
       (full.0, omega (arith, own, here), omega (arith, own, one, here, counts, none, most))
+
+  -- ---- places that are let go: all are named once less, and those that are left as before
+
+  pub all_left : (places : List PlaceState) (p : P) → Recounts g (page_numbers places) (page_numbers places) p p
+  all_left places p = record { counts = λ n. refl; kept = λ n _. refl }
+
+  -- the pages of the next one are still named
+  pub next_named : (place : PlaceState) (left places : List PlaceState) (p q : P)
+      → ((n : ℕ) → named_in places n ≤ count_of (g.counts p) n) → Recounts g (page_numbers places) (page_numbers (place ∷ left)) p q
+      → (n : ℕ) → times n place.pages ≤ count_of (g.counts q) n
+  next_named place left places p q named so_far n = omega (arith, named n, so_far.counts n, named_in-cons n place left)
+
+  pub next_dropped : (place : PlaceState) (left places : List PlaceState) (p q r : P)
+      → Recounts g (page_numbers places) (page_numbers (place ∷ left)) p q → Recounts g place.pages [] q r
+      → Recounts g (page_numbers places) (page_numbers left) p r
+  next_dropped place left places p q r first second =
+      record {
+        counts = λ n. omega (arith, first.counts n, second.counts n, named_in-cons n place left, times-nil n);
+        kept = λ n below.
+            let one = named_in-cons n place left in
+            let moved = first.counts n in
+            second.kept n (omega (arith, one, moved, below)) ∙ first.kept n below;
+      }
 
   -- ---- the first so many, named once more, are named once less again
 

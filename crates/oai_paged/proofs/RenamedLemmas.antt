@@ -196,10 +196,9 @@ pub record IsSettled {P : Type 0} (g : Ghosts P) (before after : List PlaceState
   pub names : Renames g before after old new
   pub items : items_on (g.pages new) after ≡ items_on (g.pages mid) after
 
-pub settled : {P : Type 0} (g : Ghosts P) (at len : ℕ) (gone dropped before after : List PlaceState) (old mid new : P) → StandsIn g old before → Stages g at len gone before after old mid
-    → dropped ≡ gone → Renames g dropped [] mid new → IsSettled g before after old mid new
-settled g at len gone dropped before after old mid new h s same k =
-    let names : Renames g gone [] mid new = subst (λ (ps : List PlaceState). Renames g ps [] mid new) same k in
+pub settled : {P : Type 0} (g : Ghosts P) (at len : ℕ) (gone before after : List PlaceState) (old mid new : P) → StandsIn g old before → Stages g at len gone before after old mid
+    → Renames g gone [] mid new → IsSettled g before after old mid new
+settled g at len gone before after old mid new h s names =
     let more = left_named g at len gone before after old mid h s in
     record {
       directory = directory-same g gone after mid new s.stands.directory names more;
@@ -208,10 +207,9 @@ settled g at len gone dropped before after old mid new h s same k =
     }
 
 -- the same of a change after another
-pub settled_twice : {P : Type 0} (g : Ghosts P) (at len : ℕ) (gone dropped before between after : List PlaceState) (old mid late new : P) → StandsIn g old before → Stages g at len gone before between old mid
-    → Renames g between after mid late → IsDirectory (g.pages late) after → dropped ≡ gone → Renames g dropped [] late new → IsSettled g before after old late new
-settled_twice g at len gone dropped before between after old mid late new h s k directory same d =
-    let names : Renames g gone [] late new = subst (λ (ps : List PlaceState). Renames g ps [] late new) same d in
+pub settled_twice : {P : Type 0} (g : Ghosts P) (at len : ℕ) (gone before between after : List PlaceState) (old mid late new : P) → StandsIn g old before → Stages g at len gone before between old mid
+    → Renames g between after mid late → IsDirectory (g.pages late) after → Renames g gone [] late new → IsSettled g before after old late new
+settled_twice g at len gone before between after old mid late new h s k directory names =
     let more = left_replaced g at len gone before between after old mid late h s k in
     record {
       directory = directory-same g gone after late new directory names more;

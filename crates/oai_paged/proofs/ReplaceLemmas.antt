@@ -26,21 +26,21 @@ renames_after g before after old mid new h k = record {
 }
 
 -- two changes whose old pages are dropped, those of the second first
-pub replaced : {P : Type 0} (g : Ghosts P) (at len : ℕ) (gone dropped : List PlaceState) (next_at next_len : ℕ) (next_gone next_dropped before between after : List PlaceState) (old mid made late new : P)
+pub replaced : {P : Type 0} (g : Ghosts P) (at len : ℕ) (gone : List PlaceState) (next_at next_len : ℕ) (next_gone before between after : List PlaceState) (old mid made late new : P)
     → StandsIn g old before → Stages g at len gone before between old mid → Stages g next_at next_len next_gone between after mid made
-    → next_dropped ≡ next_gone → Renames g next_dropped [] made late → dropped ≡ gone → Renames g dropped [] late new → IsSettled g before after old made new
-replaced g at len gone dropped next_at next_len next_gone next_dropped before between after old mid made late new h s t next_same k same d =
-    let one = settled g next_at next_len next_gone next_dropped between after mid made late s.stands t next_same k in
-    let both = settled_twice g at len gone dropped before between after old mid late new h s one.names one.directory same d in
+    → Renames g next_gone [] made late → Renames g gone [] late new → IsSettled g before after old made new
+replaced g at len gone next_at next_len next_gone before between after old mid made late new h s t k d =
+    let one = settled g next_at next_len next_gone between after mid made late s.stands t k in
+    let both = settled_twice g at len gone before between after old mid late new h s one.names one.directory d in
     record { directory = both.directory; names = both.names; items = both.items ∙ one.items }
 
 -- the pages that went with the first are then still named
-pub first_gone_named : {P : Type 0} (g : Ghosts P) (at len : ℕ) (gone dropped : List PlaceState) (next_at next_len : ℕ) (next_gone next_dropped before between after : List PlaceState) (old mid made late : P)
+pub first_gone_named : {P : Type 0} (g : Ghosts P) (at len : ℕ) (gone : List PlaceState) (next_at next_len : ℕ) (next_gone before between after : List PlaceState) (old mid made late : P)
     → StandsIn g old before → Stages g at len gone before between old mid → Stages g next_at next_len next_gone between after mid made
-    → next_dropped ≡ next_gone → Renames g next_dropped [] made late → dropped ≡ gone → (n : ℕ) → named_in dropped n ≤ count_of (g.counts late) n
-first_gone_named g at len gone dropped next_at next_len next_gone next_dropped before between after old mid made late h s t next_same k same n =
-    let one = settled g next_at next_len next_gone next_dropped between after mid made late s.stands t next_same k in
-    omega (arith, ap (λ ps. named_in ps n) same, gone_replaced g at len gone before between after old mid late h s one.names n)
+    → Renames g next_gone [] made late → (n : ℕ) → named_in gone n ≤ count_of (g.counts late) n
+first_gone_named g at len gone next_at next_len next_gone before between after old mid made late h s t k n =
+    let one = settled g next_at next_len next_gone between after mid made late s.stands t k in
+    gone_replaced g at len gone before between after old mid late h s one.names n
 
 -- ---- a call that changed nothing
 

@@ -1,5 +1,5 @@
 -- What a call does to the pool of pages and to a directory.
-use Rattle.std.specs.Prelude.{◌≡◌, ◌+◌, ◌<◌, ◌≤◌, ℕ, ℤ, Bool, true, List, [], ◌++◌, take, drop, is_some, Result, OnErr, OnOk}
+use Rattle.std.specs.Prelude.{◌≡◌, ◌⊎◌, ◌+◌, ◌<◌, ◌≤◌, ℕ, ℤ, Bool, true, List, [], ◌++◌, take, drop, is_some, Result, OnErr, OnOk}
 use Rattle.oai_catalogue.specs.Store.{Spares, Spends}
 use Rattle.oai_item.specs.Item.{ItemState}
 use Rattle.oai_item.specs.Items.{item_at, without_at}
@@ -56,6 +56,10 @@ FreesPages g old new = Spares g.room g.failures g.honest old new
 -- a page that the places name is named as often as it can be
 abbrev pub RunsOut : {P : Type 0} → Ghosts P → List PlaceState → P → Type 0
 RunsOut g places pool = (n : ℕ) × (0 < named_in places n) × (MAX_PAGES ≤ count_of (g.counts pool) n)
+
+-- names once more are refused for want of memory, or since one of the pages is named as often as it can be
+abbrev pub IsShareFault : Type 0 → Fault → Type 0
+IsShareFault full cause = (cause ≡ told.NoMemory) ⊎ ((cause ≡ told.TooManyPages) × full)
 
 -- the fault of a store that reports the fault of a pool
 abbrev pub fault_of : PoolFault → Fault

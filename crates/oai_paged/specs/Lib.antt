@@ -1,4 +1,5 @@
 pub mod Pages
+pub mod PageNumbers
 pub mod Entries
 pub mod Finding
 pub mod Places

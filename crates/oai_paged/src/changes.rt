@@ -6,16 +6,16 @@ ghost use Rattle.oai_item.specs.Order.{are_in_order};
 ghost use Rattle.oai_pool.specs.Counts.{count_of};
 ghost use Rattle.oai_paged.specs.Calls.{Adds, AddsPages, ChangesNothing, FreesPages, HasWayBack, IsDirectoryChanged, Renames, Takes};
 ghost use Rattle.oai_paged.specs.Directory.{MayStand, StandsIn};
-ghost use Rattle.oai_paged.specs.Pages.{AreCuts, FitAlone, between, fit_one, overflow_of, pages_of};
+ghost use Rattle.oai_paged.specs.Pages.{AreCuts, FitAlone, between, overflow_of, pages_of};
 ghost use Rattle.oai_paged.specs.Places.{named_in};
 ghost use Rattle.oai_paged.specs.Recounts.{AddsNumbers, Recounts};
-ghost use Rattle.oai_paged.specs.declared.sizes.TheConstants.{MAX_OVERFLOW_PAGES};
 
 use crate::entries::{Cuts, Entries};
 use crate::exchanges::{exchange, reserve};
 use crate::faults::fault_of;
 use crate::names::{drop_all, drop_numbers};
 use crate::places::SharedPlace;
+use oai_device::PAGE_BYTES;
 use oai_item::Fault;
 use oai_pool::{PageNo, PagePool};
 use std::alloc::Global;
@@ -70,7 +70,7 @@ pub(crate) fn change<P: PagePool>(
             })
         }
         Err(_) => {
-            drop_all(pages, others.as_slice());
+            drop_all(pages, others);
             Err(Fault::NoMemory)
         }
     }
@@ -89,7 +89,7 @@ pub(crate) fn undo<P: PagePool>(pages: &mut P, places: &mut Vec<SharedPlace>, ch
 {
     let mut others = changed.gone;
     exchange(places, changed.at, changed.len, &mut others);
-    drop_all(pages, others.as_slice());
+    drop_all(pages, others);
 }
 
 /// Adds the pages of the entries, which are cut at these places, and returns their places. Any fault but `Damaged` may come; the pages are then as
@@ -110,7 +110,7 @@ fn add_all<P: PagePool>(
     match add_parts(alloc, pages, entries, cuts, &mut added) {
         Ok(()) => Ok(added),
         Err(fault) => {
-            drop_all(pages, added.as_slice());
+            drop_all(pages, added);
             Err(fault)
         }
     }
@@ -133,9 +133,10 @@ fn add_parts<P: PagePool>(
     ensures some { OnErr result ((items : List ItemState) × Adds P.PagePool items added.new.items pages.old pages.new) }
     ensures pool { AddsPages P.PagePool entries.now result pages.old pages.new }
 {
+    let len = entries.len();
     add_part(alloc, pages, entries, 0, cuts.first, added)?;
     add_part(alloc, pages, entries, cuts.first, cuts.second, added)?;
-    add_part(alloc, pages, entries, cuts.second, entries.len(), added)
+    add_part(alloc, pages, entries, cuts.second, len, added)
 }
 
 /// Adds the pages of the entries from the one place up to the other, where there are any, and puts their place behind the others. Any fault but
@@ -159,8 +160,7 @@ fn add_part<P: PagePool>(
         → OnErr result (Adds P.PagePool items added.new.items first pages.new) }
     ensures left { vec_capacity added.old + vec_len added.new ≤ vec_capacity added.new + vec_len added.old + 1 }
     ensures none { from ≡ to → Takes P.PagePool 0 result pages.old pages.new }
-    ensures one { fit_one (between from to entries.now) ≡ true → Takes P.PagePool 1 result pages.old pages.new }
-    ensures pool { Takes P.PagePool (1 + MAX_OVERFLOW_PAGES) result pages.old pages.new }
+    ensures pool { Takes P.PagePool (1 + overflow_of (between from to entries.now)) result pages.old pages.new }
 {
     if from == to {
         return Ok(());
@@ -228,8 +228,10 @@ fn add_numbers<P: PagePool>(
     let _all = entries.len();
     let overflow = entries.overflow(from, to);
     let mut numbers = Vec::with_capacity(alloc, 1 + overflow)?;
+    let mut page = [0; PAGE_BYTES];
     for at in 0..1 + overflow {
-        match pages.add(&entries.page_at(from, to, at)) {
+        entries.fill_page(from, to, at, &mut page);
+        match pages.add(&page) {
             Ok(number) => numbers.push(number).unwrap(),
             Err(fault) => {
                 drop_numbers(pages, numbers.as_slice());

@@ -1,8 +1,7 @@
-ghost use Rattle.std.specs.Prelude.{◌≡◌, [], IfOk};
+ghost use Rattle.std.specs.Prelude.{◌≡◌, []};
 
-use crate::names::copies;
 use crate::places::SharedPlace;
-use std::alloc::{AllocError, Global};
+use std::alloc::Global;
 use std::marker::Model;
 
 /// The places of the items of one version, in the order of the items.
@@ -28,15 +27,6 @@ impl Directory {
         Directory {
             places: Vec::new(alloc),
         }
-    }
-
-    /// A directory with a copy of each of its places. The error is out of memory.
-    pub(crate) fn copy(&self, alloc: Global) -> Result<Directory, AllocError>
-        ensures { IfOk result (λ copy. copy ≡ self.now) }
-    {
-        Ok(Directory {
-            places: copies(alloc, self.places.as_slice())?,
-        })
     }
 
     /// The places.

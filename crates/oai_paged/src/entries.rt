@@ -1,4 +1,4 @@
-ghost use Rattle.std.specs.Prelude.{◌≡◌, ◌==◌, ◌+◌, ◌-◌, ◌*◌, ◌^◌, ◌<◌, ◌≤◌, nat_lt, ℕ, List, [], true, ◌++◌, ◌∷◌, length, take, drop, filter, map, All, HoldsAt, IfOk, IfSome, IsErrOf, IsTrue, OnOk};
+ghost use Rattle.std.specs.Prelude.{◌≡◌, ◌==◌, ◌+◌, ◌-◌, ◌*◌, ◌^◌, ◌<◌, ◌≤◌, nat_lt, ℕ, List, [], true, ◌++◌, ◌∷◌, length, take, drop, replicate, filter, map, All, HoldsAt, IfOk, IfSome, IsErrOf, IsTrue, OnOk};
 ghost use Rattle.std.specs.List.{list_all};
 ghost use Rattle.std.specs.Ordering.{is_lt};
 ghost use Rattle.oai_device.specs.declared.devices.TheConstants.{PAGE_BYTES};
@@ -254,27 +254,27 @@ impl Entries {
         (size + NUMBER_BYTES - FRONT_BYTES + (PAGE_BYTES - 1)) / PAGE_BYTES
     }
 
-    /// The page at that place among the pages of the entries from the one place up to the other, which stand on one page,
-    /// or are one: the page of the entries, and behind it the overflow pages.
-    pub(crate) fn page_at(&self, from: usize, to: usize, at: usize) -> Page
+    /// Writes the page at that place among the pages of the entries from the one place up to the other, which stand on one
+    /// page, or are one: the page of the entries, and behind it the overflow pages. Nothing is left of what the page was.
+    pub(crate) fn fill_page(&self, from: usize, to: usize, at: usize, page: &mut Page)
         requires some { from < to }
         requires within { to ≤ length self.now }
         requires alone { FitAlone (between from to self.now) }
         requires there { at < length (pages_of (between from to self.now)) }
-        ensures { HoldsAt (λ page. result ≡ page) (pages_of (between from to self.now)) at }
+        ensures { HoldsAt (λ own. page.new ≡ own) (pages_of (between from to self.now)) at }
     {
         let _all = self.len();
         let entries = self.entries(from, to);
         let number = ((to - from) as u32).to_be_bytes();
         if !self.is_long(from) {
-            return page_of(&number, entries);
+            return fill_with(page, &number, entries);
         }
         if at == 0 {
-            return page_of(&number, &entries[..FRONT_BYTES - NUMBER_BYTES]);
+            return fill_with(page, &number, &entries[..FRONT_BYTES - NUMBER_BYTES]);
         }
         let start = FRONT_BYTES - NUMBER_BYTES + (at - 1) * PAGE_BYTES;
         let end = entries.len().min(start + PAGE_BYTES);
-        page_of(&[], &entries[start..end])
+        fill_with(page, &[], &entries[start..end])
     }
 
     /// The datestamp of the item at that place, in seconds from 1970 on.
@@ -522,15 +522,21 @@ fn common(prefixes: Vec<Prefix>, item: &Spelling<'_>) -> Vec<Prefix>
     kept
 }
 
-/// The page of the two, one behind the other, and zeros behind them.
-fn page_of(front: &[u8], back: &[u8]) -> Page
+/// Writes the two into the page, one behind the other, and zeros behind them.
+fn fill_with(page: &mut Page, front: &[u8], back: &[u8])
     requires { length front.now + length back.now ≤ PAGE_BYTES }
-    ensures { result ≡ filled (front.now ++ back.now) }
+    ensures { page.new ≡ filled (front.now ++ back.now) }
 {
-    let mut page = [0; PAGE_BYTES];
-    put_at(&mut page, 0, front);
-    put_at(&mut page, front.len(), back);
-    page
+    put_at(page, 0, front);
+    put_at(page, front.len(), back);
+    clear(&mut page[front.len() + back.len()..]);
+}
+
+/// Makes each of the bytes 0.
+fn clear(bytes: &mut [u8])
+    ensures { bytes.new ≡ replicate (length bytes.old) 0 }
+{
+    bytes.fill(0);
 }
 
 /// Writes the bytes into the page, from that place on.

@@ -9,6 +9,7 @@ mod exchanges;
 mod faults;
 mod finding;
 mod names;
+mod page_numbers;
 mod places;
 mod put_and_remove;
 mod reading;

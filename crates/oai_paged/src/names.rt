@@ -3,7 +3,7 @@ ghost use Rattle.std.specs.Prelude.{◌≡◌, ◌<◌, ◌≤◌, ℕ, [], OnEr
 ghost use Rattle.oai_item.specs.declared.faults.Fault.TheVariants as fault;
 ghost use Rattle.oai_pool.specs.Counts.{count_of};
 ghost use Rattle.oai_pool.specs.Names.{times};
-ghost use Rattle.oai_paged.specs.Calls.{FreesPages, Renames, RunsOut, Takes};
+ghost use Rattle.oai_paged.specs.Calls.{FreesPages, IsShareFault, Renames, RunsOut};
 ghost use Rattle.oai_paged.specs.Places.{named_in};
 ghost use Rattle.oai_paged.specs.Recounts.{HasFull, Recounts};
 
@@ -11,12 +11,12 @@ use crate::faults::fault_of;
 use crate::places::SharedPlace;
 use oai_item::Fault;
 use oai_pool::{PageNo, PagePool};
-use std::alloc::{AllocError, Global};
+use std::alloc::Global;
 
-/// Names each page of the places once less. It takes no memory and cannot fail.
-pub(crate) fn drop_all<P: PagePool>(pages: &mut P, places: &[SharedPlace])
-    requires { (n : ℕ) → named_in places.now n ≤ count_of (P.counts pages.old) n }
-    ensures names { Renames P.PagePool places.now [] pages.old pages.new }
+/// Names each page of the places once less, and lets the places go. It takes no memory and cannot fail.
+pub(crate) fn drop_all<P: PagePool>(pages: &mut P, places: Vec<SharedPlace>)
+    requires { (n : ℕ) → named_in places.items n ≤ count_of (P.counts pages.old) n }
+    ensures names { Renames P.PagePool places.items [] pages.old pages.new }
     ensures pool { FreesPages P.PagePool pages.old pages.new }
 {
     for place in places {
@@ -35,28 +35,48 @@ pub(crate) fn drop_numbers<P: PagePool>(pages: &mut P, numbers: &[PageNo])
     }
 }
 
-/// Names each page of the places, which are named, and none by two of them, once more. `TooManyPages`, where one is named
-/// 4,294,967,295 times; each is then named as often as before. It takes no memory.
-pub(crate) fn share_all<P: PagePool>(pages: &mut P, places: &[SharedPlace]) -> Result<(), Fault>
+/// A copy of each of the places, in order, whose pages, which are named, and none by two of them, are each named once more. `NoMemory`; `TooManyPages`,
+/// where one is named 4,294,967,295 times. Each is then named as often as before.
+pub(crate) fn share_all<P: PagePool>(
+    alloc: Global,
+    pages: &mut P,
+    places: &[SharedPlace],
+) -> Result<Vec<SharedPlace>, Fault>
     requires named { (n : ℕ) → named_in places.now n ≤ count_of (P.counts pages.old) n }
     requires once { (n : ℕ) → named_in places.now n ≤ 1 }
+    ensures copies { IfOk result (λ copies. copies.items ≡ places.now) }
     ensures names { OnOk result (Renames P.PagePool [] places.now pages.old pages.new) }
     ensures undone { OnErr result (Renames P.PagePool [] [] pages.old pages.new) }
-    ensures fault { IfErr result (λ cause. cause ≡ fault.TooManyPages) }
-    ensures full { OnErr result (RunsOut P.PagePool places.now pages.old) }
+    ensures fault { IfErr result (λ cause. IsShareFault (RunsOut P.PagePool places.now pages.old) cause) }
     ensures pool { FreesPages P.PagePool pages.old pages.new }
 {
+    let mut copies = Vec::with_capacity(alloc, places.len())?;
     for at in 0..places.len() {
-        let place = &places[at];
-        match share_numbers(pages, place.pages()) {
-            Ok(()) => {}
+        match share_place(pages, &places[at]) {
+            Ok(copy) => copies.push(copy).unwrap(),
             Err(fault) => {
-                drop_all(pages, &places[..at]);
+                drop_all(pages, copies);
                 return Err(fault);
             }
         }
     }
-    Ok(())
+    Ok(copies)
+}
+
+/// A copy of the place, whose pages, which are named, and none of them twice, are each named once more. `NoMemory`; `TooManyPages`, where one is named
+/// 4,294,967,295 times. Each is then named as often as before.
+fn share_place<P: PagePool>(pages: &mut P, place: &SharedPlace) -> Result<SharedPlace, Fault>
+    requires named { (n : ℕ) → times n place.now.pages ≤ count_of (P.counts pages.old) n }
+    requires once { (n : ℕ) → times n place.now.pages ≤ 1 }
+    ensures copy { IfOk result (λ copy. copy ≡ place.now) }
+    ensures names { OnOk result (Recounts P.PagePool [] place.now.pages pages.old pages.new) }
+    ensures undone { OnErr result (Recounts P.PagePool [] [] pages.old pages.new) }
+    ensures fault { IfErr result (λ cause. IsShareFault (HasFull P.PagePool place.now.pages pages.old) cause) }
+    ensures pool { FreesPages P.PagePool pages.old pages.new }
+{
+    let copy = place.copy()?;
+    share_numbers(pages, copy.pages())?;
+    Ok(copy)
 }
 
 /// Names each of the pages, which are named, and none of them twice, once more. `TooManyPages`, where one is named 4,294,967,295
@@ -80,15 +100,4 @@ fn share_numbers<P: PagePool>(pages: &mut P, numbers: &[PageNo]) -> Result<(), F
         }
     }
     Ok(())
-}
-
-/// A copy of each of the places, in order. The error is out of memory.
-pub(crate) fn copies(alloc: Global, places: &[SharedPlace]) -> Result<Vec<SharedPlace>, AllocError>
-    ensures { IfOk result (λ copies. copies.items ≡ places.now) }
-{
-    let mut copies = Vec::with_capacity(alloc, places.len())?;
-    for place in places {
-        copies.push(place.copy()?)?;
-    }
-    Ok(copies)
 }

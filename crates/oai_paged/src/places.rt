@@ -2,6 +2,7 @@ ghost use Rattle.std.specs.Prelude.{◌≡◌, nat_lt, ℕ, length, IfOk};
 ghost use Rattle.oai_names.specs.Names.{is_among};
 ghost use Rattle.oai_paged.specs.Places.{first_cmp};
 
+use crate::page_numbers::PageNumbers;
 use oai_names::{Identifier, Prefix, Sequence};
 use oai_pool::PageNo;
 use std::alloc::{AllocError, Global};
@@ -12,7 +13,7 @@ use std::rc::Rc;
 /// Where items that follow one another stand, and what is known of them without reading their page.
 #[derive(Drop)]
 struct Place {
-    pages: Sequence<PageNo>,
+    pages: PageNumbers,
     stamp: i64,
     identifier: Identifier,
     len: usize,
@@ -66,10 +67,8 @@ impl SharedPlace {
           prefixes = prefixes;
         }) }
     {
-        let mut own = Vec::with_capacity(alloc, pages.len())?;
-        own.extend_from_slice(pages)?;
         let place = Place {
-            pages: Sequence::new(own),
+            pages: PageNumbers::new(alloc, pages)?,
             stamp,
             identifier,
             len,

@@ -35,7 +35,7 @@ pub(crate) fn put<P: PagePool>(
     ensures changes { Changes P.PagePool (3 + MAX_OVERFLOW_PAGES) result places.old.items places.new.items pages.old pages.new }
 {
     let changed = put_in(alloc, pages, places, item)?;
-    drop_all(pages, changed.gone.as_slice());
+    drop_all(pages, changed.gone);
     Ok(())
 }
 
@@ -57,7 +57,7 @@ pub(crate) fn remove<P: PagePool>(
 {
     match take_out(alloc, pages, places, stamp, identifier)? {
         Some(changed) => {
-            drop_all(pages, changed.gone.as_slice());
+            drop_all(pages, changed.gone);
             Ok(true)
         }
         None => Ok(false),
@@ -89,8 +89,8 @@ pub(crate) fn replace<P: PagePool>(
     };
     match put_in(alloc, pages, places, item) {
         Ok(second) => {
-            drop_all(pages, second.gone.as_slice());
-            drop_all(pages, first.gone.as_slice());
+            drop_all(pages, second.gone);
+            drop_all(pages, first.gone);
             Ok(true)
         }
         Err(fault) => {

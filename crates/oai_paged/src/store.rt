@@ -1,11 +1,11 @@
-ghost use Rattle.std.specs.Prelude.{◌≡◌, ◌≢◌, ◌+◌, ◌*◌, ◌/◌, ◌≤◌, ◌<◌, ℕ, List, [], None, Some, IsSome, IsTrue, IfErr, IfOk, OnErr, OnOk, option_copied, length};
+ghost use Rattle.std.specs.Prelude.{◌≡◌, ◌≢◌, ◌+◌, ◌*◌, ◌/◌, ◌≤◌, ◌<◌, ℕ, List, [], None, Some, IsTrue, IfErr, IfOk, OnErr, OnOk, option_copied, length};
 ghost use Rattle.std.specs.List.{Contains};
 ghost use Rattle.oai_catalogue.specs.Store.{list_at, no_lists};
 ghost use Rattle.oai_item.specs.Item.{ItemState};
 ghost use Rattle.oai_pool.specs.Counts.{used_of};
 ghost use Rattle.oai_pool.specs.declared.pools.TheConstants.{MAX_PAGES};
 ghost use Rattle.oai_paged.specs.Props.{shelved_props};
-ghost use Rattle.oai_paged.specs.Shelves.{AreShelved, StandsOnPages, calls_left, directory_at, items_below};
+ghost use Rattle.oai_paged.specs.Shelves.{AreShelved, StandsOnPages, calls_left, items_below};
 
 use crate::directories::Directory;
 use crate::names::{drop_all, share_all};
@@ -52,9 +52,11 @@ impl<P: PagePool + Drop> Versions for VersionsOver<P> {
 
     fn freeze(&mut self, v: u64) -> Result<u64, Fault> {
         self.directories.reserve(1)?;
-        let directory = self.directory(v).copy(self.alloc)?;
-        match share_all(&mut self.pool, directory.places()) {
-            Ok(()) => Ok(self.directories.insert_reserved(directory) as u64),
+        let Some(directory) = self.directories.get(v as usize) else {
+            unreachable!()
+        };
+        match share_all(self.alloc, &mut self.pool, directory.places()) {
+            Ok(places) => Ok(self.directories.insert_reserved(Directory { places }) as u64),
             Err(fault) => Err(fault),
         }
     }
@@ -167,7 +169,7 @@ impl<P: PagePool + Drop> Versions for VersionsOver<P> {
 
     fn release(&mut self, v: u64) {
         if let Some(directory) = self.directories.try_remove(v as usize) {
-            drop_all(&mut self.pool, directory.places());
+            drop_all(&mut self.pool, directory.places);
         }
     }
 }
@@ -205,16 +207,5 @@ impl<P: PagePool + Drop> VersionsOver<P> {
             → StandsOnPages (P.counts result.now) (P.pages result.now) item }
     {
         &self.pool
-    }
-
-    /// The directory of that version.
-    fn directory(&self, v: u64) -> &Directory
-        requires { IsSome (directory_at (directories_of self.now) v) }
-        ensures { directory_at (directories_of self.now) v ≡ Some result.now }
-    {
-        match self.directories.get(v as usize) {
-            Some(directory) => directory,
-            None => unreachable!(),
-        }
     }
 }

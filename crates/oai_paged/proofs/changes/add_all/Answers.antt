@@ -1,9 +1,7 @@
-use Rattle.std.proofs.Common.{ap, arith}
-use Rattle.oai_paged.specs.Places.{named_in}
 use Rattle.oai_paged.proofs.RenamedLemmas.{added_named}
 use Rattle.oai_paged.proofs.changes.add_all.Goals as goal
 
 pub drop_all-requires : goal.drop_all-requires
 drop_all-requires g c =
     let some = c.in-Err.ensures.some in
-    λ n. omega (arith, ap (λ ps. named_in ps n) c.as_slice.ensures.value, added_named g.P.PagePool some.0 c.add_parts.new.added.items c.args.pages.now c.add_parts.new.pages some.1 n)
+    added_named g.P.PagePool some.0 c.add_parts.new.added.items c.args.pages.now c.add_parts.new.pages some.1

@@ -24,8 +24,8 @@ loop-at-init g c = record {
   room = c.in_ok-numbers.ensures.capacity;
 }
 
-pub page_at-requires-clause-there : goal.page_at-requires-clause-there
-page_at-requires-clause-there g c =
+pub fill_page-requires-clause-there : goal.fill_page-requires-clause-there
+fill_page-requires-clause-there g c =
     omega (arith, c.loop-at-test.true, c.overflow-overflow.ensures, length-pages (between c.args.from c.args.to c.args.entries.now))
 
 pub unwrap-requires : goal.unwrap-requires
@@ -43,9 +43,9 @@ loop-at-preserved g c =
     let within : at < length all = omega (arith, c.loop-at-test.true, c.overflow-overflow.ensures, length-pages (between c.args.from c.args.to c.args.entries.now)) in
     let done : is_ok c.push.result ≡ true = c.push.ensures.succeeds (omega (arith, c.loop-at-test.true, so_far.len, so_far.room)) in
     let pushed : c.push.new.self.items ≡ c.loop-at.numbers.items ++ c.in-Ok.number ∷ [] = rw done at c.push.ensures.items in
-    let next : take (at + 1) all ≡ take at all ++ c.page_at.result ∷ [] = take_more all at [] within ∙ ap (λ page. take at all ++ page ∷ []) (sym (c.page_at.ensures [])) in
+    let next : take (at + 1) all ≡ take at all ++ c.fill_page.new.page ∷ [] = take_more all at [] within ∙ ap (λ page. take at all ++ page ∷ []) (sym (c.fill_page.ensures [])) in
     record {
-      added = rw (next, pushed) (adds_number G (take at all) c.loop-at.numbers.items c.in-Ok.number c.page_at.result p q r so_far.added c.in-Ok.ensures.free c.in-Ok.ensures.counts c.add.ensures.kept c.in-Ok.ensures.page);
+      added = rw (next, pushed) (adds_number G (take at all) c.loop-at.numbers.items c.in-Ok.number c.fill_page.new.page p q r so_far.added c.in-Ok.ensures.free c.in-Ok.ensures.counts c.add.ensures.kept c.in-Ok.ensures.page);
       taken = takes_both G at 1 at (ok_of (at + 1)) p q r so_far.taken (takes_call G 1 c.in-Ok.number (at + 1) q r c.in-Ok.ensures.pool);
       len = rw done at c.push.ensures.len ∙ ap (λ n. n + 1) so_far.len;
       room = omega (arith, so_far.room, c.push.ensures.capacity);

@@ -1,4 +1,4 @@
-use Rattle.std.proofs.Common.{◌≡◌, ◌∙◌, ◌+◌, ◌++◌, List, ap, arith, drop, length, take}
+use Rattle.std.proofs.Common.{◌∙◌, ◌+◌, ◌++◌, List, ap, arith, drop, length, take}
 use Rattle.oai_item.specs.Item.{ItemState}
 use Rattle.oai_item.proofs.Around.{in_order-append}
 use Rattle.oai_paged.specs.Places.{PlaceState, items_on, named_in}
@@ -17,8 +17,7 @@ add_all-requires-clause-rising g c =
 pub drop_all-requires : goal.drop_all-requires
 drop_all-requires g c =
     let others : List PlaceState = c.in_ok-others.others.items in
-    let same : c.as_slice.result.now ≡ others = c.as_slice.ensures.value ∙ c.reserve.ensures.others in
-    λ n. omega (arith, ap (λ ps. named_in ps n) same, added_named g.P.PagePool c.args.entries.now others c.args.pages.now c.add_all.new.pages c.in_ok-others.ensures.added n)
+    λ n. omega (arith, ap (λ ps. named_in ps n) c.reserve.ensures.others, added_named g.P.PagePool c.args.entries.now others c.args.pages.now c.add_all.new.pages c.in_ok-others.ensures.added n)
 
 pub returns-in-Ok-clause-ok : goal.returns-in-Ok-clause-ok
 returns-in-Ok-clause-ok g c =

@@ -1,4 +1,4 @@
-use Rattle.std.proofs.Common.{ℤ, ◌≡◌, ◌∙◌, List, ℕ, Some, ap, subst, w64}
+use Rattle.std.proofs.Common.{ℤ, ◌≡◌, ◌∙◌, Some, subst, w64}
 use Rattle.std.proofs.lemmas.Int.{to_z-of_z}
 use Rattle.std.proofs.lemmas.List.{take_rest}
 use Rattle.oai_item.specs.Decoding.{item_in}

@@ -1,11 +1,9 @@
-use Rattle.std.proofs.Common.{◌≡◌, ◌∙◌, ◌+◌, ◌-◌, ℕ, ℤ, List, Some, ap, arith, is_some, length, of_z, subst, sym, to_z, w64}
+use Rattle.std.proofs.Common.{◌≡◌, ◌∙◌, ◌+◌, ◌-◌, ℕ, ℤ, List, ap, arith, is_some, length, of_z, subst, sym, to_z, w64}
 use Rattle.std.proofs.lemmas.Bool.{false≢true}
 use Rattle.std.proofs.lemmas.Int.{to_z-of_z}
 use Rattle.std.proofs.lemmas.List.{take_rest}
 use Rattle.std.proofs.lemmas.Option.{same_Some}
-use Rattle.oai_item.specs.Decoding.{item_in}
 use Rattle.oai_item.specs.Encoding.{Spells}
-use Rattle.oai_item.specs.Item.{ItemState}
 use Rattle.oai_item.specs.Order.{place_cmp}
 use Rattle.oai_paged.specs.Finding.{IsLeftToFind, IsSoughtBehind}
 use Rattle.oai_paged.specs.Pages.{first_number}

@@ -1,4 +1,4 @@
-use Rattle.std.proofs.Common.{◌≡◌, ◌∙◌, length, ap, arith, sym}
+use Rattle.std.proofs.Common.{◌≡◌, ◌∙◌, length, ap, arith}
 use Rattle.std.proofs.lemmas.List.{take_rest}
 use Rattle.oai_paged.specs.Pages.{first_number}
 use Rattle.oai_paged.proofs.FindingLemmas.{parted}

@@ -1,4 +1,4 @@
-use Rattle.oai_paged.proofs.FindingLemmas.{read_fails, read_is}
+use Rattle.oai_paged.proofs.FindingLemmas.{read_is}
 use Rattle.oai_paged.proofs.finding.found.Goals as goal
 
 pub returns-in-Ok : goal.returns-in-Ok

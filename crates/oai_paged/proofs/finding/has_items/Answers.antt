@@ -1,4 +1,4 @@
-use Rattle.std.proofs.Common.{◌∙◌, ap, eqb, sym}
+use Rattle.std.proofs.Common.{◌∙◌, ap, eqb}
 use Rattle.oai_paged.proofs.ReadLemmas.{page_read}
 use Rattle.oai_paged.proofs.finding.has_items.Goals as goal
 

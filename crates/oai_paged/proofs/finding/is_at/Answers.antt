@@ -3,8 +3,6 @@ use Rattle.std.specs.Ordering.{is_eq}
 use Rattle.std.proofs.lemmas.Cmp.{is_eq_index}
 use Rattle.std.proofs.lemmas.Int.{to_z-of_z}
 use Rattle.std.proofs.lemmas.Option.{same_Some}
-use Rattle.oai_item.specs.Decoding.{item_in}
-use Rattle.oai_item.specs.Item.{ItemState}
 use Rattle.oai_item.specs.Order.{place_cmp}
 use Rattle.oai_item.proofs.OrderLemmas.{is_at-Equal}
 use Rattle.oai_paged.proofs.finding.is_at.Goals as goal

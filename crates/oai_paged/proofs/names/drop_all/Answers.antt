@@ -1,44 +1,55 @@
-use Rattle.std.proofs.Common.{◌≡◌, List, ℕ, [], ap, arith, subst, sym, take}
-use Rattle.std.proofs.lemmas.List.{take_all}
+use Rattle.std.proofs.Common.{◌≡◌, ◌∙◌, ◌∷◌, List, ℕ, [], ap, arith, length, subst, sym}
+use Rattle.std.proofs.lemmas.List.{nil_from_length}
+use Rattle.std.specs.Vec.Iter.{into_iter_items}
 use Rattle.oai_paged.specs.Places.{PlaceState, page_numbers}
 use Rattle.oai_paged.specs.Recounts.{Recounts}
-use Rattle.oai_paged.proofs.RecountLemmas.{dropped_place, frees_none, frees_then, page_numbers-nil, place_after_drops, recounts_none, renames_dropped}
+use Rattle.oai_paged.proofs.RecountLemmas.{all_left, frees_none, frees_then, next_dropped, next_named, page_numbers-nil, renames_dropped}
 use Rattle.oai_paged.proofs.names.drop_all.Goals as goal
 
 pub loop-place-init : goal.loop-place-init
-loop-place-init g c = record {
-  names = subst (λ (some : List ℕ). Recounts g.P.PagePool some [] c.args.pages.now c.args.pages.now) (sym page_numbers-nil)
-      (recounts_none g.P.PagePool c.args.pages.now);
-  pool = frees_none g.P.PagePool c.args.pages.now;
-}
+loop-place-init g c =
+    let all = c.into_iter-place-iterator.ensures.into_iter_gives in
+    record {
+      names = rw all.0 (all_left g.P.PagePool c.args.places.items c.args.pages.now);
+      pool = frees_none g.P.PagePool c.args.pages.now;
+      left = all.1 ∙ c.args.places.ok.0 ∙ ap length (sym all.0);
+    }
 
 pub drop_numbers-requires : goal.drop_numbers-requires
 drop_numbers-requires g c =
-    let place : PlaceState = c.place-item.result in
-    rw c.pages.ensures (place_after_drops g.P.PagePool c.loop-place.place-index place c.args.places.now c.args.pages.now c.loop-place.pages
-    c.loop-place-test.true c.place-item.is
-    c.requires c.loop-place.invariant.names)
+    let at = c.loop-place in
+    let place : PlaceState = c.in-Some.place in
+    let steps : into_iter_items at.place-iterator ≡ place ∷ into_iter_items c.next.new.self = c.in-Some.ensures.steps.0 in
+    rw c.pages.ensures (next_named g.P.PagePool place (into_iter_items c.next.new.self) c.args.places.items c.args.pages.now at.pages c.requires
+    (rw steps at at.invariant.names))
 
 pub loop-place-preserved : goal.loop-place-preserved
 loop-place-preserved g c =
     let G = g.P.PagePool in
-    let place : PlaceState = c.place-item.result in
+    let at = c.loop-place in
+    let place : PlaceState = c.in-Some.place in
+    let steps : into_iter_items at.place-iterator ≡ place ∷ into_iter_items c.next.new.self = c.in-Some.ensures.steps.0 in
     let p = c.args.pages.now in
-    let q = c.loop-place.pages in
+    let q = at.pages in
     let r = c.drop_numbers.new.pages in
     record {
-      names = dropped_place G c.loop-place.place-index place c.args.places.now p q r c.loop-place-test.true c.place-item.is
-          c.loop-place.invariant.names
+      names = next_dropped G place (into_iter_items c.next.new.self) c.args.places.items p q r (rw steps at at.invariant.names)
           (rw c.pages.ensures at c.drop_numbers.ensures.names);
-      pool = frees_then G p q r c.loop-place.invariant.pool c.drop_numbers.ensures.pool;
+      pool = frees_then G p q r at.invariant.pool c.drop_numbers.ensures.pool;
+      left =
+          let was = at.invariant.left in
+          let gone = c.in-Some.ensures.steps.1 in
+          let short = ap length steps in
+          omega arith;
     }
 
 pub returns : goal.returns
 returns g c =
-    let all : page_numbers (take c.loop-place.place-index c.args.places.now) ≡ page_numbers c.args.places.now = ap page_numbers
-    (take_all c.loop-place.place-index c.args.places.now (omega arith)) in
+    let at = c.loop-place in
+    let none : into_iter_items at.place-iterator ≡ [] = nil_from_length _ (sym at.invariant.left ∙ c.in-None.ensures.steps.0) in
     record {
-      names = renames_dropped g.P.PagePool c.args.places.now c.args.pages.now c.loop-place.pages
-          (subst (λ (some : List ℕ). Recounts g.P.PagePool some [] c.args.pages.now c.loop-place.pages) all c.loop-place.invariant.names);
-      pool = c.loop-place.invariant.pool;
+      names = renames_dropped g.P.PagePool c.args.places.items c.args.pages.now at.pages
+          (subst (λ (some : List ℕ). Recounts g.P.PagePool (page_numbers c.args.places.items) some c.args.pages.now at.pages)
+          (ap page_numbers none ∙ page_numbers-nil) at.invariant.names);
+      pool = at.invariant.pool;
     }

@@ -1,12 +1,14 @@
-use Rattle.std.proofs.Common.{[], take}
+use Rattle.std.proofs.Common.{◌≡◌, length}
+use Rattle.std.specs.Vec.Iter.{into_iter_items, into_iter_len}
 use Rattle.oai_paged.specs.Calls.{FreesPages}
 use Rattle.oai_paged.specs.Places.{page_numbers}
 use Rattle.oai_paged.specs.Recounts.{Recounts}
 use Rattle.oai_paged.proofs.names.drop_all.Given as goal
 
--- the pages of the first so many are named once less
+-- the pages of all are named once less, but for those that are left
 abbrev pub invariant-loop-place : goal.invariant-loop-place
 invariant-loop-place g l = record {
-  names : Recounts g.P.PagePool (page_numbers (take l.place-index l.places)) [] l.initial.pages l.pages;
+  names : Recounts g.P.PagePool (page_numbers l.fn.places.items) (page_numbers (into_iter_items l.place-iterator)) l.initial.pages l.pages;
   pool : FreesPages g.P.PagePool l.initial.pages l.pages;
+  left : into_iter_len l.place-iterator ≡ length (into_iter_items l.place-iterator);
 }

@@ -1,5 +1,4 @@
-use Rattle.std.proofs.Common.{◌∙◌, ap, arith}
-use Rattle.oai_paged.specs.Places.{named_in}
+use Rattle.std.proofs.Common.{◌∙◌}
 use Rattle.oai_paged.proofs.RenamedLemmas.{gone_named, settled}
 use Rattle.oai_paged.proofs.TakenLemmas.{takes_freed_ok}
 use Rattle.oai_paged.proofs.put_and_remove.put.Goals as goal
@@ -8,26 +7,22 @@ pub drop_all-requires : goal.drop_all-requires
 drop_all-requires g c =
     let s = c.in_ok-changed.ensures.staged in
     let changed = c.in_ok-changed.changed in
-    λ n. omega (
-      arith,
-      ap (λ ps. named_in ps n) c.as_slice.ensures.value,
-      gone_named g.P.PagePool changed.at changed.len changed.gone.items c.args.places.now.items c.put_in.new.places.items c.args.pages.now c.put_in.new.pages c.requires.stands s n,
-    )
+    gone_named g.P.PagePool changed.at changed.len changed.gone.items c.args.places.now.items c.put_in.new.places.items c.args.pages.now c.put_in.new.pages c.requires.stands s
 
 pub returns-clause-list : goal.returns-clause-list
 returns-clause-list g c =
     let s = c.in_ok-changed.ensures.staged in
     let changed = c.in_ok-changed.changed in
-    let end = settled g.P.PagePool changed.at changed.len changed.gone.items c.as_slice.result.now c.args.places.now.items c.put_in.new.places.items c.args.pages.now c.put_in.new.pages c.drop_all.new.pages
-    c.requires.stands s c.as_slice.ensures.value c.drop_all.ensures.names in
+    let end = settled g.P.PagePool changed.at changed.len changed.gone.items c.args.places.now.items c.put_in.new.places.items c.args.pages.now c.put_in.new.pages c.drop_all.new.pages
+    c.requires.stands s c.drop_all.ensures.names in
     λ honest. end.items ∙ c.in_ok-changed.ensures.list honest
 
 pub returns-clause-changes : goal.returns-clause-changes
 returns-clause-changes g c =
     let s = c.in_ok-changed.ensures.staged in
     let changed = c.in_ok-changed.changed in
-    let end = settled g.P.PagePool changed.at changed.len changed.gone.items c.as_slice.result.now c.args.places.now.items c.put_in.new.places.items c.args.pages.now c.put_in.new.pages c.drop_all.new.pages
-    c.requires.stands s c.as_slice.ensures.value c.drop_all.ensures.names in
+    let end = settled g.P.PagePool changed.at changed.len changed.gone.items c.args.places.now.items c.put_in.new.places.items c.args.pages.now c.put_in.new.pages c.drop_all.new.pages
+    c.requires.stands s c.drop_all.ensures.names in
     record {
       directory = end.directory;
       names = end.names;

@@ -1,7 +1,7 @@
-use Rattle.std.proofs.Common.{◌∙◌, ℤ, true, false, ap, arith, w64}
+use Rattle.std.proofs.Common.{◌∙◌, ℤ, true, false, ap, w64}
 use Rattle.std.proofs.lemmas.Int.{to_z-of_z}
 use Rattle.oai_item.specs.Items.{without_at}
-use Rattle.oai_paged.specs.Places.{items_on, named_in}
+use Rattle.oai_paged.specs.Places.{items_on}
 use Rattle.oai_paged.proofs.RenamedLemmas.{gone_named, settled}
 use Rattle.oai_paged.proofs.ReplaceLemmas.{changed_nothing}
 use Rattle.oai_paged.proofs.TakenLemmas.{takes_freed_ok}
@@ -11,19 +11,15 @@ pub drop_all-requires : goal.drop_all-requires
 drop_all-requires g c =
     let s = rw c.in-Some.is at c.in_ok-changed.ensures.staged in
     let changed = c.in-Some.changed in
-    λ n. omega (
-      arith,
-      ap (λ ps. named_in ps n) c.as_slice.ensures.value,
-      gone_named g.P.PagePool changed.at changed.len changed.gone.items c.args.places.now.items c.take_out.new.places.items c.args.pages.now c.take_out.new.pages c.requires s n,
-    )
+    gone_named g.P.PagePool changed.at changed.len changed.gone.items c.args.places.now.items c.take_out.new.places.items c.args.pages.now c.take_out.new.pages c.requires s
 
 pub returns-in-Some-clause-list : goal.returns-in-Some-clause-list
 returns-in-Some-clause-list g c =
     let s = rw c.in-Some.is at c.in_ok-changed.ensures.staged in
     let list = rw c.in-Some.is at c.in_ok-changed.ensures.list in
     let changed = c.in-Some.changed in
-    let end = settled g.P.PagePool changed.at changed.len changed.gone.items c.as_slice.result.now c.args.places.now.items c.take_out.new.places.items c.args.pages.now c.take_out.new.pages c.drop_all.new.pages
-    c.requires s c.as_slice.ensures.value c.drop_all.ensures.names in
+    let end = settled g.P.PagePool changed.at changed.len changed.gone.items c.args.places.now.items c.take_out.new.places.items c.args.pages.now c.take_out.new.pages c.drop_all.new.pages
+    c.requires s c.drop_all.ensures.names in
     λ honest.
     let removed = list honest in
     end.items ∙ removed.left ∙ ap (λ (stamp : ℤ). without_at stamp c.args.identifier.now (items_on (g.P.PagePool.pages c.args.pages.now) c.args.places.now.items)) (to_z-of_z w64 c.args.stamp c.ranges.stamp)
@@ -32,8 +28,8 @@ pub returns-in-Some-clause-changes : goal.returns-in-Some-clause-changes
 returns-in-Some-clause-changes g c =
     let s = rw c.in-Some.is at c.in_ok-changed.ensures.staged in
     let changed = c.in-Some.changed in
-    let end = settled g.P.PagePool changed.at changed.len changed.gone.items c.as_slice.result.now c.args.places.now.items c.take_out.new.places.items c.args.pages.now c.take_out.new.pages c.drop_all.new.pages
-    c.requires s c.as_slice.ensures.value c.drop_all.ensures.names in
+    let end = settled g.P.PagePool changed.at changed.len changed.gone.items c.args.places.now.items c.take_out.new.places.items c.args.pages.now c.take_out.new.pages c.drop_all.new.pages
+    c.requires s c.drop_all.ensures.names in
     record {
       directory = end.directory;
       names = end.names;

@@ -1,8 +1,8 @@
-use Rattle.std.proofs.Common.{◌∙◌, ℤ, true, false, IsTrue, List, ap, arith, w64}
+use Rattle.std.proofs.Common.{◌∙◌, ℤ, true, false, IsTrue, List, ap, w64}
 use Rattle.std.proofs.lemmas.Int.{to_z-of_z}
 use Rattle.oai_item.specs.Item.{ItemState}
 use Rattle.oai_item.specs.Items.{with_item, without_at}
-use Rattle.oai_paged.specs.Places.{PlaceState, items_on, named_in}
+use Rattle.oai_paged.specs.Places.{PlaceState, items_on}
 use Rattle.oai_paged.proofs.RenamedLemmas.{gone_named}
 use Rattle.oai_paged.proofs.ReplaceLemmas.{changes_after, first_gone_named, replaced, stands_same, taken_back}
 use Rattle.oai_paged.proofs.TakenLemmas.{ok_of, takes_both, takes_freed_ok}
@@ -41,11 +41,7 @@ drop_all-requires g c =
     let after : List PlaceState = c.put_in.new.places.items in
     let second = c.in-Ok.second in
     let t = c.in-Ok.ensures.staged in
-    λ n. omega (
-      arith,
-      ap (λ ps. named_in ps n) c.as_slice.ensures.value,
-      gone_named G second.at second.len second.gone.items between after mid made s.stands t n,
-    )
+    gone_named G second.at second.len second.gone.items between after mid made s.stands t
 
 pub drop_all-requires-in-Ok : goal.drop_all-requires-in-Ok
 drop_all-requires-in-Ok g c =
@@ -60,8 +56,8 @@ drop_all-requires-in-Ok g c =
     let after : List PlaceState = c.put_in.new.places.items in
     let second = c.in-Ok.second in
     let t = c.in-Ok.ensures.staged in
-    first_gone_named G first.at first.len first.gone.items c.as_slice-in-Ok.result.now second.at second.len second.gone.items c.as_slice.result.now before between after old mid made c.drop_all.new.pages
-    c.requires.stands s t c.as_slice.ensures.value c.drop_all.ensures.names c.as_slice-in-Ok.ensures.value
+    first_gone_named G first.at first.len first.gone.items second.at second.len second.gone.items before between after old mid made c.drop_all.new.pages
+    c.requires.stands s t c.drop_all.ensures.names
 
 pub returns-in-Ok-clause-list : goal.returns-in-Ok-clause-list
 returns-in-Ok-clause-list g c =
@@ -78,8 +74,8 @@ returns-in-Ok-clause-list g c =
     let t = c.in-Ok.ensures.staged in
     let late = c.drop_all.new.pages in
     let new = c.drop_all-in-Ok.new.pages in
-    let end = replaced G first.at first.len first.gone.items c.as_slice-in-Ok.result.now second.at second.len second.gone.items c.as_slice.result.now before between after old mid made late new
-    c.requires.stands s t c.as_slice.ensures.value c.drop_all.ensures.names c.as_slice-in-Ok.ensures.value c.drop_all-in-Ok.ensures.names in
+    let end = replaced G first.at first.len first.gone.items second.at second.len second.gone.items before between after old mid made late new
+    c.requires.stands s t c.drop_all.ensures.names c.drop_all-in-Ok.ensures.names in
     let list = rw c.in-Some.is at c.in_ok-first.ensures.list in
     λ honest.
     let removed = list honest in
@@ -102,8 +98,8 @@ returns-in-Ok-clause-changes g c =
     let t = c.in-Ok.ensures.staged in
     let late = c.drop_all.new.pages in
     let new = c.drop_all-in-Ok.new.pages in
-    let end = replaced G first.at first.len first.gone.items c.as_slice-in-Ok.result.now second.at second.len second.gone.items c.as_slice.result.now before between after old mid made late new
-    c.requires.stands s t c.as_slice.ensures.value c.drop_all.ensures.names c.as_slice-in-Ok.ensures.value c.drop_all-in-Ok.ensures.names in
+    let end = replaced G first.at first.len first.gone.items second.at second.len second.gone.items before between after old mid made late new
+    c.requires.stands s t c.drop_all.ensures.names c.drop_all-in-Ok.ensures.names in
     let both = takes_both G 1 67 c.in_ok-first.field-0 (ok_of second) old mid made c.in_ok-first.ensures.pool c.in-Ok.ensures.pool in
     let freed = takes_freed_ok G 68 second true old made late both c.drop_all.ensures.pool in
     record {

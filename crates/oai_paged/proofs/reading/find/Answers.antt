@@ -1,5 +1,5 @@
 use Rattle.std.specs.Ordering.{is_eq}
-use Rattle.std.proofs.Common.{◌≡◌, ◌∙◌, ◌<◌, IfOk, IsTrue, Option, arith, ℤ, Ok, Err, Some, None, [], ap, false, get_or, length, pos, refl, subst, sym, w64}
+use Rattle.std.proofs.Common.{◌≡◌, ◌∙◌, IfOk, IsTrue, Option, arith, ℤ, Ok, Err, Some, None, [], ap, false, get_or, length, pos, refl, subst, sym, w64}
 use Rattle.std.proofs.lemmas.Int.{to_z-of_z}
 use Rattle.std.proofs.lemmas.Bool.{eqb-true}
 use Rattle.std.proofs.lemmas.List.{get_or_read, nil_from_length}

@@ -3,6 +3,7 @@ use Rattle.slab.specs.Slab.{Updates}
 use Rattle.oai_paged.specs.Calls.{Renames}
 use Rattle.oai_paged.specs.Places.{PlaceState}
 use Rattle.oai_paged.specs.Shelves.{directory_at}
+use Rattle.oai_paged.proofs.RecountLemmas.{not_damaged, not_device, only_full}
 use Rattle.oai_paged.proofs.RoomLemmas.{kept_left, runs_out_left, shared_left}
 use Rattle.oai_paged.proofs.ShelfLemmas.{frozen_lists, lists_kept, shelved_in_order, shelved_kept, shelved_named, turn_frozen, turned_shelved}
 use Rattle.oai_paged.proofs.store.VersionsOverVersions.freeze.Goals as goal
@@ -11,21 +12,19 @@ pub share_all-requires-clause-named : goal.share_all-requires-clause-named
 share_all-requires-clause-named g c =
     let G = g.P.PagePool in
     let self = c.args.self.now in
-    let places : List PlaceState = c.directory.result.now in
+    let places : List PlaceState = c.in-Some.directory.now in
     let same : c.reserve.new.self.slots ≡ self.directories.slots = ap (λ s. s.slots) c.reserve.ensures.rest_kept in
-    let stands : directory_at self.directories.slots c.args.v ≡ Some places = sym (ap (λ slots. directory_at slots c.args.v) same) ∙
-    c.directory.ensures in
-    rw (c.places.ensures, c.in_ok-directory.ensures) (shelved_named (G.counts self.pool) (G.pages self.pool) self.directories.slots
+    let stands : directory_at self.directories.slots c.args.v ≡ Some places = sym (ap (λ slots. directory_at slots c.args.v) same) ∙ sym c.in-Some.ensures in
+    rw c.places.ensures (shelved_named (G.counts self.pool) (G.pages self.pool) self.directories.slots
     self.shelved c.args.v places stands)
 
 pub share_all-requires-clause-once : goal.share_all-requires-clause-once
 share_all-requires-clause-once g c =
     let self = c.args.self.now in
-    let places : List PlaceState = c.directory.result.now in
+    let places : List PlaceState = c.in-Some.directory.now in
     let same : c.reserve.new.self.slots ≡ self.directories.slots = ap (λ s. s.slots) c.reserve.ensures.rest_kept in
-    let stands : directory_at self.directories.slots c.args.v ≡ Some places = sym (ap (λ slots. directory_at slots c.args.v) same) ∙
-    c.directory.ensures in
-    rw (c.places.ensures, c.in_ok-directory.ensures) (self.shelved.directories c.args.v places stands).once
+    let stands : directory_at self.directories.slots c.args.v ≡ Some places = sym (ap (λ slots. directory_at slots c.args.v) same) ∙ sym c.in-Some.ensures in
+    rw c.places.ensures (self.shelved.directories c.args.v places stands).once
 
 pub invariant_of-self-in-Ok : goal.invariant_of-self-in-Ok
 invariant_of-self-in-Ok g c =
@@ -33,15 +32,15 @@ invariant_of-self-in-Ok g c =
     let self = c.args.self.now in
     let p = self.pool in
     let q = c.share_all.new.pages in
-    let places : List PlaceState = c.directory.result.now in
+    let places : List PlaceState = c.in-Some.directory.now in
     let same : c.reserve.new.self.slots ≡ self.directories.slots = ap (λ s. s.slots) c.reserve.ensures.rest_kept in
-    let names : Renames G [] places p q = rw (c.places.ensures, c.in_ok-directory.ensures) at c.in-Ok.ensures.names in
+    let names : Renames G [] places p q = rw c.places.ensures at c.in-Ok.ensures.names in
     let updates : Updates c.reserve.new.self c.insert_reserved.new.self c.insert_reserved.result (Some places) = rw
-    c.in_ok-directory.ensures at c.insert_reserved.ensures.updates in
+    (c.in-Ok.ensures.copies, c.places.ensures) at c.insert_reserved.ensures.updates in
     record {
       shelved = turned_shelved G c.insert_reserved.result self.directories.slots c.insert_reserved.new.self.slots p q self.shelved
           (turn_frozen G self.directories c.reserve.new.self c.insert_reserved.new.self c.args.v c.insert_reserved.result places p q
-          self.shelved same c.directory.ensures
+          self.shelved same (sym c.in-Some.ensures)
           c.insert_reserved.ensures.was_vacant updates names);
     }
 
@@ -60,13 +59,13 @@ returns-in-Ok-clause-ok g c =
     let self = c.args.self.now in
     let p = self.pool in
     let q = c.share_all.new.pages in
-    let places : List PlaceState = c.directory.result.now in
+    let places : List PlaceState = c.in-Some.directory.now in
     let same : c.reserve.new.self.slots ≡ self.directories.slots = ap (λ s. s.slots) c.reserve.ensures.rest_kept in
-    let names : Renames G [] places p q = rw (c.places.ensures, c.in_ok-directory.ensures) at c.in-Ok.ensures.names in
+    let names : Renames G [] places p q = rw c.places.ensures at c.in-Ok.ensures.names in
     let updates : Updates c.reserve.new.self c.insert_reserved.new.self c.insert_reserved.result (Some places) = rw
-    c.in_ok-directory.ensures at c.insert_reserved.ensures.updates in
+    (c.in-Ok.ensures.copies, c.places.ensures) at c.insert_reserved.ensures.updates in
     frozen_lists G self.directories c.reserve.new.self c.insert_reserved.new.self c.args.v c.insert_reserved.result places p q self.shelved
-    same c.directory.ensures
+    same (sym c.in-Some.ensures)
     c.insert_reserved.ensures.was_vacant updates names
 
 pub returns-in-Ok-clause-rising : goal.returns-in-Ok-clause-rising
@@ -75,14 +74,14 @@ returns-in-Ok-clause-rising g c =
     let self = c.args.self.now in
     let p = self.pool in
     let q = c.share_all.new.pages in
-    let places : List PlaceState = c.directory.result.now in
+    let places : List PlaceState = c.in-Some.directory.now in
     let same : c.reserve.new.self.slots ≡ self.directories.slots = ap (λ s. s.slots) c.reserve.ensures.rest_kept in
-    let names : Renames G [] places p q = rw (c.places.ensures, c.in_ok-directory.ensures) at c.in-Ok.ensures.names in
+    let names : Renames G [] places p q = rw c.places.ensures at c.in-Ok.ensures.names in
     let updates : Updates c.reserve.new.self c.insert_reserved.new.self c.insert_reserved.result (Some places) = rw
-    c.in_ok-directory.ensures at c.insert_reserved.ensures.updates in
+    (c.in-Ok.ensures.copies, c.places.ensures) at c.insert_reserved.ensures.updates in
     let shelved = turned_shelved G c.insert_reserved.result self.directories.slots c.insert_reserved.new.self.slots p q self.shelved
     (turn_frozen G self.directories c.reserve.new.self c.insert_reserved.new.self c.args.v c.insert_reserved.result places p q
-    self.shelved same c.directory.ensures
+    self.shelved same (sym c.in-Some.ensures)
     c.insert_reserved.ensures.was_vacant updates names) in (
       shelved_in_order (G.counts p) (G.pages p) self.directories.slots self.shelved,
       shelved_in_order (G.counts q) (G.pages q)
@@ -95,11 +94,10 @@ returns-in-Ok-clause-store g c =
     let self = c.args.self.now in
     let p = self.pool in
     let q = c.share_all.new.pages in
-    let places : List PlaceState = c.directory.result.now in
+    let places : List PlaceState = c.in-Some.directory.now in
     let same : c.reserve.new.self.slots ≡ self.directories.slots = ap (λ s. s.slots) c.reserve.ensures.rest_kept in
-    let stands : directory_at self.directories.slots c.args.v ≡ Some places = sym (ap (λ slots. directory_at slots c.args.v) same) ∙
-    c.directory.ensures in
-    let names : Renames G [] places p q = rw (c.places.ensures, c.in_ok-directory.ensures) at c.in-Ok.ensures.names in
+    let stands : directory_at self.directories.slots c.args.v ≡ Some places = sym (ap (λ slots. directory_at slots c.args.v) same) ∙ sym c.in-Some.ensures in
+    let names : Renames G [] places p q = rw c.places.ensures at c.in-Ok.ensures.names in
     let count = c.share_all.ensures.pool.count in
     record {
       room = record {
@@ -124,10 +122,10 @@ returns-in-Err-clause-store g c =
     let p = c.args.self.now.pool in
     let q = c.share_all.new.pages in
     let count = c.share_all.ensures.pool.count in
-    let told = c.in-Err.ensures.fault in
+    let cause = c.in-Err.ensures.fault in
     let less = kept_left G p q c.in-Err.ensures.undone c.share_all.ensures.pool.room in
     record {
-      room = record { enough = λ _. runs_out_left G c.places.result.now p c.in-Err.ensures.full; used = omega (arith, less) };
-      device = record { count = omega (arith, count); device = λ is. absurd (cc (is, told)) };
-      honesty = record { same = c.share_all.ensures.pool.honesty; damaged = λ is. absurd (cc (is, told)) };
+      room = record { enough = λ full. runs_out_left G c.places.result.now p (only_full _ _ cause full); used = omega (arith, less) };
+      device = record { count = omega (arith, count); device = λ failed. absurd (not_device _ _ cause failed) };
+      honesty = record { same = c.share_all.ensures.pool.honesty; damaged = λ damage. absurd (not_damaged _ _ cause damage) };
     }

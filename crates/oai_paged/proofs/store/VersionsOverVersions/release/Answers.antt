@@ -1,5 +1,6 @@
-use Rattle.std.proofs.Common.{◌≡◌, ◌∙◌, [], Some, sym}
+use Rattle.std.proofs.Common.{◌≡◌, ◌∙◌, List, [], Some, ap, sym}
 use Rattle.oai_paged.specs.Calls.{Renames}
+use Rattle.oai_paged.specs.Places.{PlaceState}
 use Rattle.oai_paged.specs.Shelves.{directory_at}
 use Rattle.oai_paged.proofs.RoomLemmas.{dropped_left}
 use Rattle.oai_paged.proofs.ShelfLemmas.{removed_lists, shelved_in_order, shelved_named, turn_taken_out, turned_shelved}
@@ -9,9 +10,11 @@ pub drop_all-requires : goal.drop_all-requires
 drop_all-requires g c =
     let G = g.P.PagePool in
     let self = c.args.self.now in
-    let was : directory_at self.directories.slots c.args.v ≡ Some c.in-Some.directory = sym c.try_remove.ensures.value ∙ c.in-Some.is in
-    rw c.places.ensures (shelved_named (G.counts self.pool) (G.pages self.pool) self.directories.slots self.shelved c.args.v
-    c.in-Some.directory was)
+    let places : List PlaceState = c.directory.inside.places.items in
+    let was : directory_at self.directories.slots c.args.v ≡ Some places = sym c.try_remove.ensures.value ∙ c.in-Some.is
+    ∙ ap Some (cc (c.directory.view_is)) in
+    (shelved_named (G.counts self.pool) (G.pages self.pool) self.directories.slots self.shelved c.args.v
+    places was)
 
 pub invariant_of-self : goal.invariant_of-self
 invariant_of-self g c =
@@ -19,11 +22,13 @@ invariant_of-self g c =
     let self = c.args.self.now in
     let p = self.pool in
     let q = c.drop_all.new.pages in
-    let was : directory_at self.directories.slots c.args.v ≡ Some c.in-Some.directory = sym c.try_remove.ensures.value ∙ c.in-Some.is in
-    let names : Renames G c.in-Some.directory [] p q = rw c.places.ensures at c.drop_all.ensures.names in
+    let places : List PlaceState = c.directory.inside.places.items in
+    let was : directory_at self.directories.slots c.args.v ≡ Some places = sym c.try_remove.ensures.value ∙ c.in-Some.is
+    ∙ ap Some (cc (c.directory.view_is)) in
+    let names : Renames G places [] p q = c.drop_all.ensures.names in
     record {
       shelved = turned_shelved G c.args.v self.directories.slots c.try_remove.new.self.slots p q self.shelved
-          (turn_taken_out G self.directories c.try_remove.new.self c.args.v c.in-Some.directory p q was c.in-Some.ensures.updates names);
+          (turn_taken_out G self.directories c.try_remove.new.self c.args.v places p q was c.in-Some.ensures.updates names);
     }
 
 pub returns-in-Some-clause-ok : goal.returns-in-Some-clause-ok
@@ -32,10 +37,12 @@ returns-in-Some-clause-ok g c =
     let self = c.args.self.now in
     let p = self.pool in
     let q = c.drop_all.new.pages in
-    let was : directory_at self.directories.slots c.args.v ≡ Some c.in-Some.directory = sym c.try_remove.ensures.value ∙ c.in-Some.is in
-    let names : Renames G c.in-Some.directory [] p q = rw c.places.ensures at c.drop_all.ensures.names in
+    let places : List PlaceState = c.directory.inside.places.items in
+    let was : directory_at self.directories.slots c.args.v ≡ Some places = sym c.try_remove.ensures.value ∙ c.in-Some.is
+    ∙ ap Some (cc (c.directory.view_is)) in
+    let names : Renames G places [] p q = c.drop_all.ensures.names in
     removed_lists G c.args.v self.directories.slots c.try_remove.new.self.slots p q self.shelved
-    (turn_taken_out G self.directories c.try_remove.new.self c.args.v c.in-Some.directory p q was c.in-Some.ensures.updates names)
+    (turn_taken_out G self.directories c.try_remove.new.self c.args.v places p q was c.in-Some.ensures.updates names)
     c.in-Some.ensures.updates.changed
 
 pub returns-in-Some-clause-rising : goal.returns-in-Some-clause-rising
@@ -44,10 +51,12 @@ returns-in-Some-clause-rising g c =
     let self = c.args.self.now in
     let p = self.pool in
     let q = c.drop_all.new.pages in
-    let was : directory_at self.directories.slots c.args.v ≡ Some c.in-Some.directory = sym c.try_remove.ensures.value ∙ c.in-Some.is in
-    let names : Renames G c.in-Some.directory [] p q = rw c.places.ensures at c.drop_all.ensures.names in
+    let places : List PlaceState = c.directory.inside.places.items in
+    let was : directory_at self.directories.slots c.args.v ≡ Some places = sym c.try_remove.ensures.value ∙ c.in-Some.is
+    ∙ ap Some (cc (c.directory.view_is)) in
+    let names : Renames G places [] p q = c.drop_all.ensures.names in
     let shelved = turned_shelved G c.args.v self.directories.slots c.try_remove.new.self.slots p q self.shelved
-    (turn_taken_out G self.directories c.try_remove.new.self c.args.v c.in-Some.directory p q was c.in-Some.ensures.updates names)
+    (turn_taken_out G self.directories c.try_remove.new.self c.args.v places p q was c.in-Some.ensures.updates names)
     in (
       shelved_in_order (G.counts p) (G.pages p) self.directories.slots self.shelved,
       shelved_in_order (G.counts q) (G.pages q)
@@ -59,9 +68,10 @@ returns-in-Some-clause-store g c =
     let G = g.P.PagePool in
     let p = c.args.self.now.pool in
     let q = c.drop_all.new.pages in
-    let names : Renames G c.in-Some.directory [] p q = rw c.places.ensures at c.drop_all.ensures.names in
+    let places : List PlaceState = c.directory.inside.places.items in
+    let names : Renames G places [] p q = c.drop_all.ensures.names in
     record {
-      room = dropped_left G c.in-Some.directory p q names c.drop_all.ensures.pool.room;
+      room = dropped_left G places p q names c.drop_all.ensures.pool.room;
       count = c.drop_all.ensures.pool.count;
       honesty = c.drop_all.ensures.pool.honesty;
     }

@@ -8,14 +8,14 @@ use Rattle.oai_paged.proofs.EntryLemmas.{size_is, storable-between}
 use Rattle.oai_paged.proofs.PageLemmas.{number_spelled}
 use Rattle.oai_paged.proofs.OverflowLemmas.{front_page, length-pages, long_from, one_page, overflow_page}
 use Rattle.oai_paged.proofs.ShortLemmas.{fit_between, fit_parts}
-use Rattle.oai_paged.proofs.entries.Entries.page_at.Goals as goal
+use Rattle.oai_paged.proofs.entries.Entries.fill_page.Goals as goal
 
 pub overflow_cast-to : goal.overflow_cast-to
 overflow_cast-to c =
     omega (arith, (few_between c.args.self.now c.args.from c.args.to (omega (arith, c.requires.some)) c.requires.within c.len-all.ensures.storable c.requires.alone).1)
 
-pub page_of-requires : goal.page_of-requires
-page_of-requires c =
+pub fill_with-requires : goal.fill_with-requires
+fill_with-requires c =
     let d : ItemState = only_place (pos 0) [] in
     let items : List ItemState = between c.args.from c.args.to c.args.self.now in
     let fits = fit_between c.args.from c.args.to c.args.self.now d c.is_long.result false c.requires.some c.requires.within c.requires.alone (c.is_long.ensures d) c.if-not-is_long.true in
@@ -30,10 +30,10 @@ returns-then-not-is_long c =
     let size = size_is c.entries-entries.result.now items c.entries-entries.ensures in
     let few = few_between c.args.self.now c.args.from c.args.to (omega (arith, c.requires.some)) c.requires.within c.len-all.ensures.storable c.requires.alone in
     let number : c.to_be_bytes-number.result ≡ encoded_count (length items) = c.to_be_bytes-number.ensures ∙ number_spelled (c.args.to - c.args.from) ∙ ap encoded_count (sym few.0) in
-    λ other. c.page_of.ensures ∙ one_page items c.to_be_bytes-number.result c.entries-entries.result.now c.args.at other number c.entries-entries.ensures fits c.requires.there
+    λ other. c.fill_with.ensures ∙ one_page items c.to_be_bytes-number.result c.entries-entries.result.now c.args.at other number c.entries-entries.ensures fits c.requires.there
 
-pub slice_bounds-page_of-length : goal.slice_bounds-page_of-length
-slice_bounds-page_of-length c =
+pub slice_bounds-fill_with-length : goal.slice_bounds-fill_with-length
+slice_bounds-fill_with-length c =
     let d : ItemState = only_place (pos 0) [] in
     let items : List ItemState = between c.args.from c.args.to c.args.self.now in
     let more = fit_between c.args.from c.args.to c.args.self.now d c.is_long.result true c.requires.some c.requires.within c.requires.alone (c.is_long.ensures d) c.if-not-is_long.false in
@@ -41,8 +41,8 @@ slice_bounds-page_of-length c =
     let size = size_is c.entries-entries.result.now items c.entries-entries.ensures in
     omega (arith, size, long.low, length-take 604 c.entries-entries.result.now)
 
-pub page_of-requires-then-at-eq0 : goal.page_of-requires-then-at-eq0
-page_of-requires-then-at-eq0 c =
+pub fill_with-requires-then-at-eq0 : goal.fill_with-requires-then-at-eq0
+fill_with-requires-then-at-eq0 c =
     omega (arith, ap length c.to_be_bytes-number.ensures, length-take 604 c.entries-entries.result.now)
 
 pub returns-then-at-eq0 : goal.returns-then-at-eq0
@@ -54,7 +54,7 @@ returns-then-at-eq0 c =
     let size = size_is c.entries-entries.result.now items c.entries-entries.ensures in
     let few = few_between c.args.self.now c.args.from c.args.to (omega (arith, c.requires.some)) c.requires.within c.len-all.ensures.storable c.requires.alone in
     let number : c.to_be_bytes-number.result ≡ encoded_count (length items) = c.to_be_bytes-number.ensures ∙ number_spelled (c.args.to - c.args.from) ∙ ap encoded_count (sym few.0) in
-    λ other. c.page_of-then-at-eq0.ensures ∙ front_page items c.to_be_bytes-number.result c.entries-entries.result.now c.args.at other number c.entries-entries.ensures more c.if-at-eq0.true
+    λ other. c.fill_with-then-at-eq0.ensures ∙ front_page items c.to_be_bytes-number.result c.entries-entries.result.now c.args.at other number c.entries-entries.ensures more c.if-at-eq0.true
 
 pub overflow_mul-start : goal.overflow_mul-start
 overflow_mul-start c =
@@ -86,8 +86,8 @@ overflow_add-start-2 c =
     let at : c.args.at < 1 + overflow_of items = omega (arith, c.requires.there, length-pages items) in
     omega (arith, at, long.few)
 
-pub slice_bounds-page_of-count-2 : goal.slice_bounds-page_of-count-2
-slice_bounds-page_of-count-2 c =
+pub slice_bounds-fill_with-count-2 : goal.slice_bounds-fill_with-count-2
+slice_bounds-fill_with-count-2 c =
     let d : ItemState = only_place (pos 0) [] in
     let items : List ItemState = between c.args.from c.args.to c.args.self.now in
     let more = fit_between c.args.from c.args.to c.args.self.now d c.is_long.result true c.requires.some c.requires.within c.requires.alone (c.is_long.ensures d) c.if-not-is_long.false in
@@ -96,8 +96,8 @@ slice_bounds-page_of-count-2 c =
     let at : c.args.at < 1 + overflow_of items = omega (arith, c.requires.there, length-pages items) in
     omega (arith, at, long.need, long.low, size, c.min-end.ensures)
 
-pub slice_bounds-page_of-start : goal.slice_bounds-page_of-start
-slice_bounds-page_of-start c =
+pub slice_bounds-fill_with-start : goal.slice_bounds-fill_with-start
+slice_bounds-fill_with-start c =
     let d : ItemState = only_place (pos 0) [] in
     let items : List ItemState = between c.args.from c.args.to c.args.self.now in
     let more = fit_between c.args.from c.args.to c.args.self.now d c.is_long.result true c.requires.some c.requires.within c.requires.alone (c.is_long.ensures d) c.if-not-is_long.false in
@@ -117,5 +117,5 @@ returns c =
     let few = few_between c.args.self.now c.args.from c.args.to (omega (arith, c.requires.some)) c.requires.within c.len-all.ensures.storable c.requires.alone in
     let number : c.to_be_bytes-number.result ≡ encoded_count (length items) = c.to_be_bytes-number.ensures ∙ number_spelled (c.args.to - c.args.from) ∙ ap encoded_count (sym few.0) in
     let at : c.args.at < 1 + overflow_of items = omega (arith, c.requires.there, length-pages items) in
-    λ other. c.page_of-2.ensures
+    λ other. c.fill_with-2.ensures
     ∙ overflow_page items c.to_be_bytes-number.result c.entries-entries.result.now c.args.at c.min-end.result other number c.entries-entries.ensures more (omega (arith, c.if-at-eq0.false)) at (omega (arith, at, long.need, long.low, size)) c.min-end.ensures

@@ -1,5 +1,0 @@
-use Rattle.oai_paged.proofs.CutLemmas.{page_filled}
-use Rattle.oai_paged.proofs.entries.page_of.Goals as goal
-
-pub returns : goal.returns
-returns c = page_filled c.args.front.now c.args.back.now c.put_at.new.page c.put_at-2.new.page c.requires c.put_at.ensures c.put_at-2.ensures
