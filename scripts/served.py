@@ -30,8 +30,7 @@ class Server:
         with open(path, "w", encoding="utf-8") as it:
             json.dump(self.configuration, it)
         self.spill = self.spill or f"{self.folder.name}/spill"
-        command = [PROGRAM, "serve", path, "0", self.spill, CONNECTIONS]
-        self.process = subprocess.Popen(command, stdout=subprocess.PIPE, text=True)
+        self.process = subprocess.Popen(self.command(path), stdout=subprocess.PIPE, text=True)
         said = self.process.stdout.readline()
         if not said.startswith("listening on 127.0.0.1:"):
             self.__exit__()
@@ -44,6 +43,10 @@ class Server:
         self.process.wait()
         self.process.stdout.close()
         self.folder.cleanup()
+
+    def command(self, path):
+        """What runs a server of that configuration."""
+        return [PROGRAM, "serve", path, "0", self.spill, CONNECTIONS]
 
     def base(self):
         """Where the repository is reached."""
