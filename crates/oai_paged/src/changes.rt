@@ -7,7 +7,7 @@ ghost use Rattle.oai_pool.specs.Counts.{count_of};
 ghost use Rattle.oai_paged.specs.Calls.{Adds, AddsPages, ChangesNothing, FreesPages, HasWayBack, IsDirectoryChanged, Renames, Takes};
 ghost use Rattle.oai_paged.specs.Directory.{MayStand, StandsIn};
 ghost use Rattle.oai_paged.specs.Pages.{AreCuts, FitAlone, between, overflow_of, pages_of};
-ghost use Rattle.oai_paged.specs.Places.{named_in};
+ghost use Rattle.oai_paged.specs.Places.{have_records, named_in};
 ghost use Rattle.oai_paged.specs.Recounts.{AddsNumbers, Recounts};
 
 use crate::entries::{Cuts, Entries};
@@ -17,8 +17,10 @@ use crate::names::{drop_all, drop_numbers};
 use crate::places::SharedPlace;
 use oai_device::PAGE_BYTES;
 use oai_item::Fault;
+use oai_names::{Prefix, Sequence};
 use oai_pool::{PageNo, PagePool};
-use std::alloc::Global;
+use std::alloc::{AllocError, Global};
+use std::rc::Rc;
 
 /// To how many pages the entries of one go at most where one more is put among them.
 const MAX_PARTS: usize = 3;
@@ -58,7 +60,7 @@ pub(crate) fn change<P: PagePool>(
     ensures err { OnErr result (ChangesNothing P.PagePool places.old.items places.new.items pages.old pages.new) }
     ensures pool { AddsPages P.PagePool entries.now result pages.old pages.new }
 {
-    let mut others = add_all(alloc, pages, entries, cuts)?;
+    let mut others = add_all(alloc, pages, entries, cuts, places.get(at))?;
     match reserve(places, &mut others) {
         Ok(()) => {
             let count = others.len();
@@ -99,6 +101,7 @@ fn add_all<P: PagePool>(
     pages: &mut P,
     entries: &Entries,
     cuts: Cuts,
+    near: Option<&SharedPlace>,
 ) -> Result<Vec<SharedPlace>, Fault>
     requires cuts { AreCuts entries.now cuts.first cuts.second }
     requires rising { are_in_order entries.now ≡ true }
@@ -107,7 +110,7 @@ fn add_all<P: PagePool>(
     ensures pool { AddsPages P.PagePool entries.now result pages.old pages.new }
 {
     let mut added = Vec::with_capacity(alloc, MAX_PARTS)?;
-    match add_parts(alloc, pages, entries, cuts, &mut added) {
+    match add_parts(alloc, pages, entries, cuts, near, &mut added) {
         Ok(()) => Ok(added),
         Err(fault) => {
             drop_all(pages, added);
@@ -123,6 +126,7 @@ fn add_parts<P: PagePool>(
     pages: &mut P,
     entries: &Entries,
     cuts: Cuts,
+    near: Option<&SharedPlace>,
     added: &mut Vec<SharedPlace>,
 ) -> Result<(), Fault>
     requires none { added.old.items ≡ [] }
@@ -134,9 +138,9 @@ fn add_parts<P: PagePool>(
     ensures pool { AddsPages P.PagePool entries.now result pages.old pages.new }
 {
     let len = entries.len();
-    add_part(alloc, pages, entries, 0, cuts.first, added)?;
-    add_part(alloc, pages, entries, cuts.first, cuts.second, added)?;
-    add_part(alloc, pages, entries, cuts.second, len, added)
+    add_part(alloc, pages, entries, 0, cuts.first, near, added)?;
+    add_part(alloc, pages, entries, cuts.first, cuts.second, near, added)?;
+    add_part(alloc, pages, entries, cuts.second, len, near, added)
 }
 
 /// Adds the pages of the entries from the one place up to the other, where there are any, and puts their place behind the others. Any fault but
@@ -147,6 +151,7 @@ fn add_part<P: PagePool>(
     entries: &Entries,
     from: usize,
     to: usize,
+    near: Option<&SharedPlace>,
     added: &mut Vec<SharedPlace>,
 ) -> Result<(), Fault>
     requires order { from ≤ to }
@@ -166,7 +171,7 @@ fn add_part<P: PagePool>(
         return Ok(());
     }
     let _all = entries.len();
-    let place = add_page(alloc, pages, entries, from, to)?;
+    let place = add_page(alloc, pages, entries, from, to, near)?;
     added.push(place).unwrap();
     Ok(())
 }
@@ -179,6 +184,7 @@ fn add_page<P: PagePool>(
     entries: &Entries,
     from: usize,
     to: usize,
+    near: Option<&SharedPlace>,
 ) -> Result<SharedPlace, Fault>
     requires order { from < to }
     requires within { to ≤ length entries.now }
@@ -191,7 +197,7 @@ fn add_page<P: PagePool>(
     let _all = entries.len();
     let stamp = entries.stamp(from);
     let identifier = entries.identifier(alloc, from)?;
-    let prefixes = entries.prefixes(alloc, from, to)?;
+    let prefixes = prefixes_near(alloc, entries, from, to, near)?;
     let numbers = add_numbers(alloc, pages, entries, from, to)?;
     match SharedPlace::new(
         alloc,
@@ -207,6 +213,30 @@ fn add_page<P: PagePool>(
             Err(Fault::NoMemory)
         }
     }
+}
+
+/// Prefixes of which the items from the one place up to the other each have a record. Where each has those of the place `near`, and the first no
+/// other, they are the list of that place, which takes no more memory. The error is out of memory.
+fn prefixes_near(
+    alloc: Global,
+    entries: &Entries,
+    from: usize,
+    to: usize,
+    near: Option<&SharedPlace>,
+) -> Result<Rc<Sequence<Prefix>>, AllocError>
+    requires some { from < to }
+    requires within { to ≤ length entries.now }
+    ensures { IfOk result (λ prefixes. have_records prefixes.value (between from to entries.now) ≡ true) }
+{
+    if let Some(place) = near {
+        let known = place.prefixes();
+        if entries.records(from) <= known.as_slice().len()
+            && entries.have_records(from, to, known.as_slice())
+        {
+            return known.clone();
+        }
+    }
+    Ok(Rc::new(alloc, entries.prefixes(alloc, from, to)?)?)
 }
 
 /// Adds the pages of the entries from the one place up to the other, and returns their numbers. Any fault but `Damaged` may come; the pages are then

@@ -312,6 +312,27 @@ impl Entries {
         }
         Ok(Sequence::new(prefixes))
     }
+
+    /// Whether the items from the one place up to the other each have a record of each of the prefixes.
+    pub(crate) fn have_records(&self, from: usize, to: usize, prefixes: &[Prefix]) -> bool
+        requires order { from ≤ to }
+        requires within { to ≤ length self.now }
+        ensures { result ≡ have_records prefixes.now (between from to self.now) }
+    {
+        let mut all = true;
+        for at in from..to {
+            all = all && has_each(&self.spelled(at), prefixes);
+        }
+        all
+    }
+
+    /// How many records the item at that place has.
+    pub(crate) fn records(&self, at: usize) -> usize
+        requires { at < length self.now }
+        ensures { HoldsAt (λ item. result ≡ length item.formats) self.now at }
+    {
+        self.spelled(at).records().len()
+    }
 }
 
 impl Entries {
@@ -510,6 +531,15 @@ fn prefixes_of(alloc: Global, item: &Spelling<'_>) -> Result<Vec<Prefix>, AllocE
         prefixes.push(Prefix::new(alloc, format.prefix)?)?;
     }
     Ok(prefixes)
+}
+
+/// Whether the item has a record of each of the prefixes.
+fn has_each(item: &Spelling<'_>, prefixes: &[Prefix]) -> bool
+    ensures { result ≡ list_all (λ prefix. has_record prefix item.now.formats) prefixes.now }
+{
+    prefixes
+        .iter()
+        .all(|prefix| item.has_record(prefix.as_str()))
 }
 
 /// Those of the prefixes of which the item has a record.

@@ -17,7 +17,8 @@ struct Place {
     stamp: i64,
     identifier: Identifier,
     len: usize,
-    prefixes: Sequence<Prefix>,
+    /// Many places have the same: these have one list in common, so that it is at hand where many are asked.
+    prefixes: Rc<Sequence<Prefix>>,
 }
 
 impl Model for Place {
@@ -30,7 +31,7 @@ impl Model for Place {
       stamp = p.stamp;
       identifier = p.identifier;
       len = p.len;
-      prefixes = p.prefixes;
+      prefixes = p.prefixes.value;
     } };
 }
 
@@ -57,14 +58,14 @@ impl SharedPlace {
         stamp: i64,
         identifier: Identifier,
         len: usize,
-        prefixes: Sequence<Prefix>,
+        prefixes: Rc<Sequence<Prefix>>,
     ) -> Result<SharedPlace, AllocError>
         ensures { IfOk result (λ place. place ≡ record {
           pages = pages.now;
           stamp = stamp;
           identifier = identifier;
           len = len;
-          prefixes = prefixes;
+          prefixes = prefixes.value;
         }) }
     {
         let place = Place {
@@ -121,6 +122,13 @@ impl SharedPlace {
         ensures { result ≡ self.now.len }
     {
         self.place.len
+    }
+
+    /// The prefixes of which each item is known to have a record: a list that other places may have too.
+    pub(crate) fn prefixes(&self) -> &Rc<Sequence<Prefix>>
+        ensures { result.now.value ≡ self.now.prefixes }
+    {
+        &self.place.prefixes
     }
 
     /// Whether the prefix is one of those of which each item is known to have a record.
