@@ -1,5 +1,5 @@
 -- The prefixes of which each of some items has a record.
-use Rattle.std.proofs.Common.{◌≡◌, ◌∙◌, ◌+◌, ◌<◌, ◌≤◌, ℕ, Bool, true, List, [], ◌∷◌, ◌++◌, Option, Some, is_some, length, take, drop, get_or, refl, ap, arith, append_assoc}
+use Rattle.std.proofs.Common.{◌≡◌, ◌∙◌, ◌+◌, ◌<◌, ◌≤◌, ℕ, Bool, true, List, [], ◌∷◌, ◌++◌, Option, Some, is_some, length, take, drop, get_or, refl, ap, arith}
 use Rattle.std.specs.Prelude.{filter, find, map}
 use Rattle.std.specs.List.{list_all}
 use Rattle.std.specs.Str.{bytes_eq}
@@ -61,6 +61,3 @@ pub between_more : (items : List ItemState) (from at : ℕ) (d : ItemState) → 
 unfolding between
 between_more items from at d order within =
     ap (drop from) (take_more items at d within) ∙ drop-append-le from (take at items) (get_or items at d ∷ []) (omega (arith, order, within, length-take-le at items (omega (arith, within))))
-
-pub prefix_more : {A B : Type 0} (f : A → B) (front : List B) (y : B) (x : A) (xs whole : List A) → y ≡ f x → front ++ map f (x ∷ xs) ≡ map f whole → (front ++ y ∷ []) ++ map f xs ≡ map f whole
-prefix_more f front y x xs whole is h = append_assoc front (y ∷ []) (map f xs) ∙ (λ k. front ++ (is k ∷ map f xs)) ∙ h

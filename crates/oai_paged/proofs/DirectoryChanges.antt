@@ -1,5 +1,5 @@
 -- What a change of a directory makes of its items.
-use Rattle.std.proofs.Common.{◌≡◌, ◌∙◌, ◌+◌, ◌<◌, ℕ, ℤ, suc, zero, true, false, not, eqb, List, [], ◌++◌, Result, None, length, take, drop, get_or, sym, ap, subst, arith}
+use Rattle.std.proofs.Common.{◌≡◌, ◌∙◌, ◌+◌, ◌<◌, ℕ, ℤ, true, false, not, List, [], ◌++◌, Result, None, length, take, drop, get_or, sym, ap, subst, arith}
 use Rattle.std.specs.Prelude.{is_some}
 use Rattle.oai_item.specs.Item.{ItemState}
 use Rattle.oai_item.specs.Items.{is_at, item_at, with_item, without_at}
@@ -34,11 +34,6 @@ items_removed g stamp identifier items entries at new_at new_len gone before aft
     changed_items g entries at 1 new_at new_len gone before after old new h changed
     ∙ ap (λ zs. items_on (g.pages old) (take at before) ++ (zs ++ items_on (g.pages old) (drop (at + 1) before))) (made ∙ ap (without_at stamp identifier) read)
     ∙ sym (without_at-cut (g.pages old) before stamp identifier at h.directory within belongs)
-
--- a directory that is not empty has a place
-pub some_place : (len : ℕ) (places : List PlaceState) → len ≡ length places → eqb len 0 ≡ false → 0 < length places
-some_place zero places many some = cc
-some_place (suc n) places many some = omega (arith, many)
 
 -- ---- after a page of it was read
 

@@ -1,6 +1,6 @@
 -- Places exchanged for others, one after the other.
 use Rattle.std.proofs.Common.{◌≡◌, ◌∙◌, ◌+◌, ◌-◌, ◌<◌, ◌≤◌, ℕ, suc, List, [], ◌∷◌, ◌++◌, length, take, drop, set, get_or, sym, ap, arith, append_assoc, append-nil, length-append}
-use Rattle.std.specs.List.{insert, remove}
+use Rattle.std.specs.List.{remove}
 use Rattle.std.proofs.lemmas.List.{drop-drop, drop-take, drop_all, drop_at, drop_more, get_or-drop, get_or_at, length-drop, length-take-le, set_at, take-append-drop, take-take, take_all, take_at, take_more}
 
 -- so many of the old from `at` on were exchanged for others, the first ones
@@ -40,28 +40,6 @@ swapped_step at i old others new new_others x y h within others_within is_x is_y
           ∙ sym (append_assoc (take i (drop at old)) (y ∷ []) (drop (i + 1) others))
           ∙ ap (λ zs. zs ++ drop (i + 1) others) (sym back_more);
     }
-
--- the last of the others, put in before those that were put in
-pub moved_in : {A : Type 0} (at m k i : ℕ) (old others p o p2 o2 : List A) (x : A) → m ≡ k + 1 → i ≡ k → k < length others → at ≤ length old
-    → o ≡ take m others → p ≡ take at old ++ (drop m others ++ drop at old) → x ≡ get_or o i x → o2 ≡ remove o i → p2 ≡ insert p at x
-    → (o2 ≡ take k others) × (p2 ≡ take at old ++ (drop k others ++ drop at old))
-moved_in at m k i old others p o p2 o2 x em ei within at_within ho hp hx ho2 hp2 =
-    let e = get_or others k x in
-    let o_is : o ≡ take k others ++ e ∷ [] = ho ∙ ap (λ n. take n others) em ∙ take_more others k x within in
-    let len : length (take k others) ≡ k = length-take-le k others (omega arith) in
-    let x_is : x ≡ e = hx ∙ ap (λ n. get_or o n x) ei ∙ ap (λ zs. get_or zs k x) o_is ∙ get_or_at (take k others) e [] x k len in
-    let gone : remove (take k others ++ e ∷ []) k ≡ take k others =
-    ap (λ zs. take k (take k others ++ e ∷ []) ++ zs) (drop_all (suc k) (take k others ++ e ∷ []) (omega (arith, length-append (take k others) (e ∷ []), len)))
-    ∙ append-nil (take k (take k others ++ e ∷ [])) ∙ take_at (take k others) (e ∷ []) k len in
-    let rest : List _ = drop m others ++ drop at old in
-    let len_front : length (take at old) ≡ at = length-take-le at old at_within in
-    let more : x ∷ drop m others ≡ drop k others = ap (λ n. x ∷ drop n others) em ∙ ap (λ z. z ∷ drop (k + 1) others) x_is ∙ sym (drop_more others k x within) in (
-      ho2 ∙ ap (λ n. remove o n) ei ∙ ap (λ zs. remove zs k) o_is ∙ gone,
-      hp2 ∙ ap (λ zs. insert zs at x) hp
-          ∙ ap (λ zs. zs ++ x ∷ drop at (take at old ++ rest)) (take_at (take at old) rest at len_front)
-          ∙ ap (λ zs. take at old ++ x ∷ zs) (drop_at (take at old) rest at len_front)
-          ∙ ap (λ zs. take at old ++ (zs ++ drop at old)) more,
-    )
 
 -- one more that is taken out
 pub moved_out : {A : Type 0} (at i : ℕ) (old others p o p2 o2 : List A) (y : A) → at + i < length old → p ≡ take at old ++ drop (at + i) old → o ≡ others ++ take i (drop at old)

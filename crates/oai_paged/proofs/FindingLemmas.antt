@@ -9,7 +9,7 @@ use Rattle.std.proofs.lemmas.Bool.{and_parts, cond-true, cond-false}
 use Rattle.std.proofs.lemmas.List.{drop_at, take_at}
 use Rattle.oai_names.proofs.Lists.{all-weaker}
 use Rattle.oai_item.specs.Decoding.{item_in}
-use Rattle.oai_item.specs.Encoding.{IsDecoding, Spells, encoded, encoded_count}
+use Rattle.oai_item.specs.Encoding.{Spells, encoded, encoded_count}
 use Rattle.oai_item.specs.Item.{ItemState}
 use Rattle.oai_item.specs.Items.{is_at, item_at}
 use Rattle.oai_item.specs.Order.{are_in_order, place_cmp, precedes}
@@ -46,10 +46,6 @@ order_seen stamp identifier spelling item order s e told = told item (ap item_in
 -- what was read of bytes that spell an item is that item
 pub read_is : (bytes : List ℕ) (read item : ItemState) → Spells bytes read → Spells bytes item → Some read ≡ Some item
 read_is bytes read item s t = ap Some (same_spelled bytes item read t s)
-
-pub read_fails : (bytes : List ℕ) (fault : DecodeFault) (item : ItemState) → IsDecoding bytes (Err fault) → Spells bytes item → IsItemRead item (Err fault)
-read_fails bytes Damaged item h s = h item s
-read_fails bytes NoMemory item h s = tt
 
 -- an item that was read is the one that was looked for
 pub finding_is : (stamp : ℤ) (identifier : List ℕ) (items : List ItemState) (item : ItemState) (result : Result (Option ItemState) DecodeFault) → IsItemRead item result

@@ -206,10 +206,6 @@ not_both : (a b : Bool) → a ≡ false → (a && b) ≡ false
 not_both true b h = cc
 not_both false b h = refl
 
-not_second : (a b c : Bool) → b ≡ false → (a && b && c) ≡ false
-not_second true b c h = ap (λ x. x && c) h
-not_second false b c h = refl
-
 not_wanted : (asked : Filter) (stamp : ℤ) (identifier : List ℕ) (x : ItemState) → (int_le asked.lower x.stamp ≡ false) ⊎ (is_gt (place_cmp x stamp identifier) ≡ false) → is_wanted asked stamp identifier x ≡ false
 not_wanted asked stamp identifier x (inr early) = not_both (is_gt (place_cmp x stamp identifier)) (passes asked x) early
 not_wanted asked stamp identifier x (inl low) =

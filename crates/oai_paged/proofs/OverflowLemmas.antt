@@ -32,10 +32,6 @@ no_bytes (b ∷ bytes) h = absurd (omega arith)
 
 -- ---- a page that is filled
 
-pub length-filled : (bytes : List ℕ) → length bytes ≤ PAGE_BYTES → length (filled bytes) ≡ PAGE_BYTES
-unfolding filled
-length-filled bytes fits = omega (arith, fits, length-append bytes (zeros (PAGE_BYTES - length bytes)), length-zeros (PAGE_BYTES - length bytes))
-
 -- ---- bytes on several pages
 
 pub length-spread : (k : ℕ) (bytes : List ℕ) → length (spread k bytes) ≡ k

@@ -2,7 +2,7 @@
 use Rattle.std.proofs.Common.{◌≡◌, ◌∙◌, ◌+◌, ◌-◌, ◌*◌, ◌^◌, ◌<◌, ◌≤◌, ℕ, suc, List, [], ◌∷◌, ◌++◌, Some, length, take, drop, refl, sym, ap, arith, w32, append_assoc, length-append}
 use Rattle.std.specs.Prelude.{replicate}
 use Rattle.std.specs.Int.{from_be_bytes, to_be_bytes}
-use Rattle.std.proofs.lemmas.List.{drop-drop, drop_at, length-replicate, take_at}
+use Rattle.std.proofs.lemmas.List.{drop-drop, drop_at, take_at}
 use Rattle.std.proofs.lemmas.Nat.{from_be_bytes-to_be_bytes_4}
 use Rattle.oai_item.specs.Encoding.{Spells, encoded, encoded_count, encoded_text}
 use Rattle.oai_item.specs.Item.{ItemState}
@@ -96,14 +96,6 @@ length-written items = omega (arith, length-append (encoded_count (length items)
 pub page_parts : (room : ℕ) (items : List ItemState) → page_spelling room items ≡ encoded_count (length items) ++ (entries_of items ++ replicate (room - size_of items) 0)
 unfolding page_spelling written
 page_parts room items = append_assoc (encoded_count (length items)) (entries_of items) (replicate (room - size_of items) 0)
-
--- a page has room for its items
-pub page_size : (bytes : List ℕ) (items : List ItemState) → IsPage bytes items → 4 + size_of items ≤ length bytes
-unfolding page_spelling
-page_size bytes items page =
-    let zeros : List ℕ = replicate (length bytes - 4 - size_of items) 0 in
-    let long : length zeros ≡ length bytes - 4 - size_of items = length-replicate (length bytes - 4 - size_of items) 0 in
-    omega (arith, ap length page.spelling, length-append (written items) zeros, length-written items, long)
 
 pub items_in-page : (bytes : List ℕ) (items : List ItemState) → IsPage bytes items → items_in bytes ≡ items
 unfolding items_in

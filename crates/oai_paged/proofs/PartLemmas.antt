@@ -2,16 +2,12 @@
 use Rattle.std.proofs.Common.{◌≡◌, ◌∙◌, ◌+◌, ◌-◌, ◌<◌, ◌≤◌, inl, inr, ℕ, suc, zero, Bool, true, false, cond, ◌&&◌, List, [], ◌∷◌, ◌++◌, length, take, drop, get_or, refl, sym, ap, subst, arith, append_assoc, append-nil, length-append}
 use Rattle.std.specs.Prelude.{filter}
 use Rattle.std.proofs.lemmas.Bool.{cases_Bool, cond-false, cond-true}
-use Rattle.std.proofs.lemmas.List.{take-append-drop, take_all, take_more}
+use Rattle.std.proofs.lemmas.List.{take-append-drop, take_more}
 use Rattle.std.proofs.lemmas.List.Elements.{filter-append}
 use Rattle.oai_item.specs.Item.{ItemState}
 use Rattle.oai_item.specs.Encoding.{Spells, encoded}
 use Rattle.oai_paged.specs.Pages.{AreStorable}
 use Rattle.oai_paged.specs.Parts.{IsPartTaken}
-
--- nothing yet
-pub taken_none : (p : ItemState → Bool) (most : ℕ) (part : List ItemState) (skip : ℕ) → IsPartTaken p most part part skip skip []
-taken_none p most part skip rest = refl
 
 -- one after the other
 pub taken_both : (p : ItemState → Bool) (most : ℕ) (old mid new : List ItemState) (skip between left : ℕ) (xs ys : List ItemState)
@@ -54,17 +50,6 @@ none_of (suc n) = refl
 none_taken : (n : ℕ) → take {A = ItemState} n [] ≡ []
 none_taken zero = refl
 none_taken (suc n) = refl
-
--- all items seen: what was taken
-pub taken_all : (p : ItemState → Bool) (most : ℕ) (new : List ItemState) (skip left : ℕ) (items rest : List ItemState) → IsPartTaken p most [] new skip left items → filter p rest ≡ []
-    → new ≡ take most (drop skip (filter p (items ++ rest)))
-taken_all p most new skip left items rest h none =
-    sym (append-nil new)
-    ∙ ap (λ zs. new ++ zs) (sym (none_taken (most - length new)) ∙ ap (λ zs. take (most - length new) zs) (sym (none_of left) ∙ ap (λ zs. drop left zs) (sym none)))
-    ∙ h rest
-    ∙ ap (λ m. take m (drop skip (filter p (items ++ rest)))) all_of where
-      all_of : most - length {A = ItemState} [] ≡ most
-      all_of = omega arith
 
 -- no item is left, or the part has as many as it may
 pub part_ends : (most skip : ℕ) (part rest whole : List ItemState) → rest ≡ [] → part ++ take most (drop skip rest) ≡ whole → part ≡ whole
@@ -134,10 +119,6 @@ pub taken_stopped : (p : ItemState → Bool) (most : ℕ) (old part : List ItemS
 taken_stopped p most old part skip left items i h enough =
     subst (λ (xs : List ItemState). IsPartTaken p most old part skip left xs) (take-append-drop i items)
     (taken_both p most old part part skip left left (take i items) (drop i items) h (taken_enough p most part left left (drop i items) enough))
-
-pub taken_whole : (p : ItemState → Bool) (most : ℕ) (old part : List ItemState) (skip left : ℕ) (items : List ItemState) (i : ℕ)
-    → IsPartTaken p most old part skip left (take i items) → length items ≤ i → IsPartTaken p most old part skip left items
-taken_whole p most old part skip left items i h all = subst (λ (xs : List ItemState). IsPartTaken p most old part skip left xs) (take_all i items all) h
 
 -- ---- one item more: taken, passed over, or not wanted
 

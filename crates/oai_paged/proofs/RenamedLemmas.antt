@@ -50,15 +50,6 @@ adds_then_nothing g xs a old mid new h k =
     subst (λ (zs : List ItemState). Adds g zs a old new) (append-nil xs)
     (subst (λ (c : List PlaceState). Adds g (xs ++ []) c old new) (append-nil a) (adds_both g xs [] a [] old mid new h (adds_nothing g mid new k)))
 
--- pages added, and dropped again
-pub adds_dropped : {P : Type 0} (g : Ghosts P) (xs : List ItemState) (a : List PlaceState) (old mid new : P) → Adds g xs a old mid → Renames g a [] mid new → Renames g [] [] old new
-adds_dropped g xs a old mid new h k = record {
-  counts = λ n. omega (arith, named_in-nil n, h.names.counts n, k.counts n);
-  kept = λ n named.
-      let free : named_in a n ≡ 0 = h.fresh n (omega (arith, named_in-nil n, named)) in
-      k.kept n (omega (arith, free, named, named_in-nil n, h.names.counts n)) ∙ h.names.kept n named;
-}
-
 -- the added pages are named as often as places name them
 pub added_named : {P : Type 0} (g : Ghosts P) (xs : List ItemState) (a : List PlaceState) (old new : P) → Adds g xs a old new → (n : ℕ) → named_in a n ≤ count_of (g.counts new) n
 added_named g xs a old new h n = omega (arith, named_in-nil n, h.names.counts n)
@@ -185,10 +176,6 @@ renames_undone g at len gone before after old mid late new s k d = record {
       ∙ k.kept n (omega (arith, named, named_in-nil n, s.names.counts n))
       ∙ s.names.kept n named;
 }
-
-pub undone_named : {P : Type 0} (g : Ghosts P) (at len : ℕ) (gone before after : List PlaceState) (old mid late : P) → Stages g at len gone before after old mid
-    → Renames g [] [] mid late → (n : ℕ) → named_in (take len (drop at after)) n ≤ count_of (g.counts late) n
-undone_named g at len gone before after old mid late s k n = omega (arith, named_in-nil n, s.names.counts n, k.counts n)
 
 -- what is so of a directory once the pages that went are dropped
 pub record IsSettled {P : Type 0} (g : Ghosts P) (before after : List PlaceState) (old mid new : P) : Type 0 where

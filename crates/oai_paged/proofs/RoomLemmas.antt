@@ -1,5 +1,5 @@
 -- How much room a store has left after its calls.
-use Rattle.std.proofs.Common.{◌≡◌, ◌+◌, ◌-◌, ◌/◌, ◌<◌, ◌≤◌, ℕ, suc, zero, List, [], ◌∷◌, min, Result, ap, arith}
+use Rattle.std.proofs.Common.{◌≡◌, ◌+◌, ◌-◌, ◌/◌, ◌<◌, ◌≤◌, ℕ, suc, zero, List, [], ◌∷◌, min, Result, arith}
 use Rattle.std.specs.Prelude.{Ok, Err}
 use Rattle.std.proofs.lemmas.Result.{IfErr-weaker}
 use Rattle.oai_catalogue.specs.Store.{NeedsRoom}
@@ -77,20 +77,6 @@ module _ {P A : Type 0} (g : Ghosts P) where
         (λ fault less is. calls_left-few (g.room p) numbers (g.counts p) few (less is)) changes.pool.room.enough;
     used = calls_left-less (g.room p) (g.room q) numbers (g.counts p) (g.counts q) few changes.pool.room.used
         (change_names numbers result before after p q changes);
-  }
-
-  -- pages were read
-  pub read_room : (result : Result A Fault) (p q : P) → g.counts q ≡ g.counts p → NeedsRoom 0 result (g.room p) (g.room q)
-      → NeedsRoom 0 result (calls_left (g.room p) (g.counts p)) (calls_left (g.room q) (g.counts q))
-  read_room result p q counts room = record {
-    enough = IfErr-weaker result (λ fault. fault ≡ TooManyPages → g.room p < 0)
-        (λ fault. fault ≡ TooManyPages → calls_left (g.room p) (g.counts p) < 0)
-        (λ fault less is. absurd (let none = less is in omega (arith, none))) room.enough;
-    used =
-        let less = room.used in
-        let kept = calls_left-same (g.room p) (g.room q) (g.counts p) (g.counts q) (omega (arith, less))
-        (λ n. let same = ap (λ (all : List ℕ). count_of all n) counts in omega (arith, same)) in
-        omega (arith, kept);
   }
 
 -- ---- by names given and dropped

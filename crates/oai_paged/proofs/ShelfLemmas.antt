@@ -232,13 +232,6 @@ module _ {P : Type 0} (g : Ghosts P) where
     named = shelved_named (g.counts p) (g.pages p) slots h v places is;
   }
 
-  -- pages were read
-  pub shelved_read : (slots : Directories) (p q : P) → AreShelved (g.counts p) (g.pages p) slots → g.counts q ≡ g.counts p
-      → g.pages q ≡ g.pages p → AreShelved (g.counts q) (g.pages q) slots
-  shelved_read slots p q h counts pages =
-      subst (λ (all : List ℕ). AreShelved all (g.pages q) slots) (sym counts)
-      (subst (λ (all : Pages). AreShelved (g.counts p) all slots) (sym pages) h)
-
 module _ {P : Type 0} (g : Ghosts P) where
   -- ---- the same slots, over pages of which those that are named are as they were
 

@@ -2,7 +2,6 @@
 use Rattle.std.proofs.Common.{◌≡◌, ◌∙◌, ◌⊎◌, ◌+◌, ◌<◌, ◌≤◌, ℕ, inl, inr, Result, Ok, Err, refl, sym, subst, arith}
 use Rattle.std.proofs.lemmas.Bool.{cases_lt}
 use Rattle.oai_item.specs.declared.faults.Fault.{Fault}
-use Rattle.oai_item.specs.declared.faults.Fault.TheVariants as told
 use Rattle.oai_pool.specs.Calls as pool
 use Rattle.oai_pool.specs.declared.pools.PagePool.{Ghosts}
 use Rattle.oai_pool.specs.declared.pools.PoolFault.{PoolFault}
@@ -121,16 +120,6 @@ takes_freed_ok g a x y p q s h k =
       room = record { enough = tt; used = omega (arith, used, k.room) };
       device = record { count = let first = h.device.count in omega (arith, first, k.count); device = tt };
       honesty = record { same = k.honesty ∙ h.honesty.same; damaged = tt };
-    }
-
--- and memory refused
-pub takes_freed_memory : {P A B : Type 0} (g : Ghosts P) (a : ℕ) (x : A) (p q s : P) → Takes g a (ok_of x) p q → FreesPages g q s → Takes g a (err_of B told.NoMemory) p s
-takes_freed_memory g a x p q s h k =
-    let used = h.room.used in
-    record {
-      room = record { enough = λ same. cc; used = omega (arith, used, k.room) };
-      device = record { count = let first = h.device.count in omega (arith, first, k.count); device = λ same. cc };
-      honesty = record { same = k.honesty ∙ h.honesty.same; damaged = λ same. cc };
     }
 
 -- after one that failed
