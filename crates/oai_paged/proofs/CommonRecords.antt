@@ -1,8 +1,9 @@
 -- The prefixes of which each of some items has a record.
-use Rattle.std.proofs.Common.{◌≡◌, ◌∙◌, ◌+◌, ◌<◌, ◌≤◌, ℕ, Bool, true, List, [], ◌∷◌, ◌++◌, Option, Some, is_some, length, take, drop, get_or, refl, ap, arith}
+use Rattle.std.proofs.Common.{◌≡◌, ◌∙◌, ◌+◌, ◌<◌, ◌≤◌, ℕ, Bool, true, false, ◌&&◌, List, [], ◌∷◌, ◌++◌, Option, Some, is_some, length, take, drop, get_or, refl, ap, arith}
 use Rattle.std.specs.Prelude.{filter, find, map}
 use Rattle.std.specs.List.{list_all}
 use Rattle.std.specs.Str.{bytes_eq}
+use Rattle.std.proofs.Math.Bool.{and-true}
 use Rattle.std.proofs.lemmas.Bool.{and_from, cond-true, cond_both}
 use Rattle.std.proofs.lemmas.List.{drop-append-le, drop_at, length-take-le, take_more}
 use Rattle.std.proofs.lemmas.List.Folds.{list_all-append}
@@ -51,6 +52,28 @@ common_records prefixes kept items more item h k e =
     in
     (λ i. list_all (λ (other : ItemState). list_all (has other) (k i)) (e i)) ∙ list_all-append all items (item ∷ [])
     ∙ and_from (list_all all items) (list_all all (item ∷ [])) front (and_from (all item) true (all-filter_same (has item) prefixes) refl)
+
+-- no item lacks a record; and one item more has a record of each, or one before it had none of one
+pub no_items : (prefixes : List (List ℕ)) → have_records prefixes [] ≡ true
+unfolding have_records
+no_items prefixes = refl
+
+has_each : List (List ℕ) → ItemState → Bool
+has_each prefixes item = list_all (λ prefix. has_record prefix item.formats) prefixes
+
+joined_records : (prefixes : List (List ℕ)) (items more : List ItemState) (item : ItemState) → more ≡ items ++ item ∷ []
+    → have_records prefixes more ≡ (have_records prefixes items && (has_each prefixes item && true))
+unfolding have_records has_each
+joined_records prefixes items more item e = ap (list_all (has_each prefixes)) e ∙ list_all-append (has_each prefixes) items (item ∷ [])
+
+pub all_records : (prefixes : List (List ℕ)) (items more : List ItemState) (item : ItemState) → have_records prefixes items ≡ true → more ≡ items ++ item ∷ []
+    → have_records prefixes more ≡ list_all (λ prefix. has_record prefix item.formats) prefixes
+unfolding has_each
+all_records prefixes items more item h e =
+    joined_records prefixes items more item e ∙ ap (λ b. b && (has_each prefixes item && true)) h ∙ and-true (has_each prefixes item)
+
+pub lacks_records : (prefixes : List (List ℕ)) (items more : List ItemState) (item : ItemState) → have_records prefixes items ≡ false → more ≡ items ++ item ∷ [] → have_records prefixes more ≡ false
+lacks_records prefixes items more item h e = joined_records prefixes items more item e ∙ ap (λ b. b && (has_each prefixes item && true)) h
 
 pub between_one : (items : List ItemState) (at : ℕ) (d : ItemState) → at < length items → between at (at + 1) items ≡ get_or items at d ∷ []
 unfolding between
