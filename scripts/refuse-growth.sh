@@ -11,7 +11,8 @@
 # Answers and pages, and the items of the copy, must be those of the undisturbed run. Of each it prints how many requests for memory it makes behind those that make the host, how
 # many of them were refused and answered so, how many were refused with no answer changed, and each that ended in a fault or was answered
 # otherwise. The last line is `N refused, M differences`, and the status is 0 where M is 0. LETTERS is how long the title of the first item
-# is, 1 if not given. COPY is a folder for the copy, which then stays. It stands beside the gate, and needs rt and python3.
+# is, 1 if not given. COPY is a folder for the copy, which then stays; PARTS is how many runs go on side by side, 1 if not set. It stands beside the
+# gate, and needs rt and python3.
 # Usage: scripts/refuse-growth.sh [LETTERS [exchange|run|pieces|clock|token|copy]..]
 set -u
 cd "$(dirname "$0")/.." || exit 2
@@ -625,7 +626,7 @@ cd "$program" || exit 2
 # The toolchain refuses the request of one number, and builds the program for each number. So it is one number for all runs, and a run makes
 # requests of its own before its script, as many as leave the n-th of the script to be that one.
 far=100000
-rm -rf "$cases"
+rm -rf "$cases"*
 mkdir -p "$cases"
 for word in "$@"; do
     : >"$cases/$word"
@@ -635,5 +636,15 @@ for word in "$@"; do
 done
 rt try --fail-alloc "$far" --seconds 60 --cases "$cases" >"$copy/counted" 2>&1
 number=$(python3 -B "$top/scripts/refuse_growth.py" plan "$copy/counted" "$cases" "$@") || exit 2
-rt try --fail-alloc "$number" --seconds 60 --cases "$cases" >"$copy/refused" 2>&1
+turn=0
+for arguments in "$cases"/*.args; do
+    part=$cases.$((turn++ % ${PARTS:-1}))
+    mkdir -p "$part"
+    mv "${arguments%.args}" "$arguments" "$part"
+done
+for part in "$cases".*; do
+    rt try --fail-alloc "$number" --seconds 60 --cases "$part" >"$copy/refused-${part##*.}" 2>&1 &
+done
+wait
+cat "$copy"/refused-* >"$copy/refused"
 python3 -B "$top/scripts/refuse_growth.py" tally "$copy/counted" "$copy/refused" "$@"
