@@ -626,7 +626,7 @@ cd "$program" || exit 2
 # The toolchain refuses the request of one number, and builds the program for each number. So it is one number for all runs, and a run makes
 # requests of its own before its script, as many as leave the n-th of the script to be that one.
 far=100000
-rm -rf "$cases"*
+rm -rf "$cases"* "$copy"/refused*
 mkdir -p "$cases"
 for word in "$@"; do
     : >"$cases/$word"
