@@ -2,7 +2,6 @@
 //! description of the spelling.
 use crate::assertions::assert_same;
 use crate::encodings::{assert_spelled, deleted_spelling, spelling};
-use crate::samples::STAMP;
 use oai_item::{
     DecodeFault, Item, MAX_ITEM_BYTES, SpelledRecord, Spelling, is_spelling, spelling_law,
 };
@@ -11,6 +10,7 @@ use std::alloc::Global;
 use std::cmp::Ordering;
 use std::panic::Expect;
 use std::process::Abort;
+use tests_samples::STAMP;
 
 /// The live item `oai:b:2` of 2024-01-01T00:00:00Z, in the sets `a:b` and `c`, with the title `T` and the volume `1` in `jnl`, and
 /// the title `T` in oai_dc.

@@ -1,13 +1,10 @@
-//! Tests of items, of items as bytes, and of metadata formats (`oai_item`); of stores of versions
-//! (`oai_catalogue`) and of lists that are open (`oai_lists`). It holds nothing else.
+//! Tests of items, of items as bytes, and of metadata formats (`oai_item`). It holds nothing else.
 #![tactic(auto)]
 
 #[cfg(test)]
 mod assertions;
 #[cfg(test)]
 mod encodings;
-#[cfg(test)]
-mod filled_stores;
 #[cfg(test)]
 mod formats;
 #[cfg(test)]
@@ -20,13 +17,3 @@ mod item_assertions;
 mod items;
 #[cfg(test)]
 mod many_sets;
-#[cfg(test)]
-mod open_lists;
-#[cfg(test)]
-mod part_after;
-#[cfg(test)]
-mod replacements;
-#[cfg(test)]
-mod samples;
-#[cfg(test)]
-mod versions;

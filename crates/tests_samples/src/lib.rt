@@ -1,4 +1,6 @@
-//! Items that tests speak of, each described in short.
+//! Items that tests of several crates speak of, each described in short. It holds no tests.
+#![tactic(auto)]
+
 use oai_item::{Field, Item};
 use oai_names::{Identifier, Prefix, Sequence, SetSpec, Text};
 use std::alloc::Global;
@@ -6,10 +8,10 @@ use std::panic::Expect;
 use std::process::Abort;
 
 /// 2024-01-01T00:00:00Z, the datestamp of an item that is not deposited later.
-pub(crate) const STAMP: i64 = 1_704_067_200;
+pub const STAMP: i64 = 1_704_067_200;
 
 /// `a`, so many times.
-pub(crate) fn letters(rt: &impl Abort, alloc: Global, many: usize) -> String {
+pub fn letters(rt: &impl Abort, alloc: Global, many: usize) -> String {
     let mut text = String::new(alloc);
     for _ in 0..many {
         text.push('a').expect(rt, "memory");
@@ -18,13 +20,14 @@ pub(crate) fn letters(rt: &impl Abort, alloc: Global, many: usize) -> String {
 }
 
 /// The field `title` of that text.
-pub(crate) fn title_field(rt: &impl Abort, alloc: Global, text: &str) -> Field {
+pub fn title_field(rt: &impl Abort, alloc: Global, text: &str) -> Field {
     Field {
         name: Text::new(alloc, "title").expect(rt, "memory"),
         text: Text::new(alloc, text).expect(rt, "memory"),
     }
 }
 
+/// The setSpecs of these texts.
 fn set_specs(rt: &impl Abort, alloc: Global, specs: &[&str]) -> Sequence<SetSpec> {
     let mut sets = Vec::new(alloc);
     for spec in specs {
@@ -34,6 +37,7 @@ fn set_specs(rt: &impl Abort, alloc: Global, specs: &[&str]) -> Sequence<SetSpec
     Sequence::new(sets)
 }
 
+/// A field `title` of that text, alone.
 fn titles(rt: &impl Abort, alloc: Global, text: &str) -> Sequence<Field> {
     let mut fields = Vec::new(alloc);
     fields
@@ -44,7 +48,7 @@ fn titles(rt: &impl Abort, alloc: Global, text: &str) -> Sequence<Field> {
 
 /// The item of that identifier, and of a datestamp so many seconds later, in these sets, with one
 /// title in oai_dc.
-pub(crate) fn item(
+pub fn item(
     rt: &impl Abort,
     alloc: Global,
     identifier: &str,

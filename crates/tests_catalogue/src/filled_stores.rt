@@ -3,13 +3,13 @@
 ghost use Rattle.std.specs.Prelude.{◌≡◌, IsSome};
 
 use crate::assertions::assert_same;
-use crate::samples::STAMP;
 use oai_catalogue::{Filter, Versions};
 use oai_item::Item;
 use oai_names::{Prefix, SetSpec};
 use std::alloc::Global;
 use std::panic::Expect;
 use std::process::Abort;
+use tests_samples::STAMP;
 
 /// What asks for the datestamps from so many to so many seconds later, in oai_dc.
 pub(crate) fn filter(rt: &impl Abort, alloc: Global, from: u8, until: u8) -> Filter {
