@@ -36,7 +36,9 @@ class Counter:
         self.client.post(bodies_of(item(number) for number in range(size)))
 
     def control(self, *arguments):
-        subprocess.run(["callgrind_control", *arguments, str(self.server.process.pid)], check=True, stdout=subprocess.DEVNULL)
+        """Tells callgrind something. It interrupts what the server waits for, which ends a connection, so there is none meanwhile."""
+        self.client.connection.close()
+        subprocess.run(["callgrind_control", *arguments, str(self.server.process.pid)], check=True, stdout=subprocess.DEVNULL, stderr=subprocess.DEVNULL)
 
     def counted(self, work):
         """How many instructions the work takes, and what it returns."""
