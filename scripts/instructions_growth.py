@@ -28,12 +28,12 @@ LIFETIME = 86_400
 
 
 class Counter:
-    """A server of so many items under callgrind, which counts only while it is told to."""
+    """A server of so many items under callgrind, which counts only while it is told to. The last of them are deposited while it counts."""
 
     def __init__(self, server, size):
         self.server, self.size, self.client = server, size, Client(server)
         self.chance = random.Random(SEED)
-        self.client.post(bodies_of(item(number) for number in range(size)))
+        self.client.post(bodies_of(item(number) for number in range(size - COUNTED)))
 
     def control(self, *arguments):
         """Tells callgrind something. It interrupts what the server waits for, which ends a connection, so there is none meanwhile."""
@@ -104,6 +104,7 @@ class Counter:
 
     def figures(self):
         """Each operation, and the instructions that one takes."""
+        deposit = self.deposits(item(number) for number in range(self.size - COUNTED, self.size))
         before = self.reads()
         self.begin("ListRecords")
         reads = self.reads() - before
@@ -115,14 +116,14 @@ class Counter:
             "the first part of a list": self.first_part(),
             "its first part by a token": first,
             "its last part": last,
-            "a deposit line": self.deposits(item(self.size + number) for number in range(COUNTED)),
+            "a deposit line": deposit,
             "a changed record": self.deposits(item(number, 1) for number in self.chance.sample(range(NEAR), COUNTED)),
             "reads of the first list that begins": reads,
         }
 
 
 def figures_of(size):
-    with Counted(configuration(CHUNK, LIFETIME, 100, 2 * size)) as server:
+    with Counted(configuration(CHUNK, LIFETIME, 100, size)) as server:
         return Counter(server, size).figures()
 
 
@@ -132,7 +133,7 @@ class Counted(Server):
     def command(self, path):
         output = f"--callgrind-out-file={self.folder.name}/counted"
         os.environ["GLIBC_TUNABLES"] = TUNABLES
-        return ["valgrind", "--tool=callgrind", "--instr-atstart=no", output, *super().command(path)]
+        return ["valgrind", "-q", "--tool=callgrind", "--instr-atstart=no", output, *super().command(path)]
 
 
 def main(sizes):
