@@ -5,7 +5,7 @@ use crate::samples::BEGIN;
 use oai_deposit::read_line;
 use oai_device::MemoryDevice;
 use oai_paged::PagedVersions;
-use oai_pool::Pool;
+use oai_pool::{PagePool, Pool};
 use oai_settings::RepoConfig;
 use std::alloc::Global;
 use std::panic::Expect;
