@@ -12,4 +12,6 @@ mod part_after;
 #[cfg(test)]
 mod replacements;
 #[cfg(test)]
+mod samples;
+#[cfg(test)]
 mod versions;

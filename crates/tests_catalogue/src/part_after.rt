@@ -2,12 +2,13 @@
 ghost use Rattle.std.specs.Prelude.{◌≡◌, IsSome};
 
 use crate::filled_stores::{assert_identifiers, filter, frozen, in_set, put_item};
+use crate::samples::item;
 use oai_catalogue::{Filter, PlainVersions, Versions};
 use oai_names::Identifier;
 use std::alloc::Global;
 use std::panic::Expect;
 use std::process::Abort;
-use tests_samples::{STAMP, item};
+use tests_samples::STAMP;
 
 /// A datestamp, so many seconds later than the first one, and an identifier.
 type Place<'a> = (u8, &'a str);

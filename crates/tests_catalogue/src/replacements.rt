@@ -3,13 +3,14 @@ ghost use Rattle.std.specs.Prelude.{◌≡◌, IsSome};
 
 use crate::assertions::assert_same;
 use crate::filled_stores::{assert_list, assert_selected, frozen, in_set, put_item};
+use crate::samples::item;
 use oai_catalogue::{PlainVersions, Versions};
 use oai_item::{Fault, Item};
 use oai_names::Identifier;
 use std::alloc::Global;
 use std::panic::Expect;
 use std::process::Abort;
-use tests_samples::{STAMP, item};
+use tests_samples::STAMP;
 use tests_stores::{Want, cramped, failing};
 
 /// A datestamp, so many seconds later than the first one, and an identifier.

@@ -5,13 +5,14 @@ ghost use Rattle.std.specs.Prelude.{◌≡◌, IsSome, IfOk, OnErr};
 
 use crate::assertions::assert_same;
 use crate::filled_stores::{assert_list, filter, frozen, put_item};
+use crate::samples::item;
 use oai_catalogue::{Filter, PlainVersions, Versions, remove_items};
 use oai_item::{Fault, Item};
 use oai_names::{Identifier, Prefix, SetSpec};
 use std::alloc::Global;
 use std::panic::Expect;
 use std::process::Abort;
-use tests_samples::{STAMP, item};
+use tests_samples::STAMP;
 use tests_stores::failing;
 
 /// `oai:a:1` of the first datestamp, `oai:a:2` of a second later, and so on, in the set `x:y`.

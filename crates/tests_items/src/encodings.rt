@@ -2,11 +2,11 @@
 //! description of the spelling, and not taken from the program.
 use crate::assertions::assert_same;
 use crate::item_assertions::{assert_title, assert_told};
+use crate::samples::item;
 use oai_item::{DecodeFault, Item, MAX_ITEM_BYTES, encoding_law};
 use std::alloc::Global;
 use std::panic::Expect;
 use std::process::Abort;
-use tests_samples::item;
 
 /// The live item `oai:a:1` of 2024-01-01T00:00:00Z, without sets, with the title `T` in oai_dc.
 pub(crate) fn spelling() -> [u8; 56] {

@@ -1,11 +1,11 @@
 //! Metadata formats: oai_dc, those that are declared, and why one is not.
 use crate::assertions::{assert_same, assert_shown};
+use crate::samples::letters;
 use oai_item::{Format, FormatFault, Formats};
 use oai_names::{Prefix, Sequence, Text};
 use std::alloc::Global;
 use std::panic::Expect;
 use std::process::Abort;
-use tests_samples::letters;
 
 const URI: &str = "http://host.example/jnl/";
 

@@ -3,11 +3,12 @@
 use crate::assertions::assert_same;
 use crate::encodings::assert_spelled;
 use crate::in_place::spelling_of_two;
+use crate::samples::item;
 use oai_item::{Item, ItemRecords};
 use std::alloc::Global;
 use std::panic::Expect;
 use std::process::Abort;
-use tests_samples::{STAMP, item};
+use tests_samples::STAMP;
 
 /// What is left of `spelling_of_two` where it is deleted a second later.
 fn spelling_of_its_tombstone() -> &'static [u8] {

@@ -5,13 +5,14 @@ ghost use Rattle.oai_item.specs.Order.{are_in_order};
 
 use crate::assertions::{assert_same, assert_shown};
 use crate::item_assertions::{assert_title, assert_title_field, assert_told};
+use crate::samples::{item, letters, title_field};
 use oai_item::{Fault, Item, TooLarge, is_in, order_law, place_of, selection_law, set_law};
 use oai_names::SetSpec;
 use std::alloc::Global;
 use std::cmp::Ordering;
 use std::panic::Expect;
 use std::process::Abort;
-use tests_samples::{STAMP, item, letters, title_field};
+use tests_samples::STAMP;
 
 /// `oai:a:1` in these sets, with this title.
 fn titled(rt: &impl Abort, alloc: Global, specs: &[&str], title: &str) -> Item {

@@ -17,3 +17,5 @@ mod item_assertions;
 mod items;
 #[cfg(test)]
 mod many_sets;
+#[cfg(test)]
+mod samples;
