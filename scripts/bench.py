@@ -149,6 +149,7 @@ class Bench:
         self.chance = random.Random(SEED)
         self.versions = itertools.count(1)
         self.figures, self.stamps, self.tokens = {}, [], []
+        self.begun = 0
 
     def measure(self, name, work):
         self.server.forget_memory()
@@ -169,6 +170,7 @@ class Bench:
         return 1
 
     def harvest(self, verb):
+        self.begun += 1
         count, self.tokens = self.client.harvest(verb)
         if count != self.size:
             raise SystemExit(f"{count} records were read in place of {self.size}")
@@ -179,6 +181,7 @@ class Bench:
         return 1
 
     def first_part(self, arguments=""):
+        self.begun += 1
         self.client.get(f"verb=ListRecords&{LISTED}{arguments}")
         return 1
 
@@ -198,9 +201,11 @@ class Bench:
         return sum(len(self.client.post([body_of([{"delete": identifier_of(it)}])])) for it in numbers if time.monotonic() < end)
 
     def rest(self):
-        """Waits until all lists have ended."""
+        """Waits until all lists have ended, and asks as often as they were begun, since each call lets one go."""
         time.sleep(LIFETIME + 1)
-        self.client.get("verb=Identify")
+        for _ in range(self.begun):
+            self.client.get("verb=Identify")
+        self.begun = 0
 
     def read(self):
         self.measure("GetRecord", lambda: as_many(self.get_record, SHORT))
