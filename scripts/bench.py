@@ -293,8 +293,8 @@ def plot(tables, folder):
     """Writes a plot of each operation against the number of items into the folder: a line for each place and cache."""
     os.makedirs(folder, exist_ok=True)
     for name in next(iter(next(iter(tables.values())).values())):
-        script = f"set terminal svg; set logscale xy; set xlabel 'items'; set key outside below\nset title '{name}, {next(iter(TABLES))}'\n".replace("server's", "server''s")
-        script += f"set output '{folder}/{re.sub('[^A-Za-z0-9]+', '-', name)}.svg'\n"
+        script = f"set terminal pngcairo; set logscale xy; set xlabel 'items'; set key outside below\nset title '{name}, {next(iter(TABLES))}'\n".replace("server's", "server''s")
+        script += f"set output '{folder}/{re.sub('[^A-Za-z0-9]+', '-', name)}.png'\n"
         lines = []
         for number, ((place, cache), runs) in enumerate(tables.items()):
             points = "\n".join(f"{size} {figures[name].by_processor}" for size, figures in runs.items())
