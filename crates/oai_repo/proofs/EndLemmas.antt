@@ -183,7 +183,7 @@ few_asked now old made new asked dropped few =
         | inl part ↦
             let kept : Table = record old { lists = with_change part.0 (kept_open part.1 part.2 part.3) old.lists } in
             let long : HoldsFew kept = omega (arith, few, length-map old.lists (changed_one part.0 (kept_open part.1 part.2 part.3))) in
-            subst (λ (table : Table). HoldsFew (dropped_at now table)) (sym part.4) (few_dropped now kept long)
+            subst (λ (table : Table). HoldsFew (dropped_at now table)) (sym part.5) (few_dropped now kept long)
         | inr begun ↦ subst (λ (table : Table). HoldsFew (dropped_at now table)) (sym begun.3) (asked_of now old begun.0 few begun.2)
       ]
     ])

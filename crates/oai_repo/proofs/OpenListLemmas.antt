@@ -393,11 +393,11 @@ pub in_use_same : (v : ℕ) (a b : List ℕ) (all : Lists) → b ≡ a → AreIn
 in_use_same v a b all same stands = subst (λ (ns : List ℕ). AreInUse (v ∷ ns) all) (sym same) stands
 
 pub left_kept : (config : Config) (now end : ℤ) (next : Option ℕ) (mark : Option Mark) (number v : ℕ) (table : Table) (all : Lists) → int_le end (pos 253_402_300_799) ≡ true → IsKeptTable config table → AreInUse (v ∷ versions_in table) all
-    → IsLeftOpen config now v table all (kept_table end next mark number table) all
-left_kept config now end next mark number v table all fits kept stands =
+    → IsSome (open_numbered number now table.lists) → IsLeftOpen config now v table all (kept_table end next mark number table) all
+left_kept config now end next mark number v table all fits kept stands opened =
     let same : versions_in (kept_table end next mark number table) ≡ versions_in table = kept_versions end next mark number table.lists in
     record {
-      asked = inr (inl (number, end, next, mark, refl));
+      asked = inr (inl (number, end, next, mark, opened, refl));
       kept = table_kept config end next mark number table fits kept;
       stands = in_use_same v (versions_in table) (versions_in (kept_table end next mark number table)) all same stands;
       others = subst (λ (ns : List ℕ). KeepsOthers (v ∷ versions_in table) all (v ∷ ns) all) (sym same) (kept_same (v ∷ versions_in table) all);

@@ -1,5 +1,5 @@
 -- What becomes of the open lists of a repository behind its calls: this repository's own.
-use Rattle.std.specs.Prelude.{◌≡◌, ◌⊎◌, ◌<◌, ◌≤◌, ℕ, ℤ, int_le, Bool, true, List, ◌∷◌, find, length, Option, None, Some, if◌then◌else◌}
+use Rattle.std.specs.Prelude.{◌≡◌, ◌⊎◌, ◌<◌, ◌≤◌, ℕ, ℤ, int_le, Bool, true, List, ◌∷◌, find, length, Option, None, Some, IsSome, if◌then◌else◌}
 use Rattle.oai_time.specs.declared.text.TheConstants.{LAST_SECOND}
 use Rattle.std.specs.List.{list_all}
 use Rattle.std.specs.Option.{option_map}
@@ -57,12 +57,12 @@ kept_open end next mark list = record list { end = end; given = highest_given ne
 abbrev pub IsMarkBehind : List ItemState → ℕ → Mark → Type 0
 IsMarkBehind items next mark = (mark.cursor ≡ next) × (ends_at mark.stamp mark.identifier items ≡ true)
 
--- what a request makes of the table at that moment: nothing; a part of one of the lists may have been answered; or a list begins, with the
+-- what a request makes of the table at that moment: nothing; a part of a list that is open may have been answered; or a list begins, with the
 -- next number, where fewer are open than may be
 abbrev pub IsAskedTable : ℤ → Table → Table → Type 0
 IsAskedTable now old new =
     (new ≡ old)
-    ⊎ ((number : ℕ) × (end : ℤ) × (next : Option ℕ) × (mark : Option Mark)
+    ⊎ ((number : ℕ) × (end : ℤ) × (next : Option ℕ) × (mark : Option Mark) × IsSome (open_numbered number now old.lists)
     × (new ≡ record old { lists = with_change number (kept_open end next mark) old.lists }))
     ⊎ ((list : OpenList) × (list.number ≡ old.next) × (length (open_ones now old.lists) < old.limit)
     × (new ≡ with_opened old list))

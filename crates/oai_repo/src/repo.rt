@@ -84,8 +84,8 @@ impl Repo {
 
     /// Performs a request of OAI-PMH, by the bytes of its query, at the moment, in seconds from 1970
     /// on: it moves the clock and replies with a document, or with how long to wait. Of the lists that have
-    /// ended it drops the first, as each call that succeeds does, so that many that end at once do not all
-    /// wait for one call; a list that has ended is answered no more, dropped or not. After a fault everything
+    /// ended it drops the first, as each call does that ends without a fault, so that one call does not drop
+    /// many that end at once; a list that has ended is answered no more, dropped or not. After a fault everything
     /// is as it was, the clock and the store's lists included. Any fault may come, and `TooManyPages`
     /// only where the request may begin a list and the store may lack room for one call.
     ///

@@ -1,5 +1,5 @@
 -- The list that the token continues is that of the state, and what is left is the table in which it is kept open.
-use Rattle.std.proofs.Common.{◌∷◌, ◌∙◌, ℕ, Option, true, ap, eqb, refl, sym, FitsSigned, w64}
+use Rattle.std.proofs.Common.{◌∷◌, ◌∙◌, ℕ, Option, is_some, true, ap, eqb, refl, sym, FitsSigned, w64}
 use Rattle.std.proofs.lemmas.Bool.{ltb-true, or_right}
 use Rattle.std.proofs.lemmas.Int.{to_z-of_z}
 use Rattle.oai_answers.specs.Borrowed.{attributes_of}
@@ -102,7 +102,7 @@ returns-clause-left g c =
     record {
       left =
           rw (kept, c.reply_from.ensures.reads.same)
-          (left_kept repo.config.now repo.clock c.end.result part.next part.mark list.number v table all c.end.ensures.last c.requires.ready.kept c.requires.ready.stands);
+          (left_kept repo.config.now repo.clock c.end.result part.next part.mark list.number v table all c.end.ensures.last c.requires.ready.kept c.requires.ready.stands (ap is_some opened));
       agrees = λ honest.
           rw (kept, c.reply_from.ensures.reads.same)
           (table_agrees_kept repo.clock c.end.result part.next part.mark list.number table all list c.in-Some.ensures.valid opened (c.in_ok-part.ensures.mark honest) (c.requires.ready.agrees honest));
