@@ -3,9 +3,9 @@ pub mod Answers
 pub mod Faults
 pub mod Tasks
 pub mod Alone
-pub mod Hosts
-pub mod Performed
 pub mod Room
+pub mod Performed
+pub mod Hosts
 pub mod Exchanged
 pub mod Rows
 pub mod NamedRepos

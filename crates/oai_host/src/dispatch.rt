@@ -1,15 +1,10 @@
 //! What exchanges ask of a repository, performed: requests of OAI-PMH, and deposits.
-ghost use Rattle.oai_catalogue.specs.Calls.{Uses};
-ghost use Rattle.oai_catalogue.specs.Store.{IsCounted, IsHonest, NeedsRoom};
-ghost use Rattle.oai_host.specs.Alone.{IsTried};
-ghost use Rattle.oai_host.specs.Answers.{OnFailed, Tells, failure_in};
-ghost use Rattle.oai_host.specs.Performed.{IsPerformed};
-ghost use Rattle.oai_host.specs.Room.{room_for_task};
+ghost use Rattle.oai_host.specs.Exchanged.{Performs};
 ghost use Rattle.oai_host.specs.Tasks as spec;
 ghost use Rattle.oai_host.specs.Tasks.{task_in};
 ghost use Rattle.oai_http.specs.Exchanges.{call_of};
-ghost use Rattle.oai_repo.specs.Fields.{Keeps, Owns, state_of};
-ghost use Rattle.std.specs.Prelude.{IsTrue, MatchResult, ℤ, ◌≡◌};
+ghost use Rattle.oai_repo.specs.Fields.{Owns};
+ghost use Rattle.std.specs.Prelude.{MatchResult, ℤ, ◌≡◌};
 
 use crate::deposits::perform_lines;
 use oai_catalogue::Versions;
@@ -27,21 +22,8 @@ pub(crate) fn perform<V: Versions>(
     exchange: &Exchange<'_>,
 ) -> Answer
     requires owns { Owns (V.honest store.old) repo.old (V.lists store.old) }
-    ensures tried { IsTrue (V.honest store.old)
-        → IsTried repo.old.config (state_of repo.old (V.lists store.old)) moment
-        (task_in endpoint (call_of moment exchange.now)) result (state_of repo.new (V.lists store.new)) }
-    ensures performed { IsPerformed repo.old.config moment (task_in endpoint (call_of moment exchange.now))
-        (state_of repo.old (V.lists store.old)) result (state_of repo.new (V.lists store.new)) }
-    ensures left { OnFailed result ((repo.new ≡ repo.old)
-        × (V.lists store.new ≡ V.lists store.old)) }
-    ensures told { Tells (task_in endpoint (call_of moment exchange.now)) result }
-    ensures kept { Keeps (V.honest store.old) repo.old (V.lists store.old) repo.new
-        (V.lists store.new) }
-    ensures room { NeedsRoom (room_for_task repo.old.config
-        (task_in endpoint (call_of moment exchange.now))) (failure_in result) (V.room store.old)
-        (V.room store.new) }
-    ensures device { IsCounted (failure_in result) (V.failures store.old) (V.failures store.new) }
-    ensures honesty { IsHonest (failure_in result) (V.honest store.old) (V.honest store.new) }
+    ensures { Performs V.Versions moment (task_in endpoint (call_of moment exchange.now)) result
+        repo.old store.old repo.new store.new }
 {
     match endpoint {
         Endpoint::Requests => match arguments_of(exchange) {
@@ -92,18 +74,8 @@ pub(crate) fn perform_request<V: Versions>(
     arguments: &[u8],
 ) -> Answer
     requires owns { Owns (V.honest store.old) repo.old (V.lists store.old) }
-    ensures tried { IsTrue (V.honest store.old)
-        → IsTried repo.old.config (state_of repo.old (V.lists store.old)) moment
-        (spec.asking arguments.now) result (state_of repo.new (V.lists store.new)) }
-    ensures performed { IsPerformed repo.old.config moment (spec.asking arguments.now)
-        (state_of repo.old (V.lists store.old)) result (state_of repo.new (V.lists store.new)) }
-    ensures left { OnFailed result ((repo.new ≡ repo.old)
-        × (V.lists store.new ≡ V.lists store.old)) }
-    ensures told { Tells (spec.asking arguments.now) result }
-    ensures kept { Keeps (V.honest store.old) repo.old (V.lists store.old) repo.new
-        (V.lists store.new) }
-    ensures store { Uses V.Versions (room_for_task repo.old.config (spec.asking arguments.now))
-        (failure_in result) store.old store.new }
+    ensures { Performs V.Versions moment (spec.asking arguments.now) result repo.old store.old repo.new
+        store.new }
 {
     match repo.ask(store, moment, arguments) {
         Ok(Reply::Page(page)) => Answer::with_body(page),
