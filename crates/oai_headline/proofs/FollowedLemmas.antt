@@ -28,7 +28,7 @@ use Rattle.oai_headline.proofs.TakenLemmas.{AreTaken, IsAsking, IsTaken, reachab
 
 -- ---- each visit of a chain is a request
 
-next_asking : (config : Config) (verb : ListVerb) (before : Visit) (others : List Visit) → AreNextVisits config verb before others → AllByRecursion IsAsking others
+pub next_asking : (config : Config) (verb : ListVerb) (before : Visit) (others : List Visit) → AreNextVisits config verb before others → AllByRecursion IsAsking others
 next_asking config verb before [] next = tt
 next_asking config verb before (visit ∷ others) next =
     (record { arguments = next.0.asked.arguments; asked = next.0.asked.asked }, next_asking config verb visit others next.1)

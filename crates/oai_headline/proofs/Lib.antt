@@ -3,8 +3,12 @@ pub mod EndLemmas
 pub mod PrintedLemmas
 pub mod TakenLemmas
 pub mod FollowedLemmas
-pub mod HeadlineLemmas
+pub mod CutLemmas
+pub mod GivenLemmas
+pub mod PartLemmas
+pub mod ThroughoutLemmas
 pub mod MetLemmas
 pub mod FoundLemmas
 pub mod WorkedCalls
 pub mod WorkedLemmas
+pub mod WorkedFaultLemmas

@@ -1,4 +1,6 @@
 pub mod Visits
 pub mod Chains
 pub mod Headline
+pub mod Throughout
 pub mod Worked
+pub mod WorkedFaults

@@ -2,7 +2,7 @@
 use Rattle.std.specs.Prelude.{◌≡◌, ◌+◌, ◌≤◌, ℕ, Bool, true, List, [], length, map}
 use Rattle.oai_config.specs.Configs.{HostConfig}
 use Rattle.oai_host.specs.Answers.{AreCounted, AreHonest}
-use Rattle.oai_host.specs.Hosts.{AreAnswered, AreAsAlone, HostState, begun, none_failed}
+use Rattle.oai_host.specs.Hosts.{AreAloneUnlessFailed, AreAnswered, HostState, begun}
 use Rattle.oai_http.specs.declared.exchanges.Answer.{Answer}
 use Rattle.oai_http.specs.declared.exchanges.Call.{Call}
 use Rattle.oai_paged.specs.Shelves.{calls_left}
@@ -21,10 +21,10 @@ pub record IsBegunOn (config : HostConfig) (honest : Bool) (failures : ℕ) (hos
   pub room : all_calls ≤ host.room + length config.repositories
 
 -- exchanges with it over an honest device: at each repository the answers are a run of its own exchanges alone, from its empty state, in
--- which each is done or has failed; where none has failed, they are those that the repository alone gives; an answer says
+-- which each is done or has failed; where none of these has failed, they are those that the repository alone gives; an answer says
 -- that the device failed only where it did since the host was made, and that something is damaged never
 pub record AreServedOnPages (config : HostConfig) (failures : ℕ) (calls : List Call) (answers : List Answer) (first last : HostState) : Type 0 where
   pub answered : AreAnswered calls answers first last
-  pub alone : none_failed answers ≡ true → AreAsAlone calls answers (map begun config.repositories)
+  pub alone : AreAloneUnlessFailed calls answers (map begun config.repositories)
   pub device : AreCounted answers failures last.failures
   pub damaged : AreHonest answers true true

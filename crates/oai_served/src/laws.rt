@@ -1,7 +1,6 @@
 ghost use Rattle.std.specs.Prelude.{◌≡◌, List, IsTrue};
 ghost use Rattle.oai_config.specs.Configs.{HostConfig};
-ghost use Rattle.oai_host.specs.Exchanged.{AreExchanged};
-ghost use Rattle.oai_host.specs.Hosts.{HostState};
+ghost use Rattle.oai_host.specs.Hosts.{AreExchanged, HostState};
 ghost use Rattle.oai_http.specs.declared.exchanges.Answer.{Answer};
 ghost use Rattle.oai_http.specs.declared.exchanges.Call.{Call};
 ghost use Rattle.oai_served.specs.Served.{AreServedOnPages, IsBegunOn};
