@@ -1,60 +1,80 @@
-ghost use Rattle.std.specs.Prelude.{◌≡◌, IfSome};
-ghost use Rattle.oai_time.specs.Bound.{IsWritableBound};
+ghost use Rattle.std.specs.Prelude.{◌≡◌, Some};
+ghost use Rattle.oai_time.specs.Bound.{IsWritableBound, bound_of};
 ghost use Rattle.oai_args.specs.Bounds as spec;
+ghost use Rattle.oai_args.specs.Requests.{provided};
 
 use oai_names::Text;
 use oai_time::{Bound, Granularity, is_no_finer_than, read_bound};
+use std::marker::Model;
 
-/// Whether the arguments `from` and `until`, where they are given, are bounds of one granularity,
-/// none finer than the repository's, and `from` is not after `until` (OAI-PMH 2.0, section 2.7.1).
-#[tactic(auto, unfolding(crate::specs::Bounds::are_bounds))]
-pub(crate) fn are_bounds(
-    granularity: Granularity,
-    from: &Option<Text>,
-    until: &Option<Text>,
-) -> bool
-    ensures { result ≡ spec.are_bounds granularity from.now until.now }
-{
-    is_none_or_bound(granularity, from)
-        && is_none_or_bound(granularity, until)
-        && are_not_turned(from, until)
+/// An argument `from` or `until`: its text, and the bound that the text stands for (OAI-PMH 2.0, section
+/// 2.7.1). Contracts see the bytes of the text.
+#[derive(Debug, Drop)]
+pub struct BoundText {
+    text: Text,
+    bound: Bound,
 }
 
-/// Whether the argument is not given, or is a bound no finer than the granularity.
-fn is_none_or_bound(granularity: Granularity, argument: &Option<Text>) -> bool
-    ensures { result ≡ spec.is_none_or_bound granularity argument.now }
-{
-    match argument {
-        Some(text) => match read_bound(text.as_str()) {
-            Ok(bound) => is_no_finer_than(bound, granularity),
-            Err(_) => false,
-        },
-        None => true,
+impl Model for BoundText {
+    ghost use Rattle.std.specs.Prelude.{◌≡◌, ℕ, List, Some};
+    ghost use Rattle.oai_time.specs.Bound.{IsWritableBound, bound_of};
+
+    ghost Value = { List ℕ };
+
+    ghost view = { λ b. b.text };
+
+    ghost invariant = { λ b. (bound_of b.text ≡ Some b.bound) × IsWritableBound b.bound };
+}
+
+impl BoundText {
+    /// The text, as it was given.
+    pub fn as_str(&self) -> &str
+        ensures { result.now ≡ self.now }
+    {
+        self.text.as_str()
+    }
+
+    /// The bound that the text stands for. It was parsed when the request was read.
+    pub fn bound(&self) -> Bound
+        ensures value { bound_of self.now ≡ Some result }
+        ensures writable { IsWritableBound result }
+    {
+        self.bound
     }
 }
 
-/// Whether the arguments are not two bounds, or the first is not after the second.
-fn are_not_turned(from: &Option<Text>, until: &Option<Text>) -> bool
+/// The argument, where it is not given, or is a bound no finer than the granularity; else None. It takes
+/// no memory.
+pub(crate) fn none_or_bound(
+    granularity: Granularity,
+    argument: Option<Text>,
+) -> Option<Option<BoundText>>
+    ensures { result ≡ provided (spec.is_none_or_bound granularity argument) argument }
+{
+    match argument {
+        Some(text) => match read_bound(text.as_str()) {
+            Ok(bound) => {
+                if is_no_finer_than(bound, granularity) {
+                    Some(Some(BoundText { text, bound }))
+                } else {
+                    None
+                }
+            }
+            Err(_) => None,
+        },
+        None => Some(None),
+    }
+}
+
+/// Whether the arguments are not two bounds, or these are of one granularity and the first is not after
+/// the second.
+pub(crate) fn are_not_turned(from: &Option<BoundText>, until: &Option<BoundText>) -> bool
     ensures { result
         ≡ spec.are_not_turned (spec.given_bound from.now) (spec.given_bound until.now) }
 {
-    match (given_bound(from), given_bound(until)) {
-        (Some(from), Some(until)) => is_not_after(from, until),
+    match (from, until) {
+        (Some(from), Some(until)) => is_not_after(from.bound(), until.bound()),
         _ => true,
-    }
-}
-
-/// The bound that an argument gives; None where it is not given, or is no bound. It takes no memory.
-pub fn given_bound(argument: &Option<Text>) -> Option<Bound>
-    ensures value { result ≡ spec.given_bound argument.now }
-    ensures writable { IfSome result IsWritableBound }
-{
-    match argument {
-        Some(text) => match read_bound(text.as_str()) {
-            Ok(bound) => Some(bound),
-            Err(_) => None,
-        },
-        None => None,
     }
 }
 

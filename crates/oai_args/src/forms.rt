@@ -4,7 +4,7 @@ ghost use Rattle.oai_args.specs.Requests as spec;
 ghost use Rattle.oai_args.specs.Steps.{result_of};
 
 use crate::arguments::Arguments;
-use crate::bounds::are_bounds;
+use crate::bounds::{are_not_turned, none_or_bound};
 use crate::requests::{ArgFault, Ask};
 use crate::roles::Part;
 use crate::verbs::Verb;
@@ -79,17 +79,17 @@ impl Arguments {
     }
 
     /// A first ListIdentifiers or ListRecords, if its arguments are of their syntax.
-    #[tactic(auto, unfolding(crate::specs::Requests::first_list_of))]
+    #[tactic(auto, unfolding(crate::specs::Requests::first_list_of, crate::specs::Bounds::are_bounds))]
     fn into_list(self, granularity: Granularity, verb: ListVerb) -> Option<Ask>
         ensures { result ≡ spec.first_list_of granularity verb self }
     {
         let prefix = self.prefix.once()?;
-        let from = self.from.once();
-        let until = self.until.once();
+        let from = none_or_bound(granularity, self.from.once())?;
+        let until = none_or_bound(granularity, self.until.once())?;
         let set = self.set.once();
         if is_prefix(prefix.as_str())
             && is_none_or_set_spec(&set)
-            && are_bounds(granularity, &from, &until)
+            && are_not_turned(&from, &until)
         {
             Some(Ask::List {
                 verb,

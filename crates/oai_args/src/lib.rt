@@ -9,5 +9,5 @@ mod requests;
 mod roles;
 mod verbs;
 
-pub use bounds::given_bound;
+pub use bounds::BoundText;
 pub use requests::{ArgFault, Ask, read_request, request_law};

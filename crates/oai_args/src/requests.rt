@@ -2,6 +2,7 @@ ghost use Rattle.oai_args.specs.Pairs.{decoded_pairs};
 ghost use Rattle.oai_args.specs.Requests.{GivesTheAnswer, IsReadFrom};
 
 use crate::arguments::Arguments;
+use crate::bounds::BoundText;
 use oai_names::{ListVerb, Text};
 use oai_time::Granularity;
 use std::alloc::Global;
@@ -32,11 +33,10 @@ pub enum Ask {
         verb: ListVerb,
         /// The argument `metadataPrefix`, of a prefix's syntax and any length.
         prefix: Text,
-        /// The argument `from`, which `oai_time::read_bound` reads, not finer than the repository's
-        /// granularity.
-        from: Option<Text>,
+        /// The argument `from`, not finer than the repository's granularity.
+        from: Option<BoundText>,
         /// The argument `until`, as `from`; with both given, of the same granularity and not before it.
-        until: Option<Text>,
+        until: Option<BoundText>,
         /// The argument `set`, of a setSpec's syntax and any length.
         set: Option<Text>,
     },

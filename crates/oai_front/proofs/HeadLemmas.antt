@@ -67,6 +67,7 @@ head_more bytes more kept h = record {
   method = sym (span_more bytes more kept.method h.method_in) ∙ h.method;
   target_in = within_more bytes more kept.target h.target_in;
   target = sym (span_more bytes more kept.target h.target_in) ∙ h.target;
+  endpoint = h.endpoint;
   type_in = withins_more bytes more kept.content_type h.type_in;
   content_type = sym (spans_more bytes more kept.content_type h.type_in) ∙ h.content_type;
 }

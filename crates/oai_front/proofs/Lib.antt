@@ -1,3 +1,4 @@
+pub mod FieldLemmas
 pub mod HeadLemmas
 pub mod ClientLemmas
 pub mod QueueLemmas

@@ -3,6 +3,7 @@ pub mod Messages
 pub mod Heads
 pub mod Clients
 pub mod Performing
+pub mod HeadFields
 pub mod RequestHeads
 pub mod Pipelining
 pub mod Queues

@@ -1,43 +1,105 @@
-ghost use Rattle.std.specs.Prelude.{◌≡◌, ◌≤◌, true, length, map, codes, All};
+ghost use Rattle.std.specs.Prelude.{◌≡◌, ◌≤◌, ◌++◌, ◌∷◌, [], ℕ, List, true, length, map, All, IfSome};
 ghost use Rattle.std.specs.Str.Parse.{digits_value};
-ghost use Rattle.httparse.specs.Spans.{IsHeaderWithin, IsWithin, header_bytes, span_bytes};
-ghost use Rattle.std.specs.Option.{option_map};
-ghost use Rattle.std.specs.Prelude.{IfSome};
+ghost use Rattle.httparse.specs.Spans.{IsHeaderWithin, IsWithin, header_bytes};
 ghost use Rattle.oai_front.specs.Fields as spec;
+ghost use Rattle.oai_front.specs.HeadFields.{AreLines, AreRead};
 
 use crate::framings::MAX_LENGTH_DIGITS;
 use httparse::spans::{HeaderSpan, Span};
 use oai_http::trim;
 
-/// How many of the fields have that name.
-#[tactic(auto, unfolding(crate::specs::Fields::values_named))]
-pub(crate) fn count_named(bytes: &[u8], headers: &[HeaderSpan], name: &[u8]) -> usize
-    requires { All (IsHeaderWithin (length bytes.now)) headers.now }
-    ensures { result ≡ length (spec.values_named name.now (map (header_bytes bytes.now) headers.now)) }
-{
-    let mut count = 0;
-    for header in headers {
-        if is_named(bytes, header, name) {
-            count += 1;
-        }
-    }
-    count
+/// The field lines of one name (RFC 9110, section 5.2).
+#[derive(Clone, Copy)]
+pub(crate) struct FieldLines {
+    /// Where the value of the first stands, if there is one.
+    pub(crate) first: Option<Span>,
+    /// Whether there is more than one.
+    pub(crate) is_repeated: bool,
 }
 
-/// The value of the first field of that name, where there is one.
-#[tactic(auto, unfolding(crate::specs::Fields::values_named))]
-pub(crate) fn first_named(bytes: &[u8], headers: &[HeaderSpan], name: &[u8]) -> Option<Span>
+/// What the fields of a head say of its message.
+#[derive(Clone, Copy)]
+pub(crate) struct HeadFields {
+    /// The field lines Host.
+    pub(crate) host: FieldLines,
+    /// The field lines Transfer-Encoding.
+    pub(crate) transfer_encoding: FieldLines,
+    /// The field lines Content-Length.
+    pub(crate) content_length: FieldLines,
+    /// The field lines Content-Type.
+    pub(crate) content_type: FieldLines,
+    /// Whether a field Connection lists `close`.
+    pub(crate) is_close: bool,
+}
+
+/// What the fields of a head say, by one walk over them.
+pub(crate) fn read_fields(bytes: &[u8], headers: &[HeaderSpan]) -> HeadFields
     requires { All (IsHeaderWithin (length bytes.now)) headers.now }
-    ensures within { IfSome result (IsWithin (length bytes.now)) }
-    ensures first { option_map (span_bytes bytes.now) result
-        ≡ spec.first_value (spec.values_named name.now (map (header_bytes bytes.now) headers.now)) }
+    ensures { AreRead bytes.now (map (header_bytes bytes.now) headers.now) result }
 {
+    let mut fields = HeadFields::new();
     for header in headers {
-        if is_named(bytes, header, name) {
-            return Some(header.value);
+        fields.add(bytes, header);
+    }
+    fields
+}
+
+impl HeadFields {
+    /// What no fields say.
+    #[tactic(auto, unfolding(crate::specs::Fields::values_named, crate::specs::Fields::any_close))]
+    fn new() -> HeadFields
+        ensures { (bytes : List ℕ) → AreRead bytes [] result }
+    {
+        let none = FieldLines {
+            first: None,
+            is_repeated: false,
+        };
+        HeadFields {
+            host: none,
+            transfer_encoding: none,
+            content_length: none,
+            content_type: none,
+            is_close: false,
         }
     }
-    None
+
+    /// Takes one more field.
+    fn add(&mut self, bytes: &[u8], header: &HeaderSpan)
+        requires { IsHeaderWithin (length bytes.now) header.now }
+        ensures { (fields : List (List ℕ × List ℕ)) → AreRead bytes.now fields self.old
+            → AreRead bytes.now (fields ++ header_bytes bytes.now header.now ∷ []) self.new }
+    {
+        self.host.add(bytes, header, b"Host");
+        self.transfer_encoding
+            .add(bytes, header, b"Transfer-Encoding");
+        self.content_length.add(bytes, header, b"Content-Length");
+        self.content_type.add(bytes, header, b"Content-Type");
+        self.is_close = self.is_close || closes(bytes, header);
+    }
+}
+
+impl FieldLines {
+    /// Takes one more field, if it has that name.
+    fn add(&mut self, bytes: &[u8], header: &HeaderSpan, name: &[u8])
+        requires { IsHeaderWithin (length bytes.now) header.now }
+        ensures { (fields : List (List ℕ × List ℕ))
+            → AreLines bytes.now (spec.values_named name.now fields) self.old
+            → AreLines bytes.now
+            (spec.values_named name.now (fields ++ header_bytes bytes.now header.now ∷ [])) self.new }
+    {
+        if is_named(bytes, header, name) {
+            self.is_repeated = self.first.is_some();
+            self.first = self.first.or(Some(header.value));
+        }
+    }
+}
+
+/// Whether it is a field Connection that lists `close`.
+fn closes(bytes: &[u8], header: &HeaderSpan) -> bool
+    requires { IsHeaderWithin (length bytes.now) header.now }
+    ensures { result ≡ spec.any_close (header_bytes bytes.now header.now ∷ []) }
+{
+    is_named(bytes, header, b"Connection") && lists_close(header.value.of(bytes))
 }
 
 /// Whether the field has that name, without regard to case (RFC 9110, section 5.1).
@@ -56,17 +118,17 @@ fn is_alike(a: &[u8], b: &[u8]) -> bool
     a.eq_ignore_ascii_case(b)
 }
 
-/// The length of the body that the fields Content-Length give, or None where they give none (RFC 9112,
-/// section 6.3).
-pub(crate) fn length_given(bytes: &[u8], headers: &[HeaderSpan]) -> Option<usize>
-    requires { All (IsHeaderWithin (length bytes.now)) headers.now }
-    ensures { result ≡ spec.length_given
-        (spec.values_named (codes "Content-Length") (map (header_bytes bytes.now) headers.now)) }
+/// The length of the body that the field lines Content-Length give, or None where they give none (RFC
+/// 9112, section 6.3).
+pub(crate) fn length_given(bytes: &[u8], lines: &FieldLines) -> Option<usize>
+    requires { IfSome lines.now.first (IsWithin (length bytes.now)) }
+    ensures { (values : List (List ℕ)) → AreLines bytes.now values lines.now
+        → result ≡ spec.length_given values }
 {
-    if count_named(bytes, headers, b"Content-Length") > 1 {
+    if lines.is_repeated {
         return None;
     }
-    match first_named(bytes, headers, b"Content-Length") {
+    match lines.first {
         None => Some(0),
         Some(value) => length_written(value.of(bytes)),
     }
@@ -101,29 +163,6 @@ fn number(digits: &[u8]) -> usize
         number = number * 10 + usize::from(*digit - b'0');
     }
     number
-}
-
-/// Whether the connection is closed after a message of HTTP/1.`minor` with these fields (RFC 9112,
-/// section 9.3).
-pub(crate) fn is_last(bytes: &[u8], minor: u8, headers: &[HeaderSpan]) -> bool
-    requires { All (IsHeaderWithin (length bytes.now)) headers.now }
-    ensures { result ≡ spec.is_last minor (map (header_bytes bytes.now) headers.now) }
-{
-    minor == 0 || any_close(bytes, headers)
-}
-
-/// Whether a field Connection lists `close`.
-#[tactic(auto, unfolding(crate::specs::Fields::any_close, crate::specs::Fields::values_named))]
-fn any_close(bytes: &[u8], headers: &[HeaderSpan]) -> bool
-    requires { All (IsHeaderWithin (length bytes.now)) headers.now }
-    ensures { result ≡ spec.any_close (map (header_bytes bytes.now) headers.now) }
-{
-    for header in headers {
-        if is_named(bytes, header, b"Connection") && lists_close(header.value.of(bytes)) {
-            return true;
-        }
-    }
-    false
 }
 
 /// Whether one of the elements between commas is `close` (RFC 9110, sections 5.6.1 and 7.6.1).

@@ -1,10 +1,11 @@
-ghost use Rattle.std.specs.Prelude.{◌≡◌, length, map, All};
-ghost use Rattle.httparse.specs.Spans.{IsHeaderWithin, IsWithin, header_bytes, span_bytes};
+ghost use Rattle.std.specs.Prelude.{◌≡◌, ◌==◌, ◌||◌, ℕ, List, length, IfSome};
+ghost use Rattle.httparse.specs.Spans.{IsWithin};
+ghost use Rattle.oai_http.specs.Targets.{endpoint_of};
+ghost use Rattle.oai_front.specs.HeadFields.{AreLines, AreRead};
 ghost use Rattle.oai_front.specs.Fields as spec;
 
-use crate::fields::{count_named, is_last, length_given};
-use httparse::spans::{HeaderSpan, Span};
-use oai_http::{Endpoint, Status, endpoint_of};
+use crate::fields::{FieldLines, HeadFields, length_given};
+use oai_http::{Endpoint, Status};
 
 /// The longest body of a message, in bytes, where the path of its target does not begin with `/deposit/`.
 pub const MAX_BODY_BYTES: usize = 1_048_576;
@@ -24,33 +25,45 @@ pub enum Framing {
     Body(usize, bool),
 }
 
-/// The framing behind a head of HTTP/1.`minor` with this target and these fields, whose bytes stand in
-/// `bytes` (RFC 9112, sections 3.2, 6.1 and 6.3).
+/// The framing behind a head of HTTP/1.`minor` with these fields, whose values stand in `bytes`, and a target
+/// that is for this (RFC 9112, sections 3.2, 6.1 and 6.3).
 #[tactic(auto, unfolding(crate::specs::Fields::framing_of))]
-pub(crate) fn framing_of(bytes: &[u8], minor: u8, target: Span, headers: &[HeaderSpan]) -> Framing
-    requires target { IsWithin (length bytes.now) target }
-    requires fields { All (IsHeaderWithin (length bytes.now)) headers.now }
-    ensures { result ≡ spec.framing_of minor (span_bytes bytes.now target)
-        (map (header_bytes bytes.now) headers.now) }
+pub(crate) fn framing_of(
+    bytes: &[u8],
+    minor: u8,
+    endpoint: Option<Endpoint>,
+    fields: &HeadFields,
+) -> Framing
+    requires { IfSome fields.now.content_length.first (IsWithin (length bytes.now)) }
+    ensures { (target : List ℕ) (all : List (List ℕ × List ℕ)) → endpoint ≡ endpoint_of target
+        → AreRead bytes.now all fields.now → result ≡ spec.framing_of minor target all }
 {
-    if !is_host_count(minor, count_named(bytes, headers, b"Host")) {
+    if !is_host_count(minor, &fields.host) {
         return Framing::Refused(Status::BadRequest);
     }
-    if count_named(bytes, headers, b"Transfer-Encoding") > 0 {
+    if fields.transfer_encoding.first.is_some() {
         return Framing::Refused(Status::NotImplemented);
     }
-    let last = is_last(bytes, minor, headers);
-    match length_given(bytes, headers) {
+    let last = is_last(minor, fields.is_close);
+    match length_given(bytes, &fields.content_length) {
         None => Framing::Refused(Status::BadRequest),
-        Some(size) => framing_by(max_body_of(target.of(bytes)), size, last),
+        Some(size) => framing_by(max_body_at(endpoint), size, last),
     }
 }
 
-/// The longest body of a message with that target, in bytes, whatever its method.
-fn max_body_of(target: &[u8]) -> usize
-    ensures { result ≡ spec.max_body_of target.now }
+/// Whether the connection is closed after a message of HTTP/1.`minor`, where a field Connection lists
+/// `close` or none does (RFC 9112, section 9.3).
+fn is_last(minor: u8, is_close: bool) -> bool
+    ensures { result ≡ (minor == 0 || is_close) }
 {
-    match endpoint_of(target) {
+    minor == 0 || is_close
+}
+
+/// The longest body of a message, in bytes, by what its target is for, whatever its method.
+fn max_body_at(endpoint: Option<Endpoint>) -> usize
+    ensures { result ≡ spec.max_body_at endpoint }
+{
+    match endpoint {
         Some(Endpoint::Deposits) => MAX_DEPOSIT_BYTES,
         Some(Endpoint::Requests) => MAX_BODY_BYTES,
         None => MAX_BODY_BYTES,
@@ -68,9 +81,14 @@ fn framing_by(most: usize, size: usize, last: bool) -> Framing
     }
 }
 
-/// Whether `hosts` fields Host may stand in a head of HTTP/1.`minor` (RFC 9112, section 3.2).
-fn is_host_count(minor: u8, hosts: usize) -> bool
-    ensures { result ≡ spec.is_host_count minor hosts }
+/// Whether so many field lines Host may stand in a head of HTTP/1.`minor` (RFC 9112, section 3.2).
+fn is_host_count(minor: u8, host: &FieldLines) -> bool
+    ensures { (bytes : List ℕ) (values : List (List ℕ)) → AreLines bytes values host.now
+        → result ≡ spec.is_host_count minor (length values) }
 {
-    if minor == 0 { hosts <= 1 } else { hosts == 1 }
+    if minor == 0 {
+        !host.is_repeated
+    } else {
+        host.first.is_some() && !host.is_repeated
+    }
 }

@@ -3,7 +3,7 @@ ghost use Rattle.std.specs.Fmt.{signed_decimal};
 ghost use Rattle.oai_front.specs.Heads as spec;
 
 use itoa::Buffer;
-use oai_http::{Endpoint, Status};
+use oai_http::{Endpoint, Status, put};
 
 /// What stands in the head of an answer.
 #[derive(Clone, Copy)]
@@ -181,14 +181,4 @@ fn write_field(name: &str, value: &[u8], out: &mut Vec<u8>)
     put(b": ", out);
     put(value, out);
     put(b"\r\n", out);
-}
-
-/// Writes into room that is there.
-fn put(bytes: &[u8], out: &mut Vec<u8>)
-    requires { vec_len out.old + length bytes.now ≤ vec_capacity out.old }
-    ensures items { out.new.items ≡ out.old.items ++ bytes.now }
-    ensures len { vec_len out.new ≡ vec_len out.old + length bytes.now }
-    ensures room { vec_capacity out.old ≤ vec_capacity out.new }
-{
-    out.extend_from_slice(bytes).unwrap()
 }

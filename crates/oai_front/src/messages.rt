@@ -3,6 +3,7 @@ ghost use Rattle.std.specs.List.{concat};
 ghost use Rattle.std.specs.Option.{option_copied, option_map};
 ghost use Rattle.httparse.specs.Spans.{IsWithin, span_bytes};
 ghost use Rattle.oai_http.specs.Exchanges.{asked_by};
+ghost use Rattle.oai_http.specs.Targets.{endpoint_of};
 ghost use Rattle.oai_front.specs.Queues.{AreFilled, IsTaken};
 ghost use Rattle.oai_front.specs.RequestHeads.{IsHead};
 ghost use Rattle.oai_front.specs.Pipelining.{IsRemainder, IsNext, behind, message_behind};
@@ -70,7 +71,7 @@ pub(crate) fn perform_all<H: Handler>(
             }
             Next::Message(head) => {
                 let exchange = exchange_of(rest, &head);
-                match perform(alloc, handler, moment, &exchange, head.last, queue) {
+                match perform(alloc, handler, moment, &exchange, &head, queue) {
                     Ok(()) => {}
                     Err(_) => return Left::Refused(bytes.len() - rest.len(), Some(head)),
                 }
@@ -132,7 +133,8 @@ fn after<'b>(bytes: &'b [u8], head: &Head) -> &'b [u8]
 fn exchange_of<'b>(bytes: &'b [u8], head: &Head) -> Exchange<'b>
     requires head { IsHead bytes.now head.now }
     requires whole { head.now.size ≤ length (drop head.now.start bytes.now) }
-    ensures { asked_by result ≡ message_behind bytes.now head.now }
+    ensures asked { asked_by result ≡ message_behind bytes.now head.now }
+    ensures endpoint { head.now.endpoint ≡ endpoint_of result.target.now }
 {
     Exchange {
         method: head.method.of(bytes),

@@ -1,20 +1,22 @@
-ghost use Rattle.std.specs.Prelude.{◌≡◌, ◌+◌, ◌++◌, ◌≤◌, ℕ, [], length, drop, vec_capacity, OnErr, OnOk};
+ghost use Rattle.std.specs.Prelude.{◌≡◌, ◌+◌, ◌++◌, ◌≤◌, ℕ, List, [], length, drop, vec_capacity, OnErr, OnOk};
 ghost use Rattle.std.specs.List.{concat};
 ghost use Rattle.std.specs.VecDeque.{deque_capacity, deque_len};
 ghost use Rattle.oai_http.specs.declared.exchanges.Answer.{Answer as Given};
 ghost use Rattle.oai_front.specs.Heads.{answer_bytes, fault_bytes};
 ghost use Rattle.oai_http.specs.Exchanges.{asked_by};
+ghost use Rattle.oai_http.specs.Targets.{endpoint_of};
 ghost use Rattle.oai_front.specs.Connections.{IsFrontOf};
 ghost use Rattle.oai_front.specs.Queues.{AreFilled, IsTaken};
 ghost use Rattle.oai_front.specs.Queues as spec;
 
 use crate::heads::{AnswerHead, HEAD_ROOM, write_head};
-use oai_http::{Answer, Exchange, Handler, Status, endpoint_of};
+use crate::request_heads::Head;
+use oai_http::{Answer, Exchange, Handler, Status};
 use oai_names::Sequence;
 use std::alloc::{AllocError, Global};
 use std::collections::VecDeque;
 
-/// Performs a message and puts its answer behind what waits to be written. Room for the answer's head, and
+/// Performs a message with that head and puts its answer behind what waits to be written. Room for the answer's head, and
 /// for its places in the queue, is taken before the message is performed; the body is moved in as it is. The
 /// error is out of memory; nothing was performed then.
 pub(crate) fn perform<H: Handler>(
@@ -22,20 +24,21 @@ pub(crate) fn perform<H: Handler>(
     handler: &mut H,
     moment: i64,
     exchange: &Exchange<'_>,
-    last: bool,
+    head: &Head,
     queue: &mut VecDeque<Sequence<u8>>,
 ) -> Result<(), AllocError>
-    requires { AreFilled queue.old.items }
+    requires endpoint { head.now.endpoint ≡ endpoint_of exchange.now.target.now }
+    requires filled { AreFilled queue.old.items }
     ensures ok { OnOk result ((answer : Given) × H.step handler.old moment (asked_by exchange.now) answer handler.new
-        × (concat queue.new.items ≡ concat queue.old.items ++ answer_bytes exchange.now.target.now last answer)) }
+        × (concat queue.new.items ≡ concat queue.old.items ++ answer_bytes exchange.now.target.now head.now.last answer)) }
     ensures err { OnErr result ((handler.new ≡ handler.old) × (queue.new.items ≡ queue.old.items)) }
     ensures filled { AreFilled queue.new.items }
     ensures taken { (taken : ℕ) → IsTaken taken queue.old.items → IsTaken taken queue.new.items }
 {
     queue.try_reserve(2)?;
-    let head = Vec::with_capacity(alloc, HEAD_ROOM)?;
+    let bytes = Vec::with_capacity(alloc, HEAD_ROOM)?;
     let answer = handler.exchange(moment, exchange);
-    put_answer(exchange.target, last, answer, head, queue);
+    put_answer(head, answer, bytes, queue);
     Ok(())
 }
 
@@ -68,30 +71,25 @@ pub(crate) fn put_fault(
     Ok(())
 }
 
-/// Puts an answer, its head written into that buffer, behind what waits to be written, where there is
-/// room.
+/// Puts the answer to a message with that head, the answer's own head written into that buffer, behind what
+/// waits to be written, where there is room.
 #[tactic(auto, unfolding(crate::specs::Heads::answer_bytes))]
-fn put_answer(
-    target: &[u8],
-    last: bool,
-    answer: Answer,
-    mut bytes: Vec<u8>,
-    queue: &mut VecDeque<Sequence<u8>>,
-)
+fn put_answer(head: &Head, answer: Answer, mut bytes: Vec<u8>, queue: &mut VecDeque<Sequence<u8>>)
     requires empty { bytes.items ≡ [] }
     requires room { HEAD_ROOM ≤ vec_capacity bytes }
     requires places { deque_len queue.old + 2 ≤ deque_capacity queue.old }
     requires filled { AreFilled queue.old.items }
-    ensures put { concat queue.new.items ≡ concat queue.old.items ++ answer_bytes target.now last answer }
+    ensures put { (target : List ℕ) → head.now.endpoint ≡ endpoint_of target
+        → concat queue.new.items ≡ concat queue.old.items ++ answer_bytes target head.now.last answer }
     ensures filled { AreFilled queue.new.items }
     ensures taken { (taken : ℕ) → IsTaken taken queue.old.items → IsTaken taken queue.new.items }
 {
     let head = AnswerHead {
-        endpoint: endpoint_of(target),
+        endpoint: head.endpoint,
         status: answer.status,
         seconds: answer.seconds,
         done: answer.done,
-        last,
+        last: head.last,
         size: answer.body.as_slice().len(),
     };
     write_head(&head, &mut bytes);

@@ -2,11 +2,11 @@ ghost use Rattle.std.specs.Prelude.{◌≡◌, ◌≤◌, length, take};
 ghost use Rattle.httparse.specs.Spans.{IsRequestOf, IsRequestWithin};
 ghost use Rattle.oai_front.specs.RequestHeads.{IsHeadParse, IsKept, parse_unless_full};
 
-use crate::fields::first_named;
+use crate::fields::read_fields;
 use crate::framings::{Framing, framing_of};
 use httparse::spans::{EMPTY_HEADER_SPAN, HeaderSpan, RequestSpans, Span, parse_request};
 use httparse::{Error, Status as Parsed};
-use oai_http::Status;
+use oai_http::{Endpoint, Status, endpoint_of};
 
 /// The longest head, in bytes. Empty lines before it count.
 pub const MAX_HEAD_BYTES: usize = 16_384;
@@ -22,6 +22,8 @@ pub struct Head {
     pub method: Span,
     /// The target.
     pub target: Span,
+    /// What the target is for.
+    pub endpoint: Option<Endpoint>,
     /// The value of the first field Content-Type, where there is one.
     pub content_type: Option<Span>,
     /// How many bytes the head has; the body begins behind them.
@@ -97,13 +99,15 @@ fn kept_of(bytes: &[u8], spans: &RequestSpans, headers: &[HeaderSpan]) -> HeadPa
     requires read { IsRequestOf bytes.now headers.now spans.now }
     ensures { IsKept bytes.now result }
 {
-    let fields = &headers[..spans.headers];
-    match framing_of(bytes, spans.version, spans.path, fields) {
+    let fields = read_fields(bytes, &headers[..spans.headers]);
+    let endpoint = endpoint_of(spans.path.of(bytes));
+    match framing_of(bytes, spans.version, endpoint, &fields) {
         Framing::Refused(status) => HeadParse::Fault(status),
         Framing::Body(size, last) => HeadParse::Whole(Head {
             method: spans.method,
             target: spans.path,
-            content_type: first_named(bytes, fields, b"Content-Type"),
+            endpoint,
+            content_type: fields.content_type.first,
             start: spans.len,
             size,
             last,

@@ -1,5 +1,5 @@
 //! What is asked over HTTP and what is answered: exchanges and their statuses, where a target leads, the type
-//! of a body, and what performs messages.
+//! of a body, what performs messages, and where bytes stand and are written.
 #![tactic(auto)]
 
 mod bodies;
@@ -11,7 +11,7 @@ mod targets;
 mod texts;
 
 pub use bodies::{FORM, is_form};
-pub use bytes::len_before;
+pub use bytes::{len_before, put};
 pub use exchanges::{Answer, Call, Exchange};
 pub use handlers::Handler;
 pub use statuses::Status;

@@ -21,7 +21,7 @@ use crate::responses::{Reply, make_reply, reply_with_error};
 use crate::tokens::{ListPart, reply_with_part};
 use crate::view::RepoView;
 use oai_answers::{Body, ErrorCode, Extent, Listed, Resumption};
-use oai_args::given_bound;
+use oai_args::BoundText;
 use oai_catalogue::{Filter, Versions};
 use oai_item::{Fault, Format, Item};
 use oai_lists::{Lists, OpenFault};
@@ -37,9 +37,9 @@ pub(crate) struct ListRequest<'a> {
     /// The metadataPrefix.
     pub(crate) prefix: &'a str,
     /// The first datestamp, where it is given.
-    pub(crate) from: &'a Option<Text>,
+    pub(crate) from: &'a Option<BoundText>,
     /// The last datestamp, where it is given.
-    pub(crate) until: &'a Option<Text>,
+    pub(crate) until: &'a Option<BoundText>,
     /// The setSpec, where it is given.
     pub(crate) set: &'a Option<Text>,
 }
@@ -284,21 +284,21 @@ fn filter_of(
 }
 
 /// The first second that the argument `from` lets pass.
-fn lower_given(from: &Option<Text>) -> i64
+fn lower_given(from: &Option<BoundText>) -> i64
     ensures { result ≡ spec.lower_given (given_bound from.now) }
 {
-    match given_bound(from) {
-        Some(bound) => lower(bound),
+    match from {
+        Some(text) => lower(text.bound()),
         None => FIRST_SECOND,
     }
 }
 
 /// The last second that the argument `until` lets pass.
-fn upper_given(until: &Option<Text>) -> i64
+fn upper_given(until: &Option<BoundText>) -> i64
     ensures { result ≡ spec.upper_given (given_bound until.now) }
 {
-    match given_bound(until) {
-        Some(bound) => upper(bound),
+    match until {
+        Some(text) => upper(text.bound()),
         None => LAST_SECOND,
     }
 }

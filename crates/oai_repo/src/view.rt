@@ -11,7 +11,7 @@ ghost use Rattle.oai_repo.specs.Seen.{SeesSame};
 
 use crate::item_index::ItemIndex;
 use oai_answers::Asked;
-use oai_args::Ask;
+use oai_args::{Ask, BoundText};
 use oai_names::{ListVerb, SetTree, Text};
 use oai_settings::RepoConfig;
 use std::alloc::Global;
@@ -94,8 +94,8 @@ fn arguments_of(ask: &Ask) -> Asked<'_>
             set,
         } => Asked {
             prefix: Some(prefix.as_str()),
-            from: text_in(from),
-            until: text_in(until),
+            from: bound_text_in(from),
+            until: bound_text_in(until),
             set: text_in(set),
             ..asked_for(name_of(*verb))
         },
@@ -129,6 +129,16 @@ fn name_of(verb: ListVerb) -> &'static str
 
 /// The text, where it was given.
 pub(crate) fn text_in(text: &Option<Text>) -> Option<&str>
+    ensures { option_copied result ≡ text.now }
+{
+    match text {
+        Some(text) => Some(text.as_str()),
+        None => None,
+    }
+}
+
+/// The text of the bound, where it was given.
+fn bound_text_in(text: &Option<BoundText>) -> Option<&str>
     ensures { option_copied result ≡ text.now }
 {
     match text {

@@ -1,7 +1,7 @@
 //! What queries ask for. Each row of a table is a query and, behind ` => `, its answer in words: the
 //! fault, or the request with each of its parts in brackets, and `-` for a part that was not given.
 use crate::assertions::{assert_same, assert_same_at, assert_shown};
-use oai_args::{ArgFault, Ask, read_request};
+use oai_args::{ArgFault, Ask, BoundText, read_request};
 use oai_names::{ListVerb, Text};
 use oai_time::Granularity;
 use std::alloc::Global;
@@ -30,6 +30,13 @@ fn in_words(rt: &impl Abort, alloc: Global, asked: &str, parts: &[Option<&str>])
 }
 
 fn given(text: &Option<Text>) -> Option<&str> {
+    match text {
+        Some(text) => Some(text.as_str()),
+        None => None,
+    }
+}
+
+fn bound_given(text: &Option<BoundText>) -> Option<&str> {
     match text {
         Some(text) => Some(text.as_str()),
         None => None,
@@ -66,7 +73,12 @@ fn request_in_words(rt: &impl Abort, alloc: Global, ask: &Ask) -> String {
             until,
             set,
         } => {
-            let parts = [Some(prefix.as_str()), given(from), given(until), given(set)];
+            let parts = [
+                Some(prefix.as_str()),
+                bound_given(from),
+                bound_given(until),
+                given(set),
+            ];
             in_words(rt, alloc, name_of(*verb), &parts)
         }
         Ask::Resume { verb, token } => {

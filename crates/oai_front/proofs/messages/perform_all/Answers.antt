@@ -25,7 +25,7 @@ returns-then-head-clause-left g c =
     let fits : FitsSigned w64 c.args.moment = c.ranges.moment in
     let stands = rw c.in-Message.is at c.next_in.ensures in
     sofar_last g.H.Handler.step c.args.moment c.args.handler.now c.messages.handler c.perform.new.handler c.args.bytes.now _ _ _ c.messages.rest.now c.messages.known c.in-Message.head
-    (asked_by c.exchange_of-exchange.result) (simp to_z-of_z at c.messages.invariant.sofar) stands.0 stands.1 c.if-head.true c.exchange_of-exchange.ensures (simp to_z-of_z at c.in-Ok-perform.ensures.ok)
+    (asked_by c.exchange_of-exchange.result) (simp to_z-of_z at c.messages.invariant.sofar) stands.0 stands.1 c.if-head.true c.exchange_of-exchange.ensures.asked (simp to_z-of_z at c.in-Ok-perform.ensures.ok)
 
 pub returns-in-Err-perform-clause-left : goal.returns-in-Err-perform-clause-left
 returns-in-Err-perform-clause-left g c =
@@ -52,7 +52,7 @@ messages-preserved g c =
     let stands = rw c.in-Message.is at c.next_in.ensures in
     record {
       sofar = simp to_z-of_z (rw c.after-rest.ensures (sofar_more g.H.Handler.step c.args.moment c.args.handler.now c.messages.handler c.perform.new.handler c.args.bytes.now _ _ _ c.messages.rest.now c.messages.known c.in-Message.head
-          (asked_by c.exchange_of-exchange.result) (simp to_z-of_z at c.messages.invariant.sofar) stands.0 stands.1 c.if-head.false c.exchange_of-exchange.ensures (simp to_z-of_z at c.in-Ok-perform.ensures.ok)));
+          (asked_by c.exchange_of-exchange.result) (simp to_z-of_z at c.messages.invariant.sofar) stands.0 stands.1 c.if-head.false c.exchange_of-exchange.ensures.asked (simp to_z-of_z at c.in-Ok-perform.ensures.ok)));
       filled = c.perform.ensures.filled;
       taken = λ taken t. c.perform.ensures.taken taken (c.messages.invariant.taken taken t);
     }

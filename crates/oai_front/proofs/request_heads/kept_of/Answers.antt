@@ -1,4 +1,6 @@
-use Rattle.std.proofs.Common.{drop, ◌∙◌}
+use Rattle.std.proofs.Common.{drop, map, take, ap, ◌∙◌}
+use Rattle.httparse.specs.Spans.{header_bytes, span_bytes}
+use Rattle.oai_http.specs.Targets.{endpoint_of}
 use Rattle.oai_front.proofs.HeadLemmas.{read_begins, read_framing, read_type, within_len}
 use Rattle.oai_front.proofs.request_heads.kept_of.Goals as goal
 
@@ -8,11 +10,13 @@ returns-in-Refused c =
     let headers = c.args.headers.now in
     let spans = c.args.spans.now in
     let at = c.requires.read.1 in
+    let endpoint = c.endpoint_of-endpoint.ensures ∙ ap endpoint_of c.of.ensures in
+    let framing = c.framing_of.ensures (span_bytes bytes spans.path) (map (header_bytes bytes) (take spans.headers headers)) endpoint c.read_fields-fields.ensures in
     record {
       head = c.requires.read.0;
       behind = drop spans.len bytes;
       begins = read_begins bytes headers spans c.requires.read.0 c.requires.short c.requires.few c.requires.within at;
-      framing = read_framing bytes headers spans c.requires.read.0 c.framing_of.result at c.framing_of.ensures ∙ c.in-Refused.is;
+      framing = read_framing bytes headers spans c.requires.read.0 c.framing_of.result at framing ∙ c.in-Refused.is;
     }
 
 pub returns-in-Body : goal.returns-in-Body
@@ -22,16 +26,20 @@ returns-in-Body c =
     let spans = c.args.spans.now in
     let at = c.requires.read.1 in
     let fits = c.requires.within.section.len_fits in
+    let endpoint = c.endpoint_of-endpoint.ensures ∙ ap endpoint_of c.of.ensures in
+    let read = c.read_fields-fields.ensures in
+    let framing = c.framing_of.ensures (span_bytes bytes spans.path) (map (header_bytes bytes) (take spans.headers headers)) endpoint read in
     record {
       head = c.requires.read.0;
       behind = drop spans.len bytes;
       begins = read_begins bytes headers spans c.requires.read.0 c.requires.short c.requires.few c.requires.within at;
-      framing = read_framing bytes headers spans c.requires.read.0 c.framing_of.result at c.framing_of.ensures ∙ c.in-Body.is;
+      framing = read_framing bytes headers spans c.requires.read.0 c.framing_of.result at framing ∙ c.in-Body.is;
       start = at.len;
       method_in = within_len bytes spans.len spans.method fits c.requires.within.method;
       method = at.method;
       target_in = within_len bytes spans.len spans.path fits c.requires.within.path;
       target = at.path;
-      type_in = c.first_named.ensures.within;
-      content_type = read_type bytes headers spans c.requires.read.0 _ at c.first_named.ensures.first;
+      endpoint = endpoint ∙ ap endpoint_of at.path;
+      type_in = read.content_type.within;
+      content_type = read_type bytes headers spans c.requires.read.0 _ at read.content_type.first;
     }
