@@ -12,3 +12,5 @@ pub mod FoundLemmas
 pub mod WorkedCalls
 pub mod WorkedLemmas
 pub mod WorkedFaultLemmas
+pub mod HostRunLemmas
+pub mod ServedLemmas

@@ -4,7 +4,7 @@ use Rattle.std.specs.List.{flat_map}
 use Rattle.oai_settings.specs.Config.{Config}
 use Rattle.oai_laws.specs.Following.{IsChain, ListRequest}
 use Rattle.oai_laws.specs.Runs.{Exchange, IsPart}
-use Rattle.oai_harvests.specs.Harvests.{AreHarvests, AreSuccessive, Harvest, IsFollowedHarvest, IsHarvest, datestamp_of, records_since}
+use Rattle.oai_laws.specs.Harvests.{AreHarvests, AreSuccessive, Harvest, IsFollowedHarvest, IsHarvest, datestamp_of, records_since}
 use Rattle.oai_headline.specs.Chains.{IsFollowing}
 use Rattle.oai_headline.specs.Visits.{Visit, steps_of}
 

@@ -7,7 +7,7 @@ use Rattle.oai_settings.specs.Config.{Config}
 use Rattle.oai_repo.specs.State.{RepoState, empty_state}
 use Rattle.oai_laws.specs.Runs.{Exchange, IsPart, run}
 use Rattle.oai_config.specs.Configs.{HostConfig, NamedConfig}
-use Rattle.oai_harvests.proofs.HarvestLemmas.{harvests_copied}
+use Rattle.oai_laws.proofs.HarvestLemmas.{harvests_copied}
 use Rattle.oai_http.specs.declared.exchanges.Answer.{Answer}
 use Rattle.oai_http.specs.declared.exchanges.Call.{Call}
 use Rattle.oai_host.specs.Alone.{exchanged_alone, own_answers, own_calls}
@@ -15,9 +15,9 @@ use Rattle.oai_host.specs.Hosts.{AreAnswered, AreExchanged, HostState, IsOwnRun,
 use Rattle.oai_host.specs.Performed.{StoreState}
 use Rattle.oai_host.specs.Tasks.{Task, asking, task_of}
 use Rattle.oai_host.proofs.RunLemmas.{all_answered, alone_from}
-use Rattle.oai_served.specs.Served.{IsBegunOn}
+use Rattle.oai_cli.specs.Begun.{IsBegunOn}
 use Rattle.oai_headline.specs.Headline.{HasRules, HaveRules, IsMadeOf}
-use Rattle.oai_headline.specs.Throughout.{IsGiven, IsGivenBy, IsThroughout, IsThroughoutAt, left_by, own_given, own_performed, performed, performed_in, performed_of, visits_given, whole_visits}
+use Rattle.oai_headline.specs.Throughout.{IsTrueVisit, IsTrueBy, IsThroughout, IsThroughoutAt, left_by, own_given, own_calls_done, calls_done, calls_done_in, calls_done_by, visits_given, whole_visits}
 use Rattle.oai_headline.specs.Visits.{Visit, commands_in, steps_of, visits}
 use Rattle.oai_headline.proofs.CarriedLemmas.{steps_run}
 use Rattle.oai_headline.proofs.FollowedLemmas.{visits_followed}
@@ -33,7 +33,7 @@ at_one calls answers entry old new after rules honest own =
     let state : RepoState = empty_state config in
     let met = all_met config (own_calls entry.name calls) (own_answers entry.name calls answers) state old after.state new honest own.run in
     let some : List Visit = whole_visits (own_given entry calls answers) in
-    let done : List Call = own_performed entry calls answers in
+    let done : List Call = own_calls_done entry calls answers in
     let among : IsPart some (visits config state done) = whole_among config state (own_calls entry.name calls) (own_answers entry.name calls answers) met.given in
     let steps : IsPart (flat_map (steps_of config) some) (run config state (commands_in config.granularity done)) =
     subst (IsPart (flat_map (steps_of config) some)) (steps_run config state done) (part_each (steps_of config) some (visits config state done) among)
@@ -87,14 +87,14 @@ throughout_on config honest failures first last calls answers rules made so run 
 -- ---- one place
 
 pub given_there : (config : Config) (state : RepoState) (front : List Call) (call : Call) (back : List Call) (given : List Answer) (answer : Answer) (more : List Answer) → length front ≡ length given
-    → AllByRecursion (IsGiven config) (visits_given config state (front ++ call ∷ back) (given ++ answer ∷ more)) → answer.fault ≡ None
-    → answer ≡ (exchanged_alone config (left_by config state (performed front given)) call).0
-given_there config state [] call back [] answer more same all none = subst (λ (f : Option Fault). IsGivenBy config (record { call = call; before = state; answer = answer }) f) none all.0
+    → AllByRecursion (IsTrueVisit config) (visits_given config state (front ++ call ∷ back) (given ++ answer ∷ more)) → answer.fault ≡ None
+    → answer ≡ (exchanged_alone config (left_by config state (calls_done front given)) call).0
+given_there config state [] call back [] answer more same all none = subst (λ (f : Option Fault). IsTrueBy config (record { call = call; before = state; answer = answer }) f) none all.0
 given_there config state [] call back (a ∷ given) answer more same all none = absurd (omega (arith, same))
 given_there config state (c ∷ front) call back [] answer more same all none = absurd (omega (arith, same))
 given_there config state (c ∷ front) call back (a ∷ given) answer more same all none =
-    given_there config (left_by config state (performed_of c a)) front call back given answer more (omega (arith, same)) all.1 none
-    ∙ ap (λ (s : RepoState). (exchanged_alone config s call).0) (sym (both config state (performed_of c a) (performed front given)))
+    given_there config (left_by config state (calls_done_by c a)) front call back given answer more (omega (arith, same)) all.1 none
+    ∙ ap (λ (s : RepoState). (exchanged_alone config s call).0) (sym (both config state (calls_done_by c a) (calls_done front given)))
   where
     both : (config : Config) (state : RepoState) (calls others : List Call) → left_by config state (calls ++ others) ≡ left_by config (left_by config state calls) others
     both config state [] others = refl
@@ -102,10 +102,10 @@ given_there config state (c ∷ front) call back (a ∷ given) answer more same 
 
 -- a request that failed is as if it had not been made
 pub failed_there : (front : List Call) (call : Call) (back : List Call) (given : List Answer) (answer : Answer) (more : List Answer) (arguments : List ℕ) → length front ≡ length given
-    → task_of call ≡ asking arguments → is_none answer.fault ≡ false → performed (front ++ call ∷ back) (given ++ answer ∷ more) ≡ performed (front ++ back) (given ++ more)
+    → task_of call ≡ asking arguments → is_none answer.fault ≡ false → calls_done (front ++ call ∷ back) (given ++ answer ∷ more) ≡ calls_done (front ++ back) (given ++ more)
 failed_there [] call back [] answer more arguments same asked fault =
-    ap (λ (cs : List Call). cs ++ performed back more) (ap (performed_in call answer) asked ∙ cond-false (is_none answer.fault) (call ∷ []) [] fault)
+    ap (λ (cs : List Call). cs ++ calls_done back more) (ap (calls_done_in call answer) asked ∙ cond-false (is_none answer.fault) (call ∷ []) [] fault)
 failed_there [] call back (a ∷ given) answer more arguments same asked fault = absurd (omega (arith, same))
 failed_there (c ∷ front) call back [] answer more arguments same asked fault = absurd (omega (arith, same))
 failed_there (c ∷ front) call back (a ∷ given) answer more arguments same asked fault =
-    ap (λ (cs : List Call). performed_of c a ++ cs) (failed_there front call back given answer more arguments (omega (arith, same)) asked fault)
+    ap (λ (cs : List Call). calls_done_by c a ++ cs) (failed_there front call back given answer more arguments (omega (arith, same)) asked fault)

@@ -15,7 +15,7 @@ use Rattle.oai_host.specs.Alone.{exchanged_alone, own_calls}
 use Rattle.oai_host.specs.Tasks.{Task, asking, depositing, refusing, task_of}
 use Rattle.oai_headline.specs.Chains.{IsFollowing}
 use Rattle.oai_headline.specs.Headline.{own_visits}
-use Rattle.oai_headline.specs.Throughout.{IsEnded, IsGiven, IsGivenBy, is_asked, left_by, performed, performed_in, performed_of, visits_given, whole_visits}
+use Rattle.oai_headline.specs.Throughout.{IsFailure, IsTrueVisit, IsTrueBy, is_asked, left_by, calls_done, calls_done_in, calls_done_by, visits_given, whole_visits}
 use Rattle.oai_headline.specs.Visits.{Visit, visits}
 use Rattle.oai_headline.specs.Worked.{IsWorkedList, first_entry, worked_calls}
 use Rattle.oai_headline.specs.WorkedFaults.{IsWorkedWithFailures, answer_to, answers_with, failing_answers, failing_calls, failing_visits, failures}
@@ -29,20 +29,20 @@ use Rattle.oai_headline.proofs.WorkedLemmas.{worked_list}
 
 abbrev FailsSo : Call → Option Answer → Type 0
 FailsSo call None = Unit {0}
-FailsSo call (Some answer) = (fault : Fault) × (answer.fault ≡ Some fault) × IsEnded fault (task_of call) answer
+FailsSo call (Some answer) = (fault : Fault) × (answer.fault ≡ Some fault) × IsFailure fault (task_of call) answer
 
 given_with : (config : Config) (state : RepoState) (calls : List Call) (fails : List (Option Answer)) → AllZip FailsSo calls fails
-    → AllByRecursion (IsGiven config) (visits_given config state calls (answers_with config state calls fails))
+    → AllByRecursion (IsTrueVisit config) (visits_given config state calls (answers_with config state calls fails))
 given_with config state [] fails so = tt
 given_with config state (call ∷ calls) [] so = tt
 given_with config state (call ∷ calls) (None ∷ fails) so =
     let answer : Answer = (exchanged_alone config state call).0 in (
-      subst (λ (f : Option Fault). IsGivenBy config (record { call = call; before = state; answer = answer }) f) (sym (alone_whole config state call.moment (task_of call))) refl,
-      given_with config (left_by config state (performed_of call answer)) calls fails so.1,
+      subst (λ (f : Option Fault). IsTrueBy config (record { call = call; before = state; answer = answer }) f) (sym (alone_whole config state call.moment (task_of call))) refl,
+      given_with config (left_by config state (calls_done_by call answer)) calls fails so.1,
     )
 given_with config state (call ∷ calls) (Some answer ∷ fails) so = (
-  subst (λ (f : Option Fault). IsGivenBy config (record { call = call; before = state; answer = answer }) f) (sym so.0.1) so.0.2,
-  given_with config (left_by config state (performed_of call answer)) calls fails so.1,
+  subst (λ (f : Option Fault). IsTrueBy config (record { call = call; before = state; answer = answer }) f) (sym so.0.1) so.0.2,
+  given_with config (left_by config state (calls_done_by call answer)) calls fails so.1,
 )
 
 -- ---- what is performed
@@ -51,23 +51,23 @@ abbrev planned : List Call → List (Option Answer) → List Call
 planned [] fails = []
 planned (call ∷ calls) [] = []
 planned (call ∷ calls) (None ∷ fails) = (if is_asked (task_of call) then call ∷ [] else []) ++ planned calls fails
-planned (call ∷ calls) (Some answer ∷ fails) = performed_of call answer ++ planned calls fails
+planned (call ∷ calls) (Some answer ∷ fails) = calls_done_by call answer ++ planned calls fails
 
-whole_one : (call : Call) (answer : Answer) (task : Task) → is_none answer.fault ≡ true → performed_in call answer task ≡ (if is_asked task then call ∷ [] else [])
+whole_one : (call : Call) (answer : Answer) (task : Task) → is_none answer.fault ≡ true → calls_done_in call answer task ≡ (if is_asked task then call ∷ [] else [])
 whole_one call answer (refusing status) none = refl
 whole_one call answer (asking arguments) none = cond-true (is_none answer.fault) (call ∷ []) [] none
 whole_one call answer (depositing lines) none = cond-true (is_none answer.fault) (call ∷ []) _ none
 
-performed_with : (config : Config) (state : RepoState) (calls : List Call) (fails : List (Option Answer)) → performed calls (answers_with config state calls fails) ≡ planned calls fails
+performed_with : (config : Config) (state : RepoState) (calls : List Call) (fails : List (Option Answer)) → calls_done calls (answers_with config state calls fails) ≡ planned calls fails
 performed_with config state [] fails = refl
 performed_with config state (call ∷ calls) [] = refl
 performed_with config state (call ∷ calls) (None ∷ fails) =
     let answer : Answer = (exchanged_alone config state call).0 in
-    ap (λ (cs : List Call). cs ++ performed calls (answers_with config (left_by config state (performed_of call answer)) calls fails))
+    ap (λ (cs : List Call). cs ++ calls_done calls (answers_with config (left_by config state (calls_done_by call answer)) calls fails))
     (whole_one call answer (task_of call) (ap is_none (alone_whole config state call.moment (task_of call))))
-    ∙ ap (λ (cs : List Call). (if is_asked (task_of call) then call ∷ [] else []) ++ cs) (performed_with config (left_by config state (performed_of call answer)) calls fails)
+    ∙ ap (λ (cs : List Call). (if is_asked (task_of call) then call ∷ [] else []) ++ cs) (performed_with config (left_by config state (calls_done_by call answer)) calls fails)
 performed_with config state (call ∷ calls) (Some answer ∷ fails) =
-    ap (λ (cs : List Call). performed_of call answer ++ cs) (performed_with config (left_by config state (performed_of call answer)) calls fails)
+    ap (λ (cs : List Call). calls_done_by call answer ++ cs) (performed_with config (left_by config state (calls_done_by call answer)) calls fails)
 
 -- ---- the run
 
@@ -84,9 +84,9 @@ asks_each first second last chain =
 with_failures : (first waiting second last : Visit) → IsWorkedList first waiting second last → IsWorkedWithFailures first second last
 with_failures first waiting second last list =
     let given = given_with worked_config (empty_state worked_config) failing_calls failures fail_so in
-    let same : performed failing_calls failing_answers ≡ own_calls (codes "a") worked_calls = performed_with worked_config (empty_state worked_config) failing_calls failures ∙ same_calls in
+    let same : calls_done failing_calls failing_answers ≡ own_calls (codes "a") worked_calls = performed_with worked_config (empty_state worked_config) failing_calls failures ∙ same_calls in
     let chain = list.following in
-    let among : IsPart (first ∷ second ∷ last ∷ []) (visits worked_config (empty_state worked_config) (performed failing_calls failing_answers)) =
+    let among : IsPart (first ∷ second ∷ last ∷ []) (visits worked_config (empty_state worked_config) (calls_done failing_calls failing_answers)) =
     subst (λ (cs : List Call). IsPart (first ∷ second ∷ last ∷ []) (visits worked_config (empty_state worked_config) cs)) (sym same) chain.among
     in
     record {

@@ -12,7 +12,7 @@ use Rattle.oai_http.specs.declared.exchanges.Call.{Call}
 use Rattle.oai_host.specs.Alone.{own_calls}
 use Rattle.oai_host.specs.Hosts.{HostState, begun}
 use Rattle.oai_copy.specs.Copies.{caught_up_with}
-use Rattle.oai_harvests.specs.Harvests.{AreSuccessive, Harvest, IsWholeCopy, harvested, last_harvest}
+use Rattle.oai_laws.specs.Harvests.{AreSuccessive, Harvest, IsWholeCopy, harvested, last_harvest}
 use Rattle.oai_headline.specs.Visits.{Visit, steps_of, visits}
 
 -- ---- the premises

@@ -4,3 +4,5 @@ pub mod Headline
 pub mod Throughout
 pub mod Worked
 pub mod WorkedFaults
+pub mod HostRuns
+pub mod Served

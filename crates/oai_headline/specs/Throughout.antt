@@ -30,20 +30,20 @@ with_lines call lines = record call { body = body_of lines }
 
 -- of an exchange by what it asks, and its answer, the calls that were done: of what asks nothing, none; of a request, itself where it has no
 -- fault; of a deposit, itself where it has no fault, and else of its lines the first ones, as many as the answer says
-abbrev pub performed_in : Call → Answer → Task → List Call
-performed_in call answer (refusing status) = []
-performed_in call answer (asking arguments) = if is_none answer.fault then call ∷ [] else []
-performed_in call answer (depositing lines) =
+abbrev pub calls_done_in : Call → Answer → Task → List Call
+calls_done_in call answer (refusing status) = []
+calls_done_in call answer (asking arguments) = if is_none answer.fault then call ∷ [] else []
+calls_done_in call answer (depositing lines) =
     if is_none answer.fault then call ∷ [] else with_lines call (take (unwrap_or answer.done 0) lines) ∷ []
 
-abbrev pub performed_of : Call → Answer → List Call
-performed_of call answer = performed_in call answer (task_of call)
+abbrev pub calls_done_by : Call → Answer → List Call
+calls_done_by call answer = calls_done_in call answer (task_of call)
 
 -- of exchanges, one after the other
-abbrev pub performed : List Call → List Answer → List Call
-performed [] answers = []
-performed (call ∷ calls) [] = []
-performed (call ∷ calls) (answer ∷ answers) = performed_of call answer ++ performed calls answers
+abbrev pub calls_done : List Call → List Answer → List Call
+calls_done [] answers = []
+calls_done (call ∷ calls) [] = []
+calls_done (call ∷ calls) (answer ∷ answers) = calls_done_by call answer ++ calls_done calls answers
 
 -- the state that calls leave, of a repository that stands alone
 abbrev pub left_by : Config → RepoState → List Call → RepoState
@@ -57,21 +57,21 @@ abbrev pub visits_given : Config → RepoState → List Call → List Answer →
 visits_given config state [] answers = []
 visits_given config state (call ∷ calls) [] = []
 visits_given config state (call ∷ calls) (answer ∷ answers) =
-    record { call = call; before = state; answer = answer } ∷ visits_given config (left_by config state (performed_of call answer)) calls answers
+    record { call = call; before = state; answer = answer } ∷ visits_given config (left_by config state (calls_done_by call answer)) calls answers
 
 -- a fault ended it: a request is answered the fault, and a deposit too, with the number of its lines that were done, which are not all
-abbrev pub IsEnded : Fault → Task → Answer → Type 0
-IsEnded fault (refusing status) answer = ⊥
-IsEnded fault (asking arguments) answer = answer ≡ failed fault None
-IsEnded fault (depositing lines) answer = (done : ℕ) × (done < length lines) × (answer ≡ failed fault (Some done))
+abbrev pub IsFailure : Fault → Task → Answer → Type 0
+IsFailure fault (refusing status) answer = ⊥
+IsFailure fault (asking arguments) answer = answer ≡ failed fault None
+IsFailure fault (depositing lines) answer = (done : ℕ) × (done < length lines) × (answer ≡ failed fault (Some done))
 
 -- the answer without a fault is the machine's, in the state that what was performed before has left
-abbrev pub IsGivenBy : Config → Visit → Option Fault → Type 0
-IsGivenBy config visit None = visit.answer ≡ (exchanged_alone config visit.before visit.call).0
-IsGivenBy config visit (Some fault) = IsEnded fault (task_of visit.call) visit.answer
+abbrev pub IsTrueBy : Config → Visit → Option Fault → Type 0
+IsTrueBy config visit None = visit.answer ≡ (exchanged_alone config visit.before visit.call).0
+IsTrueBy config visit (Some fault) = IsFailure fault (task_of visit.call) visit.answer
 
-abbrev pub IsGiven : Config → Visit → Type 0
-IsGiven config visit = IsGivenBy config visit visit.answer.fault
+abbrev pub IsTrueVisit : Config → Visit → Type 0
+IsTrueVisit config visit = IsTrueBy config visit visit.answer.fault
 
 -- it asks for something
 abbrev pub is_asked : Task → Bool
@@ -80,11 +80,11 @@ is_asked (asking arguments) = true
 is_asked (depositing lines) = true
 
 -- it was done whole
-abbrev pub is_whole : Visit → Bool
-is_whole visit = is_none visit.answer.fault && is_asked (task_of visit.call)
+abbrev pub is_done_whole : Visit → Bool
+is_done_whole visit = is_none visit.answer.fault && is_asked (task_of visit.call)
 
 abbrev pub whole_visits : List Visit → List Visit
-whole_visits all = filter is_whole all
+whole_visits all = filter is_done_whole all
 
 -- ---- the theorem
 
@@ -92,8 +92,8 @@ whole_visits all = filter is_whole all
 abbrev pub own_given : NamedConfig → List Call → List Answer → List Visit
 own_given entry calls answers = visits_given entry.config (empty_state entry.config) (own_calls entry.name calls) (own_answers entry.name calls answers)
 
-abbrev pub own_performed : NamedConfig → List Call → List Answer → List Call
-own_performed entry calls answers = performed (own_calls entry.name calls) (own_answers entry.name calls answers)
+abbrev pub own_calls_done : NamedConfig → List Call → List Answer → List Call
+own_calls_done entry calls answers = calls_done (own_calls entry.name calls) (own_answers entry.name calls answers)
 
 -- at a repository: each answer without a fault is the machine's after what was performed before it, and one with a fault did what its number of
 -- lines says, or nothing; those without a fault are, in order, among the visits of the machine to which what was performed comes; what was
@@ -101,9 +101,9 @@ own_performed entry calls answers = performed (own_calls entry.name calls) (own_
 -- joined, are the records selected at the first of them, each once, in order; harvests by visits without a fault miss nothing; and where no answer
 -- has a fault, all of them are those that the repository alone gives
 pub record IsThroughoutAt (calls : List Call) (answers : List Answer) (entry : NamedConfig) (left : RepoState) : Type 0 where
-  pub given : AllByRecursion (IsGiven entry.config) (own_given entry calls answers)
-  pub among : IsPart (whole_visits (own_given entry calls answers)) (visits entry.config (empty_state entry.config) (own_performed entry calls answers))
-  pub state : left ≡ left_by entry.config (empty_state entry.config) (own_performed entry calls answers)
+  pub given : AllByRecursion (IsTrueVisit entry.config) (own_given entry calls answers)
+  pub among : IsPart (whole_visits (own_given entry calls answers)) (visits entry.config (empty_state entry.config) (own_calls_done entry calls answers))
+  pub state : left ≡ left_by entry.config (empty_state entry.config) (own_calls_done entry calls answers)
   pub followed : (list_request : ListRequest) (first : Visit) (others : List Visit)
       → IsFollowing entry.config (whole_visits (own_given entry calls answers)) list_request first others
       → AreReached entry.config list_request first others

@@ -11,7 +11,7 @@ use Rattle.oai_http.specs.declared.exchanges.Answer.{Answer}
 use Rattle.oai_http.specs.declared.exchanges.Call.{Call}
 use Rattle.oai_host.specs.Alone.{exchanged_alone, own_calls}
 use Rattle.oai_headline.specs.Chains.{IsFollowing}
-use Rattle.oai_headline.specs.Throughout.{IsGiven, left_by, performed, performed_of, visits_given, whole_visits}
+use Rattle.oai_headline.specs.Throughout.{IsTrueVisit, left_by, calls_done, calls_done_by, visits_given, whole_visits}
 use Rattle.oai_headline.specs.Visits.{Visit}
 use Rattle.oai_headline.specs.Worked.{delete_line, deposit_line, get, post, worked_calls}
 
@@ -26,7 +26,7 @@ answers_with config state [] failures = []
 answers_with config state (call ∷ calls) [] = []
 answers_with config state (call ∷ calls) (failure ∷ failures) =
     let answer = answer_to config state call failure in
-    answer ∷ answers_with config (left_by config state (performed_of call answer)) calls failures
+    answer ∷ answers_with config (left_by config state (calls_done_by call answer)) calls failures
 
 -- the exchanges of the first repository of the worked run, with two failures among them. Of a deposit of two lines the first one is done, and then
 -- a device fails; and the second page of the list is refused for want of memory, and asked for again a second later
@@ -75,7 +75,7 @@ failing_visits = visits_given worked_config (empty_state worked_config) failing_
 -- each exchange is given what the theorem says; two have failed; what was performed is what the worked run without failures performs; and a list is
 -- followed over three pages by the visits that did not fail
 pub record IsWorkedWithFailures (first second last : Visit) : Type 0 where
-  pub given : AllByRecursion (IsGiven worked_config) failing_visits
+  pub given : AllByRecursion (IsTrueVisit worked_config) failing_visits
   pub two : length (filter (λ (failure : Option Answer). is_some failure) failures) ≡ 2
-  pub same : performed failing_calls failing_answers ≡ own_calls (codes "a") worked_calls
+  pub same : calls_done failing_calls failing_answers ≡ own_calls (codes "a") worked_calls
   pub following : IsFollowing worked_config (whole_visits failing_visits) all_records first (second ∷ last ∷ [])

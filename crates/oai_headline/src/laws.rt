@@ -6,16 +6,16 @@ ghost use Rattle.oai_repo.specs.State.{RepoState, empty_state};
 ghost use Rattle.oai_laws.specs.Following.{IsChain, ListRequest};
 ghost use Rattle.oai_laws.specs.Runs.{Exchange, IsPart, run};
 ghost use Rattle.oai_http.specs.declared.exchanges.Call.{Call};
-ghost use Rattle.oai_harvests.specs.Harvests.{Harvest};
+ghost use Rattle.oai_laws.specs.Harvests.{Harvest};
 ghost use Rattle.oai_host.specs.Alone.{answers_alone, exchanged_alone};
 ghost use Rattle.oai_config.specs.Configs.{HostConfig, IsHostConfig};
 ghost use Rattle.oai_http.specs.declared.exchanges.Answer.{Answer};
 ghost use Rattle.oai_host.specs.Hosts.{AreAnswered, AreExchanged, HostState};
 ghost use Rattle.oai_host.specs.Tasks.{asking, task_of};
-ghost use Rattle.oai_served.specs.Served.{IsBegunOn};
+ghost use Rattle.oai_cli.specs.Begun.{IsBegunOn};
 ghost use Rattle.oai_headline.specs.Chains.{AreReached, IsFollowing, IsStepOf};
 ghost use Rattle.oai_headline.specs.Headline.{HaveRules, IsMadeOf};
-ghost use Rattle.oai_headline.specs.Throughout.{IsGiven, IsThroughout, left_by, performed, visits_given};
+ghost use Rattle.oai_headline.specs.Throughout.{IsTrueVisit, IsThroughout, left_by, calls_done, visits_given};
 ghost use Rattle.oai_headline.specs.Visits.{IsWrittenVisit, Visit, commands_in, steps_of, visits};
 ghost use Rattle.oai_headline.specs.Worked.{AreMadeBeside, IsWorkedList, worked_host};
 ghost use Rattle.oai_headline.specs.WorkedFaults.{IsWorkedWithFailures};
@@ -86,7 +86,7 @@ pub fn throughout_on_pages_law<D: PageDevice>()
 {}
 
 /// The same wherever the answers at each repository are those of a run of its own exchanges, from its beginning on: so the clause
-/// `answered` of `host_law` of `oai_runs` says of the bytes of connections. It does nothing.
+/// `answered` of [`host_law`] says of the bytes of connections. It does nothing.
 pub fn throughout_runs_law()
     ensures { (config : HostConfig) (honest : Bool) (first last : HostState) (calls : List Call)
         (answers : List Answer) → HaveRules config → IsMadeOf config honest first → IsTrue honest
@@ -99,15 +99,15 @@ pub fn throughout_runs_law()
 pub fn place_law()
     ensures given { (config : Config) (state : RepoState) (front : List Call) (call : Call) (back : List Call)
         (given : List Answer) (answer : Answer) (more : List Answer) → length front ≡ length given
-        → AllByRecursion (IsGiven config)
+        → AllByRecursion (IsTrueVisit config)
         (visits_given config state (front ++ call ∷ back) (given ++ answer ∷ more))
         → answer.fault ≡ None
-        → answer ≡ (exchanged_alone config (left_by config state (performed front given)) call).0 }
+        → answer ≡ (exchanged_alone config (left_by config state (calls_done front given)) call).0 }
     ensures failed { (front : List Call) (call : Call) (back : List Call) (given : List Answer)
         (answer : Answer) (more : List Answer) (arguments : List ℕ) → length front ≡ length given
         → task_of call ≡ asking arguments → is_none answer.fault ≡ false
-        → performed (front ++ call ∷ back) (given ++ answer ∷ more)
-        ≡ performed (front ++ back) (given ++ more) }
+        → calls_done (front ++ call ∷ back) (given ++ answer ∷ more)
+        ≡ calls_done (front ++ back) (given ++ more) }
 {}
 
 /// What the theorem and the laws beside it ask for can be met: a run of a host of two repositories, computed from the bytes of its

@@ -21,7 +21,7 @@ use Rattle.oai_host.specs.Alone.{after_lines, after_read, done_alone, with_end}
 use Rattle.oai_http.specs.Answers.{answered_with, failed}
 use Rattle.oai_http.specs.declared.exchanges.Answer.{Answer}
 use Rattle.oai_host.specs.Tasks.{depositing}
-use Rattle.oai_host.specs.Performed.{AreLinesDone, HasStopped, IsDone, IsLineAnswered, IsLineDone}
+use Rattle.oai_host.specs.Performed.{AreLinesPerformed, HasStopped, IsDone, IsLineAnswered, IsLinePerformed}
 
 -- a change that was performed or refused is a step, of which this is told
 pub told_line : (config : Config) (moment : ℤ) (change : Change) (outcome : Outcome) (before after : RepoState) (text : List ℕ)
@@ -73,14 +73,14 @@ nothing_behind (x ∷ xs) = ap (λ (all : List ℕ). x ∷ all) (nothing_behind 
 
 module _ (honest : Bool) (config : Config) (moment : ℤ) where
   -- the last of some lines
-  lines_last : (front : List (List ℕ)) (text told line : List ℕ) (before between after : RepoState) → AreLinesDone honest config moment front before told between
-      → IsLineDone honest config moment (line_of text) between line after → AreLinesDone honest config moment (front ++ text ∷ []) before (told ++ line) after
+  lines_last : (front : List (List ℕ)) (text told line : List ℕ) (before between after : RepoState) → AreLinesPerformed honest config moment front before told between
+      → IsLinePerformed honest config moment (line_of text) between line after → AreLinesPerformed honest config moment (front ++ text ∷ []) before (told ++ line) after
   lines_last [] text told line before between after none last = (
     line,
     [],
     after,
     ap (λ (t : List ℕ). t ++ line) none.0 ∙ sym (nothing_behind line),
-    subst (λ (s : RepoState). IsLineDone honest config moment (line_of text) s line after) none.1 last,
+    subst (λ (s : RepoState). IsLinePerformed honest config moment (line_of text) s line after) none.1 last,
     (refl, refl),
   )
   lines_last (one ∷ front) text told line before between after all last = (
@@ -93,7 +93,7 @@ module _ (honest : Bool) (config : Config) (moment : ℤ) where
   )
 
   -- over an honest store they are what the machine does
-  pub lines_exact : (lines : List (List ℕ)) (before : RepoState) (told : List ℕ) (after : RepoState) → IsTrue honest → AreLinesDone honest config moment lines before told after
+  pub lines_exact : (lines : List (List ℕ)) (before : RepoState) (told : List ℕ) (after : RepoState) → IsTrue honest → AreLinesPerformed honest config moment lines before told after
       → after_lines config moment before lines ≡ (told, after)
   lines_exact [] before told after honestly all = ap (λ (t : List ℕ). (t, before)) (sym all.0) ∙ ap (λ (s : RepoState). (told, s)) (sym all.1)
   lines_exact (text ∷ lines) before told after honestly all =
@@ -106,7 +106,7 @@ pub record AreDone (honest : Bool) (old : RepoFields) (before : Lists) (moment :
   pub front : List (List ℕ)
   pub whole : all ≡ front ++ left
   pub many : done ≡ length front
-  pub performed : AreLinesDone honest old.config moment front (state_of old before) told (state_of new after)
+  pub performed : AreLinesPerformed honest old.config moment front (state_of old before) told (state_of new after)
   pub kept : Keeps honest old before new after
 
 pub none_done : (honest : Bool) (old : RepoFields) (before : Lists) (moment : ℤ) (all : List (List ℕ)) → StandsIn old before → (IsTrue honest → IsStored old before) → AreDone honest old before moment all all [] 0 old before
@@ -123,15 +123,15 @@ one_more (one ∷ front) text = ap suc (one_more front text)
 
 pub one_done : (honest : Bool) (old mid new : RepoFields) (before between after : Lists) (moment : ℤ) (all left : List (List ℕ)) (text told line tells : List ℕ) (done : ℕ)
     → AreDone honest old before moment all (text ∷ left) told done mid between → tells ≡ told ++ line
-    → IsLineDone honest mid.config moment (line_of text) (state_of mid between) line (state_of new after) → Keeps honest mid between new after
+    → IsLinePerformed honest mid.config moment (line_of text) (state_of mid between) line (state_of new after) → Keeps honest mid between new after
     → AreDone honest old before moment all left tells (done + 1) new after
 one_done honest old mid new before between after moment all left text told line tells done so_far is line_done kept = record {
   front = so_far.front ++ text ∷ [];
   whole = so_far.whole ∙ join_lines so_far.front left text;
   many = (let many = so_far.many in omega (arith, many)) ∙ one_more so_far.front text;
   performed =
-      let this = subst (λ (config : Config). IsLineDone honest config moment (line_of text) (state_of mid between) line (state_of new after)) so_far.kept.config line_done in
-      subst (λ (t : List ℕ). AreLinesDone honest old.config moment (so_far.front ++ text ∷ []) (state_of old before) t (state_of new after)) (sym is)
+      let this = subst (λ (config : Config). IsLinePerformed honest config moment (line_of text) (state_of mid between) line (state_of new after)) so_far.kept.config line_done in
+      subst (λ (t : List ℕ). AreLinesPerformed honest old.config moment (so_far.front ++ text ∷ []) (state_of old before) t (state_of new after)) (sym is)
       (lines_last honest old.config moment so_far.front text told line (state_of old before) (state_of mid between) (state_of new after) so_far.performed this);
   kept = kept_on honest old mid new before between after so_far.kept kept;
 }
@@ -146,7 +146,7 @@ pub all_done : (honest : Bool) (old new : RepoFields) (before after : Lists) (mo
     → IsDone honest old.config moment (depositing all) (state_of old before) (answered_with told) (state_of new after)
 all_done honest old new before after moment all left told done so_far none =
     let whole : all ≡ so_far.front = so_far.whole ∙ ap (λ (xs : List (List ℕ)). so_far.front ++ xs) none ∙ ends_here so_far.front in
-    (refl, subst (λ (lines : List (List ℕ)). AreLinesDone honest old.config moment lines (state_of old before) told (state_of new after)) (sym whole) so_far.performed)
+    (refl, subst (λ (lines : List (List ℕ)). AreLinesPerformed honest old.config moment lines (state_of old before) told (state_of new after)) (sym whole) so_far.performed)
 
 less : (front left : List (List ℕ)) (text : List ℕ) → length front < length (front ++ text ∷ left)
 less [] left text = omega arith
@@ -168,5 +168,5 @@ line_failed honest old new before after moment all left text told done fault so_
       subst (λ (lines : List (List ℕ)). done < length lines) (sym so_far.whole) (omega (arith, fewer, many)),
       refl,
       told,
-      subst (λ (lines : List (List ℕ)). AreLinesDone honest old.config moment lines (state_of old before) told (state_of new after)) (sym front) so_far.performed,
+      subst (λ (lines : List (List ℕ)). AreLinesPerformed honest old.config moment lines (state_of old before) told (state_of new after)) (sym front) so_far.performed,
     )

@@ -14,7 +14,7 @@ use Rattle.oai_http.specs.declared.exchanges.Call.{Call}
 use Rattle.oai_http.proofs.TargetLemmas.{clash}
 use Rattle.oai_host.specs.Alone.{answers_alone, done_alone, own_answers, own_calls}
 use Rattle.oai_host.specs.Answers.{AreCounted, AreHonest, failure_in}
-use Rattle.oai_host.specs.Hosts.{AreAloneUnlessFailed, AreAnswered, AreExchanged, AreRefused, AreSteps, HostState, IsExchanged, IsOwnRun, IsPassed, IsRun, IsStep, Repository, is_of_none, none_failed, refused, store_of}
+use Rattle.oai_host.specs.Hosts.{AreAloneUnlessFailed, AreAnswered, AreExchanged, AreRefused, AreSteps, HostState, IsExchanged, IsOwnRun, IsLater, IsRun, IsStep, Repository, is_of_none, none_failed, refused, store_of}
 use Rattle.oai_host.specs.Performed.{HasStopped, IsDone, IsPerformed, StoreState}
 use Rattle.oai_host.specs.Tasks.{Task, asking, depositing, refusing, task_of}
 use Rattle.oai_host.proofs.DepositLemmas.{lines_exact}
@@ -22,17 +22,17 @@ use Rattle.oai_host.proofs.FaultLemmas.{all_counted_since, all_honest_since, cou
 
 -- ---- the store
 
-passed_self : (store : StoreState) → IsPassed store store
+passed_self : (store : StoreState) → IsLater store store
 passed_self store = record { honesty = refl; count = omega arith }
 
-passed_twice : (old mid new : StoreState) → IsPassed old mid → IsPassed mid new → IsPassed old new
+passed_twice : (old mid new : StoreState) → IsLater old mid → IsLater mid new → IsLater old new
 passed_twice old mid new first second = record { honesty = second.honesty ∙ first.honesty; count = omega (arith, first.count, second.count) }
 
-passed_by : (call : Call) (answer : Answer) (before after : HostState) → IsExchanged call answer before after → IsPassed (store_of before) (store_of after)
+passed_by : (call : Call) (answer : Answer) (before after : HostState) → IsExchanged call answer before after → IsLater (store_of before) (store_of after)
 passed_by call answer before after exchanged = record { honesty = exchanged.honesty.same; count = exchanged.device.count }
 
 -- exchanges of others came before
-run_before : (config : Config) (calls : List Call) (answers : List Answer) (before : RepoState) (old mid : StoreState) (after : RepoState) (new : StoreState) → IsPassed old mid
+run_before : (config : Config) (calls : List Call) (answers : List Answer) (before : RepoState) (old mid : StoreState) (after : RepoState) (new : StoreState) → IsLater old mid
     → IsRun config calls answers before mid after new → IsRun config calls answers before old after new
 run_before config [] [] before old mid after new passed run = (run.0, passed_twice old mid new passed run.1)
 run_before config [] (a ∷ answers) before old mid after new passed run = absurd run
@@ -67,7 +67,7 @@ same_run : (config : Config) (calls more : List Call) (answers others : List Ans
 same_run config calls more answers others before old after new e f run =
     subst (λ (cs : List Call). IsRun config cs others before old after new) (sym e) (subst (λ (xs : List Answer). IsRun config calls xs before old after new) (sym f) run)
 
-module _ (call : Call) (answer : Answer) (calls : List Call) (answers : List Answer) (old mid new : StoreState) (passed : IsPassed old mid) where
+module _ (call : Call) (answer : Answer) (calls : List Call) (answers : List Answer) (old mid new : StoreState) (passed : IsLater old mid) where
   own_run : (before between after : Repository) → IsStep call answer old mid before between → IsOwnRun calls answers mid new between after → IsOwnRun (call ∷ calls) (answer ∷ answers) old new before after
   own_run before between after step others = record {
     name = others.name ∙ step.name;

@@ -9,7 +9,7 @@ use Rattle.oai_repo.specs.Fields.{Keeps, RepoFields, state_of}
 use Rattle.oai_http.specs.Exchanges.{Asked, call_at}
 use Rattle.oai_http.specs.declared.exchanges.Answer.{Answer}
 use Rattle.oai_host.specs.Hosts.{HostState, IsExchanged}
-use Rattle.oai_host.specs.Performed.{IsLineDone, IsPerformed, StoreState}
+use Rattle.oai_host.specs.Performed.{IsLinePerformed, IsPerformed, StoreState}
 use Rattle.oai_host.specs.Room.{room_for_line}
 use Rattle.oai_host.specs.Tasks.{Task}
 
@@ -20,12 +20,12 @@ IsHandled before moment asked answer after = IsExchanged (call_at moment asked) 
 -- ---- over a store
 
 -- what is said of it
-abbrev pub state_in : {V : Type 0} → Ghosts V → V → StoreState
-state_in g store = record { honest = g.honest store; failures = g.failures store; room = g.room store }
+abbrev pub store_state : {V : Type 0} → Ghosts V → V → StoreState
+store_state g store = record { honest = g.honest store; failures = g.failures store; room = g.room store }
 
 -- a repository in a store performs what is asked, and keeps what it has to keep
-pub record Performs {V : Type 0} (g : Ghosts V) (moment : ℤ) (task : Task) (answer : Answer) (old : RepoFields) (before : V) (new : RepoFields) (after : V) : Type 0 where
-  pub performed : IsPerformed old.config moment task answer (state_of old (g.lists before)) (state_in g before) (state_of new (g.lists after)) (state_in g after)
+pub record PerformsIn {V : Type 0} (g : Ghosts V) (moment : ℤ) (task : Task) (answer : Answer) (old : RepoFields) (before : V) (new : RepoFields) (after : V) : Type 0 where
+  pub performed : IsPerformed old.config moment task answer (state_of old (g.lists before)) (store_state g before) (state_of new (g.lists after)) (store_state g after)
   pub kept : Keeps (g.honest before) old (g.lists before) new (g.lists after)
 
 -- ---- a line of a deposit
@@ -34,7 +34,7 @@ pub record Performs {V : Type 0} (g : Ghosts V) (moment : ℤ) (task : Task) (an
 pub record IsLineAdded {V : Type 0} (g : Ghosts V) (moment : ℤ) (read : Result Change LineRefusal) (old : RepoFields) (before : V) (was : List ℕ) (new : RepoFields) (after : V) (is : List ℕ) : Type 0 where
   pub text : List ℕ
   pub told : is ≡ was ++ text
-  pub line : IsLineDone (g.honest before) old.config moment read (state_of old (g.lists before)) text (state_of new (g.lists after))
+  pub line : IsLinePerformed (g.honest before) old.config moment read (state_of old (g.lists before)) text (state_of new (g.lists after))
 
 -- a repository in a store performs a line, as it was read; a fault leaves the repository and all lists as they were
 pub record PerformsLine {V : Type 0} (g : Ghosts V) (moment : ℤ) (read : Result Change LineRefusal) (result : Result (Unit {0}) Fault) (old : RepoFields) (before : V) (was : List ℕ) (new : RepoFields) (after : V) (is : List ℕ) : Type 0 where

@@ -79,20 +79,20 @@ AreExchanged (call ∷ calls) (answer ∷ answers) before after =
     (between : HostState) × IsExchanged call answer before between × AreExchanged calls answers between after
 
 -- between the exchanges of a repository others may use the store: its device stays as honest as it was, and may have failed more often
-pub record IsPassed (old new : StoreState) : Type 0 where
+pub record IsLater (old new : StoreState) : Type 0 where
   pub honesty : new.honest ≡ old.honest
   pub count : old.failures ≤ new.failures
 
 -- exchanges of one repository, each performed
 abbrev pub IsRun : Config → List Call → List Answer → RepoState → StoreState → RepoState → StoreState → Type 0
-IsRun config [] [] before old after new = (after ≡ before) × IsPassed old new
+IsRun config [] [] before old after new = (after ≡ before) × IsLater old new
 IsRun config [] (answer ∷ answers) before old after new = ⊥
 IsRun config (call ∷ calls) [] before old after new = ⊥
 IsRun config (call ∷ calls) (answer ∷ answers) before old after new =
     (first : StoreState)
     × (between : RepoState)
     × (next : StoreState)
-    × IsPassed old first
+    × IsLater old first
     × IsPerformed config call.moment (task_of call) answer before first between next
     × IsRun config calls answers between next after new
 

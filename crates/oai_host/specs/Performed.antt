@@ -43,20 +43,20 @@ IsLineAnswered config moment (Ok change) before line after =
 IsLineAnswered config moment (Err cause) before line after = IsRefusedLine moment (in_line cause) before line after
 
 -- it was performed, as it was read; over an honest store it was a step of the machine
-pub record IsLineDone (honest : Bool) (config : Config) (moment : ℤ) (read : Result Change LineRefusal) (before : RepoState) (line : List ℕ) (after : RepoState) : Type 0 where
+pub record IsLinePerformed (honest : Bool) (config : Config) (moment : ℤ) (read : Result Change LineRefusal) (before : RepoState) (line : List ℕ) (after : RepoState) : Type 0 where
   pub so : IsLineAnswered config moment read before line after
   pub exact : IsTrue honest → after_read config moment before read ≡ (line, after)
 
 -- lines were performed one after the other at one moment, and all of their answers are these
-abbrev pub AreLinesDone : Bool → Config → ℤ → List (List ℕ) → RepoState → List ℕ → RepoState → Type 0
-AreLinesDone honest config moment [] before told after = (told ≡ []) × (after ≡ before)
-AreLinesDone honest config moment (text ∷ lines) before told after =
+abbrev pub AreLinesPerformed : Bool → Config → ℤ → List (List ℕ) → RepoState → List ℕ → RepoState → Type 0
+AreLinesPerformed honest config moment [] before told after = (told ≡ []) × (after ≡ before)
+AreLinesPerformed honest config moment (text ∷ lines) before told after =
     (line : List ℕ)
     × (others : List ℕ)
     × (between : RepoState)
     × (told ≡ line ++ others)
-    × IsLineDone honest config moment (line_of text) before line between
-    × AreLinesDone honest config moment lines between others after
+    × IsLinePerformed honest config moment (line_of text) before line between
+    × AreLinesPerformed honest config moment lines between others after
 
 -- ---- an exchange
 
@@ -72,7 +72,7 @@ abbrev pub IsDone : Bool → Config → ℤ → Task → RepoState → Answer �
 IsDone honest config moment (refusing status) before answer after = (answer ≡ answered status) × (after ≡ before)
 IsDone honest config moment (asking arguments) before answer after = IsReplied honest config moment arguments before answer after
 IsDone honest config moment (depositing lines) before answer after =
-    (answer ≡ answered_with answer.body) × AreLinesDone honest config moment lines before answer.body after
+    (answer ≡ answered_with answer.body) × AreLinesPerformed honest config moment lines before answer.body after
 
 -- a fault ended it: a request has left all as it was; of a deposit as many lines were done as the answer says, the first ones, and no other
 abbrev pub HasStopped : Bool → Config → ℤ → Task → Fault → RepoState → Answer → RepoState → Type 0
@@ -83,7 +83,7 @@ HasStopped honest config moment (depositing lines) fault before answer after =
     × (done < length lines)
     × (answer ≡ failed fault (Some done))
     × (told : List ℕ)
-    × AreLinesDone honest config moment (take done lines) before told after
+    × AreLinesPerformed honest config moment (take done lines) before told after
 
 -- what is said of a store: whether its device gives back what was written to it, how often that has failed, and how many calls of the store are
 -- sure to find room

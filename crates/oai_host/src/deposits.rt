@@ -3,7 +3,7 @@ ghost use Rattle.oai_deposit.specs.Lines.{line_of};
 ghost use Rattle.oai_host.specs.Bodies as spec;
 ghost use Rattle.oai_host.specs.Bodies.{lines_in};
 ghost use Rattle.oai_host.specs.DepositLines.{bytes_left, from_line, lines_left};
-ghost use Rattle.oai_host.specs.Exchanged.{Performs, PerformsLine};
+ghost use Rattle.oai_host.specs.Exchanged.{PerformsIn, PerformsLine};
 ghost use Rattle.oai_host.specs.Tasks.{depositing};
 ghost use Rattle.oai_host.specs.declared.deposits.TheConstants.{MAX_LINE};
 ghost use Rattle.oai_repo.specs.Fields.{Owns};
@@ -14,7 +14,7 @@ ghost use Rattle.std.specs.Prelude.{Err, MatchOption, Ok, Some, [], codes, lengt
 
 use oai_catalogue::Versions;
 use oai_deposit::{LineFault, read_line};
-use oai_http::{Answer, len_before};
+use oai_http::{Answer, len_before, put};
 use oai_item::{Change, Fault, LineRefusal};
 use oai_names::Sequence;
 use oai_repo::{Refusal, Repo};
@@ -25,7 +25,7 @@ use std::marker::Model;
 /// The most bytes of the line that answers a line, its end included.
 const MAX_LINE: usize = 32;
 
-/// Performs the lines of a deposit at the moment, in seconds from 1970 on, one after the other, and
+/// PerformsIn the lines of a deposit at the moment, in seconds from 1970 on, one after the other, and
 /// answers them; a fault ends them. Room for the answer to a line is taken before it is performed, so a
 /// line that was performed is answered or counted.
 pub(crate) fn perform_lines<V: Versions>(
@@ -36,7 +36,7 @@ pub(crate) fn perform_lines<V: Versions>(
     body: &[u8],
 ) -> Answer
     requires owns { Owns (V.honest store.old) repo.old (V.lists store.old) }
-    ensures { Performs V.Versions moment (depositing (lines_in body.now)) result repo.old store.old
+    ensures { PerformsIn V.Versions moment (depositing (lines_in body.now)) result repo.old store.old
         repo.new store.new }
 {
     let mut lines = Lines::new(body);
@@ -51,7 +51,7 @@ pub(crate) fn perform_lines<V: Versions>(
     Answer::with_body(Sequence::new(told))
 }
 
-/// Performs a line and writes the line for it. Room for that is taken first. A fault leaves everything
+/// PerformsIn a line and writes the line for it. Room for that is taken first. A fault leaves everything
 /// as it was.
 fn perform_line<V: Versions>(
     alloc: Global,
@@ -76,7 +76,7 @@ fn perform_line<V: Versions>(
     }
 }
 
-/// Performs a change and writes the line for it, in the room that is there.
+/// PerformsIn a change and writes the line for it, in the room that is there.
 #[tactic(auto, unfolding(oai_repo::specs::Machine::outcome_output))]
 fn perform_change<V: Versions>(
     repo: &mut Repo,
@@ -136,16 +136,6 @@ fn put_line(text: &str, out: &mut Vec<u8>)
 {
     put(text.as_bytes(), out);
     put(b"\n", out);
-}
-
-/// Writes into room that is there.
-fn put(bytes: &[u8], out: &mut Vec<u8>)
-    requires { vec_len out.old + length bytes.now ≤ vec_capacity out.old }
-    ensures items { out.new.items ≡ out.old.items ++ bytes.now }
-    ensures len { vec_len out.new ≡ vec_len out.old + length bytes.now }
-    ensures room { vec_capacity out.old ≤ vec_capacity out.new }
-{
-    out.extend_from_slice(bytes).unwrap()
 }
 
 /// The lines of a deposit that are still to be taken: its body is cut at each line end, and a line of

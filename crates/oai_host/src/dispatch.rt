@@ -1,5 +1,5 @@
 //! What exchanges ask of a repository, performed: requests of OAI-PMH, and deposits.
-ghost use Rattle.oai_host.specs.Exchanged.{Performs};
+ghost use Rattle.oai_host.specs.Exchanged.{PerformsIn};
 ghost use Rattle.oai_host.specs.Tasks as spec;
 ghost use Rattle.oai_host.specs.Tasks.{task_in};
 ghost use Rattle.oai_http.specs.Exchanges.{call_of};
@@ -12,7 +12,7 @@ use oai_http::{Answer, Endpoint, Exchange, Status, is_form, query_of};
 use oai_repo::{Reply, Repo};
 use std::alloc::Global;
 
-/// Performs what the exchange asks of the repository, by what its path is for.
+/// PerformsIn what the exchange asks of the repository, by what its path is for.
 pub(crate) fn perform<V: Versions>(
     alloc: Global,
     repo: &mut Repo,
@@ -22,7 +22,7 @@ pub(crate) fn perform<V: Versions>(
     exchange: &Exchange<'_>,
 ) -> Answer
     requires owns { Owns (V.honest store.old) repo.old (V.lists store.old) }
-    ensures { Performs V.Versions moment (task_in endpoint (call_of moment exchange.now)) result
+    ensures { PerformsIn V.Versions moment (task_in endpoint (call_of moment exchange.now)) result
         repo.old store.old repo.new store.new }
 {
     match endpoint {
@@ -65,7 +65,7 @@ pub(crate) fn is_post(method: &[u8]) -> bool
     method == b"POST".as_slice()
 }
 
-/// Performs a request at the moment, in seconds from 1970 on, by its arguments, and answers it.
+/// PerformsIn a request at the moment, in seconds from 1970 on, by its arguments, and answers it.
 pub(crate) fn perform_request<V: Versions>(
     alloc: Global,
     repo: &mut Repo,
@@ -74,7 +74,7 @@ pub(crate) fn perform_request<V: Versions>(
     arguments: &[u8],
 ) -> Answer
     requires owns { Owns (V.honest store.old) repo.old (V.lists store.old) }
-    ensures { Performs V.Versions moment (spec.asking arguments.now) result repo.old store.old repo.new
+    ensures { PerformsIn V.Versions moment (spec.asking arguments.now) result repo.old store.old repo.new
         store.new }
 {
     match repo.ask(store, moment, arguments) {

@@ -78,7 +78,7 @@ impl<V: Versions + Drop> Host<V> {
         })
     }
 
-    /// Performs an exchange at the moment, in seconds from 1970 on, and answers it. Each fault, out of
+    /// PerformsIn an exchange at the moment, in seconds from 1970 on, and answers it. Each fault, out of
     /// memory too, is reported in the answer.
     ///
     /// Over every store an exchange leaves all repositories but its own as they were, and one that is no
@@ -111,14 +111,14 @@ impl<V: Versions + Drop> Host<V> {
         &self.store
     }
 
-    /// Performs a call, at its moment, as `exchange` does, and answers it.
+    /// PerformsIn a call, at its moment, as `exchange` does, and answers it.
     fn perform(&mut self, call: &Call) -> Answer
         ensures { IsExchanged call.now result self.old self.new }
     {
         self.exchange(call.moment, &call.exchange())
     }
 
-    /// Performs exchanges, one after the other, as `exchange` does, and answers them in their order. At each
+    /// PerformsIn exchanges, one after the other, as `exchange` does, and answers them in their order. At each
     /// repository its own exchanges are a run, whatever comes between them; where none of them failed, and the
     /// store gives back what was written to it, their answers are those that the repository alone gives. The
     /// error is out of memory for the list of the answers; nothing was performed then.

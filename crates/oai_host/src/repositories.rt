@@ -2,7 +2,7 @@
 ghost use Rattle.oai_catalogue.specs.Calls.{Uses};
 ghost use Rattle.oai_catalogue.specs.Store.{IsCounted, IsHonest};
 ghost use Rattle.oai_host.specs.Answers.{failure_in};
-ghost use Rattle.oai_host.specs.Exchanged.{state_in};
+ghost use Rattle.oai_host.specs.Exchanged.{store_state};
 ghost use Rattle.oai_host.specs.Hosts.{AreSteps, begun};
 ghost use Rattle.oai_host.specs.NamedRepos.{AreNamedRepos, place_in, repo_names, repositories_of};
 ghost use Rattle.oai_host.specs.Places.{IsRepoPlace};
@@ -109,7 +109,7 @@ impl Repositories {
         Ok(())
     }
 
-    /// Performs an exchange of the repository at the place, at the moment, in seconds from 1970 on.
+    /// PerformsIn an exchange of the repository at the place, at the moment, in seconds from 1970 on.
     pub(crate) fn perform<V: Versions>(
         &mut self,
         store: &mut V,
@@ -120,8 +120,8 @@ impl Repositories {
     ) -> Answer
         requires place { IsRepoPlace self.old place endpoint exchange.now.target.now }
         requires repos { AreNamedRepos (V.honest store.old) self.old (V.lists store.old) }
-        ensures steps { AreSteps (call_of moment exchange.now) result (state_in V.Versions store.old)
-            (state_in V.Versions store.new) (repositories_of self.old (V.lists store.old))
+        ensures steps { AreSteps (call_of moment exchange.now) result (store_state V.Versions store.old)
+            (store_state V.Versions store.new) (repositories_of self.old (V.lists store.old))
             (repositories_of self.new (V.lists store.new)) }
         ensures repos { AreNamedRepos (V.honest store.new) self.new (V.lists store.new) }
         ensures device { IsCounted (failure_in result) (V.failures store.old) (V.failures store.new) }

@@ -6,3 +6,5 @@ pub mod Following
 pub mod Selecting
 pub mod Worked
 pub mod Shown
+pub mod Harvests
+pub mod WorkedHarvests

@@ -7,7 +7,7 @@ use Rattle.oai_item.specs.declared.faults.Fault.{Fault}
 use Rattle.oai_repo.specs.Fields.{Keeps, state_of}
 use Rattle.oai_settings.specs.Config.{Config}
 use Rattle.oai_host.specs.Bodies.{lines_in}
-use Rattle.oai_host.specs.Performed.{IsLineDone}
+use Rattle.oai_host.specs.Performed.{IsLinePerformed}
 use Rattle.oai_host.specs.Room.{room_for_line}
 use Rattle.oai_host.proofs.DepositLemmas.{all_done, kept_on, line_failed, one_done}
 use Rattle.oai_host.proofs.FaultLemmas.{counted_since, honest_since}
@@ -28,7 +28,7 @@ loop-text-preserved g c =
     let next : c.loop-text.lines ≡ c.in-Some.text.now ∷ c.next.new.self = rw c.in-Some.is at c.next.ensures in
     let so_far = rw next at (simp to_z-of_z at c.loop-text.invariant.lines) in
     let done = rw c.in-Ok.is at (simp to_z-of_z at c.perform_line.ensures.ok) in
-    let line = subst (λ (honest : Bool). IsLineDone honest mid.config c.args.moment (line_of c.in-Some.text.now) (state_of mid between) done.text (state_of new after)) same done.line in
+    let line = subst (λ (honest : Bool). IsLinePerformed honest mid.config c.args.moment (line_of c.in-Some.text.now) (state_of mid between) done.text (state_of new after)) same done.line in
     let kept = subst (λ (honest : Bool). Keeps honest mid between new after) same c.perform_line.ensures.kept in
     record {
       lines = simp to_z-of_z (one_done (V.honest c.args.store.now) old mid new before between after c.args.moment (lines_in c.args.body.now) c.next.new.self c.in-Some.text.now c.loop-text.told.items done.text c.perform_line.new.told.items c.loop-text.done

@@ -3,7 +3,7 @@ use Rattle.std.proofs.Common.{◌≡◌, ◌∙◌, FitsSigned, w64}
 use Rattle.std.proofs.lemmas.Int.{to_z-of_z}
 use Rattle.std.proofs.lemmas.Option.{get_or_from_slice_get}
 use Rattle.oai_http.specs.Exchanges.{call_of}
-use Rattle.oai_host.specs.Exchanged.{state_in}
+use Rattle.oai_host.specs.Exchanged.{store_state}
 use Rattle.oai_host.proofs.NamedRepoLemmas.{held_at, repos_set, stands_at, steps_set}
 use Rattle.oai_host.proofs.PlaceLemmas.{names_set}
 use Rattle.oai_host.proofs.repositories.Repositories.perform.Goals as goal
@@ -42,7 +42,7 @@ returns-clause-steps g c =
     let before = c.args.store.now in
     let after = c.perform.new.store in
     rw (← c.self.view_is, one)
-    (steps_set (V.honest before) (call_of c.args.moment c.args.exchange.now) c.perform.result (state_in V before) (state_in V after) c.args.endpoint inside c.args.place p.one c.perform.new.repo (V.lists before) (V.lists after) there repos kept
+    (steps_set (V.honest before) (call_of c.args.moment c.args.exchange.now) c.perform.result (store_state V before) (store_state V after) c.args.endpoint inside c.args.place p.one c.perform.new.repo (V.lists before) (V.lists after) there repos kept
     repos.named.distinct p.path performed)
 
 pub returns-clause-repos : goal.returns-clause-repos
