@@ -4,6 +4,7 @@ ghost use Rattle.oai_host.specs.Hosts.{AreAloneUnlessFailed, AreAnswered, AreExc
 ghost use Rattle.oai_host.specs.NamedRepos.{AreNamedRepos, StandFor, repo_names};
 ghost use Rattle.oai_host.specs.Places.{IsRepoPlace, LeadsNowhere};
 ghost use Rattle.oai_host.specs.Props.{named_repo_props};
+ghost use Rattle.oai_host.specs.Redone.{IsRedone};
 ghost use Rattle.oai_http.specs.Exchanges.{call_of};
 ghost use Rattle.oai_http.specs.Targets as spec;
 ghost use Rattle.oai_http.specs.declared.statuses.Status.TheVariants as status;
@@ -13,11 +14,12 @@ ghost use Rattle.std.specs.List.{list_all};
 ghost use Rattle.std.specs.Option.{IfNone};
 ghost use Rattle.std.specs.Prelude.{IfErr, IfOk, IfSome, IsTrue, OnErr, if◌then◌else◌, length, map, true, ◌+◌, ◌<◌, ◌≡◌, ◌≤◌};
 
+use crate::deposits::first_lines;
 use crate::repositories::Repositories;
 use crate::routes::Routes;
 use oai_catalogue::Versions;
 use oai_config::Config;
-use oai_http::{Answer, Call, Endpoint, Exchange, Handler, Status, is_rooted, path_of};
+use oai_http::{Answer, Call, Endpoint, Exchange, Handler, Replayed, Status, is_rooted, path_of};
 use oai_item::Fault;
 use oai_names::Sequence;
 use std::alloc::{AllocError, Global};
@@ -100,6 +102,17 @@ impl<V: Versions + Drop> Host<V> {
         }
     }
 
+    /// Performs an exchange again that was performed before, as `exchange` does, and makes no answer. The error is
+    /// the fault that ended it.
+    pub fn redo(&mut self, moment: i64, exchange: &Exchange<'_>) -> Result<(), Fault>
+        ensures { IsRedone (call_of moment exchange.now) result self.old self.new }
+    {
+        match self.exchange(moment, exchange).fault {
+            Some(fault) => Err(fault),
+            None => Ok(()),
+        }
+    }
+
     /// The store. The host's repositories are what its lists stand for, and its honesty, its failures and
     /// its room are those that are said of the host.
     pub fn versions(&self) -> &V
@@ -167,5 +180,33 @@ impl<V: Versions + Drop> Handler for Host<V> {
 
     fn exchange(&mut self, moment: i64, exchange: &Exchange<'_>) -> Answer {
         self.exchange(moment, exchange)
+    }
+}
+
+impl<V: Versions + Drop> Replayed for Host<V> {
+    ghost use Rattle.std.specs.Prelude.{List};
+    ghost use Rattle.oai_host.specs.Hosts.{HostState, Repository};
+    ghost use Rattle.oai_host.specs.Redone.{redone_all};
+
+    ghost Kept = { List Repository };
+
+    ghost kept = { λ host. host.repositories };
+
+    ghost is_honest = { λ host. host.honest };
+
+    ghost redone = { redone_all };
+
+    fn bytes_done(exchange: &Exchange<'_>, answer: &Answer) -> Option<usize> {
+        match answer.fault {
+            None => Some(exchange.body.len()),
+            Some(_) => match answer.done {
+                Some(lines) => Some(first_lines(exchange.body, lines)),
+                None => None,
+            },
+        }
+    }
+
+    fn redo(&mut self, moment: i64, exchange: &Exchange<'_>) -> Result<(), Fault> {
+        self.redo(moment, exchange)
     }
 }

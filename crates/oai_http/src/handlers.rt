@@ -1,8 +1,11 @@
-ghost use Rattle.std.specs.Prelude.{ℤ};
-ghost use Rattle.oai_http.specs.Exchanges.{Asked, asked_by};
+ghost use Rattle.std.specs.Prelude.{◌≡◌, ◌≤◌, ℤ, Bool, IfSome, IsTrue, OnOk, length};
+ghost use Rattle.oai_http.specs.Exchanges.{Asked, asked_by, call_at};
+ghost use Rattle.oai_http.specs.Redone.{redone_part};
 ghost use Rattle.oai_http.specs.declared.exchanges.Answer.{Answer as Given};
+ghost use Rattle.oai_http.specs.declared.exchanges.Call.{Call as Calls};
 
 use crate::exchanges::{Answer, Exchange};
+use oai_item::Fault;
 
 /// What performs the messages of connections.
 pub trait Handler {
@@ -14,4 +17,35 @@ pub trait Handler {
     /// faults stand in the answer.
     fn exchange(&mut self, moment: i64, exchange: &Exchange<'_>) -> Answer
         ensures { step self.old moment (asked_by exchange.now) result self.new };
+}
+
+/// A handler whose exchanges can be performed again, so that it is what it was.
+pub trait Replayed: Handler {
+    /// What a handler keeps from one exchange to the next.
+    ghost Kept: { Type 0 };
+
+    /// That of this handler.
+    ghost kept: { Self → Kept };
+
+    /// Whether its device gives back what was written to it.
+    ghost is_honest: { Self → Bool };
+
+    /// What a call leaves.
+    ghost redone: { Kept → Calls → Kept };
+
+    /// How much of an exchange that was answered so was performed: so many bytes of its body, from the first on,
+    /// which are all of them where the answer has no fault; `None` where nothing was. What the exchange left is
+    /// what that much of it leaves.
+    fn bytes_done(exchange: &Exchange<'_>, answer: &Answer) -> Option<usize>
+        ensures within { IfSome result (λ size. size ≤ length exchange.now.body.now) }
+        ensures left { (before : Self) (moment : ℤ) (after : Self) → IsTrue (is_honest before)
+            → Self.step before moment (asked_by exchange.now) answer.now after
+            → kept after ≡ redone_part redone (kept before) (call_at moment (asked_by exchange.now)) result };
+
+    /// Performs an exchange again, at the moment, in seconds from 1970 on, and makes no answer. The error is the
+    /// fault that ended it.
+    fn redo(&mut self, moment: i64, exchange: &Exchange<'_>) -> Result<(), Fault>
+        ensures redone { OnOk result (IsTrue (is_honest self.old)
+            → kept self.new ≡ redone (kept self.old) (call_at moment (asked_by exchange.now))) }
+        ensures honesty { is_honest self.new ≡ is_honest self.old };
 }
