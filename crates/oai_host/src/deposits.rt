@@ -2,7 +2,7 @@
 ghost use Rattle.oai_deposit.specs.Lines.{line_of};
 ghost use Rattle.oai_host.specs.Bodies as spec;
 ghost use Rattle.oai_host.specs.Bodies.{lines_in};
-ghost use Rattle.oai_host.specs.DepositLines.{bytes_left, from_line, lines_left};
+ghost use Rattle.oai_host.specs.DepositLines.{AreTaken, bytes_left, from_line, lines_left};
 ghost use Rattle.oai_host.specs.Exchanged.{PerformsIn, PerformsLine};
 ghost use Rattle.oai_host.specs.Tasks.{depositing};
 ghost use Rattle.oai_host.specs.declared.deposits.TheConstants.{MAX_LINE};
@@ -10,7 +10,7 @@ ghost use Rattle.oai_repo.specs.Fields.{Owns};
 ghost use Rattle.oai_time.specs.Stamp.{IsWritable};
 ghost use Rattle.oai_time.specs.TimeTexts.{datestamp_text};
 ghost use Rattle.std.specs.Option.{option_copied};
-ghost use Rattle.std.specs.Prelude.{Err, MatchOption, Ok, Some, [], codes, length, vec_capacity, vec_len, ◌++◌, ◌+◌, ◌<◌, ◌∷◌, ◌≡◌, ◌≤◌};
+ghost use Rattle.std.specs.Prelude.{Err, MatchOption, Ok, Some, [], codes, drop, if◌then◌else◌, length, ℕ, vec_capacity, vec_len, ◌++◌, ◌+◌, ◌<◌, ◌∷◌, ◌≡◌, ◌≤◌};
 
 use oai_catalogue::Versions;
 use oai_deposit::{LineFault, read_line};
@@ -191,6 +191,48 @@ fn cut(text: &[u8]) -> (&[u8], Option<&[u8]>)
     } else {
         (line, None)
     }
+}
+
+/// How many bytes of the body have its first `count` lines, or all of it where it has fewer.
+pub(crate) fn first_lines(body: &[u8], count: u64) -> usize
+    ensures within { result ≤ length body.now }
+    ensures lines { AreTaken body.now result count }
+{
+    let mut rest = body;
+    let mut left = count;
+    while left > 0 && !rest.is_empty() {
+        let (size, others) = first_line(rest, left);
+        rest = &rest[size..];
+        left = others;
+    }
+    body.len() - rest.len()
+}
+
+/// How many bytes what stands before the first line end takes, with it, and how many of `left` lines are left
+/// behind it: a blank one is none of them.
+fn first_line(text: &[u8], left: u64) -> (usize, u64)
+    requires some { 0 < length text.now }
+    requires more { 0 < left }
+    ensures within { result.0 ≤ length text.now }
+    ensures less { 0 < result.0 }
+    ensures lines { (size : ℕ) → AreTaken (drop result.0 text.now) size result.1
+        → AreTaken text.now (result.0 + size) left }
+{
+    let end = len_before(b'\n', text);
+    let others = without_line(is_blank(&text[..end]), left);
+    if end < text.len() {
+        (end + 1, others)
+    } else {
+        (end, others)
+    }
+}
+
+/// How many of the lines are left behind one, which is none of them where it is blank.
+fn without_line(is_blank: bool, left: u64) -> u64
+    requires { 0 < left }
+    ensures { left ≡ (if is_blank then result else result + 1) }
+{
+    if is_blank { left } else { left - 1 }
 }
 
 /// Whether it is a line of nothing but spaces, tabs and CR.
