@@ -25,7 +25,7 @@ use std::marker::Model;
 /// The most bytes of the line that answers a line, its end included.
 const MAX_LINE: usize = 32;
 
-/// PerformsIn the lines of a deposit at the moment, in seconds from 1970 on, one after the other, and
+/// Performs the lines of a deposit at the moment, in seconds from 1970 on, one after the other, and
 /// answers them; a fault ends them. Room for the answer to a line is taken before it is performed, so a
 /// line that was performed is answered or counted.
 pub(crate) fn perform_lines<V: Versions>(
@@ -51,7 +51,7 @@ pub(crate) fn perform_lines<V: Versions>(
     Answer::with_body(Sequence::new(told))
 }
 
-/// PerformsIn a line and writes the line for it. Room for that is taken first. A fault leaves everything
+/// Performs a line and writes the line for it. Room for that is taken first. A fault leaves everything
 /// as it was.
 fn perform_line<V: Versions>(
     alloc: Global,
@@ -76,7 +76,7 @@ fn perform_line<V: Versions>(
     }
 }
 
-/// PerformsIn a change and writes the line for it, in the room that is there.
+/// Performs a change and writes the line for it, in the room that is there.
 #[tactic(auto, unfolding(oai_repo::specs::Machine::outcome_output))]
 fn perform_change<V: Versions>(
     repo: &mut Repo,

@@ -12,7 +12,7 @@ use oai_http::{Answer, Endpoint, Exchange, Status, is_form, query_of};
 use oai_repo::{Reply, Repo};
 use std::alloc::Global;
 
-/// PerformsIn what the exchange asks of the repository, by what its path is for.
+/// Performs what the exchange asks of the repository, by what its path is for.
 pub(crate) fn perform<V: Versions>(
     alloc: Global,
     repo: &mut Repo,
@@ -65,7 +65,7 @@ pub(crate) fn is_post(method: &[u8]) -> bool
     method == b"POST".as_slice()
 }
 
-/// PerformsIn a request at the moment, in seconds from 1970 on, by its arguments, and answers it.
+/// Performs a request at the moment, in seconds from 1970 on, by its arguments, and answers it.
 pub(crate) fn perform_request<V: Versions>(
     alloc: Global,
     repo: &mut Repo,

@@ -27,10 +27,10 @@ use std::marker::Model;
 
 /// A host: repositories, each reached by its name, and the store that has the items of all of them.
 ///
-/// What happens at one repository cannot be seen at another: where no exchange failed, and the store gives
-/// back what was written to it, what is answered at each is what it alone would answer to its own
-/// exchanges, whatever comes between them. The numbers under which two repositories keep their items in the
-/// store are never the same.
+/// What happens at one repository cannot be seen at another: where none of the exchanges of a repository
+/// failed, and the store gives back what was written to it, what is answered there is what it alone would
+/// answer to them, whatever comes between them. The numbers under which two repositories keep their items
+/// in the store are never the same.
 #[derive(Drop)]
 pub struct Host<V: Versions + Drop> {
     alloc: Global,
@@ -80,7 +80,7 @@ impl<V: Versions + Drop> Host<V> {
         })
     }
 
-    /// PerformsIn an exchange at the moment, in seconds from 1970 on, and answers it. Each fault, out of
+    /// Performs an exchange at the moment, in seconds from 1970 on, and answers it. Each fault, out of
     /// memory too, is reported in the answer.
     ///
     /// Over every store an exchange leaves all repositories but its own as they were, and one that is no
@@ -124,14 +124,14 @@ impl<V: Versions + Drop> Host<V> {
         &self.store
     }
 
-    /// PerformsIn a call, at its moment, as `exchange` does, and answers it.
+    /// Performs a call, at its moment, as `exchange` does, and answers it.
     fn perform(&mut self, call: &Call) -> Answer
         ensures { IsExchanged call.now result self.old self.new }
     {
         self.exchange(call.moment, &call.exchange())
     }
 
-    /// PerformsIn exchanges, one after the other, as `exchange` does, and answers them in their order. At each
+    /// Performs exchanges, one after the other, as `exchange` does, and answers them in their order. At each
     /// repository its own exchanges are a run, whatever comes between them; where none of them failed, and the
     /// store gives back what was written to it, their answers are those that the repository alone gives. The
     /// error is out of memory for the list of the answers; nothing was performed then.
