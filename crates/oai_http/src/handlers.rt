@@ -1,8 +1,16 @@
-ghost use Rattle.std.specs.Prelude.{ℤ};
+ghost use Rattle.std.specs.Prelude.{ℤ, Result};
 ghost use Rattle.oai_http.specs.Exchanges.{Asked, asked_by};
 ghost use Rattle.oai_http.specs.declared.exchanges.Answer.{Answer as Given};
 
+ghost use Rattle.oai_http.specs.declared.handlers.SettleFault.{SettleFault as Unsettled};
+
 use crate::exchanges::{Answer, Exchange};
+use thiserror::Error;
+
+/// What was performed could not be made durable.
+#[derive(Clone, Copy, Debug, PartialEq, Eq, Error)]
+#[error("what was performed could not be made durable")]
+pub struct SettleFault;
 
 /// What performs the messages of connections.
 pub trait Handler {
@@ -14,4 +22,15 @@ pub trait Handler {
     /// faults stand in the answer.
     fn exchange(&mut self, moment: i64, exchange: &Exchange<'_>) -> Answer
         ensures { step self.old moment (asked_by exchange.now) result self.new };
+}
+
+/// A handler whose answers stand only once it has settled.
+pub trait Settled: Handler {
+    /// What settling may return, and what the handler then is.
+    ghost settled: { Self → Result Unit Unsettled → Self → Type 0 };
+
+    /// Makes all that was performed durable, so that the answers may leave. After an error none of those
+    /// that were given since the last settling that was Ok may leave.
+    fn settle(&mut self) -> Result<(), SettleFault>
+        ensures { settled self.old result self.new };
 }
