@@ -1,0 +1,4 @@
+pub mod Received
+pub mod Pieces
+pub mod Links
+pub mod Inside
