@@ -38,6 +38,8 @@ module _ {S H : Type 0} (step : Steps H) (contents remaining : S → Option (Lis
     run = refl;
     same = refl;
     unwritten = keeps_same (contents link.stream);
+    read = [];
+    consumed = consumes_none (remaining link.stream);
     idle = inr refl;
     follows = λ first earlier f. subst (λ (ds : List Done). IsFollowed contents remaining first ds link) (sym (append-nil earlier)) f;
   }
@@ -50,31 +52,39 @@ module _ {S H : Type 0} (step : Steps H) (contents remaining : S → Option (Lis
     run = run_then step moment h k l s.done t.done s.run t.run;
     same = t.same ∙ s.same;
     unwritten = keeps_then (contents a.stream) (contents b.stream) (contents c.stream) s.unwritten t.unwritten;
+    read = s.read ++ t.read;
+    consumed = consumes_then (remaining a.stream) (remaining b.stream) (remaining c.stream) s.read t.read s.consumed t.consumed;
     idle = idle_then a b c s.idle t.idle;
     follows = λ first earlier f.
         subst (λ (ds : List Done). IsFollowed contents remaining first ds c) (append_assoc earlier s.done t.done)
         (t.follows first (earlier ++ s.done) (s.follows first earlier f));
   }
 
+  -- bytes may have been read, and none was written
+  pub received_still : (first before after : S) (done : List Done) (read : List ℕ) → Keeps (contents before) (contents after) → Consumes (remaining before) (remaining after) read
+      → IsReceived contents remaining first before done → IsReceived contents remaining first after done
+  received_still first before after done read unwritten consumes r = record {
+    came = r.came;
+    others = r.others ++ read;
+    whole = r.whole;
+    end = r.end;
+    sent = r.sent;
+    waiting = r.waiting;
+    read = subst (λ (xs : List ℕ). Consumes (remaining first) (remaining after) xs) (append_assoc r.came r.others read)
+        (consumes_then (remaining first) (remaining before) (remaining after) (r.came ++ r.others) read r.read consumes);
+    performed = r.performed;
+    answers = r.answers;
+    written = keeps_appends (contents first) (contents before) (contents after) r.sent r.written unwritten;
+  }
+
   -- the same connection, of which bytes may have been read
   pub read_follows : (first : S) (done : List Done) (old new : Link S) (read : List ℕ) → new.connection ≡ old.connection → Keeps (contents old.stream) (contents new.stream)
       → Consumes (remaining old.stream) (remaining new.stream) read → (new.able ≡ true → (old.able ≡ true) × (new.held ≡ old.held ++ read))
       → IsFollowed contents remaining first done old → IsFollowed contents remaining first done new
+  unfolding received_still
   read_follows first done old new read same unwritten consumes held f =
-      let r = f.received in record {
-        received = record {
-          came = r.came;
-          others = r.others ++ read;
-          whole = r.whole;
-          end = r.end;
-          sent = r.sent;
-          waiting = r.waiting;
-          read = subst (λ (xs : List ℕ). Consumes (remaining first) (remaining new.stream) xs) (append_assoc r.came r.others read)
-              (consumes_then (remaining first) (remaining old.stream) (remaining new.stream) (r.came ++ r.others) read r.read consumes);
-          performed = r.performed;
-          answers = r.answers;
-          written = keeps_appends (contents first) (contents old.stream) (contents new.stream) r.sent r.written unwritten;
-        };
+      record {
+        received = received_still first old.stream new.stream done read unwritten consumes f.received;
         waiting = f.waiting ∙ sym (ap (λ (c : Connection). c.output) same);
         rest = ap (λ (c : Connection). c.rest) same ∙ f.rest;
         stage = ap (λ (c : Connection). c.stage) same ∙ f.stage;
@@ -89,6 +99,8 @@ module _ {S H : Type 0} (step : Steps H) (contents remaining : S → Option (Lis
     run = refl;
     same = ap (λ (c : Connection). c.number) same;
     unwritten = unwritten;
+    read = read;
+    consumed = consumes;
     idle = inl none;
     follows = λ first earlier f.
         subst (λ (ds : List Done). IsFollowed contents remaining first ds new) (sym (append-nil earlier)) (read_follows first earlier old new read same unwritten consumes held f);
@@ -188,6 +200,8 @@ module _ {S H : Type 0} (step : Steps H) (contents remaining : S → Option (Lis
     run = g.run;
     same = ap (λ (c : Connection). c.number) g.is;
     unwritten = subst (λ (s : S). Keeps (contents old.stream) (contents s)) (sym stream) (keeps_same (contents old.stream));
+    read = [];
+    consumed = subst (λ (s : S). Consumes (remaining old.stream) (remaining s) []) (sym stream) (consumes_none (remaining old.stream));
     idle = inl none;
     follows = λ first earlier f.
         let r = f.received in

@@ -2,3 +2,5 @@ pub mod Received
 pub mod Pieces
 pub mod Links
 pub mod Inside
+pub mod Accepted
+pub mod Tables

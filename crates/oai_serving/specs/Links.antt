@@ -57,6 +57,8 @@ pub record IsTurn {S H : Type 0} (step : Steps H) (contents remaining : S → Op
   pub run : Run step moment before done after
   pub same : new.connection.number ≡ old.connection.number
   pub unwritten : Keeps (contents old.stream) (contents new.stream)
+  pub read : List ℕ
+  pub consumed : Consumes (remaining old.stream) (remaining new.stream) read
   pub idle : (old.connection.output ≡ []) ⊎ (new ≡ old)
   pub follows : (first : S) (earlier : List Done) → IsFollowed contents remaining first earlier old → IsFollowed contents remaining first (earlier ++ done) new
 

@@ -5,6 +5,7 @@ mod links;
 mod phases;
 mod pieces;
 mod sockets;
+mod tables;
 
 pub use links::{Link, READ_BYTES};
 pub use sockets::{Readiness, Sockets, Stream};

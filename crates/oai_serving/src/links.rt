@@ -133,7 +133,8 @@ impl<S: Stream> Link<S> {
     }
 
     /// A turn in which it is read: reads at most once, and performs what came, until something waits to be
-    /// written. While something waits nothing is read and nothing performed.
+    /// written. While something waits nothing is read and nothing performed. Returns how many bytes it then
+    /// keeps, none where something waited.
     pub(crate) fn read<H: Handler>(
         &mut self,
         alloc: Global,
@@ -141,14 +142,15 @@ impl<S: Stream> Link<S> {
         moment: i64,
         second: u64,
         buffer: &mut [u8],
-    )
+    ) -> usize
         ensures { IsTurn H.step S.contents S.remaining moment self.old handler.old self.new handler.new }
     {
         if self.waits() {
-            return;
+            return 0;
         }
         self.take_input(alloc, second, buffer);
         self.perform(alloc, handler, moment);
+        self.size()
     }
 
     /// Whether the stream may have something, and all that was read has come to the connection.
@@ -223,8 +225,16 @@ impl<S: Stream> Link<S> {
         self.writable && self.phase != Phase::Over && self.waits()
     }
 
-    /// A turn in which it is written: what waits is written as far as it goes.
-    pub(crate) fn put(&mut self, second: u64)
+    /// A turn in which it is written: what waits is written as far as it goes; and it goes on in its life.
+    pub(crate) fn put(&mut self, alloc: Global, second: u64)
+        ensures { IsSent S.contents S.remaining self.old self.new }
+    {
+        self.write_all(second);
+        self.go_on(alloc, second);
+    }
+
+    /// Writes what waits as far as it goes.
+    fn write_all(&mut self, second: u64)
         ensures { IsSent S.contents S.remaining self.old self.new }
     {
         for _ in 0..MAX_WRITES {
@@ -271,7 +281,7 @@ impl<S: Stream> Link<S> {
 
     /// Goes on in its life, in that second: once nothing waits to be written it is shut where the connection
     /// is closed, and over where nothing more is performed; and it is over when its time is.
-    pub(crate) fn go_on(&mut self, alloc: Global, second: u64)
+    fn go_on(&mut self, alloc: Global, second: u64)
         ensures { IsSent S.contents S.remaining self.old self.new }
     {
         self.note_begun(second);
@@ -337,13 +347,6 @@ impl<S: Stream> Link<S> {
             Some(begun) => second.saturating_sub(begun) >= MESSAGE_SECONDS,
             None => false,
         }
-    }
-
-    /// Takes it out of service.
-    pub(crate) fn stop(&mut self)
-        ensures { IsHolding [] self.old self.new }
-    {
-        self.phase = Phase::Over;
     }
 
     /// Whether it is to be taken away.

@@ -1,0 +1,9 @@
+-- The others stay.
+use Rattle.std.proofs.Common.{rules, refl, sym, ◌∙◌, Some, None}
+use Rattle.oai_serving.proofs.TableLemmas.{sent_at, sent_same, sent_on, sent_away, turned_at, turned_none, turned_then}
+use Rattle.oai_serving.proofs.TurnLemmas.{sent_none}
+use Rattle.oai_serving.proofs.tables.take_away.Goals as goal
+
+pub returns : goal.returns
+returns g c =
+    sent_away g.S.Stream.contents g.S.Stream.remaining c.args.links.now c.try_remove.new.self c.args.key c.try_remove.result c.try_remove.ensures.updates c.try_remove.ensures.len c.try_remove.ensures.absent
