@@ -1,5 +1,5 @@
 -- Bytes that are known, over several steps.
-use Rattle.std.proofs.Common.{◌≡◌, ◌∙◌, ℕ, List, [], ◌++◌, append_assoc, Option, Some, None, refl, sym, ap}
+use Rattle.std.proofs.Common.{◌∙◌, ℕ, List, [], ◌++◌, append_assoc, Option, Some, None, refl, sym, ap}
 use Rattle.std.proofs.lemmas.List.{append-nil}
 use Rattle.std.specs.Io.KnownBytes.{Appends, Consumes, Keeps}
 
@@ -49,3 +49,8 @@ pub appends_kept : (a b : Option (List ℕ)) → Keeps a b → Appends a b []
 appends_kept None b k = tt
 appends_kept (Some xs) None k = absurd k
 appends_kept (Some xs) (Some ys) k = k ∙ sym (append-nil xs)
+
+pub consumes_kept : (a b : Option (List ℕ)) → Keeps a b → Consumes a b []
+consumes_kept None b k = tt
+consumes_kept (Some xs) None k = absurd k
+consumes_kept (Some xs) (Some ys) k = sym k

@@ -1,3 +1,4 @@
 pub mod KnownBytes
 pub mod TurnLemmas
 pub mod TableLemmas
+pub mod RoundLemmas

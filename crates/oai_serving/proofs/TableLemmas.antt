@@ -1,30 +1,29 @@
 -- Links under keys: a change of one of them, and what it leaves of the others.
-use Rattle.std.proofs.Common.{◌≡◌, ◌≢◌, ◌∙◌, ◌⊎◌, inl, inr, ℕ, ℤ, Bool, true, false, cond, List, [], ◌∷◌, ◌++◌, append_assoc, length, map, ◌+◌, ◌<◌, ◌≤◌, arith, Option, Some, None, is_some, refl, sym, ap, subst}
-use Rattle.std.specs.Prelude.{◌==◌, OnSome, IfNone, count_by}
-use Rattle.std.proofs.lemmas.Bool.{cases_Bool, cases_eq, eq-eqb, eqb-true, false≢true}
+use Rattle.std.proofs.Common.{◌≡◌, ◌∙◌, inl, inr, ℕ, ℤ, true, false, cond, List, [], ◌∷◌, ◌++◌, append_assoc, length, map, ◌+◌, ◌<◌, arith, Option, Some, None, is_some, refl, sym, ap, subst}
+use Rattle.std.specs.Prelude.{◌==◌, OnSome, IfNone}
+use Rattle.std.proofs.lemmas.Bool.{cases_Bool, cases_eq, eq-eqb, eqb-true}
 use Rattle.std.proofs.lemmas.List.{append-nil}
 use Rattle.std.proofs.lemmas.List.Sums.{sum_by-set}
-use Rattle.std.specs.Io.KnownBytes.{Consumes, Keeps}
 use Rattle.slab.specs.Slab.{Slab, Updates, ContainsKey, get, slab_len, with_value}
 use Rattle.slab.proofs.SlabLemmas.{ContainsKey-within, Updates-with_value}
 use Rattle.oai_front.proofs.RunLemmas.{done_away, done_here, done_join, serves_join, serves_run}
 use Rattle.oai_front.specs.Connections.{Connection}
 use Rattle.oai_front.specs.Performing.{Done, Steps}
-use Rattle.oai_front.specs.Runs.{Piece, Served, Serves, done_on, served_with}
+use Rattle.oai_front.specs.Runs.{Piece, Served, done_on, served_with}
 use Rattle.oai_serving.proofs.KnownBytes.{consumes_none, consumes_then, keeps_same, keeps_then}
 use Rattle.oai_serving.proofs.TurnLemmas.{received_still, sent_follows, sent_none, sent_then}
 use Rattle.oai_serving.specs.Links.{IsFollowed, IsSent, IsTurn, Link}
 use Rattle.oai_serving.specs.Received.{IsReceived}
-use Rattle.oai_serving.specs.Tables.{AreAnswered, AreAt, AreKept, AreSent, AreTurned, IsAnswered, IsKept, IsNumbered, IsUnwritten}
+use Rattle.oai_serving.specs.Tables.{AreAnswered, AreAt, AreKept, AreSent, AreTurned, IsKept, IsNumbered, IsUnwritten}
 
-none_there : {A : Type 0} (a : A) → None ≡ Some a → ⊥
+pub none_there : {A : Type 0} (a : A) → None ≡ Some a → ⊥
 none_there a e = cc
 
 value_or : {A : Type 0} → A → Option A → A
 value_or d None = d
 value_or d (Some a) = a
 
-same_value : {A : Type 0} (a b : A) → Some a ≡ Some b → a ≡ b
+pub same_value : {A : Type 0} (a b : A) → Some a ≡ Some b → a ≡ b
 unfolding value_or
 same_value a b e = ap (value_or a) e
 

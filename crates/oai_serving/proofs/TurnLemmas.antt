@@ -1,11 +1,11 @@
 -- Turns of a link: what came of it before stays, and more comes behind it.
-use Rattle.std.proofs.Common.{◌≡◌, ◌∙◌, ◌⊎◌, inl, inr, ℕ, ℤ, Bool, true, false, cond, List, [], ◌∷◌, ◌++◌, append_assoc, length, take, drop, ◌≤◌, ◌+◌, ◌-◌, arith, Option, Some, None, refl, sym, ap, subst}
+use Rattle.std.proofs.Common.{◌≡◌, ◌∙◌, ◌⊎◌, inl, inr, ℕ, ℤ, Bool, true, false, cond, List, [], ◌∷◌, ◌++◌, append_assoc, length, take, drop, ◌≤◌, ◌+◌, ◌-◌, arith, Option, refl, sym, ap, subst}
 use Rattle.std.specs.Prelude.{Result, Ok, Err}
 use Rattle.std.proofs.lemmas.Bool.{false≢true}
 use Rattle.std.proofs.lemmas.List.{append-nil, drop-append-le, drop-drop, take-append-drop}
 use Rattle.std.specs.Io.KnownBytes.{Appends, Consumes, Keeps}
 use Rattle.oai_front.proofs.RunLemmas.{messages_join, performed_join, splits_in, told_join}
-use Rattle.oai_front.specs.Connections.{Connection, IsGoneOver, IsTakenIn, bytes_with, connection_at, fresh, rest_at, stage_at}
+use Rattle.oai_front.specs.Connections.{Connection, IsGoneOver, IsTakenIn, bytes_with, connection_at, rest_at, stage_at}
 use Rattle.oai_front.specs.Messages.{End, Message, closes, faults, waits}
 use Rattle.oai_front.specs.Performing.{Done, Run, Steps, answers_of, end_bytes, messages_of}
 use Rattle.oai_front.specs.Runs.{ArePerformed}
@@ -13,7 +13,7 @@ use Rattle.oai_front.specs.Stages.{is_closing}
 use Rattle.oai_front.specs.declared.faults.PieceFault.{PieceFault}
 use Rattle.oai_front.specs.declared.faults.PieceFault.TheVariants.{NoSuchConnection, NoMemory, Unfinished}
 use Rattle.oai_front.specs.declared.stages.Stage.{Stage}
-use Rattle.oai_front.specs.declared.stages.Stage.TheVariants.{Reading, Closed}
+use Rattle.oai_front.specs.declared.stages.Stage.TheVariants.{Reading}
 use Rattle.oai_serving.proofs.KnownBytes.{appends_kept, appends_none, appends_then, consumes_none, consumes_then, keeps_appends, keeps_consumes, keeps_same, keeps_then}
 use Rattle.oai_serving.specs.Links.{IsFollowed, IsHolding, IsRead, IsSent, IsTurn, Link}
 use Rattle.oai_serving.specs.Received.{IsReceived}

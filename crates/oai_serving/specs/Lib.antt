@@ -4,3 +4,5 @@ pub mod Links
 pub mod Inside
 pub mod Accepted
 pub mod Tables
+pub mod Rounds
+pub mod ServerInside

@@ -1,5 +1,5 @@
 -- Pieces that end where a head may end: at a line feed behind the end of a line. This repository's own.
-use Rattle.std.specs.Prelude.{◌≡◌, ℕ, ◌+◌, Bool, true, false, not, ◌&&◌, ◌||◌, ◌==◌, if◌then◌else◌, List, [], ◌∷◌}
+use Rattle.std.specs.Prelude.{ℕ, ◌+◌, Bool, true, false, ◌&&◌, ◌==◌, if◌then◌else◌, List, [], ◌∷◌}
 use Rattle.oai_serving.specs.declared.pieces.Line.{Line}
 use Rattle.oai_serving.specs.declared.pieces.Line.TheVariants.{Begun, Ended, Returned}
 
@@ -22,11 +22,11 @@ is_ended Begun = false
 abbrev pub ends_piece : Line → ℕ → Bool
 ends_piece line byte = (byte == 10) && is_ended line
 
--- one byte more
-abbrev pub more : ℕ × Line → ℕ × Line
-more piece = (piece.0 + 1, piece.1)
+-- so many bytes more
+abbrev pub more : ℕ → ℕ × Line → ℕ × Line
+more count piece = (count + piece.0, piece.1)
 
 -- how many of the bytes are the next piece, those through the first that ends one, or all; and what they end with
 abbrev pub piece_of : Line → List ℕ → ℕ × Line
 piece_of line [] = (0, line)
-piece_of line (byte ∷ bytes) = if ends_piece line byte then (1, line_after line byte) else more (piece_of (line_after line byte) bytes)
+piece_of line (byte ∷ bytes) = if ends_piece line byte then (1, line_after line byte) else more 1 (piece_of (line_after line byte) bytes)

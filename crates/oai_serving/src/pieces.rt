@@ -40,14 +40,15 @@ fn ends_piece(line: Line, byte: u8) -> bool
 /// How many of the bytes, which come behind a line, are the next piece: those through the first that ends one,
 /// or all; and what they end with.
 pub(crate) fn next_piece(line: Line, bytes: &[u8]) -> (usize, Line)
+    ensures piece { (result.0, result.1) ≡ spec.piece_of line bytes.now }
     ensures within { result.0 ≤ length bytes.now }
 {
     let mut line = line;
     let mut count = 0;
     for byte in bytes {
-        count += 1;
         let ends = ends_piece(line, *byte);
         line = line_after(line, *byte);
+        count += 1;
         if ends {
             return (count, line);
         }

@@ -8,6 +8,9 @@ use oai_http::Handler;
 use slab::Slab;
 use std::alloc::Global;
 
+/// The most connections that are open at once.
+pub const MAX_LINKS: usize = 1_024;
+
 /// The bytes that may be held back in a round before it performs no more.
 const MAX_ROUND_BYTES: usize = 16_777_216;
 

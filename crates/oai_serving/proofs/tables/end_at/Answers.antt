@@ -1,6 +1,5 @@
 -- One that is not over stays.
-use Rattle.std.proofs.Common.{FitsSigned, of_z, to_z, w64}
-use Rattle.oai_serving.proofs.TableLemmas.{sent_same, sent_on, turned_none, turned_then}
+use Rattle.oai_serving.proofs.TableLemmas.{sent_same}
 use Rattle.oai_serving.proofs.tables.end_at.Goals as goal
 
 pub returns-else-is_over_at : goal.returns-else-is_over_at

@@ -1,9 +1,7 @@
 -- What is noted changes nothing that a contract sees.
-use Rattle.std.proofs.Common.{rules, refl, sym, ◌∙◌, Some, None}
-use Rattle.oai_serving.proofs.TableLemmas.{sent_at, sent_same, sent_on, sent_away, turned_at, turned_none, turned_then}
+use Rattle.std.proofs.Common.{sym}
+use Rattle.oai_serving.proofs.TableLemmas.{sent_at, sent_same}
 use Rattle.oai_serving.proofs.TurnLemmas.{sent_none}
-use Rattle.oai_serving.specs.Links.{IsSent}
-use Rattle.std.proofs.Common.{subst}
 use Rattle.oai_serving.proofs.tables.note_at.Goals as goal
 
 pub returns-in-Some : goal.returns-in-Some

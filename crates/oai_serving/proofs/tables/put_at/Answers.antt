@@ -1,7 +1,6 @@
 -- The link of the key is written.
-use Rattle.std.proofs.Common.{rules, refl, sym, ◌∙◌, Some, None}
-use Rattle.oai_serving.proofs.TableLemmas.{sent_at, sent_same, sent_on, sent_away, turned_at, turned_none, turned_then}
-use Rattle.oai_serving.proofs.TurnLemmas.{sent_none}
+use Rattle.std.proofs.Common.{sym}
+use Rattle.oai_serving.proofs.TableLemmas.{sent_at, sent_same}
 use Rattle.oai_serving.proofs.tables.put_at.Goals as goal
 
 pub returns-in-Some : goal.returns-in-Some

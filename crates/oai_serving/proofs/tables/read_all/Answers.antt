@@ -1,6 +1,6 @@
 -- Each link has a turn.
-use Rattle.std.proofs.Common.{FitsSigned, of_z, to_z, w64}
-use Rattle.oai_serving.proofs.TableLemmas.{sent_same, sent_on, turned_none, turned_then}
+use Rattle.std.proofs.Common.{of_z, to_z, w64}
+use Rattle.oai_serving.proofs.TableLemmas.{turned_none, turned_then}
 use Rattle.oai_serving.proofs.tables.read_all.Goals as goal
 
 pub loop-init : goal.loop-init

@@ -1,8 +1,7 @@
 -- The link of the key has a turn.
 use Rattle.oai_serving.specs.Links.{IsTurn}
-use Rattle.std.proofs.Common.{FitsSigned, w64, to_z-of_z, rules, refl, sym, ◌∙◌, Some, None}
-use Rattle.oai_serving.proofs.TableLemmas.{sent_at, sent_same, sent_on, sent_away, turned_at, turned_none, turned_then}
-use Rattle.oai_serving.proofs.TurnLemmas.{sent_none}
+use Rattle.std.proofs.Common.{FitsSigned, w64, to_z-of_z, sym}
+use Rattle.oai_serving.proofs.TableLemmas.{turned_at, turned_none}
 use Rattle.oai_serving.proofs.tables.read_at.Goals as goal
 
 pub returns-in-Some : goal.returns-in-Some

@@ -1,6 +1,5 @@
 -- Each turn takes one away.
-use Rattle.std.proofs.Common.{FitsSigned, of_z, to_z, w64}
-use Rattle.oai_serving.proofs.TableLemmas.{sent_same, sent_on, turned_none, turned_then}
+use Rattle.oai_serving.proofs.TableLemmas.{sent_same, sent_on}
 use Rattle.oai_serving.proofs.tables.shed_all.Goals as goal
 
 pub loop-init : goal.loop-init

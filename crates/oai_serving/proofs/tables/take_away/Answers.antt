@@ -1,7 +1,5 @@
 -- The others stay.
-use Rattle.std.proofs.Common.{rules, refl, sym, ◌∙◌, Some, None}
-use Rattle.oai_serving.proofs.TableLemmas.{sent_at, sent_same, sent_on, sent_away, turned_at, turned_none, turned_then}
-use Rattle.oai_serving.proofs.TurnLemmas.{sent_none}
+use Rattle.oai_serving.proofs.TableLemmas.{sent_away}
 use Rattle.oai_serving.proofs.tables.take_away.Goals as goal
 
 pub returns : goal.returns

@@ -1,5 +1,5 @@
 -- A piece is the front of what is held.
-use Rattle.std.proofs.Common.{rules, ◌≡◌, ◌∙◌, ◌+◌, ℕ, drop, refl, sym, w64, FitsSigned, to_z-of_z, false}
+use Rattle.std.proofs.Common.{◌+◌, drop, refl, w64, FitsSigned, to_z-of_z, false}
 use Rattle.std.proofs.lemmas.Bool.{false≢true}
 use Rattle.oai_serving.proofs.TurnLemmas.{held_parts, piece_turn}
 use Rattle.oai_serving.specs.Links.{Link, is_able}

@@ -1,5 +1,5 @@
 -- Each piece is a turn of its own.
-use Rattle.std.proofs.Common.{FitsSigned, of_z, to_z, to_z-of_z, w64}
+use Rattle.std.proofs.Common.{of_z, to_z, w64}
 use Rattle.oai_serving.proofs.TurnLemmas.{turn_none, turn_then}
 use Rattle.oai_serving.proofs.links.Link.perform.Goals as goal
 

@@ -1,5 +1,5 @@
 -- What is read is held, and then performed.
-use Rattle.std.proofs.Common.{rules, ◌≡◌, [], FitsSigned, to_z-of_z, w64}
+use Rattle.std.proofs.Common.{◌≡◌, [], FitsSigned, to_z-of_z, w64}
 use Rattle.oai_serving.proofs.TurnLemmas.{input_turn, turn_none, turn_then}
 use Rattle.oai_serving.specs.Links.{IsTurn}
 use Rattle.oai_serving.proofs.links.Link.read.Goals as goal

@@ -1,5 +1,5 @@
 -- What was written is the front of what waits.
-use Rattle.std.proofs.Common.{rules, ◌≡◌, ◌∙◌, drop, refl, sym, ap}
+use Rattle.std.proofs.Common.{drop, refl}
 use Rattle.oai_serving.proofs.TurnLemmas.{holding_sent, kept_sent, sent_then, written_sent}
 use Rattle.oai_serving.specs.Links.{Link, is_able}
 use Rattle.oai_serving.proofs.links.Link.write.Goals as goal
