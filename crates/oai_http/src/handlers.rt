@@ -1,7 +1,6 @@
 ghost use Rattle.std.specs.Prelude.{ℤ, Result};
 ghost use Rattle.oai_http.specs.Exchanges.{Asked, asked_by};
 ghost use Rattle.oai_http.specs.declared.exchanges.Answer.{Answer as Given};
-
 ghost use Rattle.oai_http.specs.declared.handlers.SettleFault.{SettleFault as Unsettled};
 
 use crate::exchanges::{Answer, Exchange};

@@ -85,7 +85,7 @@ module _ {S : Type 0} (contents remaining : S → Option (List ℕ)) where
     count = omega (arith, some);
   }
 
--- ---- what is kept
+  -- ---- what is kept
 
   number_sent : (a b : Link S) → IsSent contents remaining a b → b.connection.number ≡ a.connection.number
   number_sent a b s = ap (λ (c : Connection). c.number) s.others
@@ -217,13 +217,13 @@ module _ {S H : Type 0} (step : Steps H) (contents remaining : S → Option (Lis
                   (t.follows own.first (done_on number earlier) own.follows));
             })
             (λ other link differs is.
-                let mine = kept.each other link is in
-                let away = apart number link.connection.number (λ same. differs (sym (kept.one key other before link found is same))) in
-                record {
-                  first = mine.first;
-                  numbered = mine.numbered;
-                  follows = subst (λ (ds : List Done). IsFollowed contents remaining mine.first ds link) (sym (served_other number link.connection.number earlier t.done away)) mine.follows;
-                });
+            let mine = kept.each other link is in
+            let away = apart number link.connection.number (λ same. differs (sym (kept.one key other before link found is same))) in
+            record {
+              first = mine.first;
+              numbered = mine.numbered;
+              follows = subst (λ (ds : List Done). IsFollowed contents remaining mine.first ds link) (sym (served_other number link.connection.number earlier t.done away)) mine.follows;
+            });
         one = λ key_a key_b a b is js same.
             let p = numbers_stay links key before after found t.same key_a a is in
             let q = numbers_stay links key before after found t.same key_b b js in

@@ -17,6 +17,6 @@ pub use laws::begin_law;
 pub use links::{Link, READ_BYTES};
 pub use listeners::{Listener, Socket};
 pub use servers::Server;
+pub use sockets::{Readiness, Sockets, Stream};
 pub use tables::MAX_LINKS;
 pub use volatile::Volatile;
-pub use sockets::{Readiness, Sockets, Stream};

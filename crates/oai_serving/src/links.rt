@@ -295,7 +295,10 @@ impl<S: Stream> Link<S> {
         match self.phase {
             Phase::Open => self.close_after(alloc, second),
             Phase::Last => self.phase = Phase::Over,
-            Phase::Closing { since: _, dropped: _ } => {}
+            Phase::Closing {
+                since: _,
+                dropped: _,
+            } => {}
             Phase::Over => {}
         }
     }

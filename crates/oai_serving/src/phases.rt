@@ -27,7 +27,10 @@ impl Phase {
         match self {
             Phase::Open => true,
             Phase::Last => false,
-            Phase::Closing { since: _, dropped: _ } => false,
+            Phase::Closing {
+                since: _,
+                dropped: _,
+            } => false,
             Phase::Over => false,
         }
     }
@@ -39,7 +42,10 @@ impl Phase {
         match self {
             Phase::Open => Phase::Last,
             Phase::Last => Phase::Last,
-            Phase::Closing { since: _, dropped: _ } => Phase::Over,
+            Phase::Closing {
+                since: _,
+                dropped: _,
+            } => Phase::Over,
             Phase::Over => Phase::Over,
         }
     }

@@ -172,12 +172,14 @@ impl<S: Stream + Drop, H: Settled> Server<S, H> {
         ensures { IsWritten S.contents S.remaining self.old self.new }
     {
         match readiness {
-            Some(Readiness::Stream {
-                key,
-                readable,
-                writable,
-                ended,
-            }) => note_at(&mut self.links, key, readable, writable, ended),
+            Some(
+                Readiness::Stream {
+                    key,
+                    readable,
+                    writable,
+                    ended,
+                },
+            ) => note_at(&mut self.links, key, readable, writable, ended),
             Some(Readiness::Listener) => self.waiting = true,
             None => {}
         }

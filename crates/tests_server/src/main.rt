@@ -4,12 +4,11 @@
 use oai_cli::{Stop, empty_file, host_on, read_config, read_number};
 use oai_device::FileDevice;
 use oai_serving::{Listener, ServeFault, Server, Volatile};
-use std::env;
 use std::fs::File;
-use std::io;
 use std::net::{Ipv4Addr, Net, SocketAddr, SocketAddrV4};
 use std::process::ExitCode;
 use std::rt::{Clock, Env, Files};
+use std::{env, io};
 
 fn main(rt: HostRuntime) -> io::Result<ExitCode> {
     match run(&rt) {
@@ -31,9 +30,11 @@ fn run(
         return Err(Stop::NoMemory);
     };
     let _program = arguments.next();
-    let (Some(path), Some(port), Some(spill)) =
-        (arguments.next(), arguments.next(), arguments.next())
-    else {
+    let (Some(path), Some(port), Some(spill)) = (
+        arguments.next(),
+        arguments.next(),
+        arguments.next(),
+    ) else {
         return Err(Stop::Usage);
     };
     let Some(port) = read_number(port.as_bytes()) else {

@@ -19,7 +19,8 @@ fn client_that_stops_taking(rt: HostRuntime) {
             .expect(&rt, "memory");
     }
     let mut one = Vec::new(alloc);
-    one.extend_from_slice(b"GET /a HTTP/1.0\r\n\r\n").expect(&rt, "memory");
+    one.extend_from_slice(b"GET /a HTTP/1.0\r\n\r\n")
+        .expect(&rt, "memory");
     let mut waiting = Waiting::new(alloc, 0);
     let takes_none = Manner { takes: 0, ..PLAIN };
     waiting
@@ -57,7 +58,10 @@ fn clients_beyond_the_places(rt: HostRuntime) {
     let count = Count::new(alloc).expect(&rt, "memory");
     let seen = Seen::new(alloc).expect(&rt, "memory");
     let mut waiting = Waiting::new(alloc, 0);
-    let idle = Manner { ends: false, ..PLAIN };
+    let idle = Manner {
+        ends: false,
+        ..PLAIN
+    };
     for _ in 0..1_100 {
         waiting
             .come(Client::new(Vec::new(alloc), seen.clone().expect(&rt, "memory"), idle))
@@ -70,7 +74,9 @@ fn clients_beyond_the_places(rt: HostRuntime) {
     };
     let mut server = Server::new(alloc, echo).expect(&rt, "memory");
     for second in 0..60 {
-        server.round(&mut waiting, &At(second)).expect(&rt, "a round");
+        server
+            .round(&mut waiting, &At(second))
+            .expect(&rt, "a round");
     }
     assert_eq!(&rt; waiting.len(), 76);
     assert_eq!(&rt; Rc::strong_count(&seen), 1_101);

@@ -40,6 +40,7 @@ pub(crate) const PLAIN: Manner = Manner {
 /// What a client saw.
 #[derive(Drop)]
 pub(crate) struct Seen {
+    alloc: Global,
     pub(crate) received: RefCell<Vec<u8>>,
     pub(crate) finished: Cell<bool>,
 }
@@ -50,6 +51,7 @@ impl Seen {
         Ok(Rc::new(
             alloc,
             Seen {
+                alloc,
                 received: RefCell::new(Vec::new(alloc)),
                 finished: Cell::new(false),
             },
@@ -58,7 +60,7 @@ impl Seen {
 
     /// What it received.
     pub(crate) fn bytes(&self) -> Vec<u8> {
-        match self.received.try_replace(Vec::new(Global)) {
+        match self.received.try_replace(Vec::new(self.alloc)) {
             Ok(bytes) => bytes,
             Err(none) => none,
         }

@@ -10,7 +10,8 @@ use std::process::Abort;
 const SENT: &[u8] =
     b"GET /a HTTP/1.1\r\nHost: h\r\n\r\nPOST /b HTTP/1.1\nHost: h\nContent-Length: 6\n\n1\n\r\n\n2GET /c HTTP/1.0\r\n\r\nGET /d HTTP/1.0\r\n\r\n";
 
-const WANTED: &[u8] = b"HTTP/1.1 200 OK\r\nContent-Length: 2\r\n\r\n/aHTTP/1.1 200 OK\r\nContent-Length: 2\r\n\r\n/bHTTP/1.1 200 OK\r\nConnection: close\r\nContent-Length: 2\r\n\r\n/c";
+const WANTED: &[u8] =
+    b"HTTP/1.1 200 OK\r\nContent-Length: 2\r\n\r\n/aHTTP/1.1 200 OK\r\nContent-Length: 2\r\n\r\n/bHTTP/1.1 200 OK\r\nConnection: close\r\nContent-Length: 2\r\n\r\n/c";
 
 /// What a client of that manner receives in so many rounds.
 pub(crate) fn received(
@@ -44,7 +45,7 @@ pub(crate) fn received(
 fn reads_of_each_size(rt: HostRuntime) {
     for read in 1..100 {
         let manner = Manner { read, ..PLAIN };
-        assert!(&rt; received(&rt, rt.alloc(), SENT, manner, 200).as_slice() == WANTED);
+        assert!(&rt; received(&rt, rt.alloc(), SENT, manner, 150 / read + 10).as_slice() == WANTED);
     }
 }
 
@@ -52,7 +53,7 @@ fn reads_of_each_size(rt: HostRuntime) {
 fn writes_of_each_size(rt: HostRuntime) {
     for write in 1..100 {
         let manner = Manner { write, ..PLAIN };
-        assert!(&rt; received(&rt, rt.alloc(), SENT, manner, 200).as_slice() == WANTED);
+        assert!(&rt; received(&rt, rt.alloc(), SENT, manner, 16).as_slice() == WANTED);
     }
 }
 
@@ -64,7 +65,7 @@ fn calls_that_would_block(rt: HostRuntime) {
         blocks: true,
         ..PLAIN
     };
-    assert!(&rt; received(&rt, rt.alloc(), SENT, manner, 500).as_slice() == WANTED);
+    assert!(&rt; received(&rt, rt.alloc(), SENT, manner, 300).as_slice() == WANTED);
 }
 
 /// A client that ends its side within a message receives what was whole before.

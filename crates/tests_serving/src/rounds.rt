@@ -6,8 +6,7 @@ use std::panic::Expect;
 
 const ASKED: &[u8] = b"GET /a HTTP/1.0\r\n\r\n";
 
-const ANSWERED: &[u8] =
-    b"HTTP/1.1 200 OK\r\nConnection: close\r\nContent-Length: 2\r\n\r\n/a";
+const ANSWERED: &[u8] = b"HTTP/1.1 200 OK\r\nConnection: close\r\nContent-Length: 2\r\n\r\n/a";
 
 #[test]
 fn answers_wait_for_the_settling(rt: HostRuntime) {
@@ -42,8 +41,20 @@ fn faults_end_their_connection_alone(rt: HostRuntime) {
     let unwritten = Seen::new(alloc).expect(&rt, "memory");
     let manners = [
         (&good, PLAIN),
-        (&unread, Manner { read_fails: 1, ..PLAIN }),
-        (&unwritten, Manner { write_fails: 1, ..PLAIN }),
+        (
+            &unread,
+            Manner {
+                read_fails: 1,
+                ..PLAIN
+            },
+        ),
+        (
+            &unwritten,
+            Manner {
+                write_fails: 1,
+                ..PLAIN
+            },
+        ),
     ];
     for (seen, manner) in manners {
         let mut bytes = Vec::new(alloc);
@@ -61,7 +72,9 @@ fn faults_end_their_connection_alone(rt: HostRuntime) {
     server.round(&mut waiting, &At(0)).expect(&rt, "a round");
     assert_eq!(&rt; waiting.len(), 3);
     for second in 1..5 {
-        server.round(&mut waiting, &At(second)).expect(&rt, "a round");
+        server
+            .round(&mut waiting, &At(second))
+            .expect(&rt, "a round");
     }
     assert_eq!(&rt; waiting.len(), 0);
     assert!(&rt; good.bytes().as_slice() == ANSWERED);
