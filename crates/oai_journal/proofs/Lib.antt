@@ -1,0 +1,3 @@
+pub mod FitLemmas
+pub mod HeadLemmas
+pub mod NumeralLemmas

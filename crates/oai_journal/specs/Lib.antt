@@ -1,0 +1,4 @@
+pub mod Frames
+pub mod Heads
+pub mod Numbers
+pub mod Records
