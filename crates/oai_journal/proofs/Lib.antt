@@ -1,3 +1,6 @@
+pub mod CrashLemmas
+pub mod FileLemmas
 pub mod FitLemmas
+pub mod FrameLemmas
 pub mod HeadLemmas
 pub mod NumeralLemmas

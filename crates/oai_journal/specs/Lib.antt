@@ -1,3 +1,4 @@
+pub mod Files
 pub mod Frames
 pub mod Heads
 pub mod Numbers
