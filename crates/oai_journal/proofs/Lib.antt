@@ -2,5 +2,6 @@ pub mod CrashLemmas
 pub mod FileLemmas
 pub mod FitLemmas
 pub mod FrameLemmas
+pub mod GroupLemmas
 pub mod HeadLemmas
 pub mod NumeralLemmas

@@ -1,5 +1,7 @@
 pub mod Files
 pub mod Frames
+pub mod Groups
 pub mod Heads
+pub mod Journals
 pub mod Numbers
 pub mod Records
