@@ -4,4 +4,5 @@ pub mod FitLemmas
 pub mod FrameLemmas
 pub mod GroupLemmas
 pub mod HeadLemmas
+pub mod KeptLemmas
 pub mod NumeralLemmas

@@ -2,11 +2,13 @@
 //! file, of frames in groups that no crash can tear.
 #![tactic(auto)]
 
+mod file;
 mod frames;
 mod groups;
 mod heads;
 mod journals;
 mod records;
 
+pub use file::FileJournal;
 pub use journals::{Journal, JournalFault};
 pub use records::{Kind, MAX_BODY, MAX_FIRST_BODY, MAX_NAME, Record};
