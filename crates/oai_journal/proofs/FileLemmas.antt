@@ -38,16 +38,16 @@ abbrev tail_of : List ℕ → List ℕ
 tail_of [] = []
 tail_of (x ∷ xs) = xs
 
-heads_same : (a b : ℕ) (xs ys : List ℕ) → a ∷ xs ≡ b ∷ ys → a ≡ b
+pub heads_same : (a b : ℕ) (xs ys : List ℕ) → a ∷ xs ≡ b ∷ ys → a ≡ b
 heads_same a b xs ys is = ap (λ l. first_or l a) is
 
-tails_same : (a b : ℕ) (xs ys : List ℕ) → a ∷ xs ≡ b ∷ ys → xs ≡ ys
+pub tails_same : (a b : ℕ) (xs ys : List ℕ) → a ∷ xs ≡ b ∷ ys → xs ≡ ys
 tails_same a b xs ys is = ap tail_of is
 
-shut : (gate gate' : ℕ) → gate ≡ gate' → is_open gate ≡ true → is_open gate' ≡ false → ⊥
+pub shut : (gate gate' : ℕ) → gate ≡ gate' → is_open gate ≡ true → is_open gate' ≡ false → ⊥
 shut gate gate' is opened closed = false≢true (sym closed ∙ ap is_open (sym is) ∙ opened)
 
-step : (before : ℕ) (f : Gated) (fs : List Gated) (tail : List ℕ) → spelled before (f ∷ fs) ++ tail ≡ f.gate ∷ (frame before f.entry ++ (spelled (next_digest before f.entry) fs ++ tail))
+pub step : (before : ℕ) (f : Gated) (fs : List Gated) (tail : List ℕ) → spelled before (f ∷ fs) ++ tail ≡ f.gate ∷ (frame before f.entry ++ (spelled (next_digest before f.entry) fs ++ tail))
 step before f fs tail = ap (λ (l : List ℕ). f.gate ∷ l) (append_assoc (frame before f.entry) (spelled (next_digest before f.entry) fs) tail)
 
 gated_same : (f g : Gated) → f.gate ≡ g.gate → f.entry ≡ g.entry → f ≡ g
@@ -71,7 +71,7 @@ pub record IsOne (first first' : Entry) (entries entries' : List Entry) : Type 0
   pub begins : first ≡ first'
   pub are : entries ≡ entries'
 
-front_step : (first : Entry) (fs : List Gated) (tail : List ℕ) → front first fs ++ tail ≡ 43 ∷ (frame 0 first ++ (spelled (next_digest 0 first) fs ++ tail))
+pub front_step : (first : Entry) (fs : List Gated) (tail : List ℕ) → front first fs ++ tail ≡ 43 ∷ (frame 0 first ++ (spelled (next_digest 0 first) fs ++ tail))
 front_step first fs tail = ap (λ (l : List ℕ). 43 ∷ l) (append_assoc (frame 0 first) (spelled (next_digest 0 first) fs) tail)
 
 pub ends_same : (file : List ℕ) (first first' : Entry) (entries entries' : List Entry) → Ends file first entries → Ends file first' entries' → IsOne first first' entries entries'

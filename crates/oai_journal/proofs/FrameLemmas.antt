@@ -93,7 +93,7 @@ abbrev or_else : {A : Type 0} → Option A → A → A
 or_else None d = d
 or_else (Some x) d = x
 
-some_same : {A : Type 0} (a b : A) → Some a ≡ Some b → a ≡ b
+pub some_same : {A : Type 0} (a b : A) → Some a ≡ Some b → a ≡ b
 some_same a b is = ap (λ o. or_else o a) is
 
 pub frame_same : (before : ℕ) (e e' : Entry) (rest rest' : List ℕ) → IsFit e → IsFit e' → frame before e ++ rest ≡ frame before e' ++ rest' → IsSame e e' rest rest'

@@ -1,15 +1,17 @@
 -- What a journal's file keeps after an append and after a commit.
-use Rattle.std.proofs.Common.{◌≡◌, ◌⊎◌, ◌∙◌, inl, inr, ⊎_elim, ℕ, ◌+◌, ◌<◌, ◌≤◌, Bool, true, false, List, [], ◌∷◌, ◌++◌, length, map, take, refl, sym, ap, subst, arith, append_assoc, vec_len}
+use Rattle.std.proofs.Common.{◌≡◌, ◌⊎◌, ◌∙◌, inl, inr, ⊎_elim, ℕ, ◌+◌, ◌-◌, ◌<◌, ◌≤◌, Bool, true, false, List, [], ◌∷◌, ◌++◌, length, map, take, refl, sym, ap, subst, arith, append_assoc, vec_len}
 use Rattle.std.specs.Prelude.{Vec}
 use Rattle.std.specs.declared.alloc.Global.{Global}
 use Rattle.std.proofs.lemmas.Bool.{false≢true}
 use Rattle.std.proofs.lemmas.List.{append-nil, length-append, take-append-le, take_all, take_at}
-use Rattle.oai_journal.specs.Files.{Ends, spelled}
+use Rattle.oai_journal.specs.Files.{Ends, IsFirst, front, is_open, spelled}
 use Rattle.oai_journal.specs.Frames.{frame, next_digest}
-use Rattle.oai_journal.specs.Groups.{AreRecords, EndsBeforeOrAfter, IsGroup, IsSettled, digest_of_all, further, inside, kept_group}
-use Rattle.oai_journal.specs.Kept.{HoldsRecords, IsWaiting, Keeps, Survives}
+use Rattle.oai_journal.specs.Groups.{AreRecords, EndsBeforeOrAfter, IsGroup, IsSettled, IsWritten, digest_of_all, further, inside, kept_group}
+use Rattle.oai_journal.specs.Kept.{HoldsRecords, IsAtEnd, IsWaiting, Keeps, Survives}
 use Rattle.oai_journal.specs.Records.{Entry, IsFit, is_first_kind}
 use Rattle.oai_journal.specs.declared.file.FileJournal.{FileJournal}
+use Rattle.sqlite_disk.specs.Disk.{Only}
+use Rattle.oai_journal.proofs.CrashLemmas.{held}
 use Rattle.oai_journal.proofs.FileLemmas.{ends_same}
 use Rattle.oai_journal.proofs.FrameLemmas.{length_frame}
 
@@ -144,31 +146,66 @@ module _ {D : Type 0} (seen : D → List ℕ) (may_leave : D → List ℕ → Ty
         (omega (arith, k.count, size)) (omega arith) is)
       ends
 
+  -- what a crash leaves of a journal of which nothing waits
+  ends_settled : (disk : D) (end digest : ℕ) (first : Entry) (entries : List Entry) → IsSettled seen may_leave disk end digest first entries → (file : List ℕ) → may_leave disk file → Ends file first entries
+  ends_settled disk end digest first entries settled file left =
+      record {
+        frames = settled.frames;
+        gate = settled.gate;
+        behind = settled.behind;
+        is = settled.durable file left ∙ settled.is;
+        closed = settled.closed;
+        begins = settled.begins;
+        are = settled.are;
+        says = settled.says;
+      }
+
+  pub settled_keeps : (journal : FileJournal D) (first : Entry) (entries : List Entry) → IsSettled seen may_leave journal.disk journal.end journal.digest first entries
+      → journal.pending.items ≡ [] → journal.last ≡ journal.digest → Keeps seen may_leave journal first entries (length entries)
+  settled_keeps journal first entries settled none same =
+      record {
+        written = entries;
+        later = [];
+        are = sym (append-nil entries);
+        count = refl;
+        settled = λ going. settled;
+        waits = λ going. record { is = none; last_is = same; are = tt };
+        survives = λ file left.
+            survives_at file first entries entries (length entries) (length entries) (take_all (length entries) entries (omega arith)) (omega arith) (omega arith)
+            (ends_settled journal.disk journal.end journal.digest first entries settled file left);
+      }
+
+  pub settled_holds : (journal : FileJournal D) (first : Entry) (entries : List Entry) → IsSettled seen may_leave journal.disk journal.end journal.digest first entries
+      → journal.pending.items ≡ [] → journal.last ≡ journal.digest → HoldsRecords seen may_leave journal entries (length entries)
+  settled_holds journal first entries settled none same = (first, settled_keeps journal first entries settled none same)
+
+  -- a journal that was begun
+  pub created : (old new : D) (journal : FileJournal D) (first : Entry) (bytes : List ℕ) → IsFirst first → bytes ≡ 43 ∷ (frame 0 first ++ 45 ∷ [])
+      → IsWritten seen may_leave 0 bytes old new → IsAtEnd journal new (length bytes - 1) (next_digest 0 first) → Keeps seen may_leave journal first [] 0
+  created old new journal first bytes begins is written at_end =
+      let f : List ℕ = frame 0 first in
+      let put = held [] (seen old) (seen new) bytes written.torn written.holds in
+      let whole : seen new ≡ front first [] ++ 45 ∷ put.0 =
+      put.1 ∙ ap (λ (l : List ℕ). l ++ put.0) is ∙ ap (λ (l : List ℕ). 43 ∷ l) (append_assoc f (45 ∷ []) put.0)
+      ∙ ap (λ (l : List ℕ). 43 ∷ (l ++ 45 ∷ put.0)) (sym (append-nil f)) in
+      let size : length (front first []) ≡ length bytes - 1 = omega (arith, ap length is, length-append f (45 ∷ []), length-append f []) in
+      settled_keeps journal first [] (record {
+        frames = [];
+        gate = 45;
+        behind = put.0;
+        is = ap seen at_end.disk_is ∙ whole;
+        closed = refl;
+        begins = begins;
+        are = tt;
+        says = refl;
+        place = at_end.end_is ∙ sym size;
+        last = at_end.digest_is;
+        durable = subst (λ d. Only (seen d) (may_leave d)) (sym at_end.disk_is) written.durable;
+      }) at_end.none at_end.last_is
+
   -- once the group is on the disk
   pub kept_settled : (journal new : FileJournal D) (entries : List Entry) (durable : ℕ) (held : HoldsRecords seen may_leave journal entries durable)
       → IsSettled seen may_leave new.disk new.end new.digest held.0 ((held.1).written ++ (held.1).later) → new.pending.items ≡ [] → new.last ≡ new.digest
       → HoldsRecords seen may_leave new entries (length entries)
   kept_settled journal new entries durable held settled none same =
-      let k = held.1 in (
-        held.0,
-        record {
-          written = k.written ++ k.later;
-          later = [];
-          are = k.are ∙ sym (append-nil (k.written ++ k.later));
-          count = ap length k.are;
-          settled = λ going. settled;
-          waits = λ going. record { is = none; last_is = same; are = tt };
-          survives = λ file left.
-              survives_at file held.0 entries (k.written ++ k.later) (length entries) (length entries) (take_all (length entries) entries (omega arith) ∙ k.are) (omega arith) (omega arith)
-              (record {
-                frames = settled.frames;
-                gate = settled.gate;
-                behind = settled.behind;
-                is = settled.durable file left ∙ settled.is;
-                closed = settled.closed;
-                begins = settled.begins;
-                are = settled.are;
-                says = settled.says;
-              });
-        },
-      )
+      subst (λ l. HoldsRecords seen may_leave new l (length l)) (sym (held.1).are) (settled_holds new held.0 ((held.1).written ++ (held.1).later) settled none same)

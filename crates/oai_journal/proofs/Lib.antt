@@ -1,4 +1,5 @@
 pub mod CrashLemmas
+pub mod DamageLemmas
 pub mod FileLemmas
 pub mod FitLemmas
 pub mod FrameLemmas
@@ -6,3 +7,5 @@ pub mod GroupLemmas
 pub mod HeadLemmas
 pub mod KeptLemmas
 pub mod NumeralLemmas
+pub mod ReadingLemmas
+pub mod RecoveryLemmas

@@ -1,5 +1,5 @@
 -- What a journal's file keeps: on the disk, and in what waits for the next commit. This repository's own.
-use Rattle.std.specs.Prelude.{◌≡◌, ℕ, ◌+◌, ◌≤◌, Bool, false, List, ◌++◌, length, take, vec_len, vec_capacity, Vec}
+use Rattle.std.specs.Prelude.{◌≡◌, ℕ, ◌+◌, ◌≤◌, Bool, false, List, [], ◌++◌, length, take, vec_len, vec_capacity, Vec}
 use Rattle.std.proofs.Math.Nat.{add-le-add, le_refl, le_trans}
 use Rattle.std.specs.declared.alloc.Global.{Global}
 use Rattle.oai_journal.specs.Files.{Ends}
@@ -35,6 +35,18 @@ pub record Keeps {D : Type 0} (seen : D → List ℕ) (may_leave : D → List �
 
 abbrev pub HoldsRecords : {D : Type 0} → (D → List ℕ) → (D → List ℕ → Type 0) → FileJournal D → List Entry → ℕ → Type 0
 HoldsRecords seen may_leave journal entries durable = (first : Entry) × Keeps seen may_leave journal first entries durable
+
+-- nothing waits, and the disk has not failed
+pub record IsAtEnd {D : Type 0} (journal : FileJournal D) (disk : D) (end digest : ℕ) : Type 0 where
+  pub disk_is : journal.disk ≡ disk
+  pub end_is : journal.end ≡ end
+  pub digest_is : journal.digest ≡ digest
+  pub none : journal.pending.items ≡ []
+  pub last_is : journal.last ≡ journal.digest
+
+-- a journal of no records but the first one
+abbrev pub HoldsFirst : {D : Type 0} → (D → List ℕ) → (D → List ℕ → Type 0) → FileJournal D → Entry → Type 0
+HoldsFirst seen may_leave journal first = Keeps seen may_leave journal first [] 0
 
 -- a crash may leave a file that is a journal of these records
 pub record MayLeaveRecords {D : Type 0} (may_leave : D → List ℕ → Type 0) (disk : D) (found : List Entry) : Type 0 where

@@ -6,3 +6,5 @@ pub mod Journals
 pub mod Kept
 pub mod Numbers
 pub mod Records
+pub mod Recovered
+pub mod Recoveries

@@ -1,6 +1,6 @@
 //! Frames: a head with a digest, a line end, the bytes of a record, and a line end. The gate before a frame stands
 //! with what writes and reads groups.
-ghost use Rattle.std.specs.Prelude.{◌≡◌, ◌≢◌, ◌↔◌, ◌≤◌, ◌+◌, ◌++◌, length, List, ℕ, drop, take, vec_len, vec_capacity, IsTrue, IsSome, IfSome, MatchOption};
+ghost use Rattle.std.specs.Prelude.{◌≡◌, ◌≢◌, ◌↔◌, ◌<◌, ◌≤◌, ◌+◌, ◌++◌, length, List, ℕ, drop, take, vec_len, vec_capacity, IsTrue, IsSome, IfSome, MatchOption};
 ghost use Rattle.std.specs.Option.{option_copied, option_map};
 ghost use Rattle.sqlite_disk.specs.Digest.{digest};
 ghost use Rattle.oai_journal.specs.Frames as spec;
@@ -76,6 +76,7 @@ fn digest_text(digest: u64) -> [u8; DIGEST_LEN]
 pub(crate) fn frame_len(bytes: &[u8], out: &mut Vec<u8>) -> Option<usize>
     requires room { MAX_HEAD ≤ vec_capacity out.old }
     ensures len { result ≡ spec.len_in bytes.now }
+    ensures some { IfSome result (λ n. 0 < n) }
     ensures room { vec_capacity out.old ≤ vec_capacity out.new }
 {
     let head = parse_head(bytes)?;

@@ -1,6 +1,7 @@
 //! Groups of frames, written to a disk behind the closed gate that ends the journal.
 ghost use Rattle.std.specs.Prelude.{◌≡◌, ◌⊎◌, ◌+◌, ◌++◌, ◌<◌, ◌^◌, ℕ, List, length, OnOk, IfErr};
 ghost use Rattle.sqlite_disk.specs.Disk.{Only, Torn};
+ghost use Rattle.oai_journal.specs.Files as spec;
 ghost use Rattle.oai_journal.specs.Groups.{EndsBeforeOrAfter, IsGroup, IsSettled, IsWritten, digest_of_all};
 ghost use Rattle.oai_journal.specs.Records.{Entry};
 ghost use Rattle.oai_journal.specs.declared.journals.JournalFault.TheVariants as fault;
@@ -9,7 +10,17 @@ use crate::journals::JournalFault;
 use sqlite_disk::Disk;
 
 /// The gate that begins a group that counts.
-const OPEN: &[u8] = b"+";
+pub(crate) const OPEN_GATE: u8 = b'+';
+
+/// The gate of a further frame of a group.
+pub(crate) const FURTHER_GATE: u8 = b'&';
+
+/// Whether a frame behind the gate counts.
+pub(crate) fn is_open(gate: u8) -> bool
+    ensures { result ≡ spec.is_open gate }
+{
+    gate == OPEN_GATE || gate == FURTHER_GATE
+}
 
 /// Writes a group behind the closed gate at `end`: its bytes, of which the last is a closed gate, then syncs; then
 /// the open gate, and syncs.
@@ -29,7 +40,7 @@ pub(crate) fn write_group<D: Disk>(
         → (file : List ℕ) → D.Disk.may_leave disk.new file → EndsBeforeOrAfter file first entries later }
 {
     write_synced(disk, end + 1, group)?;
-    write_synced(disk, end, OPEN)
+    write_synced(disk, end, &[OPEN_GATE])
 }
 
 /// Writes bytes and syncs. Failed where the disk fails, or has failed.

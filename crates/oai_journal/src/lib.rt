@@ -7,8 +7,13 @@ mod frames;
 mod groups;
 mod heads;
 mod journals;
+mod laws;
+mod readings;
 mod records;
+mod recovery;
 
 pub use file::FileJournal;
 pub use journals::{Journal, JournalFault};
+pub use laws::{damage_law, one_journal_law};
+pub use recovery::{Recovery, RecoveryFault};
 pub use records::{Kind, MAX_BODY, MAX_FIRST_BODY, MAX_NAME, Record};

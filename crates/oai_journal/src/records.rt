@@ -59,6 +59,16 @@ impl Kind {
         }
     }
 
+    /// Whether it is the kind of the first record of a journal.
+    pub fn is_first(self) -> bool
+        ensures { result ≡ spec.is_first_kind self }
+    {
+        match self {
+            Kind::Journal => true,
+            _ => false,
+        }
+    }
+
     /// How many bytes a record of the kind may have.
     pub fn max_body(self) -> usize
         ensures { result ≡ spec.most_of self }
