@@ -3,7 +3,6 @@ ghost use Rattle.oai_http.specs.Exchanges.{Asked, asked_by, call_at};
 ghost use Rattle.oai_http.specs.Redone.{redone_part};
 ghost use Rattle.oai_http.specs.declared.exchanges.Answer.{Answer as Given};
 ghost use Rattle.oai_http.specs.declared.exchanges.Call.{Call as Calls};
-
 ghost use Rattle.oai_http.specs.declared.handlers.SettleFault.{SettleFault as Unsettled};
 
 use crate::exchanges::{Answer, Exchange};
