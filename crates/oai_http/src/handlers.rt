@@ -1,11 +1,18 @@
-ghost use Rattle.std.specs.Prelude.{◌≡◌, ◌≤◌, ℤ, Bool, IfSome, IsTrue, OnOk, length};
+ghost use Rattle.std.specs.Prelude.{◌≡◌, ◌≤◌, ℤ, Bool, IfSome, IsTrue, OnOk, Result, length};
 ghost use Rattle.oai_http.specs.Exchanges.{Asked, asked_by, call_at};
 ghost use Rattle.oai_http.specs.Redone.{redone_part};
 ghost use Rattle.oai_http.specs.declared.exchanges.Answer.{Answer as Given};
 ghost use Rattle.oai_http.specs.declared.exchanges.Call.{Call as Calls};
+ghost use Rattle.oai_http.specs.declared.handlers.SettleFault.{SettleFault as Unsettled};
 
 use crate::exchanges::{Answer, Exchange};
 use oai_item::Fault;
+use thiserror::Error;
+
+/// What was performed could not be made durable.
+#[derive(Clone, Copy, Debug, PartialEq, Eq, Error)]
+#[error("what was performed could not be made durable")]
+pub struct SettleFault;
 
 /// What performs the messages of connections.
 pub trait Handler {
@@ -48,4 +55,15 @@ pub trait Replayed: Handler {
         ensures redone { OnOk result (IsTrue (is_honest self.old)
             → kept self.new ≡ redone (kept self.old) (call_at moment (asked_by exchange.now))) }
         ensures honesty { is_honest self.new ≡ is_honest self.old };
+}
+
+/// A handler whose answers stand only once it has settled.
+pub trait Settled: Handler {
+    /// What settling may return, and what the handler then is.
+    ghost settled: { Self → Result Unit Unsettled → Self → Type 0 };
+
+    /// Makes all that was performed durable, so that the answers may leave. After an error none of those
+    /// that were given since the last settling that was Ok may leave.
+    fn settle(&mut self) -> Result<(), SettleFault>
+        ensures { settled self.old result self.new };
 }

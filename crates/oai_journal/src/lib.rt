@@ -1,0 +1,19 @@
+//! A journal: records, one behind the other, of which a crash leaves a prefix that has all durable ones; and its
+//! file, of frames in groups that no crash can tear.
+#![tactic(auto)]
+
+mod file;
+mod frames;
+mod groups;
+mod heads;
+mod journals;
+mod laws;
+mod readings;
+mod records;
+mod recovery;
+
+pub use file::FileJournal;
+pub use journals::{Journal, JournalFault};
+pub use laws::{damage_law, one_journal_law};
+pub use recovery::{Recovery, RecoveryFault};
+pub use records::{Kind, MAX_BODY, MAX_FIRST_BODY, MAX_NAME, Record};
