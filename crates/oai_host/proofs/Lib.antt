@@ -10,3 +10,4 @@ pub mod LineLemmas
 pub mod RoomLemmas
 pub mod TaskLemmas
 pub mod RedoLemmas
+pub mod AgainLemmas

@@ -1,5 +1,5 @@
 -- What an exchange left is what so much of it leaves as was performed.
-use Rattle.std.proofs.Common.{◌≡◌, ◌∙◌, inl, inr, ℕ, ℤ, Bool, true, false, IsTrue, List, [], ◌∷◌, length, map, take, cond, Option, None, Some, Result, Ok, Err, refl, sym, ap, subst, arith}
+use Rattle.std.proofs.Common.{◌≡◌, ◌∙◌, inl, inr, ℕ, ℤ, Bool, true, false, ◌||◌, ◌++◌, IsTrue, List, [], ◌∷◌, length, map, take, cond, Option, None, Some, Result, Ok, Err, refl, sym, ap, subst, arith}
 use Rattle.std.specs.Prelude.{OnOk}
 use Rattle.std.proofs.lemmas.Bool.{cases_Bool, cond-true, cond-false}
 use Rattle.std.proofs.lemmas.List.{take_all}
@@ -10,7 +10,10 @@ use Rattle.oai_repo.specs.Machine.{Output, bytes, query, step, wait}
 use Rattle.oai_repo.specs.State.{RepoState}
 use Rattle.oai_http.specs.Answers.{failed}
 use Rattle.oai_http.specs.Redone.{call_front}
-use Rattle.oai_http.specs.Targets.{leads_to_repository}
+use Rattle.std.specs.Str.{bytes_eq}
+use Rattle.oai_http.specs.Targets.{endpoint_of, front_of, leads_to_repository, path_of, query_of}
+use Rattle.oai_http.specs.declared.targets.Endpoint.{Endpoint}
+use Rattle.oai_http.specs.declared.targets.Endpoint.TheVariants.{Deposits, Requests}
 use Rattle.oai_http.specs.declared.exchanges.Answer.{Answer}
 use Rattle.oai_http.specs.declared.exchanges.Call.{Call}
 use Rattle.oai_host.specs.Alone.{done_alone, exchanged_alone}
@@ -49,7 +52,7 @@ failed_done TooManyPages lines = refl
 failed_done Device lines = refl
 failed_done Damaged lines = refl
 
-never : {P : Type 0} {A : Type 0} (x : A) → None ≡ Some x → P
+pub never : {P : Type 0} {A : Type 0} (x : A) → None ≡ Some x → P
 never x is = cc
 
 stopped_fault : (honest : Bool) (config : Config) (moment : ℤ) (task : Task) (fault : Fault) (before : RepoState) (answer : Answer) (after : RepoState) → HasStopped honest config moment task fault before answer after
@@ -61,20 +64,20 @@ stopped_fault honest config moment (depositing lines) fault before answer after 
 -- ---- a repository
 
 module _ (config : Config) (call : Call) (answer : Answer) (before : RepoState) (old : StoreState) (after : RepoState) (new : StoreState) (honest : IsTrue old.honest) (performed : IsPerformed config call.moment (task_of call) answer before old after new) where
-  done_whole : IsDone old.honest config call.moment (task_of call) before answer after → answer.fault ≡ None
+  pub done_whole : IsDone old.honest config call.moment (task_of call) before answer after → answer.fault ≡ None
   done_whole done =
       ap (λ (p : Answer × RepoState). p.0.fault) (sym (done_exact old.honest config call.moment (task_of call) before answer after honest done))
       ∙ alone_whole config before call.moment (task_of call)
 
   -- without a fault it was done
-  whole_left : answer.fault ≡ None → after ≡ (exchanged_alone config before call).1
+  pub whole_left : answer.fault ≡ None → after ≡ (exchanged_alone config before call).1
   whole_left none = elim performed.ended [
     | inl done ↦ sym (ap (λ (p : Answer × RepoState). p.1) (done_exact old.honest config call.moment (task_of call) before answer after honest done))
     | inr stopped ↦ never stopped.0 (sym none ∙ stopped_fault old.honest config call.moment (task_of call) stopped.0 before answer after stopped.1)
   ]
 
   -- a request that failed has left all
-  none_left : (fault : Fault) → answer.fault ≡ Some fault → answer.done ≡ None → after ≡ before
+  pub none_left : (fault : Fault) → answer.fault ≡ Some fault → answer.done ≡ None → after ≡ before
   none_left fault is none = elim performed.ended [
     | inl done ↦ never fault (sym (done_whole done) ∙ is)
     | inr stopped ↦ of_task (task_of call) stopped.0 stopped.1
@@ -86,7 +89,7 @@ module _ (config : Config) (call : Call) (answer : Answer) (before : RepoState) 
       of_task (depositing lines) f stopped = never stopped.0 (sym none ∙ ap (λ (a : Answer). a.done) stopped.2 ∙ failed_done f (Some stopped.0))
 
   -- a deposit that failed has done its first lines
-  part_left : (fault : Fault) (n size : ℕ) → answer.fault ≡ Some fault → answer.done ≡ Some n → AreTaken call.body size n → after ≡ (exchanged_alone config before (call_front call size)).1
+  pub part_left : (fault : Fault) (n size : ℕ) → answer.fault ≡ Some fault → answer.done ≡ Some n → AreTaken call.body size n → after ≡ (exchanged_alone config before (call_front call size)).1
   part_left fault n size is count taken = elim performed.ended [
     | inl done ↦ never fault (sym (done_whole done) ∙ is)
     | inr stopped ↦ of_task (task_of call) stopped.0 refl stopped.1
@@ -114,9 +117,13 @@ same_repository x y a b s c =
     ∙ ap (λ (n : Config). record { name = x.name; config = n; state = y.state }) b
     ∙ ap (λ (n : RepoState). record { name = x.name; config = x.config; state = n }) c
 
+-- a path leads to the name
+abbrev pub is_at : List ℕ → List ℕ → Bool
+is_at name path = bytes_eq path (front_of Requests ++ name) || bytes_eq path (front_of Deposits ++ name)
+
 module _ (call : Call) (answer : Answer) (old new : StoreState) where
   -- what its own exchange leaves of a state, where it is known
-  each_left : (other : Call) → other.target ≡ call.target → (before after : List Repository) → AreSteps call answer old new before after
+  pub each_left : (other : Call) → path_of other.target ≡ path_of call.target → (before after : List Repository) → AreSteps call answer old new before after
       → ((x : Repository) (y : Repository) → IsPerformed x.config call.moment (task_of call) answer x.state old y.state new → y.state ≡ (exchanged_alone x.config x.state other).1)
       → after ≡ redone_all before other
   each_left other target [] [] steps left = refl
@@ -129,12 +136,12 @@ module _ (call : Call) (answer : Answer) (old new : StoreState) where
       one : (b : Bool) → leads_to_repository x.name call.target ≡ b → y ≡ redone_at other x
       one true own =
           same_repository x y steps.0.name steps.0.config (exchanged_alone x.config x.state other).1 (left x y (steps.0.own own))
-          ∙ sym (cond-true (leads_to_repository x.name other.target) (record x { state = (exchanged_alone x.config x.state other).1 }) x (ap (leads_to_repository x.name) target ∙ own))
+          ∙ sym (cond-true (leads_to_repository x.name other.target) (record x { state = (exchanged_alone x.config x.state other).1 }) x (ap (λ (path : List ℕ). is_at x.name path) target ∙ own))
       one false elsewhere =
           same_repository x y steps.0.name steps.0.config x.state (steps.0.other elsewhere)
-          ∙ sym (cond-false (leads_to_repository x.name other.target) (record x { state = (exchanged_alone x.config x.state other).1 }) x (ap (leads_to_repository x.name) target ∙ elsewhere))
+          ∙ sym (cond-false (leads_to_repository x.name other.target) (record x { state = (exchanged_alone x.config x.state other).1 }) x (ap (λ (path : List ℕ). is_at x.name path) target ∙ elsewhere))
 
-  each_same : (before after : List Repository) → AreSteps call answer old new before after
+  pub each_same : (before after : List Repository) → AreSteps call answer old new before after
       → ((x : Repository) (y : Repository) → IsPerformed x.config call.moment (task_of call) answer x.state old y.state new → y.state ≡ x.state) → after ≡ before
   each_same [] [] steps left = refl
   each_same [] (y ∷ after) steps left = absurd steps

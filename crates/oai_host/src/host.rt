@@ -14,12 +14,14 @@ ghost use Rattle.std.specs.List.{list_all};
 ghost use Rattle.std.specs.Option.{IfNone};
 ghost use Rattle.std.specs.Prelude.{IfErr, IfOk, IfSome, IsTrue, OnErr, if◌then◌else◌, length, map, true, ◌+◌, ◌<◌, ◌≡◌, ◌≤◌};
 
-use crate::deposits::first_lines;
+use crate::dispatch::{lines_done, request_done};
 use crate::repositories::Repositories;
 use crate::routes::Routes;
 use oai_catalogue::Versions;
 use oai_config::Config;
-use oai_http::{Answer, Call, Endpoint, Exchange, Handler, Replayed, Status, is_rooted, path_of};
+use oai_http::{
+    Answer, Call, Endpoint, Exchange, Handler, Performed, Replayed, Status, is_rooted, named, path_of,
+};
 use oai_item::Fault;
 use oai_names::Sequence;
 use std::alloc::{AllocError, Global};
@@ -196,13 +198,17 @@ impl<V: Versions + Drop> Replayed for Host<V> {
 
     ghost redone = { redone_all };
 
-    fn bytes_done(exchange: &Exchange<'_>, answer: &Answer) -> Option<usize> {
-        match answer.fault {
-            None => Some(exchange.body.len()),
-            Some(_) => match answer.done {
-                Some(lines) => Some(first_lines(exchange.body, lines)),
+    fn performed<'a>(exchange: &Exchange<'a>, answer: &Answer) -> Option<Performed<'a>> {
+        match named(exchange.target) {
+            Some((Endpoint::Requests, name)) => match request_done(exchange, answer) {
+                Some(bytes) => Some(Performed { endpoint: Endpoint::Requests, name, bytes }),
                 None => None,
             },
+            Some((Endpoint::Deposits, name)) => match lines_done(exchange, answer) {
+                Some(bytes) => Some(Performed { endpoint: Endpoint::Deposits, name, bytes }),
+                None => None,
+            },
+            None => None,
         }
     }
 

@@ -1,11 +1,12 @@
-ghost use Rattle.std.specs.Prelude.{◌≡◌, ◌≤◌, ℤ, Bool, IfSome, IsTrue, OnOk, Result, length};
+ghost use Rattle.std.specs.Prelude.{◌≡◌, ℤ, Bool, IsTrue, OnOk, Result};
 ghost use Rattle.oai_http.specs.Exchanges.{Asked, asked_by, call_at};
-ghost use Rattle.oai_http.specs.Redone.{redone_part};
+ghost use Rattle.oai_http.specs.Redone.{left_again};
 ghost use Rattle.oai_http.specs.declared.exchanges.Answer.{Answer as Given};
 ghost use Rattle.oai_http.specs.declared.exchanges.Call.{Call as Calls};
 ghost use Rattle.oai_http.specs.declared.handlers.SettleFault.{SettleFault as Unsettled};
 
 use crate::exchanges::{Answer, Exchange};
+use crate::targets::Endpoint;
 use oai_item::Fault;
 use thiserror::Error;
 
@@ -26,6 +27,17 @@ pub trait Handler {
         ensures { step self.old moment (asked_by exchange.now) result self.new };
 }
 
+/// What was performed at a repository, as it can be performed again.
+#[derive(Clone, Copy, Debug)]
+pub struct Performed<'a> {
+    /// A request, or a deposit.
+    pub endpoint: Endpoint,
+    /// The name of the repository.
+    pub name: &'a [u8],
+    /// The arguments of the request, still encoded; or the lines of the deposit.
+    pub bytes: &'a [u8],
+}
+
 /// A handler whose exchanges can be performed again, so that it is what it was.
 pub trait Replayed: Handler {
     /// What a handler keeps from one exchange to the next.
@@ -40,14 +52,13 @@ pub trait Replayed: Handler {
     /// What a call leaves.
     ghost redone: { Kept → Calls → Kept };
 
-    /// How much of an exchange that was answered so was performed: so many bytes of its body, from the first on,
-    /// which are all of them where the answer has no fault; `None` where nothing was. What the exchange left is
-    /// what that much of it leaves.
-    fn bytes_done(exchange: &Exchange<'_>, answer: &Answer) -> Option<usize>
-        ensures within { IfSome result (λ size. size ≤ length exchange.now.body.now) }
+    /// What of an exchange that was answered so was performed: a request, or a deposit of its first lines, as many
+    /// as were done; `None` where nothing was, which is all that a request leaves that failed. What the exchange
+    /// left is what that leaves.
+    fn performed<'a>(exchange: &Exchange<'a>, answer: &Answer) -> Option<Performed<'a>>
         ensures left { (before : Self) (moment : ℤ) (after : Self) → IsTrue (is_honest before)
             → Self.step before moment (asked_by exchange.now) answer.now after
-            → kept after ≡ redone_part redone (kept before) (call_at moment (asked_by exchange.now)) result };
+            → kept after ≡ left_again redone (kept before) moment result };
 
     /// Performs an exchange again, at the moment, in seconds from 1970 on, and makes no answer. The error is the
     /// fault that ended it.
