@@ -14,7 +14,7 @@ torn_behind front rest new n torn =
     let same : take at new ≡ front =
     ext_get_or 0 (take at new) front (length-take-le at new long)
     (λ i h. let low : i < at = omega (arith, h, length-take-le at new long) in
-      get_or-take at new i 0 low ∙ torn.below i (omega (arith, low, length-append front rest)) low ∙ get_or_append_left front rest 0 i low) in
+    get_or-take at new i 0 low ∙ torn.below i (omega (arith, low, length-append front rest)) low ∙ get_or_append_left front rest 0 i low) in
     (drop at new, sym (take-append-drop at new) ∙ ap (λ (l : List ℕ). l ++ drop at new) same)
 
 cut_at : (front rest new : List ℕ) → take (length front) new ≡ front → drop (length front) new ≡ rest → new ≡ front ++ rest
@@ -34,8 +34,8 @@ torn_byte front rest new gate torn =
     let last : drop (at + 1) new ≡ rest =
     ext_get_or 0 (drop (at + 1) new) rest len
     (λ i h. let low : i < length rest = omega (arith, h, len) in
-      get_or-drop (at + 1) new i 0 ∙ torn.above (at + 1 + i) (omega (arith, low, size)) (omega arith) ∙ sym (get_or-drop (at + 1) old i 0)
-      ∙ ap (λ (l : List ℕ). get_or l i 0) (drop-append-add front (gate ∷ rest) 1)) in
+    get_or-drop (at + 1) new i 0 ∙ torn.above (at + 1 + i) (omega (arith, low, size)) (omega arith) ∙ sym (get_or-drop (at + 1) old i 0)
+    ∙ ap (λ (l : List ℕ). get_or l i 0) (drop-append-add front (gate ∷ rest) 1)) in
     let there : at < length new = omega (arith, whole) in
     (get_or new at 0, cut_at front (get_or new at 0 ∷ rest) new first (drop_more new at 0 there ∙ ap (λ (l : List ℕ). get_or new at 0 ∷ l) last))
 
@@ -50,6 +50,8 @@ held front rest new bytes torn holds =
     let middle : take n (drop at new) ≡ bytes =
     ext_get_or 0 (take n (drop at new)) bytes (length-take-le n (drop at new) enough)
     (λ i h. let low : i < n = omega (arith, h, length-take-le n (drop at new) enough) in
-      get_or-take n (drop at new) i 0 low ∙ get_or-drop at new i 0 ∙ holds.each i low) in
-    (drop n (drop at new), cut_at front (bytes ++ drop n (drop at new)) new first
-      (sym (take-append-drop n (drop at new)) ∙ ap (λ (l : List ℕ). l ++ drop n (drop at new)) middle))
+    get_or-take n (drop at new) i 0 low ∙ get_or-drop at new i 0 ∙ holds.each i low) in (
+      drop n (drop at new),
+      cut_at front (bytes ++ drop n (drop at new)) new first
+          (sym (take-append-drop n (drop at new)) ∙ ap (λ (l : List ℕ). l ++ drop n (drop at new)) middle),
+    )

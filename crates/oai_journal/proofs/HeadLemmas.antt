@@ -137,6 +137,17 @@ length_front h is =
     let c : List ℕ = h.name in
     let d : List ℕ = decimal h.size in
     let s : List ℕ = codes " " in
-    omega (arith, length-append (a ++ s ++ b ++ s ++ c ++ s ++ d) s, length-append (a ++ s ++ b ++ s ++ c ++ s) d, length-append (a ++ s ++ b ++ s ++ c) s,
-      length-append (a ++ s ++ b ++ s) c, length-append (a ++ s ++ b) s, length-append (a ++ s) b, length-append a s,
-      length_moment h.moment is.moment, length_word h.kind, is.short, length-decimal-le 20 h.size (lit< tt) (omega (arith, is.size)) is.size)
+    omega (
+      arith,
+      length-append (a ++ s ++ b ++ s ++ c ++ s ++ d) s,
+      length-append (a ++ s ++ b ++ s ++ c ++ s) d,
+      length-append (a ++ s ++ b ++ s ++ c) s,
+      length-append (a ++ s ++ b ++ s) c,
+      length-append (a ++ s ++ b) s,
+      length-append (a ++ s) b,
+      length-append a s,
+      length_moment h.moment is.moment,
+      length_word h.kind,
+      is.short,
+      length-decimal-le 20 h.size (lit< tt) (omega (arith, is.size)) is.size,
+    )

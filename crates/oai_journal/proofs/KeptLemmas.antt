@@ -141,9 +141,9 @@ module _ {D : Type 0} (seen : D → List ℕ) (may_leave : D → List ℕ → Ty
       let size : length entries ≡ length k.written + length k.later = ap length k.are ∙ length-append k.written k.later in
       ⊎_elim
       (λ is. survives_at file held.0 entries k.written durable (length k.written) (ap (take (length k.written)) k.are ∙ take_at k.written k.later (length k.written) refl)
-        (omega (arith, k.count)) (omega (arith, size)) is)
+      (omega (arith, k.count)) (omega (arith, size)) is)
       (λ is. survives_at file held.0 entries (k.written ++ k.later) durable (length entries) (take_all (length entries) entries (omega arith) ∙ k.are)
-        (omega (arith, k.count, size)) (omega arith) is)
+      (omega (arith, k.count, size)) (omega arith) is)
       ends
 
   -- what a crash leaves of a journal of which nothing waits

@@ -1,3 +1,4 @@
+pub mod ChangeLemmas
 pub mod CrashLemmas
 pub mod DamageLemmas
 pub mod FileLemmas

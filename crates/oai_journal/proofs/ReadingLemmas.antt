@@ -16,7 +16,7 @@ held_part file bytes at size len holds =
     let enough : size ≤ length (drop at file) = omega (arith, length-drop at file, holds.within, len) in
     sym (ext_get_or 0 (take size (drop at file)) bytes (length-take-le size (drop at file) enough ∙ sym len)
     (λ i h. let low : i < size = omega (arith, h, length-take-le size (drop at file) enough) in
-      get_or-take size (drop at file) i 0 low ∙ get_or-drop at file i 0 ∙ holds.each i (omega (arith, low, len))))
+    get_or-take size (drop at file) i 0 low ∙ get_or-drop at file i 0 ∙ holds.each i (omega (arith, low, len))))
 
 take_least : (n m : ℕ) (xs : List ℕ) → m ≡ length xs → take (min n m) xs ≡ take n xs
 take_least n m xs size =

@@ -1,5 +1,5 @@
 -- A journal that is read a frame further; where it ends, and where it is damaged.
-use Rattle.std.proofs.Common.{◌≡◌, ◌⊎◌, ◌∙◌, inl, inr, ⊎_elim, ℕ, ◌+◌, ◌-◌, ◌<◌, ◌≤◌, Bool, true, false, List, [], ◌∷◌, ◌++◌, length, map, take, drop, Option, Some, None, refl, sym, ap, subst, arith, append_assoc}
+use Rattle.std.proofs.Common.{◌≡◌, ◌⊎◌, ◌∙◌, inl, inr, ⊎_elim, ℕ, ◌+◌, ◌-◌, ◌<◌, ◌≤◌, Bool, true, false, List, [], ◌∷◌, ◌++◌, length, map, take, drop, Option, Some, None, Result, Ok, Err, IfOk, refl, sym, ap, subst, arith, append_assoc}
 use Rattle.std.proofs.lemmas.Bool.{false≢true}
 use Rattle.std.proofs.lemmas.List.{append-nil, drop_at, length-append, map-append, take_all}
 use Rattle.sqlite_disk.specs.Disk.{Only}
@@ -8,10 +8,12 @@ use Rattle.oai_journal.specs.Frames.{entry_in, frame, next_digest}
 use Rattle.oai_journal.specs.Groups.{IsSettled}
 use Rattle.oai_journal.specs.Kept.{HoldsRecords, IsAtEnd}
 use Rattle.oai_journal.specs.Records.{Entry, IsFit, is_first_kind}
-use Rattle.oai_journal.specs.Recoveries.{Continues, EndsHere, IsBroken, IsDamagedAt, IsOpenWithNone, ReadsTo, Starts, StartsAs}
+use Rattle.oai_journal.specs.Recoveries.{Continues, EndsHere, Finds, HasNoFirst, IsBroken, IsDamagedAt, IsOpenWithNone, ReadsTo, Starts, StartsAs}
 use Rattle.oai_journal.specs.Recovered.{HasRead, current}
 use Rattle.oai_journal.specs.declared.file.FileJournal.{FileJournal}
 use Rattle.oai_journal.specs.declared.recovery.Recovery.{Recovery}
+use Rattle.oai_journal.specs.declared.recovery.RecoveryFault.{RecoveryFault}
+use Rattle.oai_journal.specs.declared.recovery.RecoveryFault.TheVariants.{Damaged, Stopped}
 use Rattle.oai_journal.proofs.FileLemmas.{digest_append, front_append, gated_append}
 use Rattle.oai_journal.proofs.FrameLemmas.{frame_read}
 use Rattle.oai_journal.proofs.KeptLemmas.{settled_holds}
@@ -36,6 +38,30 @@ started file read digest s =
   where
     one_more : (l : List ℕ) → 1 + length l ≡ length (43 ∷ l)
     one_more l = omega arith
+
+-- a file that begins with an open gate, and what stands behind it
+pub starts : (file read : List ℕ) (found : Option ℕ) → drop 0 file ≡ 43 ∷ drop 1 file → Finds true 0 (drop 1 file) read found → Starts file read found
+starts file read None gate none = λ behind is e after fit kind there. none e after fit kind (ap (drop 1) is ∙ there)
+starts file read (Some digest) gate f =
+    record {
+      first = f.entry;
+      begins = record { fit = f.fit; kind = f.kind };
+      after = f.after;
+      is = gate ∙ ap (λ (l : List ℕ). 43 ∷ l) f.is;
+      read_is = f.read_is;
+      digest_is = f.digest_is;
+    }
+
+pub if_ok : {A E : Type 0} {P Q : A → Type 0} (r : Result A E) → IfOk r P → ((x : A) → P x → Q x) → IfOk r Q
+if_ok (Ok x) p f = f x p
+if_ok (Err e) p f = tt
+
+abbrev damaged_byte : RecoveryFault → ℕ
+damaged_byte (Damaged at) = at
+damaged_byte (Stopped cause) = 0
+
+pub damaged_first : (file : List ℕ) (at : ℕ) → Damaged 0 ≡ Damaged at → HasNoFirst file → IsDamagedAt file at
+damaged_first file at is none = inl (sym (ap damaged_byte is), none)
 
 -- ---- a frame more
 
@@ -87,7 +113,7 @@ module _ (file : List ℕ) (at digest : ℕ) (first : Entry) (entries : List Ent
 
 module _ {D : Type 0} (seen : D → List ℕ) (may_leave : D → List ℕ → Type 0) where
   -- nothing that may be left has changed
-  same_left : (old new : D) → seen new ≡ seen old → ((c : List ℕ) → may_leave new c → may_leave old c) → Only (seen old) (may_leave old) → Only (seen new) (may_leave new)
+  pub same_left : (old new : D) → seen new ≡ seen old → ((c : List ℕ) → may_leave new c → may_leave old c) → Only (seen old) (may_leave old) → Only (seen new) (may_leave new)
   same_left old new same crash only c left = only c (crash c left) ∙ sym same
 
   -- what a step may leave of the recovery: the disk, as it was, and the rest anew

@@ -1,3 +1,4 @@
+pub mod Changes
 pub mod Files
 pub mod Frames
 pub mod Groups

@@ -82,7 +82,11 @@ impl<D: Disk + Drop> FileJournal<D> {
 
     /// Begins a journal with that record on a disk that is empty, and syncs it. NoRoom where memory is refused; Failed
     /// where the disk fails or is not empty.
-    pub fn create(alloc: Global, mut disk: D, first: &Record<'_>) -> Result<FileJournal<D>, JournalFault>
+    pub fn create(
+        alloc: Global,
+        mut disk: D,
+        first: &Record<'_>,
+    ) -> Result<FileJournal<D>, JournalFault>
         requires fit { IsTrue (is_fit (entry_of first.now)) }
         requires kind { is_first_kind first.now.kind ≡ true }
         ensures { IfOk result (λ journal. HoldsFirst D.Disk.seen D.Disk.may_leave journal (entry_of first.now)) }
@@ -124,7 +128,11 @@ fn first_frame(alloc: Global, first: &Record<'_>) -> Result<(Vec<u8>, u64), Jour
     ensures bytes { IfOk result (λ made. made.0.items ≡ 43 ∷ (frame 0 (entry_of first.now) ++ 45 ∷ [])) }
     ensures digest { IfOk result (λ made. made.1 ≡ next_digest 0 (entry_of first.now)) }
 {
-    let room = first.body.len().checked_add(FRAME_ROOM + 1).ok_or(AllocError)?;
+    let room = first
+        .body
+        .len()
+        .checked_add(FRAME_ROOM + 1)
+        .ok_or(AllocError)?;
     let mut bytes = Vec::with_capacity(alloc, room)?;
     put(b"+", &mut bytes);
     let digest = write_frame(0, first, &mut bytes);

@@ -127,7 +127,7 @@ pub(crate) fn frame_digest(
     requires room { FRONT_ROOM ≤ vec_capacity out.old }
     ensures spelled { MatchOption result (bytes.now ≢ spec.frame before (entry_of entry.now))
         (λ d. (bytes.now ≡ spec.frame before (entry_of entry.now))
-            × (d ≡ spec.next_digest before (entry_of entry.now))) }
+        × (d ≡ spec.next_digest before (entry_of entry.now))) }
     ensures room { vec_capacity out.old ≤ vec_capacity out.new }
 {
     out.clear();

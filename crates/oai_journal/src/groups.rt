@@ -34,7 +34,7 @@ pub(crate) fn write_group<D: Disk>(
     ensures settled { OnOk result ((digest : ℕ) (first : Entry) (entries later : List Entry)
         → IsSettled D.Disk.seen D.Disk.may_leave disk.old end digest first entries → IsGroup group.now digest later
         → IsSettled D.Disk.seen D.Disk.may_leave disk.new (end + length group.now) (digest_of_all digest later) first
-            (entries ++ later)) }
+        (entries ++ later)) }
     ensures crash { (digest : ℕ) (first : Entry) (entries later : List Entry)
         → IsSettled D.Disk.seen D.Disk.may_leave disk.old end digest first entries → IsGroup group.now digest later
         → (file : List ℕ) → D.Disk.may_leave disk.new file → EndsBeforeOrAfter file first entries later }

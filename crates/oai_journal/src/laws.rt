@@ -8,12 +8,10 @@ ghost use Rattle.oai_journal.specs.Recoveries.{IsDamagedAt};
 pub fn one_journal_law()
     ensures { (file : List ℕ) (first other : Entry) (entries found : List Entry) → Ends file first entries
         → Ends file other found → (first ≡ other) × (entries ≡ found) }
-{
-}
+{}
 
 /// A file that is damaged is no journal, and a crash leaves a journal: so no crash leaves damage.
 pub fn damage_law()
     ensures { (file : List ℕ) (at : ℕ) (first : Entry) (entries : List Entry) → IsDamagedAt file at
         → Ends file first entries → ⊥ }
-{
-}
+{}

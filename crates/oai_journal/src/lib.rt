@@ -2,6 +2,7 @@
 //! file, of frames in groups that no crash can tear.
 #![tactic(auto)]
 
+mod changes;
 mod file;
 mod frames;
 mod groups;
@@ -15,5 +16,5 @@ mod recovery;
 pub use file::FileJournal;
 pub use journals::{Journal, JournalFault};
 pub use laws::{damage_law, one_journal_law};
-pub use recovery::{Recovery, RecoveryFault};
 pub use records::{Kind, MAX_BODY, MAX_FIRST_BODY, MAX_NAME, Record};
+pub use recovery::{Recovery, RecoveryFault};

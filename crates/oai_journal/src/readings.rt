@@ -3,12 +3,33 @@ ghost use Rattle.std.specs.Prelude.{◌≡◌, ◌+◌, ◌<◌, ◌≤◌, ℕ,
 ghost use Rattle.sqlite_disk.specs.Disk.{Only};
 ghost use Rattle.oai_journal.specs.Frames.{entry_in};
 ghost use Rattle.oai_journal.specs.Records.{entry_of};
-ghost use Rattle.oai_journal.specs.Recoveries.{Checks, Finds, IsLenAt};
+ghost use Rattle.oai_journal.specs.Recoveries.{Checks, Finds, IsGateAt, IsLenAt};
 
 use crate::frames::{FRAME_ROOM, FRONT_ROOM, frame_digest, frame_len, record_in};
 use crate::journals::JournalFault;
 use crate::records::Record;
 use sqlite_disk::Disk;
+
+/// Reads the gate at that place; None where the file ends there.
+pub(crate) fn read_gate<D: Disk>(
+    disk: &mut D,
+    len: usize,
+    at: usize,
+    frame: &mut Vec<u8>,
+) -> Result<Option<u8>, JournalFault>
+    ensures found { IfOk result (λ gate. IsTrue (D.Disk.is_clean disk.new) → len ≡ length (D.Disk.seen disk.old)
+        → IsGateAt (D.Disk.seen disk.old) at gate) }
+    ensures within { IfOk result (λ gate. IfSome gate (λ byte. at < len)) }
+    ensures seen { D.Disk.seen disk.new ≡ D.Disk.seen disk.old }
+    ensures crash { (c : List ℕ) → D.Disk.may_leave disk.new c → D.Disk.may_leave disk.old c }
+    ensures clean { IsTrue (D.Disk.is_clean disk.new) → IsTrue (D.Disk.is_clean disk.old) }
+{
+    if len <= at {
+        return Ok(None);
+    }
+    read_bytes(disk, at, 1, frame)?;
+    Ok(Some(frame[0]))
+}
 
 /// Reads the frame that stands at that place behind the digest `before`, of the first record of a journal or of
 /// another one; answers its digest, or None where none does. Its bytes are then in `frame`. `out` needs room for

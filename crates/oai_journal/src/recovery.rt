@@ -3,7 +3,7 @@ ghost use Rattle.std.specs.Prelude.{◌≡◌, ◌<◌, ◌≤◌, ◌+◌, ◌+
 ghost use Rattle.oai_journal.specs.Files.{Ends};
 ghost use Rattle.oai_journal.specs.Kept.{HoldsRecords};
 ghost use Rattle.oai_journal.specs.Records.{Entry, entry_of};
-ghost use Rattle.oai_journal.specs.Recoveries.{IsDamagedAt, IsGateAt, IsStep, Starts, StepsWithin};
+ghost use Rattle.oai_journal.specs.Recoveries.{IsDamagedAt, IsStep, Starts, StepsWithin};
 ghost use Rattle.std.specs.Option.{option_map};
 ghost use Rattle.oai_journal.specs.declared.recovery.RecoveryFault.TheVariants as fault;
 
@@ -11,7 +11,7 @@ use crate::file::FileJournal;
 use crate::frames::{FRONT_ROOM, record_in};
 use crate::groups::{OPEN_GATE, is_open};
 use crate::journals::JournalFault;
-use crate::readings::{open_len, read_bytes, read_frame};
+use crate::readings::{open_len, read_frame, read_gate};
 use crate::records::Record;
 use sqlite_disk::Disk;
 use std::alloc::Global;
@@ -121,7 +121,14 @@ impl<D: Disk + Drop> Recovery<D> {
         if self.ended {
             return Ok(false);
         }
-        match read_step(self.alloc, &mut self.disk, self.len, self.at, self.digest, &mut self.frame)? {
+        match read_step(
+            self.alloc,
+            &mut self.disk,
+            self.len,
+            self.at,
+            self.digest,
+            &mut self.frame,
+        )? {
             Step::End => {
                 self.ended = true;
                 Ok(false)
@@ -215,25 +222,4 @@ fn read_step<D: Disk>(
         Some(digest) => Ok(Step::Frame(digest)),
         None => Ok(Step::Damage),
     }
-}
-
-/// Reads the gate at that place; None where the file ends there.
-fn read_gate<D: Disk>(
-    disk: &mut D,
-    len: usize,
-    at: usize,
-    frame: &mut Vec<u8>,
-) -> Result<Option<u8>, JournalFault>
-    ensures found { IfOk result (λ gate. IsTrue (D.Disk.is_clean disk.new) → len ≡ length (D.Disk.seen disk.old)
-        → IsGateAt (D.Disk.seen disk.old) at gate) }
-    ensures within { IfOk result (λ gate. IfSome gate (λ byte. at < len)) }
-    ensures seen { D.Disk.seen disk.new ≡ D.Disk.seen disk.old }
-    ensures crash { (c : List ℕ) → D.Disk.may_leave disk.new c → D.Disk.may_leave disk.old c }
-    ensures clean { IsTrue (D.Disk.is_clean disk.new) → IsTrue (D.Disk.is_clean disk.old) }
-{
-    if len <= at {
-        return Ok(None);
-    }
-    read_bytes(disk, at, 1, frame)?;
-    Ok(Some(frame[0]))
 }

@@ -17,7 +17,7 @@ returns-in_err-write_synced-clause-crash g c digest first entries later settled 
 pub returns-clause-settled : goal.returns-clause-settled
 returns-clause-settled g c =
     on_ok c.write_synced-2.result c.write_synced-2.ensures.written (λ written digest first entries later settled is.
-      settled_opened _ _ _ _ _ _ _ _ _ settled is _ (stands _ _ _ _ _ _ _ _ _ settled is _ c.in_ok-write_synced.ensures.written) _ written)
+    settled_opened _ _ _ _ _ _ _ _ _ settled is _ (stands _ _ _ _ _ _ _ _ _ settled is _ c.in_ok-write_synced.ensures.written) _ written)
 
 pub returns-clause-crash : goal.returns-clause-crash
 returns-clause-crash g c digest first entries later settled is file left =

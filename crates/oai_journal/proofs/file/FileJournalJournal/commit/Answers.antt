@@ -34,14 +34,14 @@ write_group-requires-clause-within g c =
 pub returns-in_err-write_group-clause-err : goal.returns-in_err-write_group-clause-err
 returns-in_err-write_group-clause-err g c =
     on_err c.from_residual.result (λ entries durable held.
-      let k = held.1 in
-      let some = some_left _ _ _ c.if-is_empty.false c.is_empty.ensures (c.args.self.now.pending.ok.0) in
-      let group : IsGroup c.deref.result.now c.args.self.now.digest k.later =
-      is_group c.args.self.now.pending.items c.deref.result.now c.args.self.now.digest c.args.self.now.last k.later (k.waits c.if-self.false) some
-      (λ inner gate is. c.deref.ensures.value ∙ c.close_group.ensures.gate inner gate is) in
-      kept_stopped _ _ c.args.self.now _ entries durable refl held
-      (λ file left. survives_group _ _ c.args.self.now entries durable held file
-        (c.write_group.ensures.crash c.args.self.now.digest held.0 k.written k.later (k.settled c.if-self.false) group file left)))
+    let k = held.1 in
+    let some = some_left _ _ _ c.if-is_empty.false c.is_empty.ensures (c.args.self.now.pending.ok.0) in
+    let group : IsGroup c.deref.result.now c.args.self.now.digest k.later =
+    is_group c.args.self.now.pending.items c.deref.result.now c.args.self.now.digest c.args.self.now.last k.later (k.waits c.if-self.false) some
+    (λ inner gate is. c.deref.ensures.value ∙ c.close_group.ensures.gate inner gate is) in
+    kept_stopped _ _ c.args.self.now _ entries durable refl held
+    (λ file left. survives_group _ _ c.args.self.now entries durable held file
+    (c.write_group.ensures.crash c.args.self.now.digest held.0 k.written k.later (k.settled c.if-self.false) group file left)))
 
 pub returns-clause-ok : goal.returns-clause-ok
 returns-clause-ok g c entries durable held =
