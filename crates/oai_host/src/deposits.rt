@@ -210,17 +210,17 @@ pub(crate) fn first_lines(body: &[u8], count: u64) -> usize
 
 /// How many bytes what stands before the first line end takes, with it, and how many of `left` lines are left
 /// behind it: a blank one is none of them.
-fn first_line(text: &[u8], left: u64) -> (usize, u64)
-    requires some { 0 < length text.now }
+fn first_line(body: &[u8], left: u64) -> (usize, u64)
+    requires some { 0 < length body.now }
     requires more { 0 < left }
-    ensures within { result.0 ≤ length text.now }
+    ensures within { result.0 ≤ length body.now }
     ensures less { 0 < result.0 }
-    ensures lines { (size : ℕ) → AreTaken (drop result.0 text.now) size result.1
-        → AreTaken text.now (result.0 + size) left }
+    ensures lines { (size : ℕ) → AreTaken (drop result.0 body.now) size result.1
+        → AreTaken body.now (result.0 + size) left }
 {
-    let end = len_before(b'\n', text);
-    let others = without_line(is_blank(&text[..end]), left);
-    if end < text.len() {
+    let end = len_before(b'\n', body);
+    let others = without_line(is_blank(&body[..end]), left);
+    if end < body.len() {
         (end + 1, others)
     } else {
         (end, others)

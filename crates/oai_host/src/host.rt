@@ -107,7 +107,7 @@ impl<V: Versions + Drop> Host<V> {
     pub fn redo(&mut self, moment: i64, exchange: &Exchange<'_>) -> Result<(), Fault>
         ensures { IsRedone (call_of moment exchange.now) result self.old self.new }
     {
-        match self.exchange(moment, exchange).fault {
+        match Host::exchange(self, moment, exchange).fault {
             Some(fault) => Err(fault),
             None => Ok(()),
         }
