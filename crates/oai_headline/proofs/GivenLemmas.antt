@@ -237,7 +237,7 @@ asking_whole config state (call ∷ calls) (answer ∷ answers) given some asks 
     kept : calls_done_by call answer ≡ call ∷ [] → is_done_whole visit ≡ true → visit ≡ visit_in config state call → Later → IsPart some all
     kept first so same later =
         let behind : (others : List Visit) → IsPart others (visits config (exchanged_alone config state call).1 (calls_done calls answers))
-            → IsPart others (visits config (left_by config state (calls_done_by call answer)) (calls_done calls answers)) =
+        → IsPart others (visits config (left_by config state (calls_done_by call answer)) (calls_done calls answers)) =
         λ others p. subst (λ (cs : List Call). IsPart others (visits config (left_by config state cs) (calls_done calls answers))) (sym first) p
         in
         let here : IsPart some (visit_in config state call ∷ visits config (exchanged_alone config state call).1 (calls_done calls answers)) =

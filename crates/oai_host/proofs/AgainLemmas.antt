@@ -120,9 +120,9 @@ module _ (call : Call) (answer : Answer) (before after : HostState) (honest : Is
   request_again name arguments path asked none =
       each_left call answer (store_of before) (store_of after) (own_call call.moment Requests name arguments) (asks_path call name arguments path) before.repositories after.repositories exchanged.each
       (λ x y performed.
-          whole_left x.config call answer x.state (store_of before) y.state (store_of after) honest performed none
-          ∙ ap (λ (task : Task). (done_alone x.config x.state call.moment task).1)
-          (ap (λ (at : Option Endpoint). task_at at call) (endpoint_is Requests name call.target path) ∙ asked ∙ sym (asks_again call name arguments path)))
+      whole_left x.config call answer x.state (store_of before) y.state (store_of after) honest performed none
+      ∙ ap (λ (task : Task). (done_alone x.config x.state call.moment task).1)
+      (ap (λ (at : Option Endpoint). task_at at call) (endpoint_is Requests name call.target path) ∙ asked ∙ sym (asks_again call name arguments path)))
 
   -- one that has
   pub failed_again : (name arguments : List ℕ) (fault : Fault) → path_of call.target ≡ front_of Requests ++ name → request_task call ≡ asking arguments → answer.fault ≡ Some fault
@@ -150,9 +150,9 @@ same_redone : (one other : Call) → path_of one.target ≡ path_of other.target
 same_redone one other path moment task [] = refl
 same_redone one other path moment task (x ∷ repositories) =
     ap (λ (r : Repository). r ∷ redone_all repositories one) (
-      ap (λ (p : List ℕ). redone_so p one.moment (task_of one) x) path
-      ∙ ap (λ (m : ℤ). redone_so (path_of other.target) m (task_of one) x) moment
-      ∙ ap (λ (t : Task). redone_so (path_of other.target) other.moment t x) task
+    ap (λ (p : List ℕ). redone_so p one.moment (task_of one) x) path
+    ∙ ap (λ (m : ℤ). redone_so (path_of other.target) m (task_of one) x) moment
+    ∙ ap (λ (t : Task). redone_so (path_of other.target) other.moment t x) task
     )
     ∙ ap (λ (rs : List Repository). redone_at other x ∷ rs) (same_redone one other path moment task repositories)
 

@@ -87,8 +87,8 @@ taken_line n size left others text at within is taken =
     let whole : front ++ 10 ∷ rest ≡ text = ap (λ (b : ℕ). front ++ b ∷ rest) (sym ended) ∙ joined_at n text within in
     let many : length front ≡ n = length_taken n text within in
     let clean : All (λ (b : ℕ). is_line_end b ≡ false) front = λ k d below.
-        let early : k < n = omega (arith, below, many) in
-        ap is_line_end (get_or-take n text k d early) ∙ fails_before_first is_line_end text k d (omega (arith, early, at))
+    let early : k < n = omega (arith, below, many) in
+    ap is_line_end (get_or-take n text k d early) ∙ fails_before_first is_line_end text k d (omega (arith, early, at))
     in
     ap (λ (t : List ℕ). lines_in (take (suc n + size) t)) (sym whole)
     ∙ ap lines_in (take_past front size (suc n + size) 10 rest (omega (arith, many)))

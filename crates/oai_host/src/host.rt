@@ -20,7 +20,8 @@ use crate::routes::Routes;
 use oai_catalogue::Versions;
 use oai_config::Config;
 use oai_http::{
-    Answer, Call, Endpoint, Exchange, Handler, Performed, Replayed, Status, is_rooted, named, path_of,
+    Answer, Call, Endpoint, Exchange, Handler, Performed, Replayed, Status, is_rooted, named,
+    path_of,
 };
 use oai_item::Fault;
 use oai_names::Sequence;
@@ -201,11 +202,19 @@ impl<V: Versions + Drop> Replayed for Host<V> {
     fn performed<'a>(exchange: &Exchange<'a>, answer: &Answer) -> Option<Performed<'a>> {
         match named(exchange.target) {
             Some((Endpoint::Requests, name)) => match request_done(exchange, answer) {
-                Some(bytes) => Some(Performed { endpoint: Endpoint::Requests, name, bytes }),
+                Some(bytes) => Some(Performed {
+                    endpoint: Endpoint::Requests,
+                    name,
+                    bytes,
+                }),
                 None => None,
             },
             Some((Endpoint::Deposits, name)) => match lines_done(exchange, answer) {
-                Some(bytes) => Some(Performed { endpoint: Endpoint::Deposits, name, bytes }),
+                Some(bytes) => Some(Performed {
+                    endpoint: Endpoint::Deposits,
+                    name,
+                    bytes,
+                }),
                 None => None,
             },
             None => None,

@@ -26,5 +26,5 @@ pub fn failures_law()
     ensures broken { (calls : List Call) (answers : List Answer) (before after : HostState)
         → IsTrue before.honest → AreExchanged calls answers before after
         → AllByRecursion (λ (answer : Answer). answer.status ≡ InternalServerError
-            → tells_of_device answer ≡ true) answers }
+        → tells_of_device answer ≡ true) answers }
 {}
