@@ -1,7 +1,7 @@
 -- A deposit of which some lines were done, as a deposit of these lines alone.
-use Rattle.std.proofs.Common.{◌≡◌, ◌∙◌, inl, inr, ℕ, zero, suc, Bool, true, false, not, List, [], ◌∷◌, ◌++◌, take, filter, cond, append_assoc, Option, None, Some, refl, sym, ap, subst}
+use Rattle.std.proofs.Common.{◌≡◌, ◌∙◌, inl, inr, ℕ, zero, suc, false, not, List, [], ◌∷◌, take, filter, append_assoc, refl, sym, ap, subst}
 use Rattle.std.specs.List.{All, AllByRecursion, onto_first, slice_split}
-use Rattle.std.proofs.lemmas.Bool.{cases_Bool, cond-true, cond-false, false≢true}
+use Rattle.std.proofs.lemmas.Bool.{cases_Bool, cond-true, cond-false}
 use Rattle.std.proofs.lemmas.List.Elements.{All-cons, All-nil}
 use Rattle.std.proofs.lemmas.List.Splits.{slice_split_at}
 use Rattle.oai_http.specs.declared.exchanges.Call.{Call}

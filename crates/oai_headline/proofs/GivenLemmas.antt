@@ -1,20 +1,16 @@
 -- Exchanges that are performed as far as memory and devices allow: each is given what the machine gives, and leaves what was performed of it.
-use Rattle.std.proofs.Common.{◌≡◌, ◌∙◌, inl, inr, ℕ, ℤ, Bool, true, false, ◌&&◌, IsTrue, List, [], ◌∷◌, ◌++◌, take, Option, None, Some, is_none, unwrap_or, refl, sym, ap, subst}
+use Rattle.std.proofs.Common.{◌≡◌, ◌∙◌, inl, inr, ℕ, Bool, true, false, ◌&&◌, IsTrue, List, [], ◌∷◌, ◌++◌, take, Option, None, Some, is_none, unwrap_or, refl, sym, ap, subst}
 use Rattle.std.specs.List.{AllByRecursion}
 use Rattle.std.proofs.lemmas.Bool.{cond-true, cond-false}
 use Rattle.oai_item.specs.declared.faults.Fault.{Fault}
-use Rattle.oai_item.specs.declared.faults.Fault.TheVariants.{Damaged, Device, NoMemory, TooManyPages}
 use Rattle.oai_settings.specs.Config.{Config}
-use Rattle.oai_repo.specs.Machine.{Output, bytes, query, step, wait}
 use Rattle.oai_repo.specs.State.{RepoState}
 use Rattle.oai_laws.specs.Runs.{IsPart}
-use Rattle.oai_http.specs.Answers.{answered, answered_with, failed}
 use Rattle.oai_http.specs.declared.exchanges.Answer.{Answer}
 use Rattle.oai_http.specs.declared.exchanges.Call.{Call}
-use Rattle.oai_host.specs.Alone.{after_lines, done_alone, exchanged_alone}
-use Rattle.oai_host.specs.Answers.{answer_of}
+use Rattle.oai_host.specs.Alone.{done_alone, exchanged_alone}
 use Rattle.oai_host.specs.Hosts.{IsRun}
-use Rattle.oai_host.specs.Performed.{HasStopped, IsDone, IsPerformed, StoreState}
+use Rattle.oai_host.specs.Performed.{HasStopped, IsPerformed, StoreState}
 use Rattle.oai_host.specs.Tasks.{Task, asking, depositing, refusing, task_of}
 use Rattle.oai_host.proofs.DepositLemmas.{lines_exact}
 use Rattle.oai_host.proofs.RedoLemmas.{alone_whole, failed_done, failed_fault}

@@ -1,12 +1,12 @@
 -- Lists of which some are part of others; chains and harvests among some visits are chains and harvests among all.
-use Rattle.std.proofs.Common.{◌≡◌, ◌∙◌, inl, inr, ℕ, List, [], ◌∷◌, ◌++◌, map, Option, None, Some, refl, sym, ap, subst}
+use Rattle.std.proofs.Common.{inl, inr, ℕ, List, [], ◌∷◌, ◌++◌, map, Option, None, Some, refl, sym, ap, subst}
 use Rattle.std.specs.List.{flat_map}
 use Rattle.oai_settings.specs.Config.{Config}
 use Rattle.oai_laws.specs.Following.{IsChain, ListRequest}
 use Rattle.oai_laws.specs.Runs.{Exchange, IsPart}
-use Rattle.oai_laws.specs.Harvests.{AreHarvests, AreSuccessive, Harvest, IsFollowedHarvest, IsHarvest, datestamp_of, records_since}
+use Rattle.oai_laws.specs.Harvests.{AreHarvests, AreSuccessive, Harvest, IsHarvest, datestamp_of, records_since}
 use Rattle.oai_headline.specs.Chains.{IsFollowing}
-use Rattle.oai_headline.specs.Visits.{Visit, steps_of}
+use Rattle.oai_headline.specs.Visits.{Visit}
 
 -- ---- parts
 

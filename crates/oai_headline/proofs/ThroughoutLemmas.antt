@@ -1,11 +1,11 @@
 -- The theorem of a host, from the runs of its repositories.
-use Rattle.std.proofs.Common.{◌≡◌, ◌∙◌, inl, inr, ℕ, suc, Bool, false, IsTrue, List, [], ◌∷◌, ◌++◌, length, arith, map, Option, None, Some, is_none, refl, sym, ap, subst}
+use Rattle.std.proofs.Common.{◌≡◌, ◌∙◌, ℕ, suc, Bool, false, IsTrue, List, [], ◌∷◌, ◌++◌, length, arith, map, Option, None, is_none, refl, sym, ap, subst}
 use Rattle.std.specs.List.{All, AllByRecursion, AllZip, flat_map}
 use Rattle.std.proofs.lemmas.Bool.{cond-false}
 use Rattle.oai_item.specs.declared.faults.Fault.{Fault}
 use Rattle.oai_settings.specs.Config.{Config}
 use Rattle.oai_repo.specs.State.{RepoState, empty_state}
-use Rattle.oai_laws.specs.Runs.{Exchange, IsPart, run}
+use Rattle.oai_laws.specs.Runs.{IsPart, run}
 use Rattle.oai_config.specs.Configs.{HostConfig, NamedConfig}
 use Rattle.oai_laws.proofs.HarvestLemmas.{harvests_copied}
 use Rattle.oai_http.specs.declared.exchanges.Answer.{Answer}
@@ -13,7 +13,7 @@ use Rattle.oai_http.specs.declared.exchanges.Call.{Call}
 use Rattle.oai_host.specs.Alone.{exchanged_alone, own_answers, own_calls}
 use Rattle.oai_host.specs.Hosts.{AreAnswered, AreExchanged, HostState, IsOwnRun, Repository, begun, store_of}
 use Rattle.oai_host.specs.Performed.{StoreState}
-use Rattle.oai_host.specs.Tasks.{Task, asking, task_of}
+use Rattle.oai_host.specs.Tasks.{asking, task_of}
 use Rattle.oai_host.proofs.RunLemmas.{all_answered, alone_from}
 use Rattle.oai_cli.specs.Begun.{IsBegunOn}
 use Rattle.oai_headline.specs.Headline.{HasRules, HaveRules, IsMadeOf}

@@ -1,5 +1,5 @@
 -- The worked run with failures is computed: what was performed of it is what the run without failures performs.
-use Rattle.std.proofs.Common.{◌≡◌, ◌∙◌, ℕ, Bool, true, false, List, [], ◌∷◌, ◌++◌, codes, cond, Option, None, Some, is_none, refl, sym, ap, subst, arith}
+use Rattle.std.proofs.Common.{◌≡◌, ◌∙◌, true, List, [], ◌∷◌, ◌++◌, codes, Option, None, Some, is_none, refl, sym, ap, subst, arith}
 use Rattle.std.specs.List.{AllByRecursion, AllZip}
 use Rattle.std.specs.Prelude.{if◌then◌else◌}
 use Rattle.std.proofs.lemmas.Bool.{cond-true}
@@ -15,10 +15,10 @@ use Rattle.oai_host.specs.Alone.{exchanged_alone, own_calls}
 use Rattle.oai_host.specs.Tasks.{Task, asking, depositing, refusing, task_of}
 use Rattle.oai_headline.specs.Chains.{IsFollowing}
 use Rattle.oai_headline.specs.Headline.{own_visits}
-use Rattle.oai_headline.specs.Throughout.{IsFailure, IsTrueVisit, IsTrueBy, is_asked, left_by, calls_done, calls_done_in, calls_done_by, visits_given, whole_visits}
+use Rattle.oai_headline.specs.Throughout.{IsFailure, IsTrueVisit, IsTrueBy, is_asked, left_by, calls_done, calls_done_in, calls_done_by, visits_given}
 use Rattle.oai_headline.specs.Visits.{Visit, visits}
 use Rattle.oai_headline.specs.Worked.{IsWorkedList, first_entry, worked_calls}
-use Rattle.oai_headline.specs.WorkedFaults.{IsWorkedWithFailures, answer_to, answers_with, failing_answers, failing_calls, failing_visits, failures}
+use Rattle.oai_headline.specs.WorkedFaults.{IsWorkedWithFailures, answers_with, failing_answers, failing_calls, failures}
 use Rattle.oai_headline.proofs.FollowedLemmas.{next_asking}
 use Rattle.oai_headline.proofs.GivenLemmas.{asking_whole}
 use Rattle.oai_host.proofs.RedoLemmas.{alone_whole}

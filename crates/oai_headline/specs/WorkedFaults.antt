@@ -1,6 +1,6 @@
 -- A worked run of a repository in which a page and a deposit fail. It shows that what the theorem of a host says of failures speaks of something.
 -- OAI-PMH 2.0, sections 3.1.2.2 and 3.5; deposits are this repository's own.
-use Rattle.std.specs.Prelude.{◌≡◌, ◌++◌, ℕ, List, [], ◌∷◌, length, filter, is_some, codes, Option, None, Some}
+use Rattle.std.specs.Prelude.{◌≡◌, ◌++◌, List, [], ◌∷◌, length, filter, is_some, codes, Option, None, Some}
 use Rattle.std.specs.List.{AllByRecursion}
 use Rattle.oai_item.specs.declared.faults.Fault.TheVariants.{Device, NoMemory}
 use Rattle.oai_settings.specs.Config.{Config}

@@ -1,16 +1,14 @@
 -- The call by which a repository performs again what it performed.
-use Rattle.std.proofs.Common.{◌≡◌, ◌∙◌, ◌<◌, ◌≤◌, ◌+◌, inl, inr, ℕ, ℤ, zero, suc, Bool, true, false, IsTrue, List, [], ◌∷◌, ◌++◌, append_assoc, codes, length, take, drop, get_or, Option, None, Some, refl, sym, ap, subst, arith}
-use Rattle.std.specs.List.{All, before_first, position_or_len}
+use Rattle.std.proofs.Common.{◌≡◌, ◌∙◌, ◌<◌, ◌≤◌, ◌+◌, inl, inr, ℕ, ℤ, zero, suc, true, false, IsTrue, List, [], ◌∷◌, ◌++◌, append_assoc, length, take, drop, Option, None, Some, refl, sym, ap, subst, arith}
+use Rattle.std.specs.List.{All, position_or_len}
 use Rattle.std.proofs.Math.Seq.{drop-append-add, get_or-append_seam, take-append_seam, take-length}
 use Rattle.std.proofs.lemmas.List.{get_or-take, get_or_append_left, take_all}
 use Rattle.std.specs.Prelude.{if◌then◌else◌}
 use Rattle.std.proofs.lemmas.Bool.{cond-true}
 use Rattle.std.proofs.lemmas.List.Sums.{fails_before_first, position_or_len_is}
 use Rattle.oai_item.specs.declared.faults.Fault.{Fault}
-use Rattle.oai_settings.specs.Config.{Config}
-use Rattle.oai_repo.specs.State.{RepoState}
 use Rattle.oai_http.specs.Redone.{call_front, own_call}
-use Rattle.oai_http.specs.Targets.{endpoint_at, endpoint_of, front_of, is_question_mark, is_rooted, path_of, query_of}
+use Rattle.oai_http.specs.Targets.{endpoint_of, front_of, is_question_mark, path_of, query_of}
 use Rattle.oai_http.specs.declared.exchanges.Answer.{Answer}
 use Rattle.oai_http.specs.declared.exchanges.Call.{Call}
 use Rattle.oai_http.specs.declared.statuses.Status.{Status}
@@ -18,11 +16,11 @@ use Rattle.oai_http.specs.declared.statuses.Status.TheVariants as status
 use Rattle.oai_http.specs.declared.targets.Endpoint.{Endpoint}
 use Rattle.oai_http.specs.declared.targets.Endpoint.TheVariants.{Deposits, Requests}
 use Rattle.oai_http.proofs.TargetLemmas.{endpoint_is}
-use Rattle.oai_host.specs.Alone.{done_alone, exchanged_alone}
+use Rattle.oai_host.specs.Alone.{done_alone}
 use Rattle.oai_host.specs.Bodies.{lines_in}
 use Rattle.oai_host.specs.DepositLines.{AreTaken}
 use Rattle.oai_host.specs.Hosts.{HostState, IsExchanged, Repository, store_of}
-use Rattle.oai_host.specs.Performed.{HasStopped, IsDone, IsPerformed, StoreState}
+use Rattle.oai_host.specs.Performed.{HasStopped, IsPerformed}
 use Rattle.oai_host.specs.Redone.{redone_all, redone_at}
 use Rattle.oai_host.specs.Tasks.{Task, asking, depositing, is_post, refusing, request_task, task_at, task_in, task_of}
 use Rattle.oai_host.proofs.RedoLemmas.{done_whole, each_left, each_same, is_at, never, redone_body, redone_some, whole_left}

@@ -21,9 +21,9 @@ use Rattle.oai_http.specs.declared.targets.Endpoint.TheVariants.{Deposits, Reque
 use Rattle.oai_http.proofs.TargetLemmas.{clash}
 use Rattle.oai_host.specs.Answers.{failure, failure_in, is_of_device, tells_of_device}
 use Rattle.oai_host.specs.Bodies.{lines_in}
-use Rattle.oai_host.specs.Hosts.{AreExchanged, AreSteps, HostState, IsExchanged, IsRun, Repository, is_of_none, refused, store_of}
+use Rattle.oai_host.specs.Hosts.{AreExchanged, AreSteps, HostState, IsExchanged, IsRun, Repository, is_of_none, store_of}
 use Rattle.oai_host.specs.Performed.{HasStopped, IsDone, IsPerformed, StoreState}
-use Rattle.oai_host.specs.Tasks.{Task, asking, depositing, is_get, is_post, refusing, task_at, task_in, task_of}
+use Rattle.oai_host.specs.Tasks.{Task, asking, depositing, is_get, is_post, refusing, task_at, task_of}
 use Rattle.oai_host.proofs.RunLemmas.{count_rises}
 
 -- ---- how many

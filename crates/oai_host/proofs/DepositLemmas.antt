@@ -1,6 +1,5 @@
 -- The lines of a deposit, performed one after the other.
-use Rattle.std.proofs.Common.{◌≡◌, ◌∙◌, ◌<◌, ◌≤◌, inl, inr, ℕ, ℤ, suc, ◌+◌, Bool, List, [], ◌∷◌, ◌++◌, length, take, codes, cond, Some, Ok, IsTrue, refl, sym, ap, subst, arith}
-use Rattle.std.specs.Prelude.{Result}
+use Rattle.std.proofs.Common.{◌≡◌, ◌∙◌, ◌<◌, inl, inr, ℕ, ℤ, suc, ◌+◌, Bool, List, [], ◌∷◌, ◌++◌, length, take, codes, Some, Ok, IsTrue, refl, sym, ap, subst, arith}
 use Rattle.oai_deposit.specs.Lines.{line_of}
 use Rattle.oai_time.specs.Clock.{tick}
 use Rattle.oai_time.specs.TimeTexts.{datestamp_text}
@@ -8,7 +7,6 @@ use Rattle.oai_item.specs.Refusals.{in_repository, refusal_line}
 use Rattle.oai_item.specs.declared.changes.Change.{Change}
 use Rattle.oai_item.specs.declared.faults.Fault.{Fault}
 use Rattle.oai_item.specs.declared.refusals.ChangeRefusal.{ChangeRefusal}
-use Rattle.oai_item.specs.declared.refusals.LineRefusal.{LineRefusal}
 use Rattle.oai_catalogue.specs.Store.{Lists}
 use Rattle.oai_settings.specs.Config.{Config}
 use Rattle.oai_repo.specs.Calls.{IsAccepted, IsRefusedAt}
@@ -17,9 +15,8 @@ use Rattle.oai_repo.specs.Fields.{IsStored, Keeps, RepoFields, StandsIn, numbers
 use Rattle.oai_repo.specs.Machine.{Outcome, act_at, changing, outcome_output}
 use Rattle.oai_repo.specs.State.{RepoState}
 use Rattle.oai_repo.proofs.NumberLemmas.{kept_same, kept_twice}
-use Rattle.oai_host.specs.Alone.{after_lines, after_read, done_alone, with_end}
+use Rattle.oai_host.specs.Alone.{after_lines, after_read, with_end}
 use Rattle.oai_http.specs.Answers.{answered_with, failed}
-use Rattle.oai_http.specs.declared.exchanges.Answer.{Answer}
 use Rattle.oai_host.specs.Tasks.{depositing}
 use Rattle.oai_host.specs.Performed.{AreLinesPerformed, HasStopped, IsDone, IsLineAnswered, IsLinePerformed}
 

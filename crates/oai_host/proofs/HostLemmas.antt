@@ -1,8 +1,8 @@
 -- Which repository an exchange is for, and what is answered where it is none's.
 use Rattle.std.proofs.Common.{◌≡◌, ◌∙◌, ℕ, zero, suc, true, false, not, List, [], ◌∷◌, ◌++◌, map, None, Some, refl, sym, ap, subst, arith}
-use Rattle.std.specs.List.{AllZip, list_all, list_any, slice_get}
+use Rattle.std.specs.List.{list_all, list_any, slice_get}
 use Rattle.std.specs.Str.{bytes_eq}
-use Rattle.std.proofs.lemmas.Bool.{and_from, and_parts, false_from_ne_true, not-true, not_from_false, or_from, or_parts}
+use Rattle.std.proofs.lemmas.Bool.{and_parts, false_from_ne_true, not-true, or_from, or_parts}
 use Rattle.oai_catalogue.specs.Store.{IsCounted, IsHonest, Lists}
 use Rattle.oai_item.specs.Rules.{has_repeat}
 use Rattle.oai_config.specs.Configs.{AreNamed, NamedConfig, names_of}

@@ -1,8 +1,8 @@
 -- One of many repositories changes, and the others stay as they were.
-use Rattle.std.proofs.Common.{◌≡◌, ◌∙◌, ◌<◌, ◌⊎◌, ℕ, zero, suc, Bool, true, false, eqb, List, [], ◌∷◌, ◌++◌, Option, None, Some, unwrap_or, slice_set, IsTrue, refl, sym, ap, subst}
-use Rattle.std.specs.List.{AllZip, list_any, slice_get}
+use Rattle.std.proofs.Common.{◌≡◌, ◌∙◌, ℕ, zero, suc, Bool, true, false, eqb, List, [], ◌∷◌, ◌++◌, Option, None, Some, unwrap_or, slice_set, IsTrue, refl, sym, ap, subst}
+use Rattle.std.specs.List.{list_any, slice_get}
 use Rattle.std.specs.Str.{bytes_eq}
-use Rattle.std.proofs.lemmas.Bool.{cond-false, eqb-true, false_from_ne_true, not-true, or_from, or_left, or_parts, or_right}
+use Rattle.std.proofs.lemmas.Bool.{cond-false, eqb-true, false_from_ne_true, or_from, or_left, or_parts, or_right}
 use Rattle.oai_item.specs.Item.{ItemState}
 use Rattle.oai_catalogue.specs.Store.{Lists}
 use Rattle.oai_settings.specs.Config.{Config}
@@ -18,7 +18,7 @@ use Rattle.oai_host.specs.Performed.{IsPerformed, StoreState}
 use Rattle.oai_host.specs.NamedRepos.{AllApart, AllHeld, AllStand, AreApart, AreNamedRepos, IsApart, repo_names, repositories_of, repository_of}
 use Rattle.oai_settings.specs.Config.{is_repository_name}
 use Rattle.oai_http.specs.Targets.{front_of, leads_to_repository, path_of}
-use Rattle.oai_host.specs.Tasks.{task_at, task_in, task_of}
+use Rattle.oai_host.specs.Tasks.{task_at, task_in}
 use Rattle.oai_http.specs.declared.exchanges.Answer.{Answer}
 use Rattle.oai_http.specs.declared.exchanges.Call.{Call}
 use Rattle.oai_host.specs.declared.repositories.NamedRepo.{NamedRepo}

@@ -1,7 +1,7 @@
 -- What an exchange left is what so much of it leaves as was performed.
-use Rattle.std.proofs.Common.{◌≡◌, ◌∙◌, inl, inr, ℕ, ℤ, Bool, true, false, ◌||◌, ◌++◌, IsTrue, List, [], ◌∷◌, length, map, take, cond, Option, None, Some, Result, Ok, Err, refl, sym, ap, subst, arith}
+use Rattle.std.proofs.Common.{◌≡◌, ◌∙◌, inl, inr, ℕ, ℤ, Bool, true, false, ◌||◌, ◌++◌, IsTrue, List, [], ◌∷◌, length, take, Option, None, Some, Result, Ok, Err, refl, sym, ap, arith}
 use Rattle.std.specs.Prelude.{OnOk}
-use Rattle.std.proofs.lemmas.Bool.{cases_Bool, cond-true, cond-false}
+use Rattle.std.proofs.lemmas.Bool.{cond-true, cond-false}
 use Rattle.std.proofs.lemmas.List.{take_all}
 use Rattle.oai_item.specs.declared.faults.Fault.{Fault}
 use Rattle.oai_item.specs.declared.faults.Fault.TheVariants.{Damaged, Device, NoMemory, TooManyPages}
@@ -11,8 +11,7 @@ use Rattle.oai_repo.specs.State.{RepoState}
 use Rattle.oai_http.specs.Answers.{failed}
 use Rattle.oai_http.specs.Redone.{call_front}
 use Rattle.std.specs.Str.{bytes_eq}
-use Rattle.oai_http.specs.Targets.{endpoint_of, front_of, leads_to_repository, path_of, query_of}
-use Rattle.oai_http.specs.declared.targets.Endpoint.{Endpoint}
+use Rattle.oai_http.specs.Targets.{front_of, leads_to_repository, path_of}
 use Rattle.oai_http.specs.declared.targets.Endpoint.TheVariants.{Deposits, Requests}
 use Rattle.oai_http.specs.declared.exchanges.Answer.{Answer}
 use Rattle.oai_http.specs.declared.exchanges.Call.{Call}
@@ -20,7 +19,7 @@ use Rattle.oai_host.specs.Alone.{done_alone, exchanged_alone}
 use Rattle.oai_host.specs.Answers.{answer_of, failure}
 use Rattle.oai_host.specs.Bodies.{lines_in}
 use Rattle.oai_host.specs.DepositLines.{AreTaken}
-use Rattle.oai_host.specs.Hosts.{AreSteps, HostState, IsExchanged, IsStep, Repository, store_of}
+use Rattle.oai_host.specs.Hosts.{AreSteps, HostState, IsExchanged, Repository, store_of}
 use Rattle.oai_host.specs.Performed.{HasStopped, IsDone, IsPerformed, StoreState}
 use Rattle.oai_host.specs.Redone.{IsRedone, redone_all, redone_at}
 use Rattle.oai_host.specs.Tasks.{Task, asking, depositing, refusing, task_of}

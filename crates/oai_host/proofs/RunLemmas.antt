@@ -14,8 +14,8 @@ use Rattle.oai_http.specs.declared.exchanges.Call.{Call}
 use Rattle.oai_http.proofs.TargetLemmas.{clash}
 use Rattle.oai_host.specs.Alone.{answers_alone, done_alone, own_answers, own_calls}
 use Rattle.oai_host.specs.Answers.{AreCounted, AreHonest, failure_in}
-use Rattle.oai_host.specs.Hosts.{AreAloneUnlessFailed, AreAnswered, AreExchanged, AreRefused, AreSteps, HostState, IsExchanged, IsOwnRun, IsLater, IsRun, IsStep, Repository, is_of_none, none_failed, refused, store_of}
-use Rattle.oai_host.specs.Performed.{HasStopped, IsDone, IsPerformed, StoreState}
+use Rattle.oai_host.specs.Hosts.{AreAloneUnlessFailed, AreAnswered, AreExchanged, AreRefused, AreSteps, HostState, IsExchanged, IsOwnRun, IsLater, IsRun, IsStep, Repository, is_of_none, none_failed, store_of}
+use Rattle.oai_host.specs.Performed.{HasStopped, IsDone, StoreState}
 use Rattle.oai_host.specs.Tasks.{Task, asking, depositing, refusing, task_of}
 use Rattle.oai_host.proofs.DepositLemmas.{lines_exact}
 use Rattle.oai_host.proofs.FaultLemmas.{all_counted_since, all_honest_since, counted_on, honest_on}

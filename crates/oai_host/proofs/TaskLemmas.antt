@@ -8,7 +8,7 @@ use Rattle.oai_http.specs.declared.statuses.Status.TheVariants as status
 use Rattle.oai_http.specs.declared.targets.Endpoint.{Endpoint}
 use Rattle.oai_http.specs.declared.targets.Endpoint.TheVariants.{Deposits, Requests}
 use Rattle.oai_host.specs.Bodies.{lines_in}
-use Rattle.oai_host.specs.Tasks.{Task, asking, depositing, is_get, is_post, refusing, task_at, task_of}
+use Rattle.oai_host.specs.Tasks.{asking, depositing, is_get, is_post, refusing, task_at, task_of}
 
 request_is_none : {P : Type 0} (get post form : Bool) (arguments body : List ℕ) (lines : List (List ℕ))
     → cond get (asking arguments) (cond post (cond form (asking body) (refusing status.UnsupportedMediaType)) (refusing status.MethodNotAllowed)) ≡ depositing lines → P

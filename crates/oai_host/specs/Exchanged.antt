@@ -1,5 +1,5 @@
 -- How a front has its messages performed by a host, and what that does to what the host keeps in a store. This repository's own.
-use Rattle.std.specs.Prelude.{◌≡◌, ◌++◌, ℕ, ℤ, List, Result, Ok, Err, OnErr, OnOk}
+use Rattle.std.specs.Prelude.{◌≡◌, ◌++◌, ℕ, ℤ, List, Result, OnErr, OnOk}
 use Rattle.oai_catalogue.specs.Calls.{Uses}
 use Rattle.oai_catalogue.specs.declared.versions.Versions.{Ghosts}
 use Rattle.oai_item.specs.declared.changes.Change.{Change}

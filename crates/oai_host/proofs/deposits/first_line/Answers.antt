@@ -1,9 +1,8 @@
 -- One line is taken, and then as many as are left.
-use Rattle.std.proofs.Common.{◌≡◌, ◌+◌, ℕ, suc, cond, drop, length, arith}
+use Rattle.std.proofs.Common.{◌≡◌, ◌+◌, suc, length, arith}
 use Rattle.std.specs.List.{position_or_len}
 use Rattle.std.proofs.lemmas.List.{take_all}
-use Rattle.oai_host.specs.Bodies.{is_blank, is_line_end}
-use Rattle.oai_host.specs.DepositLines.{AreTaken}
+use Rattle.oai_host.specs.Bodies.{is_line_end}
 use Rattle.oai_host.proofs.LineLemmas.{taken_last, taken_line}
 use Rattle.oai_host.proofs.deposits.first_line.Goals as goal
 

@@ -1,6 +1,5 @@
 -- No line is left to take, or none is there.
 use Rattle.std.proofs.Common.{◌≡◌, ◌+◌, ◌-◌, inl, inr, length, arith, refl, sym, rules}
-use Rattle.oai_host.specs.DepositLines.{AreTaken}
 use Rattle.oai_host.proofs.LineLemmas.{taken_end}
 use Rattle.oai_host.proofs.deposits.first_lines.Goals as goal
 use Rattle.oai_host.proofs.deposits.first_lines.Goals.{then-loop-left-test+else-not-is_empty, else-loop-left-test}

@@ -1,9 +1,8 @@
 -- Each line that was performed is one more of those that were, and a fault ends them.
-use Rattle.std.proofs.Common.{◌≡◌, ◌∙◌, ◌∷◌, ◌+◌, ◌≤◌, [], inl, inr, FitsSigned, w64, Bool, Err, Some, arith, subst, sym, refl}
+use Rattle.std.proofs.Common.{◌≡◌, ◌∙◌, ◌∷◌, ◌+◌, ◌≤◌, [], inl, inr, FitsSigned, w64, Bool, Err, Some, arith, subst}
 use Rattle.std.proofs.lemmas.Int.{to_z-of_z}
 use Rattle.oai_catalogue.specs.Store.{NeedsRoom}
 use Rattle.oai_deposit.specs.Lines.{line_of}
-use Rattle.oai_item.specs.declared.faults.Fault.{Fault}
 use Rattle.oai_repo.specs.Fields.{Keeps, state_of}
 use Rattle.oai_settings.specs.Config.{Config}
 use Rattle.oai_host.specs.Bodies.{lines_in}

@@ -1,5 +1,5 @@
 -- As many lines were performed as the answer says.
-use Rattle.std.proofs.Common.{◌≡◌, ◌∙◌, sym}
+use Rattle.std.proofs.Common.{◌∙◌, sym}
 use Rattle.oai_http.specs.Exchanges.{call_of}
 use Rattle.oai_host.proofs.AgainLemmas.{first_again, lines_again}
 use Rattle.oai_host.proofs.RedoLemmas.{redone_none}

@@ -1,5 +1,4 @@
 -- A request was performed whole, or not at all.
-use Rattle.std.proofs.Common.{◌≡◌}
 use Rattle.oai_http.specs.Exchanges.{call_of}
 use Rattle.oai_http.specs.declared.targets.Endpoint.TheVariants.{Requests}
 use Rattle.oai_host.proofs.AgainLemmas.{failed_again, refusal_again, request_again}

@@ -1,5 +1,5 @@
 -- An exchange is done by the repository at the place, or is no repository's.
-use Rattle.std.proofs.Common.{◌≡◌, FitsSigned, ap, refl, subst, w64}
+use Rattle.std.proofs.Common.{FitsSigned, ap, refl, subst, w64}
 use Rattle.std.proofs.lemmas.Int.{to_z-of_z}
 use Rattle.oai_host.specs.Hosts.{HostState, IsExchanged}
 use Rattle.oai_host.specs.NamedRepos.{AreNamedRepos, repositories_of}
