@@ -3,15 +3,15 @@ use Rattle.std.proofs.Common.{◌≡◌, ◌∙◌, ◌↔◌, ◌⊎◌, inl, i
 use Rattle.std.specs.Prelude.{find, reverse}
 use Rattle.std.specs.List.{Contains, flat_map, list_any}
 use Rattle.std.specs.Option.{option_or}
-use Rattle.std.proofs.lemmas.Bool.{cases_Bool, cond-true, cond-false, cond_both, false≢true}
+use Rattle.std.proofs.lemmas.Bool.{cond-true, cond_both, false≢true}
 use Rattle.std.proofs.lemmas.List.Elements.{Contains-append_cases, Contains-append_left, Contains-append_right, Contains-push, Contains-push_cases}
 use Rattle.oai_time.specs.declared.granularity.Granularity.{Granularity}
-use Rattle.oai_item.specs.Item.{ItemState, has_record}
+use Rattle.oai_item.specs.Item.{ItemState}
 use Rattle.oai_item.specs.Items.{is_named, item_named}
 use Rattle.oai_item.specs.declared.formats.Format.{Format}
 use Rattle.oai_answers.specs.Seen.{SeenRecord, record_seen}
 use Rattle.oai_repo.specs.State.{RepoState}
-use Rattle.oai_copy.specs.Copies.{caught_up_with, last_named}
+use Rattle.oai_copy.specs.Copies.{caught_up_with}
 use Rattle.oai_copy.proofs.ListedLemmas.{find_front, last_stays}
 use Rattle.oai_copy.proofs.OrderLemmas.{eq_itself}
 use Rattle.oai_laws.specs.Harvests.{IsWholeCopy}

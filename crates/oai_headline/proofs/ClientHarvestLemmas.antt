@@ -5,7 +5,7 @@ use Rattle.std.specs.List.{AllByRecursion, AllZip, Contains, flat_map}
 use Rattle.std.proofs.lemmas.Bool.{cases_lt, or_left, or_right}
 use Rattle.std.proofs.lemmas.List.{map-append}
 use Rattle.oai_names.specs.declared.list_verbs.ListVerb.TheVariants as list
-use Rattle.oai_args.specs.Asks.{AskOrError, asks}
+use Rattle.oai_args.specs.Asks.{asks}
 use Rattle.oai_args.specs.declared.requests.Ask.TheVariants as ask
 use Rattle.oai_time.specs.Stamp.{IsWritable, stamp_of}
 use Rattle.oai_time.specs.TimeTexts.{datestamp_text, second_text}
@@ -24,12 +24,12 @@ use Rattle.oai_answers.specs.declared.errors.ErrorCode.TheVariants.{BadArgument,
 use Rattle.oai_settings.specs.Config.{Config, IsConfig}
 use Rattle.oai_repo.specs.Answers.{arguments_of_request, filter_of}
 use Rattle.oai_repo.specs.Listing.{answer_by_verb, format_response}
-use Rattle.oai_repo.specs.Machine.{Outcome, act, outcome_of}
+use Rattle.oai_repo.specs.Machine.{act, outcome_of}
 use Rattle.oai_repo.specs.State.{RepoState, empty_state}
 use Rattle.oai_repo.proofs.ClockLemmas.{writable}
 use Rattle.oai_laws.specs.Effects.{IsSound}
 use Rattle.oai_laws.specs.Following.{AreNext, ArePagesAt, IsChain, IsNextRequest, ListRequest, answer_in, first_request, is_later, page_in, page_shown, selection_in}
-use Rattle.oai_laws.specs.Harvests.{AreHarvests, AreSuccessive, Harvest, IsHarvest, IsWholeCopy, datestamp_of, harvested, items_told, last_harvest, records_since}
+use Rattle.oai_laws.specs.Harvests.{AreHarvests, Harvest, IsHarvest, IsWholeCopy, datestamp_of, harvested, items_told, last_harvest, records_since}
 use Rattle.oai_laws.specs.Runs.{Exchange, IsPart, Timed, run}
 use Rattle.oai_laws.specs.Shown.{is_followed_to_its_end, is_last_page}
 use Rattle.oai_laws.proofs.ChainLemmas.{following}
@@ -40,18 +40,18 @@ use Rattle.oai_config.specs.Configs.{NamedConfig}
 use Rattle.oai_http.specs.declared.exchanges.Answer.{Answer as HttpAnswer}
 use Rattle.oai_http.specs.declared.exchanges.Call.{Call}
 use Rattle.oai_host.specs.Tasks.{asking}
-use Rattle.oai_headline.specs.ClientHarvests.{AreClientHarvests, AreNextSeen, AreSuccessiveByClient, ClientHarvest, IsClientHarvest, IsNextSeen, IsRecordIn, IsSeenVisit, IsWholeClientCopy, SeenVisit, client_copy, datestamp_in, is_harvest_end, is_list_end, last_client_harvest, last_of_each, last_visit, records_of, records_seen, visits_of}
+use Rattle.oai_headline.specs.ClientHarvests.{AreClientHarvests, AreNextSeen, AreSuccessiveByClient, ClientHarvest, IsClientHarvest, IsNextSeen, IsRecordIn, IsSeenVisit, IsWholeClientCopy, SeenVisit, client_copy, datestamp_in, is_harvest_end, last_client_harvest, last_of_each, last_visit, records_of, records_seen, visits_of}
 use Rattle.oai_headline.specs.Headline.{HasRules}
 use Rattle.oai_headline.specs.Throughout.{IsThroughoutAt, own_calls_done, own_given, whole_visits}
-use Rattle.oai_headline.specs.Visits.{Visit, commands_in, found_by, steps_of, visits}
+use Rattle.oai_headline.specs.Visits.{Visit, commands_in, found_by, visits}
 use Rattle.oai_headline.proofs.CarriedLemmas.{steps_run}
 use Rattle.oai_headline.proofs.ClientCopyLemmas.{client_copied}
 use Rattle.oai_headline.proofs.EndLemmas.{end_writable}
 use Rattle.oai_headline.proofs.FollowedLemmas.{its_command}
 use Rattle.oai_headline.proofs.PartLemmas.{part_twice}
 use Rattle.oai_headline.proofs.PrintedLemmas.{one_second}
-use Rattle.oai_headline.proofs.SeenLemmas.{IsListSeen, IsSeenOf, end_of, end_seen, error_seen, list_seen, page_in_answer, seen_date, seen_offer, taken_seen}
-use Rattle.oai_headline.proofs.TakenLemmas.{AreTaken, IsAsking, IsReachable, IsTaken, reachable_empty, reachable_moved, step_with, taken, taken_found}
+use Rattle.oai_headline.proofs.SeenLemmas.{IsSeenOf, end_of, end_seen, error_seen, list_seen, page_in_answer, seen_date, seen_offer, taken_seen}
+use Rattle.oai_headline.proofs.TakenLemmas.{IsAsking, IsReachable, IsTaken, reachable_empty, reachable_moved, step_with, taken, taken_found}
 
 -- ---- the step of a visit
 

@@ -1,5 +1,5 @@
 -- What a client sees in the answer to a request is what the machine answered.
-use Rattle.std.proofs.Common.{◌≡◌, ◌≢◌, ◌∙◌, ℕ, ℤ, pos, ◌+ℤ◌, true, List, [], ◌∷◌, map, Option, None, Some, is_none, refl, sym, ap, subst}
+use Rattle.std.proofs.Common.{◌≡◌, ◌∙◌, ℕ, ℤ, pos, ◌+ℤ◌, List, Some, is_none, refl, sym, ap, subst}
 use Rattle.std.specs.Prelude.{option_and_then}
 use Rattle.oai_args.specs.Pairs.{decoded_pairs}
 use Rattle.oai_args.specs.Requests.{request_of}
@@ -10,10 +10,10 @@ use Rattle.oai_item.specs.Formats.{AreRepositoryFormats}
 use Rattle.oai_item.specs.declared.formats.Format.{Format}
 use Rattle.oai_answers.specs.Answers.{Answer, Attributes, Continuation, Document, Page, completes, fails, gives_record, identifies, lists_formats, lists_headers, lists_records, lists_sets, remains, whole}
 use Rattle.oai_answers.specs.Documents.{document}
-use Rattle.oai_answers.specs.Seen.{SeenAnswer, SeenDocument, SeenRecord, SeenToken, answer_seen, document_seen, empty_token, no_token, record_seen, seen_error, seen_records, seen_token, token_seen}
+use Rattle.oai_answers.specs.Seen.{SeenDocument, SeenRecord, SeenToken, answer_seen, document_seen, seen_error, seen_records, seen_token, token_seen}
 use Rattle.oai_answers.specs.declared.errors.ErrorCode.{ErrorCode}
 use Rattle.oai_answers.proofs.RegularLemmas.{same_seen}
-use Rattle.oai_settings.specs.Config.{Config, is_in_years}
+use Rattle.oai_settings.specs.Config.{Config}
 use Rattle.oai_repo.specs.Answers.{arguments_of_request}
 use Rattle.oai_repo.specs.Listing.{Response, request_response, retry_after, with_answer}
 use Rattle.oai_repo.specs.Machine.{Outcome, accepted, act, documented, later, outcome_of, outcome_output, refused_with}
