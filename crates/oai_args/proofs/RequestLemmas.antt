@@ -1,5 +1,5 @@
 -- The function of what is asked is the graph of the relation.
-use Rattle.std.proofs.Common.{◌≡◌, ◌∙◌, ℕ, Bool, true, false, ◌&&◌, cond, List, [], ◌∷◌, codes, Option, Some, None, Result, sym, refl, ap, subst}
+use Rattle.std.proofs.Common.{◌≡◌, ◌∙◌, ℕ, Bool, true, false, ◌&&◌, cond, List, [], ◌∷◌, codes, Option, Some, None, Result, Ok, Err, IfOk, sym, refl, ap, subst}
 use Rattle.std.specs.Prelude.{bytes_eq, find}
 use Rattle.std.proofs.lemmas.Bool.{and_parts, true≢false}
 use Rattle.std.proofs.lemmas.Slice.Eq.{bytes_eq-Decides}
@@ -11,7 +11,7 @@ use Rattle.oai_args.specs.Arguments.{key_of, known_keys, role_of, given, once, i
 use Rattle.oai_args.specs.Asks.{AskOrError, asks, bad_verb, bad_argument, at_most_once, NamesVerb, IsOf, IsGetRecord, IsList, IsAsk, IsAskOrError}
 use Rattle.oai_args.specs.Bounds.{is_none_or_set_spec, are_bounds}
 use Rattle.oai_args.specs.Pairs.{Pair, has_only_keys, has_xml_values}
-use Rattle.oai_args.specs.Requests.{provided, verb_named, list_of_verb, suit, get_record_of, first_list_of, first_of, next_of, form_of, asked_or_bad, asked_of_verb, asked_verb, request_in, request_of, IsReadFrom, GivesTheAnswer}
+use Rattle.oai_args.specs.Requests.{provided, verb_named, list_of_verb, suit, get_record_of, first_list_of, first_of, next_of, form_of, asked_or_bad, asked_of_verb, asked_verb, request_in, request_of, IsReadFrom, GivesTheAnswer, lists_records}
 use Rattle.oai_names.specs.Optional.{◌>>=◌}
 use Rattle.oai_args.specs.Steps.{result_of}
 use Rattle.oai_args.specs.Verbs.{verbs, name_of, verb_of_list}
@@ -367,3 +367,18 @@ pub read_from : (granularity : Granularity) (pairs : List Pair) (result : Result
 read_from granularity pairs result e =
     let Is : Result Ask ArgFault → Type 0 = λ r. IsReadFrom granularity pairs r in
     subst Is (sym e) (answered_as granularity pairs (request_of granularity pairs) refl)
+
+-- ListSets is never asked for with a metadataPrefix
+records_asked : (granularity : Granularity) (pairs : List Pair) (request : Ask) → IsAsk granularity pairs request → lists_records request ≡ true
+records_asked granularity pairs ask.Identify h = refl
+records_asked granularity pairs (ask.Formats identifier) h = refl
+records_asked granularity pairs ask.Sets h = refl
+records_asked granularity pairs (ask.Get identifier prefix) h = refl
+records_asked granularity pairs (ask.List list.Identifiers prefix from until set) h = refl
+records_asked granularity pairs (ask.List list.Records prefix from until set) h = refl
+records_asked granularity pairs (ask.List list.Sets prefix from until set) h = absurd (true≢false (sym (h.asked.suited MetadataPrefix) ∙ ap is_never h.formatted))
+records_asked granularity pairs (ask.Resume verb token) h = refl
+
+pub records_read : (granularity : Granularity) (pairs : List Pair) (result : Result Ask ArgFault) → IsReadFrom granularity pairs result → IfOk result (λ request. lists_records request ≡ true)
+records_read granularity pairs (Ok request) is = records_asked granularity pairs request (asks_is granularity pairs request is)
+records_read granularity pairs (Err fault) is = tt

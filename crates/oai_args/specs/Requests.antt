@@ -1,5 +1,5 @@
 -- What the arguments ask for, as a function; and what reading them answers. OAI-PMH 2.0, sections 3.6 and 4.
-use Rattle.std.specs.Prelude.{◌≡◌, ◌≢◌, ℕ, Bool, ◌&&◌, List, [], bytes_eq, Option, Some, None, Result, Ok, Err, find, if◌then◌else◌, ◌↔◌}
+use Rattle.std.specs.Prelude.{◌≡◌, ◌≢◌, ℕ, Bool, true, ◌&&◌, List, [], bytes_eq, Option, Some, None, Result, Ok, Err, find, if◌then◌else◌, ◌↔◌}
 use Rattle.oai_names.specs.Names.{is_prefix}
 use Rattle.oai_names.specs.Optional.{◌>>=◌}
 use Rattle.oai_names.specs.declared.list_verbs.ListVerb.{ListVerb}
@@ -9,7 +9,7 @@ use Rattle.oai_args.specs.Arguments.{role_of, once, is_never, suits, arguments_i
 use Rattle.oai_args.specs.Asks.{AskOrError, asks, bad_verb, bad_argument, IsAskOrError}
 use Rattle.oai_args.specs.Bounds.{is_none_or_set_spec, are_bounds}
 use Rattle.oai_args.specs.Pairs.{Pair}
-use Rattle.oai_args.specs.Verbs.{verbs, name_of}
+use Rattle.oai_args.specs.Verbs.{verbs, name_of, is_of_records}
 use Rattle.oai_args.specs.declared.arguments.Arguments.{Arguments}
 use Rattle.oai_args.specs.declared.requests.Ask.{Ask}
 use Rattle.oai_args.specs.declared.requests.Ask.TheVariants as ask
@@ -119,6 +119,11 @@ IsReadFrom granularity pairs (Ok request) = request_of granularity pairs ≡ ask
 IsReadFrom granularity pairs (Err BadVerb) = request_of granularity pairs ≡ bad_verb
 IsReadFrom granularity pairs (Err BadArgument) = request_of granularity pairs ≡ bad_argument
 IsReadFrom granularity pairs (Err NoMemory) = pairs ≢ []
+
+-- a request for a list of records, from the first on, is by a verb of such lists; of any other request nothing is said
+abbrev pub lists_records : Ask → Bool
+lists_records (ask.List verb prefix from until set) = is_of_records verb
+lists_records request = true
 
 -- ---- the law of the function and the relation
 

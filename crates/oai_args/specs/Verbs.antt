@@ -1,5 +1,5 @@
 -- The six verbs and their names. OAI-PMH 2.0, section 4.
-use Rattle.std.specs.Prelude.{ℕ, List, [], ◌∷◌, codes}
+use Rattle.std.specs.Prelude.{ℕ, Bool, true, false, List, [], ◌∷◌, codes}
 use Rattle.oai_names.specs.declared.list_verbs.ListVerb.{ListVerb}
 use Rattle.oai_names.specs.declared.list_verbs.ListVerb.TheVariants.{Identifiers, Records, Sets}
 use Rattle.oai_args.specs.declared.verbs.Verb.{Verb}
@@ -23,3 +23,9 @@ abbrev pub verb_of_list : ListVerb → Verb
 verb_of_list Identifiers = ListIdentifiers
 verb_of_list Records = ListRecords
 verb_of_list Sets = ListSets
+
+-- the lists of the verb are of records, or of their headers: it is ListIdentifiers or ListRecords
+abbrev pub is_of_records : ListVerb → Bool
+is_of_records Identifiers = true
+is_of_records Records = true
+is_of_records Sets = false

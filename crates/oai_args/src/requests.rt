@@ -1,5 +1,6 @@
+ghost use Rattle.std.specs.Prelude.{◌≡◌, true, IfOk};
 ghost use Rattle.oai_args.specs.Pairs.{decoded_pairs};
-ghost use Rattle.oai_args.specs.Requests.{GivesTheAnswer, IsReadFrom};
+ghost use Rattle.oai_args.specs.Requests.{GivesTheAnswer, IsReadFrom, lists_records};
 
 use crate::arguments::Arguments;
 use crate::bounds::BoundText;
@@ -66,9 +67,11 @@ pub enum ArgFault {
 /// Reads the arguments of a request from the bytes of a query, in the type
 /// `application/x-www-form-urlencoded` (OAI-PMH 2.0, section 3.1.1), for a repository of that
 /// granularity. `NoMemory` is returned while the arguments are stored, before their meaning is looked
-/// at, and never for an empty query; then `BadVerb` comes before `BadArgument`.
+/// at, and never for an empty query; then `BadVerb` comes before `BadArgument`. A `List` that is returned is
+/// by `Identifiers` or `Records`.
 pub fn read_request(alloc: Global, query: &[u8], granularity: Granularity) -> Result<Ask, ArgFault>
-    ensures { IsReadFrom granularity (decoded_pairs query.now) result }
+    ensures read { IsReadFrom granularity (decoded_pairs query.now) result }
+    ensures lists { IfOk result (λ ask. lists_records ask ≡ true) }
 {
     match Arguments::read(alloc, query) {
         Ok(arguments) => arguments.into_request(granularity),

@@ -46,22 +46,22 @@ done_line : (front : List (List ℕ)) (line : List ℕ) (old mid new : HostState
     → is_line_filled line ≡ true → AreDone front old mid Before → IsLineDone line mid new Last → AreDone (front ++ line ∷ []) old new Writes
 done_line front line old mid new Before Last Writes join full done last =
     let exchanged = exchanged_last done.calls done.answers last.call last.answer old mid new done.exchanged last.exchanged in record {
-  calls = done.calls ++ last.call ∷ [];
-  answers = done.answers ++ last.answer ∷ [];
-  read =
-      let one : filter is_line_filled (line ∷ []) ≡ line ∷ [] = cond-true (is_line_filled line) (line ∷ []) [] full in
-      ap (map parse_exchange) (filter-append is_line_filled front (line ∷ []) ∙ ap (λ (ls : List (List ℕ)). filter is_line_filled front ++ ls) one)
-      ∙ map-append parse_exchange (filter is_line_filled front) (line ∷ [])
-      ∙ ap (λ (xs : List (Option Call)). xs ++ parse_exchange line ∷ []) done.read
-      ∙ ap (λ (x : Option Call). map Some done.calls ++ x ∷ []) last.read
-      ∙ sym (map-append Some done.calls (last.call ∷ []));
-  answered = all_answered (done.calls ++ last.call ∷ []) (done.answers ++ last.answer ∷ []) old new exchanged;
-  exchanged = exchanged;
-  written =
-      let all : flat_map shown (done.answers ++ last.answer ∷ []) ≡ flat_map shown done.answers ++ shown last.answer =
-      flat_map-append shown done.answers (last.answer ∷ []) ∙ ap (λ (xs : List ℕ). flat_map shown done.answers ++ xs) (append-nil (shown last.answer)) in
-      subst Writes (sym all) (join (flat_map shown done.answers) (shown last.answer) done.written last.written);
-}
+      calls = done.calls ++ last.call ∷ [];
+      answers = done.answers ++ last.answer ∷ [];
+      read =
+          let one : filter is_line_filled (line ∷ []) ≡ line ∷ [] = cond-true (is_line_filled line) (line ∷ []) [] full in
+          ap (map parse_exchange) (filter-append is_line_filled front (line ∷ []) ∙ ap (λ (ls : List (List ℕ)). filter is_line_filled front ++ ls) one)
+          ∙ map-append parse_exchange (filter is_line_filled front) (line ∷ [])
+          ∙ ap (λ (xs : List (Option Call)). xs ++ parse_exchange line ∷ []) done.read
+          ∙ ap (λ (x : Option Call). map Some done.calls ++ x ∷ []) last.read
+          ∙ sym (map-append Some done.calls (last.call ∷ []));
+      answered = all_answered (done.calls ++ last.call ∷ []) (done.answers ++ last.answer ∷ []) old new exchanged;
+      exchanged = exchanged;
+      written =
+          let all : flat_map shown (done.answers ++ last.answer ∷ []) ≡ flat_map shown done.answers ++ shown last.answer =
+          flat_map-append shown done.answers (last.answer ∷ []) ∙ ap (λ (xs : List ℕ). flat_map shown done.answers ++ xs) (append-nil (shown last.answer)) in
+          subst Writes (sym all) (join (flat_map shown done.answers) (shown last.answer) done.written last.written);
+    }
 
 ended_as : (front : List (List ℕ)) (line : List ℕ) (old mid new : HostState) (was is : ℕ) (Before Writes : List ℕ → Type 0) → is ≡ min (was + 1) (2 ^ 64 - 1) → new.honest ≡ mid.honest
     → AreEnded old mid was Before front → AreDone (front ++ line ∷ []) old new Writes → AreEnded old new is Writes (front ++ line ∷ [])

@@ -17,34 +17,12 @@ use Rattle.oai_host.specs.Hosts.{IsRun}
 use Rattle.oai_host.specs.Performed.{HasStopped, IsDone, IsPerformed, StoreState}
 use Rattle.oai_host.specs.Tasks.{Task, asking, depositing, refusing, task_of}
 use Rattle.oai_host.proofs.DepositLemmas.{lines_exact}
+use Rattle.oai_host.proofs.RedoLemmas.{alone_whole, failed_done, failed_fault}
 use Rattle.oai_host.proofs.RunLemmas.{done_exact}
 use Rattle.oai_headline.specs.Throughout.{IsFailure, IsTrueVisit, IsTrueBy, is_asked, is_done_whole, left_by, calls_done, calls_done_in, calls_done_by, visits_given, whole_visits, with_lines}
 use Rattle.oai_headline.specs.Visits.{Visit, visit_in, visits}
 use Rattle.oai_headline.proofs.CutLemmas.{cut_task}
 use Rattle.oai_headline.proofs.TakenLemmas.{IsAsking}
-
--- ---- the answers of the machine have no fault
-
-output_whole : (output : Output) → (answer_of output).fault ≡ None
-output_whole (bytes body) = refl
-output_whole (wait seconds) = refl
-
-pub alone_whole : (config : Config) (state : RepoState) (moment : ℤ) (task : Task) → (done_alone config state moment task).0.fault ≡ None
-alone_whole config state moment (refusing status) = refl
-alone_whole config state moment (asking arguments) = output_whole (step config state moment (query arguments)).0
-alone_whole config state moment (depositing lines) = refl
-
-failed_fault : (fault : Fault) (lines : Option ℕ) → (failed fault lines).fault ≡ Some fault
-failed_fault NoMemory lines = refl
-failed_fault TooManyPages lines = refl
-failed_fault Device lines = refl
-failed_fault Damaged lines = refl
-
-failed_done : (fault : Fault) (lines : Option ℕ) → (failed fault lines).done ≡ lines
-failed_done NoMemory lines = refl
-failed_done TooManyPages lines = refl
-failed_done Device lines = refl
-failed_done Damaged lines = refl
 
 -- ---- what calls leave
 
@@ -259,7 +237,7 @@ asking_whole config state (call ∷ calls) (answer ∷ answers) given some asks 
     kept : calls_done_by call answer ≡ call ∷ [] → is_done_whole visit ≡ true → visit ≡ visit_in config state call → Later → IsPart some all
     kept first so same later =
         let behind : (others : List Visit) → IsPart others (visits config (exchanged_alone config state call).1 (calls_done calls answers))
-            → IsPart others (visits config (left_by config state (calls_done_by call answer)) (calls_done calls answers)) =
+        → IsPart others (visits config (left_by config state (calls_done_by call answer)) (calls_done calls answers)) =
         λ others p. subst (λ (cs : List Call). IsPart others (visits config (left_by config state cs) (calls_done calls answers))) (sym first) p
         in
         let here : IsPart some (visit_in config state call ∷ visits config (exchanged_alone config state call).1 (calls_done calls answers)) =

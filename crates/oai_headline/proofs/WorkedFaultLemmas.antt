@@ -20,7 +20,8 @@ use Rattle.oai_headline.specs.Visits.{Visit, visits}
 use Rattle.oai_headline.specs.Worked.{IsWorkedList, first_entry, worked_calls}
 use Rattle.oai_headline.specs.WorkedFaults.{IsWorkedWithFailures, answer_to, answers_with, failing_answers, failing_calls, failing_visits, failures}
 use Rattle.oai_headline.proofs.FollowedLemmas.{next_asking}
-use Rattle.oai_headline.proofs.GivenLemmas.{alone_whole, asking_whole}
+use Rattle.oai_headline.proofs.GivenLemmas.{asking_whole}
+use Rattle.oai_host.proofs.RedoLemmas.{alone_whole}
 use Rattle.oai_headline.proofs.TakenLemmas.{IsAsking}
 use Rattle.oai_headline.proofs.WorkedCalls.{carried_a}
 use Rattle.oai_headline.proofs.WorkedLemmas.{worked_list}

@@ -127,9 +127,8 @@ pub fn worked_headline_law()
 {}
 
 /// What the theorem says of failures speaks of something: a run of one repository of the worked host, computed from the bytes of
-/// its messages on, in which a deposit fails in its second line, and a page of a list is refused for want of memory and asked for
-/// again. What was performed of it is what the run without failures performs, and the list is followed over its three pages. It
-/// does nothing.
+/// its messages on, in which a deposit fails in its second line, and a page of a list is refused memory and asked for again. What was
+/// performed of it is what the run without failures performs, and the list is followed over its three pages. It does nothing.
 pub fn worked_faults_law()
     ensures { (first : Visit) × (second : Visit) × (last : Visit)
         × IsWorkedWithFailures first second last }

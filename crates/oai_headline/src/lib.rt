@@ -10,8 +10,8 @@ mod served;
 
 pub use harvests::client_harvests_law;
 pub use laws::{
-    carried_law, place_law, throughout_law, throughout_on_pages_law, throughout_runs_law, visits_law,
-    worked_faults_law, worked_headline_law,
+    carried_law, place_law, throughout_law, throughout_on_pages_law, throughout_runs_law,
+    visits_law, worked_faults_law, worked_headline_law,
 };
 pub use rules::rules_law;
 pub use runs::host_law;

@@ -12,7 +12,7 @@ use oai_device::PageDevice;
 /// Repositories on the pages of one device do not disturb one another. A host is made of a configuration, over a device
 /// that gives back what was written to it, and performs exchanges, one after the other, as `Host::run` and
 /// `Host::exchange` say. The answers at each repository are those of a run of its own exchanges alone, from its empty
-/// state. Where no exchange failed, they are the answers that the repository gives alone: they show nothing of the other
+/// state. Where none of these failed, they are the answers that the repository gives alone: they show nothing of the other
 /// repositories, of the cache that all share, or of where the pages are. An answer says that the device failed only
 /// where it did since the host was made, and that something is damaged never. It is a theorem: the function is empty.
 pub fn pages_law<D: PageDevice>()

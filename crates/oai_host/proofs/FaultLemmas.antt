@@ -37,7 +37,6 @@ pub all_counted_since : (answers : List Answer) (old mid new : ℕ) → old ≤ 
 all_counted_since [] old mid new before all = tt
 all_counted_since (a ∷ answers) old mid new before all = (counted_since (failure_in a) old mid new before all.0, all_counted_since answers old mid new before all.1)
 
-
 -- ---- honesty
 
 pub honest_on : (r : Result (Unit {0}) Fault) (old mid new : Bool) → IsHonest r old mid → new ≡ mid → IsHonest r old new

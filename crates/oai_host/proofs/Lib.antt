@@ -8,3 +8,6 @@ pub mod RunLemmas
 pub mod BrokenLemmas
 pub mod LineLemmas
 pub mod RoomLemmas
+pub mod TaskLemmas
+pub mod RedoLemmas
+pub mod AgainLemmas

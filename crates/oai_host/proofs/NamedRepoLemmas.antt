@@ -40,11 +40,9 @@ state_same other before after same =
     let with : List ItemState → OpenLists → RepoState = λ xs b. record { clock = other.clock; holdings = record { items = xs; sets = other.sets }; open_lists = b } in
     ap (λ (xs : List ItemState). with xs (open_lists_of other.clock other.table after)) items ∙ ap (with (stored_items other.index before)) open_ones
 
-
 module _ (old new : RepoFields) (before after : Lists) (kept : KeepsOthers (numbers_of old) before (numbers_of new) after) where
   same_lists : (other : RepoFields) → StandsIn other before → AreApart other old → (n : ℕ) → has (numbers_of other) n ≡ true → after n ≡ before n
   same_lists other stands apart n there = kept.others n (apart n there) (still_apart old new other before after kept stands apart n there)
-
 
   -- ---- those behind it
 
@@ -80,7 +78,6 @@ module _ (old new : RepoFields) (before after : Lists) (kept : KeepsOthers (numb
         other_step call answer m n x stand.0 (apart_turned old x.repo apart.0) (leads_not endpoint name x.name call.target path parts.0),
         rest_steps call answer m n endpoint name others stand.1 apart.1 path parts.1,
       )
-
 
 -- ---- the one at a place
 
@@ -153,7 +150,6 @@ module _ (one : NamedRepo) (new : RepoFields) (before after : Lists) (kept : Kee
         other_step one.repo new before after kept call answer m n x stand.0 (apart_at x.repo repos i one there apart.0) (leads_not endpoint one.name x.name call.target path (bytes_turned x.name one.name differ)),
         set_steps call answer m n endpoint repos i there stand.1 apart.1 parts.1 path step,
       )
-
 
 -- all of it
 pub repos_set : (was is : Bool) (repos : List NamedRepo) (i : ℕ) (one : NamedRepo) (new : RepoFields) (before after : Lists) → is ≡ was → slice_get repos i ≡ Some one → AreNamedRepos was repos before

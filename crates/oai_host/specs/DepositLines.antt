@@ -1,5 +1,5 @@
 -- The lines of a deposit as they are taken one after the other: words that no definition needs.
-use Rattle.std.specs.Prelude.{ℕ, suc, List, [], ◌∷◌, length, Option, None, Some, if◌then◌else◌}
+use Rattle.std.specs.Prelude.{◌≡◌, ℕ, suc, List, [], ◌∷◌, length, take, Option, None, Some, if◌then◌else◌}
 use Rattle.oai_host.specs.Bodies.{is_blank, lines_in}
 
 -- the lines of what stands behind the last line end that was met; none where none was met at the last
@@ -15,3 +15,7 @@ from_line first lines = if is_blank first then lines else first ∷ lines
 abbrev pub bytes_left : Option (List ℕ) → ℕ
 bytes_left None = 0
 bytes_left (Some rest) = suc (length rest)
+
+-- so many bytes of the body have its first lines, so many
+abbrev pub AreTaken : List ℕ → ℕ → ℕ → Type 0
+AreTaken body size count = lines_in (take size body) ≡ take count (lines_in body)

@@ -6,6 +6,7 @@ pub mod Alone
 pub mod Room
 pub mod Performed
 pub mod Hosts
+pub mod Redone
 pub mod Exchanged
 pub mod Rows
 pub mod NamedRepos

@@ -2,7 +2,7 @@
 ghost use Rattle.oai_deposit.specs.Lines.{line_of};
 ghost use Rattle.oai_host.specs.Bodies as spec;
 ghost use Rattle.oai_host.specs.Bodies.{lines_in};
-ghost use Rattle.oai_host.specs.DepositLines.{bytes_left, from_line, lines_left};
+ghost use Rattle.oai_host.specs.DepositLines.{AreTaken, bytes_left, from_line, lines_left};
 ghost use Rattle.oai_host.specs.Exchanged.{PerformsIn, PerformsLine};
 ghost use Rattle.oai_host.specs.Tasks.{depositing};
 ghost use Rattle.oai_host.specs.declared.deposits.TheConstants.{MAX_LINE};
@@ -10,7 +10,7 @@ ghost use Rattle.oai_repo.specs.Fields.{Owns};
 ghost use Rattle.oai_time.specs.Stamp.{IsWritable};
 ghost use Rattle.oai_time.specs.TimeTexts.{datestamp_text};
 ghost use Rattle.std.specs.Option.{option_copied};
-ghost use Rattle.std.specs.Prelude.{Err, MatchOption, Ok, Some, [], codes, length, vec_capacity, vec_len, ◌++◌, ◌+◌, ◌<◌, ◌∷◌, ◌≡◌, ◌≤◌};
+ghost use Rattle.std.specs.Prelude.{Err, MatchOption, Ok, Some, [], codes, drop, if◌then◌else◌, length, ℕ, vec_capacity, vec_len, ◌++◌, ◌+◌, ◌<◌, ◌∷◌, ◌≡◌, ◌≤◌};
 
 use oai_catalogue::Versions;
 use oai_deposit::{LineFault, read_line};
@@ -25,7 +25,7 @@ use std::marker::Model;
 /// The most bytes of the line that answers a line, its end included.
 const MAX_LINE: usize = 32;
 
-/// PerformsIn the lines of a deposit at the moment, in seconds from 1970 on, one after the other, and
+/// Performs the lines of a deposit at the moment, in seconds from 1970 on, one after the other, and
 /// answers them; a fault ends them. Room for the answer to a line is taken before it is performed, so a
 /// line that was performed is answered or counted.
 pub(crate) fn perform_lines<V: Versions>(
@@ -51,7 +51,7 @@ pub(crate) fn perform_lines<V: Versions>(
     Answer::with_body(Sequence::new(told))
 }
 
-/// PerformsIn a line and writes the line for it. Room for that is taken first. A fault leaves everything
+/// Performs a line and writes the line for it. Room for that is taken first. A fault leaves everything
 /// as it was.
 fn perform_line<V: Versions>(
     alloc: Global,
@@ -76,7 +76,7 @@ fn perform_line<V: Versions>(
     }
 }
 
-/// PerformsIn a change and writes the line for it, in the room that is there.
+/// Performs a change and writes the line for it, in the room that is there.
 #[tactic(auto, unfolding(oai_repo::specs::Machine::outcome_output))]
 fn perform_change<V: Versions>(
     repo: &mut Repo,
@@ -191,6 +191,48 @@ fn cut(text: &[u8]) -> (&[u8], Option<&[u8]>)
     } else {
         (line, None)
     }
+}
+
+/// How many bytes of the body have its first `count` lines, or all of it where it has fewer.
+pub(crate) fn first_lines(body: &[u8], count: u64) -> usize
+    ensures within { result ≤ length body.now }
+    ensures lines { AreTaken body.now result count }
+{
+    let mut rest = body;
+    let mut left = count;
+    while left > 0 && !rest.is_empty() {
+        let (size, others) = first_line(rest, left);
+        rest = &rest[size..];
+        left = others;
+    }
+    body.len() - rest.len()
+}
+
+/// How many bytes what stands before the first line end takes, with it, and how many of `left` lines are left
+/// behind it: a blank one is none of them.
+fn first_line(body: &[u8], left: u64) -> (usize, u64)
+    requires some { 0 < length body.now }
+    requires more { 0 < left }
+    ensures within { result.0 ≤ length body.now }
+    ensures less { 0 < result.0 }
+    ensures lines { (size : ℕ) → AreTaken (drop result.0 body.now) size result.1
+        → AreTaken body.now (result.0 + size) left }
+{
+    let end = len_before(b'\n', body);
+    let others = without_line(is_blank(&body[..end]), left);
+    if end < body.len() {
+        (end + 1, others)
+    } else {
+        (end, others)
+    }
+}
+
+/// How many of the lines are left behind one, which is none of them where it is blank.
+fn without_line(is_blank: bool, left: u64) -> u64
+    requires { 0 < left }
+    ensures { left ≡ (if is_blank then result else result + 1) }
+{
+    if is_blank { left } else { left - 1 }
 }
 
 /// Whether it is a line of nothing but spaces, tabs and CR.

@@ -1,18 +1,21 @@
 //! What exchanges ask of a repository, performed: requests of OAI-PMH, and deposits.
 ghost use Rattle.oai_host.specs.Exchanged.{PerformsIn};
+ghost use Rattle.oai_host.specs.Redone.{LeavesAgain};
 ghost use Rattle.oai_host.specs.Tasks as spec;
 ghost use Rattle.oai_host.specs.Tasks.{task_in};
 ghost use Rattle.oai_http.specs.Exchanges.{call_of};
 ghost use Rattle.oai_repo.specs.Fields.{Owns};
+ghost use Rattle.oai_http.specs.declared.targets.Endpoint.TheVariants.{Deposits, Requests};
+ghost use Rattle.std.specs.Option.{option_copied};
 ghost use Rattle.std.specs.Prelude.{MatchResult, ℤ, ◌≡◌};
 
-use crate::deposits::perform_lines;
+use crate::deposits::{first_lines, perform_lines};
 use oai_catalogue::Versions;
 use oai_http::{Answer, Endpoint, Exchange, Status, is_form, query_of};
 use oai_repo::{Reply, Repo};
 use std::alloc::Global;
 
-/// PerformsIn what the exchange asks of the repository, by what its path is for.
+/// Performs what the exchange asks of the repository, by what its path is for.
 pub(crate) fn perform<V: Versions>(
     alloc: Global,
     repo: &mut Repo,
@@ -65,7 +68,7 @@ pub(crate) fn is_post(method: &[u8]) -> bool
     method == b"POST".as_slice()
 }
 
-/// PerformsIn a request at the moment, in seconds from 1970 on, by its arguments, and answers it.
+/// Performs a request at the moment, in seconds from 1970 on, by its arguments, and answers it.
 pub(crate) fn perform_request<V: Versions>(
     alloc: Global,
     repo: &mut Repo,
@@ -81,5 +84,34 @@ pub(crate) fn perform_request<V: Versions>(
         Ok(Reply::Page(page)) => Answer::with_body(page),
         Ok(Reply::Later(seconds)) => Answer::to_wait(alloc, seconds),
         Err(fault) => Answer::of_fault(alloc, fault, None),
+    }
+}
+
+/// The arguments of a request that was performed; `None` where nothing was.
+pub(crate) fn request_done<'a>(exchange: &Exchange<'a>, answer: &Answer) -> Option<&'a [u8]>
+    ensures { LeavesAgain Requests exchange.now answer.now (option_copied result) }
+{
+    match arguments_of(exchange) {
+        Ok(arguments) => match answer.fault {
+            None => Some(arguments),
+            Some(_) => None,
+        },
+        Err(_) => None,
+    }
+}
+
+/// The lines of a deposit that were performed, as far as they were; `None` where nothing was.
+pub(crate) fn lines_done<'a>(exchange: &Exchange<'a>, answer: &Answer) -> Option<&'a [u8]>
+    ensures { LeavesAgain Deposits exchange.now answer.now (option_copied result) }
+{
+    if !is_post(exchange.method) {
+        return None;
+    }
+    match answer.fault {
+        None => Some(exchange.body),
+        Some(_) => match answer.done {
+            Some(lines) => Some(&exchange.body[..first_lines(exchange.body, lines)]),
+            None => None,
+        },
     }
 }

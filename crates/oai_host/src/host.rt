@@ -4,6 +4,7 @@ ghost use Rattle.oai_host.specs.Hosts.{AreAloneUnlessFailed, AreAnswered, AreExc
 ghost use Rattle.oai_host.specs.NamedRepos.{AreNamedRepos, StandFor, repo_names};
 ghost use Rattle.oai_host.specs.Places.{IsRepoPlace, LeadsNowhere};
 ghost use Rattle.oai_host.specs.Props.{named_repo_props};
+ghost use Rattle.oai_host.specs.Redone.{IsRedone};
 ghost use Rattle.oai_http.specs.Exchanges.{call_of};
 ghost use Rattle.oai_http.specs.Targets as spec;
 ghost use Rattle.oai_http.specs.declared.statuses.Status.TheVariants as status;
@@ -13,11 +14,15 @@ ghost use Rattle.std.specs.List.{list_all};
 ghost use Rattle.std.specs.Option.{IfNone};
 ghost use Rattle.std.specs.Prelude.{IfErr, IfOk, IfSome, IsTrue, OnErr, if◌then◌else◌, length, map, true, ◌+◌, ◌<◌, ◌≡◌, ◌≤◌};
 
+use crate::dispatch::{lines_done, request_done};
 use crate::repositories::Repositories;
 use crate::routes::Routes;
 use oai_catalogue::Versions;
 use oai_config::Config;
-use oai_http::{Answer, Call, Endpoint, Exchange, Handler, Status, is_rooted, path_of};
+use oai_http::{
+    Answer, Call, Endpoint, Exchange, Handler, Performed, Replayed, Status, is_rooted, named,
+    path_of,
+};
 use oai_item::Fault;
 use oai_names::Sequence;
 use std::alloc::{AllocError, Global};
@@ -25,10 +30,10 @@ use std::marker::Model;
 
 /// A host: repositories, each reached by its name, and the store that has the items of all of them.
 ///
-/// What happens at one repository cannot be seen at another: where no exchange failed, and the store gives
-/// back what was written to it, what is answered at each is what it alone would answer to its own
-/// exchanges, whatever comes between them. The numbers under which two repositories keep their items in the
-/// store are never the same.
+/// What happens at one repository cannot be seen at another: where none of the exchanges of a repository
+/// failed, and the store gives back what was written to it, what is answered there is what it alone would
+/// answer to them, whatever comes between them. The numbers under which two repositories keep their items
+/// in the store are never the same.
 #[derive(Drop)]
 pub struct Host<V: Versions + Drop> {
     alloc: Global,
@@ -78,7 +83,7 @@ impl<V: Versions + Drop> Host<V> {
         })
     }
 
-    /// PerformsIn an exchange at the moment, in seconds from 1970 on, and answers it. Each fault, out of
+    /// Performs an exchange at the moment, in seconds from 1970 on, and answers it. Each fault, out of
     /// memory too, is reported in the answer.
     ///
     /// Over every store an exchange leaves all repositories but its own as they were, and one that is no
@@ -100,6 +105,17 @@ impl<V: Versions + Drop> Host<V> {
         }
     }
 
+    /// Performs an exchange again that was performed before, as `exchange` does, and makes no answer. The error is
+    /// the fault that ended it.
+    pub fn redo(&mut self, moment: i64, exchange: &Exchange<'_>) -> Result<(), Fault>
+        ensures { IsRedone (call_of moment exchange.now) result self.old self.new }
+    {
+        match Host::exchange(self, moment, exchange).fault {
+            Some(fault) => Err(fault),
+            None => Ok(()),
+        }
+    }
+
     /// The store. The host's repositories are what its lists stand for, and its honesty, its failures and
     /// its room are those that are said of the host.
     pub fn versions(&self) -> &V
@@ -111,14 +127,14 @@ impl<V: Versions + Drop> Host<V> {
         &self.store
     }
 
-    /// PerformsIn a call, at its moment, as `exchange` does, and answers it.
+    /// Performs a call, at its moment, as `exchange` does, and answers it.
     fn perform(&mut self, call: &Call) -> Answer
         ensures { IsExchanged call.now result self.old self.new }
     {
         self.exchange(call.moment, &call.exchange())
     }
 
-    /// PerformsIn exchanges, one after the other, as `exchange` does, and answers them in their order. At each
+    /// Performs exchanges, one after the other, as `exchange` does, and answers them in their order. At each
     /// repository its own exchanges are a run, whatever comes between them; where none of them failed, and the
     /// store gives back what was written to it, their answers are those that the repository alone gives. The
     /// error is out of memory for the list of the answers; nothing was performed then.
@@ -167,5 +183,45 @@ impl<V: Versions + Drop> Handler for Host<V> {
 
     fn exchange(&mut self, moment: i64, exchange: &Exchange<'_>) -> Answer {
         self.exchange(moment, exchange)
+    }
+}
+
+impl<V: Versions + Drop> Replayed for Host<V> {
+    ghost use Rattle.std.specs.Prelude.{List};
+    ghost use Rattle.oai_host.specs.Hosts.{HostState, Repository};
+    ghost use Rattle.oai_host.specs.Redone.{redone_all};
+
+    ghost Kept = { List Repository };
+
+    ghost kept = { λ host. host.repositories };
+
+    ghost is_honest = { λ host. host.honest };
+
+    ghost redone = { redone_all };
+
+    fn performed<'a>(exchange: &Exchange<'a>, answer: &Answer) -> Option<Performed<'a>> {
+        match named(exchange.target) {
+            Some((Endpoint::Requests, name)) => match request_done(exchange, answer) {
+                Some(bytes) => Some(Performed {
+                    endpoint: Endpoint::Requests,
+                    name,
+                    bytes,
+                }),
+                None => None,
+            },
+            Some((Endpoint::Deposits, name)) => match lines_done(exchange, answer) {
+                Some(bytes) => Some(Performed {
+                    endpoint: Endpoint::Deposits,
+                    name,
+                    bytes,
+                }),
+                None => None,
+            },
+            None => None,
+        }
+    }
+
+    fn redo(&mut self, moment: i64, exchange: &Exchange<'_>) -> Result<(), Fault> {
+        self.redo(moment, exchange)
     }
 }

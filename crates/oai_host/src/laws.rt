@@ -11,10 +11,10 @@ ghost use Rattle.oai_settings.specs.Config.{Config};
 ghost use Rattle.std.specs.List.{AllByRecursion};
 ghost use Rattle.std.specs.Prelude.{IsTrue, List, filter, length, true, ◌+◌, ◌<◌, ◌≡◌, ◌≤◌};
 
-/// The answers which say that a device failed number at most its failures, over all exchanges with a host and
-/// over those of each repository, as long as the count of failures has not come to its last number. And over a
-/// store that gives back what was written to it, that an exchange could not be performed (RFC 9110, section
-/// 15.6.1) is answered only where a device failed. It does nothing.
+/// No more answers report a failed device than failures were counted meanwhile: of all exchanges with a host,
+/// and of those of each repository, as long as the count has not come to its last number. And over a store that
+/// gives back what was written to it, an exchange is answered that it could not be performed (RFC 9110, section
+/// 15.6.1) only with the fault that a device failed. It does nothing.
 pub fn failures_law()
     ensures exchanged { (calls : List Call) (answers : List Answer) (before after : HostState)
         → AreExchanged calls answers before after → after.failures < MAX_FAILURES
@@ -26,5 +26,5 @@ pub fn failures_law()
     ensures broken { (calls : List Call) (answers : List Answer) (before after : HostState)
         → IsTrue before.honest → AreExchanged calls answers before after
         → AllByRecursion (λ (answer : Answer). answer.status ≡ InternalServerError
-            → tells_of_device answer ≡ true) answers }
+        → tells_of_device answer ≡ true) answers }
 {}

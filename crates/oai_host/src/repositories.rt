@@ -109,7 +109,7 @@ impl Repositories {
         Ok(())
     }
 
-    /// PerformsIn an exchange of the repository at the place, at the moment, in seconds from 1970 on.
+    /// Performs an exchange of the repository at the place, at the moment, in seconds from 1970 on.
     pub(crate) fn perform<V: Versions>(
         &mut self,
         store: &mut V,

@@ -7,5 +7,6 @@ mod laws;
 
 pub use harvests::{harvest_law, worked_harvests_law};
 pub use laws::{
-    change_law, effect_law, following_law, number_law, selected_law, shown_law, token_law, worked_law,
+    change_law, effect_law, following_law, number_law, selected_law, shown_law, token_law,
+    worked_law,
 };

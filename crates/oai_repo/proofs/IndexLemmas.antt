@@ -1,5 +1,5 @@
 -- The entries of an index agree with its items after each change, and no list changes but its own.
-use Rattle.std.proofs.Common.{◌≡◌, ◌∙◌, ◌+◌, inl, inr, ℕ, ℤ, Bool, true, false, not, eqb, cond, List, [], ◌∷◌, length, map, Option, None, Some, IsSome, is_some, Result, Ok, Err, OnOk, refl, sym, ap, subst, arith}
+use Rattle.std.proofs.Common.{◌≡◌, ◌∙◌, ◌+◌, ◌≤◌, inl, inr, ℕ, ℤ, Bool, true, false, not, eqb, cond, List, [], ◌∷◌, length, map, Option, None, Some, IsSome, is_some, Result, Ok, Err, OnOk, refl, sym, ap, subst, arith}
 use Rattle.std.specs.Prelude.{find}
 use Rattle.std.specs.BTreeMap.{BTreeMap, UpdatesBy, get_by_text, insert_entry, is_at}
 use Rattle.std.specs.List.{list_all}
@@ -27,7 +27,7 @@ use Rattle.oai_repo.specs.Changes.{with_new}
 use Rattle.oai_settings.specs.Config.{Config}
 use Rattle.oai_repo.specs.Fields.{AreInUse, IndexAgrees, IsNew, IsIndexed, ItemIndex, has_writable_stamp}
 use Rattle.oai_repo.specs.Kept.{AreKept}
-use Rattle.oai_repo.specs.Entries.{ForgetsSome, SetsStamp, Entries, stamp_in, entries_in}
+use Rattle.oai_repo.specs.Entries.{ForgetsSome, Restamps, SetsStamp, Entries, stamp_in, entries_in}
 use Rattle.oai_repo.specs.State.{NamedSet, RepoState, no_open_lists}
 use Rattle.oai_repo.specs.Indexing.{IsMoved}
 use Rattle.oai_repo.proofs.KeptLemmas.{kept-none, length-placed}
@@ -41,6 +41,11 @@ on_both (Err _) P Q p q = tt
 pub on_ok : {A E : Type 0} (r : Result A E) (P Q : Type 0) → (P → Q) → OnOk r P → OnOk r Q
 on_ok (Ok x) P Q f h = f h
 on_ok (Err e) P Q f h = tt
+
+pub restamped : {A E : Type 0} (r : Result A E) (identifier : List ℕ) (stamp : Option ℤ) (old new : Entries) → IsSome (stamp_in identifier old) → OnOk r (SetsStamp identifier stamp old new)
+    → OnOk r (length new ≤ length old) → OnOk r (Restamps identifier stamp old new)
+restamped (Ok _) identifier stamp old new there stamped fewer = record { there = there; stamped = stamped; fewer = fewer }
+restamped (Err _) identifier stamp old new there stamped fewer = tt
 
 -- ---- the entries, as the map keeps them
 

@@ -4,6 +4,8 @@ use Rattle.std.specs.Prelude.{nat_lt}
 use Rattle.std.specs.Option.{option_map}
 use Rattle.std.proofs.lemmas.Bool.{and_parts, cases_Bool, cond-true, cond-false, eqb-true}
 use Rattle.oai_names.specs.declared.list_verbs.ListVerb.{ListVerb}
+use Rattle.oai_names.specs.declared.list_verbs.ListVerb.TheVariants as list
+use Rattle.oai_args.specs.Verbs.{is_of_records}
 use Rattle.oai_item.specs.Formats.{format_named}
 use Rattle.oai_answers.specs.Answers.{fails}
 use Rattle.oai_answers.specs.declared.errors.ErrorCode.TheVariants.{BadResumptionToken}
@@ -26,6 +28,16 @@ pub record IsContinued (now : ℤ) (chunk : ℕ) (verb : ListVerb) (lists : List
   pub right : is_same_verb list.verb verb ≡ true
   pub at : cursor ≡ token.cursor
   pub valid : is_valid_cursor chunk list.size list.given cursor ≡ true
+
+-- tokens continue lists of records alone
+pub records_continued : (its verb : ListVerb) → is_same_verb its verb ≡ true → is_of_records verb ≡ true
+records_continued list.Identifiers list.Identifiers same = refl
+records_continued list.Records list.Records same = refl
+records_continued list.Identifiers list.Records same = cc
+records_continued list.Identifiers list.Sets same = cc
+records_continued list.Records list.Identifiers same = cc
+records_continued list.Records list.Sets same = cc
+records_continued list.Sets verb same = cc
 
 -- the cursor is below the size
 pub valid_within : (chunk size given cursor : ℕ) → is_valid_cursor chunk size given cursor ≡ true → nat_lt cursor size ≡ true

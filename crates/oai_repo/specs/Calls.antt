@@ -89,15 +89,17 @@ pub record DropsEnded (old new : RepoFields) : Type 0 where
   pub table : new.table ≡ dropped_at new.clock old.table
   pub few : HoldsFew old.table → HoldsFew new.table
 
--- a change was refused: the state is the one at the moment, and the index is as it was
+-- a change was refused: the state is the one at the moment, the index is as it was, and the first list that has ended is gone
 pub record IsRefusedAt (moment : ℤ) (old : RepoFields) (before : Lists) (new : RepoFields) (after : Lists) : Type 0 where
   pub state : state_of new after ≡ moved moment (state_of old before)
   pub index : new.index ≡ old.index
+  pub dropped : DropsEnded old new
 
 -- a change was accepted with that datestamp: it is that of the clock, of the years 0000 to 9999, the index has the entries of the change, a
--- new set stands behind the others, and the open lists are those at the moment
+-- new set stands behind the others, the open lists are those at the moment, and the first that has ended is gone
 pub record IsAccepted (moment stamp : ℤ) (change : Change) (old : RepoFields) (before : Lists) (new : RepoFields) (after : Lists) : Type 0 where
   pub writable : IsWritable stamp
   pub stamped : stamp ≡ stamp_at new.config new.clock
   pub kept : KeepsChange old.config.deleted stamp change old.index.entries new.index.entries old.sets new.sets
   pub open_lists : (state_of new after).open_lists ≡ (moved moment (state_of old before)).open_lists
+  pub dropped : DropsEnded old new

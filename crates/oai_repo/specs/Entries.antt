@@ -1,5 +1,5 @@
 -- The index of a repository's items: under which datestamp each stands in its store. This repository's own.
-use Rattle.std.specs.Prelude.{◌≡◌, ◌+◌, ℕ, ℤ, List, if◌then◌else◌, Option, None, Some, IsSome, find, map}
+use Rattle.std.specs.Prelude.{◌≡◌, ◌+◌, ◌≤◌, ℕ, ℤ, List, length, if◌then◌else◌, Option, None, Some, IsSome, find, map}
 use Rattle.std.specs.BTreeMap.{BTreeMap}
 use Rattle.std.specs.Option.{option_map}
 use Rattle.std.specs.Str.{bytes_eq}
@@ -30,3 +30,14 @@ count_with (Some stamp) many = many
 -- the entries where some may be gone, and none is another
 abbrev pub ForgetsSome : Entries → Entries → Type 0
 ForgetsSome old new = (q : List ℕ) → IsSome (stamp_in q new) → stamp_in q new ≡ stamp_in q old
+
+-- some entries may be gone, none is another, and there are no more
+pub record Forgets (old new : Entries) : Type 0 where
+  pub some : ForgetsSome old new
+  pub fewer : length new ≤ length old
+
+-- an identifier that had a datestamp has another one, or none; all others have what they had, and there are no more entries
+pub record Restamps (identifier : List ℕ) (stamp : Option ℤ) (old new : Entries) : Type 0 where
+  pub there : IsSome (stamp_in identifier old)
+  pub stamped : SetsStamp identifier stamp old new
+  pub fewer : length new ≤ length old

@@ -1,14 +1,17 @@
 -- What the calls behind those of a repository do to its items, in the store and in the index: this repository's own.
-use Rattle.std.specs.Prelude.{◌≡◌, ◌⊎◌, ℕ, ℤ, Bool, List, Option, None, Some, Result, Ok, Err, IsSome, IsTrue, OnErr}
+use Rattle.std.specs.Prelude.{◌≡◌, ◌⊎◌, ℕ, ℤ, Bool, true, not, List, Option, None, Some, Result, Ok, Err, IsSome, IsTrue, OnErr}
 use Rattle.std.specs.Option.{option_or}
 use Rattle.oai_item.specs.declared.changes.Change.{Change}
 use Rattle.oai_item.specs.declared.refusals.ChangeRefusal.{ChangeRefusal}
 use Rattle.oai_item.specs.Item.{ItemState}
+use Rattle.oai_item.specs.Items.{item_named}
 use Rattle.oai_catalogue.specs.Store.{Lists, list_at, with_list, without_list}
 use Rattle.oai_catalogue.specs.declared.versions.Versions.{Ghosts}
 use Rattle.oai_repo.specs.Calls.{early_refusal}
 use Rattle.oai_repo.specs.Changes.{changed, refusal_of}
 use Rattle.oai_settings.specs.Config.{Config}
+use Rattle.oai_repo.specs.Entries.{stamp_in}
+use Rattle.oai_repo.specs.Kept.{is_too_large}
 use Rattle.oai_repo.specs.Fields.{IndexAgrees, IsIndexed, ItemIndex, holdings_of, stored_items}
 use Rattle.oai_repo.specs.State.{Holdings, NamedSet}
 use Rattle.oai_item.specs.declared.refusals.Refusal.{Refusal}
@@ -43,6 +46,17 @@ pub record IsMoved (v : ℕ) (before : Lists) (w : ℕ) (after : Lists) : Type 0
 pub record StandsOn {V : Type 0} (g : Ghosts V) (index : ItemIndex) (store : V) : Type 0 where
   pub stands : IsSome (g.lists store index.version)
   pub agrees : IsTrue (g.honest store) → IndexAgrees index.entries (stored_items index (g.lists store))
+
+-- the index's version is in use, and an honest store holds the items there, as the repository keeps them
+pub record HoldsItems {V : Type 0} (g : Ghosts V) (config : Config) (index : ItemIndex) (sets : List NamedSet) (store : V) : Type 0 where
+  pub stands : IsSome (g.lists store index.version)
+  pub indexed : IsTrue (g.honest store) → IsIndexed config index sets (g.lists store)
+
+-- the item has an entry, and an honest store holds it, of the size that it may have
+pub record HoldsItem {V : Type 0} (g : Ghosts V) (index : ItemIndex) (item : ItemState) (store : V) : Type 0 where
+  pub entered : IsSome (stamp_in item.identifier index.entries)
+  pub small : IsTrue (g.honest store) → not (is_too_large item) ≡ true
+  pub there : IsTrue (g.honest store) → item_named item.identifier (stored_items index (g.lists store)) ≡ Some item
 
 -- the items were made into others, over an honest store, and the index agrees with those
 pub record IsMadeOn {V : Type 0} (g : Ghosts V) (make : List ItemState → List ItemState) (old : ItemIndex) (before : V) (new : ItemIndex) (after : V) : Type 0 where

@@ -1,9 +1,10 @@
 -- What becomes of the open lists of a repository behind its calls: this repository's own.
-use Rattle.std.specs.Prelude.{◌≡◌, ◌⊎◌, ◌<◌, ◌≤◌, ℕ, ℤ, int_le, Bool, true, List, ◌∷◌, find, length, Option, None, Some, IsSome, if◌then◌else◌}
+use Rattle.std.specs.Prelude.{◌≡◌, ◌⊎◌, ◌<◌, ◌≤◌, ℕ, ℤ, int_le, Bool, true, List, ◌∷◌, find, length, Option, None, Some, IsSome, is_some, if◌then◌else◌}
 use Rattle.oai_time.specs.declared.text.TheConstants.{LAST_SECOND}
 use Rattle.std.specs.List.{list_all}
 use Rattle.std.specs.Option.{option_map}
 use Rattle.oai_catalogue.specs.Store.{Lists, list_at, without_list}
+use Rattle.oai_item.specs.Formats.{format_named}
 use Rattle.oai_item.specs.Item.{ItemState}
 use Rattle.oai_names.specs.declared.list_verbs.ListVerb.{ListVerb}
 use Rattle.oai_lists.specs.OpenLists.{Table, has_ended, open_numbered, open_ones, with_change, with_opened, without_ended}
@@ -32,10 +33,15 @@ without_version (Some v) lists = without_list v lists
 abbrev pub has_end : OpenList → Bool
 has_end list = int_le list.end LAST_SECOND
 
--- as many lists may be open as the configuration says, and each end can be written
+-- the list is of a format of the repository
+abbrev pub is_of_format : Config → OpenList → Bool
+is_of_format config list = is_some (format_named list.filter.prefix config.formats)
+
+-- as many lists may be open as the configuration says, each end can be written, and each list is of a format of the repository
 pub record IsKeptTable (config : Config) (table : Table) : Type 0 where
   pub limit : table.limit ≡ config.lists
   pub ends : list_all has_end table.lists ≡ true
+  pub known : list_all (is_of_format config) table.lists ≡ true
 
 -- the clock is in its years, there are no more entries than items may be, and the table is kept
 pub record IsRepo (config : Config) (clock : ℤ) (entries : Entries) (table : Table) : Type 0 where

@@ -1,7 +1,8 @@
 -- What a request sees of a repository, what it needs and leaves, and what is replied: this repository's own.
-use Rattle.std.specs.Prelude.{◌≡◌, ◌+◌, ℕ, ℤ, true, false, List, ◌∷◌, take, Option, None, Some, Result, IsSome, IsTrue, OnErr}
+use Rattle.std.specs.Prelude.{◌≡◌, ◌+◌, ◌<◌, ℕ, ℤ, true, false, List, ◌∷◌, take, Option, None, Some, Result, IsSome, IsTrue, OnErr}
 use Rattle.oai_names.specs.declared.list_verbs.ListVerb.{ListVerb}
 use Rattle.oai_names.specs.Sets.{HasSetsAbove, has_set}
+use Rattle.oai_item.specs.Formats.{format_named}
 use Rattle.oai_item.specs.Item.{ItemState}
 use Rattle.oai_item.specs.Items.{item_named}
 use Rattle.oai_item.specs.Selection.{Filter, selected}
@@ -12,12 +13,14 @@ use Rattle.oai_catalogue.specs.Store.{Lists}
 use Rattle.oai_catalogue.specs.declared.versions.Versions.{Ghosts}
 use Rattle.oai_item.specs.declared.faults.Fault.{Fault}
 use Rattle.oai_lists.specs.OpenLists.{Table}
+use Rattle.oai_lists.specs.declared.open_lists.OpenList.{OpenList}
 use Rattle.oai_lists.specs.Tokens.{token_of}
 use Rattle.oai_args.specs.Asks.{AskOrError}
+use Rattle.oai_args.specs.Verbs.{is_of_records}
 use Rattle.oai_args.specs.declared.requests.Ask.{Ask}
 use Rattle.oai_repo.specs.Answers.{document_at, filter_of}
 use Rattle.oai_settings.specs.Config.{Config, is_in_years}
-use Rattle.oai_repo.specs.Fields.{AreInUse, IsIndexed, TableAgrees, open_lists_of, holdings_of, stored_items, versions_in}
+use Rattle.oai_repo.specs.Fields.{AreInUse, IsIndexed, TableAgrees, is_counted, is_marked, open_lists_of, holdings_of, stored_items, versions_in}
 use Rattle.oai_repo.specs.Listing.{Response, ask_response, list_response, new_list, opens_list, request_response, retry_after, selection_response, token_response, wait_at, with_answer}
 use Rattle.oai_repo.specs.State.{Holdings, NamedSet, OpenLists, RepoState}
 use Rattle.oai_repo.specs.Tables.{IsKeptTable, IsLeftOpen}
@@ -99,6 +102,23 @@ pub record Leaves {V A : Type 0} (g : Ghosts V) (result : Result A Fault) (repo 
   pub agrees : IsTrue (g.honest before) → TableAgrees new (g.lists after)
   pub err : OnErr result (new ≡ old)
   pub err_lists : OnErr result (g.lists after ≡ g.lists before)
+
+-- a list of what is selected may be answered: the filter asks for records in the format, which is one of the repository, and the verb is one
+-- of lists of records
+pub record IsOfFormat (config : Config) (selection : Selection) : Type 0 where
+  pub prefix : selection.filter.prefix ≡ selection.format.now.prefix
+  pub known : IsSome (format_named selection.filter.prefix config.formats)
+  pub lists : is_of_records selection.verb ≡ true
+
+-- a part of an open list may be answered, behind so many of its records: there are more than that, the list is of a format of the repository,
+-- the verb is one of lists of records, its version is in use, and an honest store holds the records that it was opened for, and its mark
+pub record IsContinuing {V : Type 0} (g : Ghosts V) (config : Config) (verb : ListVerb) (list : OpenList) (cursor : ℕ) (store : V) : Type 0 where
+  pub within : cursor < list.size
+  pub known : IsSome (format_named list.filter.prefix config.formats)
+  pub lists : is_of_records verb ≡ true
+  pub stands : IsSome (g.lists store list.version)
+  pub counted : IsTrue (g.honest store) → is_counted (g.lists store) list ≡ true
+  pub marked : IsTrue (g.honest store) → is_marked (g.lists store) list ≡ true
 
 -- ---- what a list request asks for
 

@@ -1,13 +1,12 @@
 //! Changes of a repository: deposits, deletions, purges and new sets.
-ghost use Rattle.std.specs.Prelude.{◌≡◌, ◌≤◌, ◌++◌, [], ◌∷◌, None, length, IfErr, IsSome, IsTrue, OnErr, OnOk};
+ghost use Rattle.std.specs.Prelude.{◌≡◌, ◌≤◌, ◌++◌, [], ◌∷◌, None, length, IfErr, OnErr, OnOk};
 ghost use Rattle.oai_item.specs.Item.{IsStamp};
 ghost use Rattle.oai_item.specs.declared.faults.Fault.TheVariants as fault;
 ghost use Rattle.oai_catalogue.specs.Calls.{Uses};
 ghost use Rattle.oai_repo.specs.Accepted.{KeepsChange};
 ghost use Rattle.oai_repo.specs.Calls.{fault_in, room_to_change};
 ghost use Rattle.oai_repo.specs.Changes.{set_refusal};
-ghost use Rattle.oai_repo.specs.Fields.{IsIndexed};
-ghost use Rattle.oai_repo.specs.Indexing.{IsDone, IsMadeIn, Moves};
+ghost use Rattle.oai_repo.specs.Indexing.{HoldsItems, IsDone, IsMadeIn, Moves};
 
 mod deletions;
 mod deposits;
@@ -45,9 +44,7 @@ pub(crate) fn make_change<V: Versions>(
     change: &Change,
 ) -> Result<(), Refusal>
     requires stamped { IsStamp context.now.stamp }
-    requires stands { IsSome (V.lists store.old index.old.version) }
-    requires indexed { IsTrue (V.honest store.old) → IsIndexed context.now.config.now index.old
-        sets.old (V.lists store.old) }
+    requires held { HoldsItems V.Versions context.now.config.now index.old sets.old store.old }
     ensures made { IsMadeIn (V.honest store.old) context.now.config.now context.now.stamp change.now
         result index.old sets.old (V.lists store.old) index.new sets.new (V.lists store.new) }
     ensures kept { OnOk result (KeepsChange context.now.config.now.deleted context.now.stamp

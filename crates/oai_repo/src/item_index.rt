@@ -16,7 +16,7 @@ ghost use Rattle.oai_repo.specs.Purges.{AreTaken, is_in_core};
 ghost use Rattle.oai_time.specs.Stamp.{IsWritable};
 ghost use Rattle.oai_item.specs.Item.{ItemState};
 ghost use Rattle.std.specs.List.{list_all};
-ghost use Rattle.oai_repo.specs.Entries.{ForgetsSome, SetsStamp, count_with, stamp_in};
+ghost use Rattle.oai_repo.specs.Entries.{Forgets, SetsStamp, count_with, stamp_in};
 ghost use Rattle.oai_repo.specs.Indexing.{IsMadeOn, Moves, StandsOn};
 
 use crate::changes::deleted_below;
@@ -272,8 +272,7 @@ impl ItemIndex {
             → list_all has_writable_stamp (stored_items self.old (V.lists store.old)) ≡ true }
         ensures made { OnOk result
             (IsMadeOn V.Versions (purged limit) self.old store.old self.new store.new) }
-        ensures forgotten { OnOk result (ForgetsSome self.old.entries self.new.entries) }
-        ensures fewer { OnOk result (length self.new.entries ≤ length self.old.entries) }
+        ensures forgotten { OnOk result (Forgets self.old.entries self.new.entries) }
         ensures moves { Moves V.Versions result self.old store.old self.new store.new }
         ensures store { Uses V.Versions (length self.old.entries + 1) result store.old store.new }
     {
@@ -291,8 +290,7 @@ impl ItemIndex {
         ensures version { self.new.version ≡ self.old.version }
         ensures agrees { (items : List ItemState) → IndexAgrees self.old.entries items
             → AreTaken gone.now items → IndexAgrees self.new.entries (without_each gone.now items) }
-        ensures forgotten { ForgetsSome self.old.entries self.new.entries }
-        ensures fewer { length self.new.entries ≤ length self.old.entries }
+        ensures forgotten { Forgets self.old.entries self.new.entries }
     {
         for deleted in gone {
             self.forget(deleted.identifier().as_str());

@@ -4,6 +4,7 @@ ghost use Rattle.std.specs.Prelude.{◌≡◌, ◌+◌, ◌<◌, ◌-ℤ◌, ◌
 ghost use Rattle.oai_time.specs.declared.text.TheConstants.{LAST_SECOND};
 ghost use Rattle.std.specs.List.{list_all};
 ghost use Rattle.oai_args.specs.Bounds.{given_bound};
+ghost use Rattle.oai_args.specs.Verbs.{is_of_records};
 ghost use Rattle.oai_answers.specs.Answers.{HasWritableEnd, HasWritableTimes};
 ghost use Rattle.oai_answers.specs.Borrowed.{body_answer, continuation_of, page_of};
 ghost use Rattle.oai_catalogue.specs.Calls.{Frees, OnlyReads, Uses};
@@ -14,7 +15,7 @@ ghost use Rattle.oai_repo.specs.Answers as spec;
 ghost use Rattle.oai_repo.specs.Fields.{AreInUse, open_lists_of, versions_in};
 ghost use Rattle.oai_repo.specs.Listing as listing;
 ghost use Rattle.oai_repo.specs.Tables.{dropped_at, has_end, version_ended, without_version};
-ghost use Rattle.oai_repo.specs.Views.{IsFilter, IsReady, IsViewReply, Leaves, first_items, view_list_response, view_new_list, view_selected, view_selection_response, view_wait};
+ghost use Rattle.oai_repo.specs.Views.{IsFilter, IsOfFormat, IsReady, IsViewReply, Leaves, first_items, view_list_response, view_new_list, view_selected, view_selection_response, view_wait};
 
 use crate::parts::mark_behind;
 use crate::responses::{Reply, make_reply, reply_with_error};
@@ -64,6 +65,7 @@ pub(crate) fn reply_with_list<V: Versions>(
     request: &ListRequest<'_>,
 ) -> Result<Reply, Fault>
     requires ready { IsReady V.Versions repo.now lists.old store.old }
+    requires lists { is_of_records request.now.verb ≡ true }
     ensures reply { IfOk result (λ reply. IsTrue (V.honest store.old)
         → IsViewReply repo.now
         (view_list_response repo.now lists.old (V.lists store.old) request.now)
@@ -96,7 +98,7 @@ fn reply_with_selection<V: Versions>(
     selection: Selection<'_>,
 ) -> Result<Reply, Fault>
     requires ready { IsReady V.Versions repo.now lists.old store.old }
-    requires prefix { selection.filter.prefix ≡ selection.format.now.prefix }
+    requires selection { IsOfFormat repo.now.config.now selection }
     ensures reply { IfOk result (λ reply. IsTrue (V.honest store.old)
         → IsViewReply repo.now
         (view_selection_response repo.now lists.old (V.lists store.old) selection.entry)
@@ -145,7 +147,7 @@ fn open_list<V: Versions>(
     first: Sequence<Item>,
 ) -> Result<Reply, Fault>
     requires ready { IsReady V.Versions repo.now lists.old store.old }
-    requires prefix { selection.filter.prefix ≡ selection.format.now.prefix }
+    requires selection { IsOfFormat repo.now.config.now selection }
     requires first { IsTrue (V.honest store.old)
         → first ≡ first_items repo.now (V.lists store.old) selection.filter }
     requires more { repo.now.config.now.chunk < length first }
@@ -175,7 +177,7 @@ fn start_list<V: Versions>(
     number: u64,
 ) -> Result<Reply, Fault>
     requires ready { IsReady V.Versions repo.now lists.old store.old }
-    requires prefix { selection.filter.prefix ≡ selection.format.now.prefix }
+    requires selection { IsOfFormat repo.now.config.now selection }
     requires first { IsTrue (V.honest store.old)
         → first ≡ first_items repo.now (V.lists store.old) selection.filter }
     requires more { repo.now.config.now.chunk < length first }
@@ -242,16 +244,17 @@ fn count_beyond<V: Versions>(
     Ok(size)
 }
 
-/// The answer with the items in the format, as the verb lists them.
+/// The answer with the items in the format, as the verb lists them. Lists of sets have a verb of their own.
 pub(crate) fn answer_by_verb<'a>(verb: ListVerb, format: &'a Format, list: Listed<'a>) -> Body<'a>
-    requires { HasWritableEnd (continuation_of list.resumption) }
+    requires end { HasWritableEnd (continuation_of list.resumption) }
+    requires lists { is_of_records verb ≡ true }
     ensures answer { body_answer result ≡ listing.answer_by_verb verb format.now (page_of list.entry) }
     ensures writable { HasWritableTimes (body_answer result) }
 {
     match verb {
         ListVerb::Identifiers => Body::ListIdentifiers(list),
         ListVerb::Records => Body::ListRecords(format, list),
-        ListVerb::Sets => Body::Error(ErrorCode::BadVerb),
+        ListVerb::Sets => unreachable!(),
     }
 }
 

@@ -160,7 +160,6 @@ impl Repo {
             (V.lists store.new)) }
         ensures clock { IsClockAt (fault_in result) moment self.old (V.lists store.old) self.new
             (V.lists store.new) }
-        ensures dropped { OnOk (fault_in result) (DropsEnded self.old self.new) }
         ensures keeps { Keeps (V.honest store.old) self.old (V.lists store.old) self.new
             (V.lists store.new) }
         ensures few { length self.old.index.entries ≤ self.old.config.items }

@@ -1,8 +1,8 @@
 //! The requests of OAI-PMH: each is read, and replied to by its verb.
-ghost use Rattle.std.specs.Prelude.{◌≡◌, IfOk, IsTrue};
+ghost use Rattle.std.specs.Prelude.{◌≡◌, true, IfOk, IsTrue};
 ghost use Rattle.oai_args.specs.Asks.{asks};
 ghost use Rattle.oai_args.specs.Pairs.{decoded_pairs};
-ghost use Rattle.oai_args.specs.Requests.{request_of};
+ghost use Rattle.oai_args.specs.Requests.{lists_records, request_of};
 ghost use Rattle.oai_answers.specs.Answers.{no_arguments};
 ghost use Rattle.oai_answers.specs.Borrowed.{attributes_of};
 ghost use Rattle.oai_catalogue.specs.Calls.{Uses};
@@ -56,6 +56,7 @@ fn reply_to<V: Versions>(
     ask: &Ask,
 ) -> Result<Reply, Fault>
     requires ready { IsReady V.Versions repo.now lists.old store.old }
+    requires lists { lists_records ask.now ≡ true }
     ensures reply { IfOk result (λ reply. IsTrue (V.honest store.old)
         → IsViewReply repo.now (view_ask_response repo.now lists.old (V.lists store.old) ask.now)
         reply lists.new (V.lists store.new)) }

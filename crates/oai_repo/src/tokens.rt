@@ -3,14 +3,15 @@ ghost use Rattle.std.specs.Prelude.{◌≡◌, ◌≢◌, ◌<◌, ◌≤◌, �
 ghost use Rattle.std.specs.Option.{option_map};
 ghost use Rattle.oai_time.specs.Stamp.{IsWritable};
 ghost use Rattle.oai_item.specs.Formats.{format_named};
+ghost use Rattle.oai_args.specs.Verbs.{is_of_records};
 ghost use Rattle.oai_catalogue.specs.Calls.{OnlyReads, Uses};
 ghost use Rattle.oai_lists.specs.OpenLists.{IsListTable, list_numbered, with_change};
 ghost use Rattle.oai_lists.specs.Tokens.{token_of};
 ghost use Rattle.oai_settings.specs.Config.{is_in_years};
-ghost use Rattle.oai_repo.specs.Fields.{frozen_in, is_counted, is_marked, is_place_in, items_frozen};
+ghost use Rattle.oai_repo.specs.Fields.{frozen_in, is_place_in, items_frozen};
 ghost use Rattle.oai_repo.specs.Listing as listing;
 ghost use Rattle.oai_repo.specs.Tables.{kept_open, table_continued};
-ghost use Rattle.oai_repo.specs.Views.{IsReady, IsViewReply, Leaves, document_reply, view_token_response};
+ghost use Rattle.oai_repo.specs.Views.{IsContinuing, IsReady, IsViewReply, Leaves, document_reply, view_token_response};
 
 use crate::lists::answer_by_verb;
 use crate::parts::{mark_behind, read_part};
@@ -157,12 +158,7 @@ fn reply_from<V: Versions>(
     cursor: u64,
 ) -> Result<AnsweredPart, Fault>
     requires dated { is_in_years repo.now.clock ≡ true }
-    requires within { cursor < list.now.size }
-    requires stands { IsSome (V.lists store.old list.now.version) }
-    requires counted { IsTrue (V.honest store.old) → is_counted (V.lists store.old) list.now
-        ≡ true }
-    requires marked { IsTrue (V.honest store.old) → is_marked (V.lists store.old) list.now
-        ≡ true }
+    requires list { IsContinuing V.Versions repo.now.config.now verb list.now cursor store.old }
     ensures reply { IfOk result (λ part. IsTrue (V.honest store.old) → part.reply
         ≡ document_reply repo.now (listing.part_answer verb
         (format_named list.now.filter.prefix repo.now.config.now.formats)
@@ -214,6 +210,8 @@ fn reply_with_items(
 ) -> Result<Reply, AllocError>
     requires dated { is_in_years repo.now.clock ≡ true }
     requires within { cursor + length items.now ≤ list.now.size }
+    requires known { IsSome (format_named list.now.filter.prefix repo.now.config.now.formats) }
+    requires lists { is_of_records verb ≡ true }
     ensures { IfOk result (λ reply. reply ≡ document_reply repo.now (listing.part_answer verb
         (format_named list.now.filter.prefix repo.now.config.now.formats) (record {
           items = items.now;
@@ -237,7 +235,7 @@ fn reply_with_items(
         .find_named(list.filter.prefix().as_str())
     {
         Some(format) => reply_with_part(repo, verb, format, items, part),
-        None => reply_with_error(repo, ErrorCode::CannotDisseminateFormat),
+        None => unreachable!(),
     }
 }
 
@@ -253,6 +251,7 @@ pub(crate) fn reply_with_part(
     requires dated { is_in_years repo.now.clock ≡ true }
     requires end { IsWritable part.end }
     requires within { part.extent.cursor + length items.now ≤ part.extent.size }
+    requires lists { is_of_records verb ≡ true }
     ensures { IfOk result (λ reply. reply ≡ document_reply repo.now
         (listing.answer_by_verb verb format.now (record {
           items = items.now;

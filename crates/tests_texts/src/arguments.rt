@@ -3,7 +3,7 @@
 use crate::assertions::{assert_same, assert_same_at, assert_shown};
 use oai_args::{ArgFault, Ask, BoundText, read_request};
 use oai_names::{ListVerb, Text};
-use oai_time::Granularity;
+use oai_time::{Bound, Granularity};
 use std::alloc::Global;
 use std::panic::Expect;
 use std::process::Abort;
@@ -191,6 +191,25 @@ fn bounds_of_one_day_make_a_list(rt: HostRuntime) {
     let wanted = "ListRecords [oai_dc] [2024-01-01] [2024-01-01] -";
     assert_answer(&rt, rt.alloc(), query, Granularity::Second, wanted);
     assert_answer(&rt, rt.alloc(), query, Granularity::Day, wanted);
+}
+
+/// The bound beside the argument `from` of a list.
+fn from_in(ask: &Ask) -> Option<Bound> {
+    match ask {
+        Ask::List {
+            from: Some(from),
+            ..
+        } => Some(from.bound()),
+        _ => None,
+    }
+}
+
+/// 2024-01-01 begins 1,704,067,200 seconds after 1970.
+#[test]
+fn bound_stands_beside_its_text(rt: HostRuntime) {
+    let query = request_of_one_day().as_bytes();
+    let ask = read_request(rt.alloc(), query, Granularity::Day).expect(&rt, "read_request");
+    assert!(rt; from_in(&ask) == Some(Bound::Day(1_704_067_200)));
 }
 
 /// The front, letters up to so many bytes in all, and the back.

@@ -1,5 +1,5 @@
 //! What a deletion makes of a repository's items, or why it is refused.
-ghost use Rattle.std.specs.Prelude.{◌≡◌, ◌≤◌, true, length, not, Some, IsSome, IsTrue, OnOk};
+ghost use Rattle.std.specs.Prelude.{◌≡◌, ◌≤◌, true, length, not, None, Some, IsTrue, OnOk};
 ghost use Rattle.std.specs.List.{list_all};
 ghost use Rattle.oai_item.specs.Item.{IsStamp, tombstone_of};
 ghost use Rattle.oai_item.specs.Items.{item_named};
@@ -7,9 +7,9 @@ ghost use Rattle.oai_catalogue.specs.Calls.{Uses};
 ghost use Rattle.oai_repo.specs.Accepted.{stamp_after_deletion};
 ghost use Rattle.oai_repo.specs.Calls.{fault_in};
 ghost use Rattle.oai_repo.specs.Changes.{after_deletion, dead_refusal, missing_refusal, with_new};
-ghost use Rattle.oai_repo.specs.Entries.{SetsStamp, stamp_in};
+ghost use Rattle.oai_repo.specs.Entries.{Restamps, SetsStamp};
 ghost use Rattle.oai_repo.specs.Fields.{stored_items};
-ghost use Rattle.oai_repo.specs.Indexing.{IsDoneOn, IsMadeOn, Moves, StandsOn};
+ghost use Rattle.oai_repo.specs.Indexing.{HoldsItem, IsDoneOn, IsMadeOn, Moves, StandsOn};
 ghost use Rattle.oai_repo.specs.Kept.{is_too_large};
 
 use crate::changes::ChangeContext;
@@ -36,10 +36,9 @@ pub(crate) fn delete<V: Versions>(
         IsDoneOn V.Versions (missing_refusal found) (dead_refusal found)
         (after_deletion context.now.config.now.deleted context.now.stamp identifier.now items)
         result index.old store.old index.new store.new }
-    ensures there { OnOk result (IsSome (stamp_in identifier.now index.old.entries)) }
-    ensures stamped { OnOk result (SetsStamp identifier.now (stamp_after_deletion context.now.config.now.deleted context.now.stamp)
+    ensures entries { OnOk result (Restamps identifier.now
+        (stamp_after_deletion context.now.config.now.deleted context.now.stamp)
         index.old.entries index.new.entries) }
-    ensures fewer { OnOk result (length index.new.entries ≤ length index.old.entries) }
     ensures moves { Moves V.Versions result index.old store.old index.new store.new }
     ensures store { Uses V.Versions 1 (fault_in result) store.old store.new }
 {
@@ -58,10 +57,7 @@ fn delete_item<V: Versions>(
 ) -> Result<(), Refusal>
     requires stamped { IsStamp context.now.stamp }
     requires stands { StandsOn V.Versions index.old store.old }
-    requires indexed { IsSome (stamp_in item.now.identifier index.old.entries) }
-    requires small { IsTrue (V.honest store.old) → not (is_too_large item.now) ≡ true }
-    requires there { IsTrue (V.honest store.old) → item_named item.now.identifier
-        (stored_items index.old (V.lists store.old)) ≡ Some item.now }
+    requires held { HoldsItem V.Versions index.old item.now store.old }
     ensures done { let items = stored_items index.old (V.lists store.old) in
         IsDoneOn V.Versions None (dead_refusal (Some item.now))
         (after_deletion context.now.config.now.deleted context.now.stamp item.now.identifier items)
@@ -88,10 +84,7 @@ fn take_out<V: Versions>(
 ) -> Result<(), Fault>
     requires stamped { IsStamp context.now.stamp }
     requires stands { StandsOn V.Versions index.old store.old }
-    requires indexed { IsSome (stamp_in item.now.identifier index.old.entries) }
-    requires small { IsTrue (V.honest store.old) → not (is_too_large item.now) ≡ true }
-    requires there { IsTrue (V.honest store.old) → item_named item.now.identifier
-        (stored_items index.old (V.lists store.old)) ≡ Some item.now }
+    requires held { HoldsItem V.Versions index.old item.now store.old }
     ensures made { OnOk result (IsMadeOn V.Versions
         (after_deletion context.now.config.now.deleted context.now.stamp item.now.identifier) index.old store.old index.new store.new) }
     ensures stamped { OnOk result (SetsStamp item.now.identifier (stamp_after_deletion context.now.config.now.deleted context.now.stamp)
@@ -116,10 +109,7 @@ fn replace_with_tombstone<V: Versions>(
 ) -> Result<(), Fault>
     requires stamped { IsStamp context.now.stamp }
     requires stands { StandsOn V.Versions index.old store.old }
-    requires indexed { IsSome (stamp_in item.now.identifier index.old.entries) }
-    requires small { IsTrue (V.honest store.old) → not (is_too_large item.now) ≡ true }
-    requires there { IsTrue (V.honest store.old) → item_named item.now.identifier
-        (stored_items index.old (V.lists store.old)) ≡ Some item.now }
+    requires held { HoldsItem V.Versions index.old item.now store.old }
     ensures made { OnOk result (IsMadeOn V.Versions
         (with_new (tombstone_of context.now.stamp item.now)) index.old store.old index.new store.new) }
     ensures stamped { OnOk result (SetsStamp item.now.identifier (Some context.now.stamp) index.old.entries

@@ -11,7 +11,7 @@ ghost use Rattle.oai_catalogue.specs.Store.{list_at};
 ghost use Rattle.oai_repo.specs.Calls.{fault_in};
 ghost use Rattle.oai_repo.specs.Changes as spec;
 ghost use Rattle.oai_repo.specs.Fields.{has_writable_stamp, stored_items};
-ghost use Rattle.oai_repo.specs.Entries.{ForgetsSome};
+ghost use Rattle.oai_repo.specs.Entries.{Forgets};
 ghost use Rattle.oai_repo.specs.Purges.{below, is_deleted, is_in_core};
 ghost use Rattle.oai_repo.specs.Indexing.{IsDoneOn, Moves, StandsOn};
 
@@ -44,8 +44,7 @@ pub(crate) fn purge<V: Versions>(
         IsDoneOn V.Versions (spec.purge_refusal context.now.config.now before.now) None
         (spec.after_purge (spec.limit_of context.now.config.now.granularity before.now) items)
         result index.old store.old index.new store.new }
-    ensures forgotten { OnOk result (ForgetsSome index.old.entries index.new.entries) }
-    ensures fewer { OnOk result (length index.new.entries ≤ length index.old.entries) }
+    ensures forgotten { OnOk result (Forgets index.old.entries index.new.entries) }
     ensures moves { Moves V.Versions result index.old store.old index.new store.new }
     ensures store { Uses V.Versions (length index.old.entries + 1) (fault_in result) store.old store.new }
 {

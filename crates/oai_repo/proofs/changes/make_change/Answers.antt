@@ -1,5 +1,5 @@
 -- What was done to the part is what is made of the whole.
-use Rattle.std.proofs.Common.{IsTrue, ◌≡◌, ◌&&◌, Bool, true, false, refl, not}
+use Rattle.std.proofs.Common.{IsTrue, ◌≡◌, ◌&&◌, Bool, true, false, arith, refl, not}
 use Rattle.std.proofs.lemmas.Bool.{and_parts}
 use Rattle.oai_item.specs.Item.{ItemState}
 use Rattle.oai_names.proofs.Lists.{all-weaker}
@@ -8,13 +8,13 @@ use Rattle.oai_repo.specs.Kept.{is_too_large, is_well_kept}
 use Rattle.oai_repo.specs.Purges.{is_in_core}
 use Rattle.oai_repo.specs.Indexing.{MakesChange}
 use Rattle.oai_repo.proofs.ChangeLemmas.{dated-made, deletion_done, deposit_done, kept-made, purge_done, set_done}
-use Rattle.oai_repo.proofs.IndexLemmas.{on_both, on_ok}
+use Rattle.oai_repo.proofs.IndexLemmas.{on_ok}
 use Rattle.oai_repo.proofs.changes.make_change.Goals as goal
 
 pub delete-requires-clause-small : goal.delete-requires-clause-small
 delete-requires-clause-small g c = λ honest.
     all-weaker (is_well_kept c.args.context.now.config.now c.args.sets.now) (λ (item : ItemState). not (is_too_large item)) (λ item well. (and_parts _ (not (is_too_large item)) well).1)
-    (stored_items c.args.index.now (g.V.Versions.lists c.args.store.now)) (c.requires.indexed honest).kept.well
+    (stored_items c.args.index.now (g.V.Versions.lists c.args.store.now)) (c.requires.held.indexed honest).kept.well
 
 pub returns-in-Deposit-clause-made : goal.returns-in-Deposit-clause-made
 returns-in-Deposit-clause-made g c =
@@ -25,8 +25,8 @@ returns-in-Deposit-clause-made g c =
       made = made;
       indexed = λ honest. record {
         agrees = c.put_deposit.ensures.done.agrees honest;
-        kept = kept-made _ _ _ _ _ _ (made honest) (c.requires.indexed honest).kept;
-        dated = dated-made _ _ _ _ _ _ (made honest) c.requires.stamped (c.requires.indexed honest).dated;
+        kept = kept-made _ _ _ _ _ _ (made honest) (c.requires.held.indexed honest).kept;
+        dated = dated-made _ _ _ _ _ _ (made honest) c.requires.stamped (c.requires.held.indexed honest).dated;
       };
     }
 
@@ -39,15 +39,15 @@ returns-in-Delete-clause-made g c =
       made = made;
       indexed = λ honest. record {
         agrees = c.delete.ensures.done.agrees honest;
-        kept = kept-made _ _ _ _ _ _ (made honest) (c.requires.indexed honest).kept;
-        dated = dated-made _ _ _ _ _ _ (made honest) c.requires.stamped (c.requires.indexed honest).dated;
+        kept = kept-made _ _ _ _ _ _ (made honest) (c.requires.held.indexed honest).kept;
+        dated = dated-made _ _ _ _ _ _ (made honest) c.requires.stamped (c.requires.held.indexed honest).dated;
       };
     }
 
 pub purge-requires-clause-core : goal.purge-requires-clause-core
 purge-requires-clause-core g c = λ honest.
     all-weaker (is_well_kept c.args.context.now.config.now c.args.sets.now) is_in_core (λ item well. core_of (is_in_core item) _ _ _ _ well)
-    (stored_items c.args.index.now (g.V.Versions.lists c.args.store.now)) (c.requires.indexed honest).kept.well
+    (stored_items c.args.index.now (g.V.Versions.lists c.args.store.now)) (c.requires.held.indexed honest).kept.well
   where
     core_of : (a b c d e : Bool) → (a && b && c && d && e) ≡ true → a ≡ true
     core_of true b c d e h = refl
@@ -62,8 +62,8 @@ returns-in-Purge-clause-made g c =
       made = made;
       indexed = λ honest. record {
         agrees = c.purge.ensures.done.agrees honest;
-        kept = kept-made _ _ _ _ _ _ (made honest) (c.requires.indexed honest).kept;
-        dated = dated-made _ _ _ _ _ _ (made honest) c.requires.stamped (c.requires.indexed honest).dated;
+        kept = kept-made _ _ _ _ _ _ (made honest) (c.requires.held.indexed honest).kept;
+        dated = dated-made _ _ _ _ _ _ (made honest) c.requires.stamped (c.requires.held.indexed honest).dated;
       };
     }
 
@@ -75,9 +75,9 @@ returns-in-AddSet-clause-made g c =
     record {
       made = made;
       indexed = λ honest. record {
-        agrees = (c.requires.indexed honest).agrees;
-        kept = kept-made _ _ _ _ _ _ (made honest) (c.requires.indexed honest).kept;
-        dated = dated-made _ _ _ _ _ _ (made honest) c.requires.stamped (c.requires.indexed honest).dated;
+        agrees = (c.requires.held.indexed honest).agrees;
+        kept = kept-made _ _ _ _ _ _ (made honest) (c.requires.held.indexed honest).kept;
+        dated = dated-made _ _ _ _ _ _ (made honest) c.requires.stamped (c.requires.held.indexed honest).dated;
       };
     }
 
@@ -86,10 +86,16 @@ returns-in-Deposit-clause-kept g c = rw c.in-Deposit.is (on_ok c.put_deposit.res
 
 pub returns-in-Delete-clause-kept : goal.returns-in-Delete-clause-kept
 returns-in-Delete-clause-kept g c =
-    rw c.in-Delete.is (on_ok c.delete.result _ _ (λ both. record { entries = both; sets = refl }) (on_both _ _ _ c.delete.ensures.there c.delete.ensures.stamped))
+    rw c.in-Delete.is (on_ok c.delete.result _ _ (λ made. record { entries = (made.there, made.stamped); sets = refl }) c.delete.ensures.entries)
 
 pub returns-in-Purge-clause-kept : goal.returns-in-Purge-clause-kept
-returns-in-Purge-clause-kept g c = rw c.in-Purge.is (on_ok c.purge.result _ _ (λ forgotten. record { entries = forgotten; sets = refl }) c.purge.ensures.forgotten)
+returns-in-Purge-clause-kept g c = rw c.in-Purge.is (on_ok c.purge.result _ _ (λ forgotten. record { entries = forgotten.some; sets = refl }) c.purge.ensures.forgotten)
 
 pub returns-in-AddSet-clause-kept : goal.returns-in-AddSet-clause-kept
 returns-in-AddSet-clause-kept g c = rw c.in-AddSet.is (on_ok c.add_set.result _ _ (λ added. record { entries = refl; sets = added }) (rw c.as_str-in-AddSet.ensures at c.add_set.ensures.added))
+
+pub returns-in-Delete-clause-few : goal.returns-in-Delete-clause-few
+returns-in-Delete-clause-few g c = on_ok c.delete.result _ _ (λ made few. omega (arith, made.fewer, few)) c.delete.ensures.entries
+
+pub returns-in-Purge-clause-few : goal.returns-in-Purge-clause-few
+returns-in-Purge-clause-few g c = on_ok c.purge.result _ _ (λ made few. omega (arith, made.fewer, few)) c.purge.ensures.forgotten

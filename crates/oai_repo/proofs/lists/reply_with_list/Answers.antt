@@ -1,11 +1,24 @@
 -- What is selected in the format that was found; a set that is not found selects nothing.
-use Rattle.std.proofs.Common.{◌∙◌, ℕ, List, refl, sym, ap}
+use Rattle.std.proofs.Common.{◌≡◌, ◌∙◌, ℕ, List, is_some, refl, sym, ap}
+use Rattle.oai_item.specs.Formats.{format_named}
+use Rattle.oai_item.specs.Selection.{Filter}
 use Rattle.std.specs.Option.{option_copied}
 use Rattle.oai_answers.specs.Borrowed.{attributes_of}
 use Rattle.oai_repo.specs.Answers.{filter_of}
 use Rattle.oai_repo.specs.declared.lists.Selection.{Selection}
 use Rattle.oai_repo.proofs.ListReplyLemmas.{reply_as, response_selected, response_unknown_set}
 use Rattle.oai_repo.proofs.lists.reply_with_list.Goals as goal
+
+pub reply_with_selection-requires-clause-selection : goal.reply_with_selection-requires-clause-selection
+reply_with_selection-requires-clause-selection g c =
+    let formats = c.args.repo.now.config.now.formats in
+    let known = rw c.formats.ensures at (sym c.find_named.ensures.found ∙ ap option_copied c.in-Some.is) in
+    let prefix : c.in-Some-2.filter.prefix ≡ c.in-Some.format.now.prefix = ap (λ (f : Filter). f.prefix) (rw c.in-Some-2.is at c.in_ok-filter.ensures) in
+    record {
+      prefix = prefix;
+      known = ap (λ (p : List ℕ). is_some (format_named p formats)) (prefix ∙ c.in-Some.ensures.prefix) ∙ ap is_some known;
+      lists = c.requires.lists;
+    }
 
 pub returns-clause-reply : goal.returns-clause-reply
 returns-clause-reply g c =

@@ -59,7 +59,7 @@ returns-in-Ok-clause-reply g c = λ honest.
     let open_lists = open_lists_opened repo.clock v table all (with_mark c.mark_behind-mark.result entry) items c.requires.ready.stands unused c.end.ensures.later in
     let made : List ℕ → ℤ → ℕ → FrozenList = λ prefix end given. record { number = table.next; verb = selection.verb; prefix = prefix; items = selected selection.filter items; end = end; given = given } in
     let same : made selection.filter.prefix c.end.result c.chunk-3.result ≡ list =
-    ap (λ p. made p c.end.result c.chunk-3.result) c.requires.prefix
+    ap (λ p. made p c.end.result c.chunk-3.result) c.requires.selection.prefix
     ∙ ap (λ e. made selection.format.now.prefix e c.chunk-3.result) c.end.ensures.end
     ∙ ap (made selection.format.now.prefix (list.end)) c.chunk-3.ensures.chunk
     in
@@ -88,7 +88,7 @@ returns-in-Ok-clause-left g c =
     let marked = opened_marked c.args.number table c.open.new.self c.set_mark.new.self entry mark c.in-Ok.ensures.valid number refl opened.2 c.set_mark.ensures in
     let behind = rw (c.as_slice-2.ensures, c.chunk.ensures.chunk, c.chunk-2.ensures.chunk) at c.mark_behind-mark.ensures in
     record {
-      left = rw (marked, frozen) (left_opened config repo.clock v table all (with_mark mark entry) (list_at all v) c.requires.ready.kept c.requires.ready.stands unused c.end.ensures.last refl (room_for_one table repo.clock opened.0));
+      left = rw (marked, frozen) (left_opened config repo.clock v table all (with_mark mark entry) (list_at all v) c.requires.ready.kept c.requires.ready.stands unused c.end.ensures.last c.requires.selection.known refl (room_for_one table repo.clock opened.0));
       agrees = λ honest.
           rw (marked, frozen)
           (table_agrees_opened v table all (with_mark mark entry) (list_at all v) c.requires.ready.stands unused (c.in_ok-size.ensures.size honest)

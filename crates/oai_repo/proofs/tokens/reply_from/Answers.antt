@@ -17,7 +17,7 @@ returns-clause-reply g c = λ honest.
     let config = repo.config.now in
     let all = g.V.Versions.lists c.args.store.now in
     let list : FrozenList = prolonged config repo.clock (frozen_in all c.args.list.now) in
-    let size = eqb-true c.args.list.now.size (length (frozen_in all c.args.list.now).items) (c.requires.counted honest) in
+    let size = eqb-true c.args.list.now.size (length (frozen_in all c.args.list.now).items) (c.requires.list.counted honest) in
     let items = rw c.chunk.ensures.chunk at (c.in_ok-items.ensures.items honest) in
     let page = part_is config list c.in_ok-items.items c.args.list.now.number c.args.list.now.size c.args.cursor (repo.clock +ℤ pos config.lifetime) refl size refl items in
     (rw c.as_slice-2.ensures at c.in_ok-reply.ensures) ∙ ap (λ (p : Page). document_reply repo (part_answer c.args.verb (format_named c.args.list.now.filter.prefix config.formats) p)) page
@@ -27,7 +27,7 @@ returns-clause-next g c = λ honest.
     let config = c.args.repo.now.config.now in
     let all = g.V.Versions.lists c.args.store.now in
     let list : FrozenList = frozen_in all c.args.list.now in
-    let size = eqb-true c.args.list.now.size (length list.items) (c.requires.counted honest) in
+    let size = eqb-true c.args.list.now.size (length list.items) (c.requires.list.counted honest) in
     let items = rw c.chunk.ensures.chunk at (c.in_ok-items.ensures.items honest) in
     (rw (c.end_of_part-next.ensures, c.as_slice.ensures) at c.cursor_behind.ensures)
     ∙ ap (λ (n : ℕ). cursor_behind n (c.args.cursor + length c.in_ok-items.items)) size

@@ -6,43 +6,35 @@ use Rattle.oai_answers.specs.Borrowed.{attributes_of}
 use Rattle.oai_lists.specs.Tokens.{token_of}
 use Rattle.oai_repo.specs.Fields.{has, is_counted, is_marked, open_lists_of, versions_in}
 use Rattle.oai_repo.specs.Listing.{with_carried_on}
+use Rattle.oai_repo.specs.Tables.{is_of_format}
 use Rattle.oai_repo.proofs.OpenListLemmas.{all_true, open_lists_kept, table_agrees_kept, left_kept, numbered_there, open_parts}
 use Rattle.oai_repo.proofs.ClockLemmas.{years_fit}
 use Rattle.oai_repo.proofs.NumberLemmas.{some_true, used_at}
-use Rattle.oai_repo.proofs.TokenLemmas.{goes_on, stops, token_found, valid_within}
+use Rattle.oai_repo.proofs.TokenLemmas.{goes_on, records_continued, stops, token_found, valid_within}
 use Rattle.oai_repo.proofs.ListReplyLemmas.{reply_as}
 use Rattle.oai_repo.proofs.tokens.reply_with_next_part.Goals as goal
 
-pub reply_from-requires-clause-within : goal.reply_from-requires-clause-within
-reply_from-requires-clause-within g c =
+-- of the list that was found, what is true of each
+pub reply_from-requires-clause-list : goal.reply_from-requires-clause-list
+reply_from-requires-clause-list g c =
     let fits_now : FitsSigned w64 c.args.repo.now.clock = years_fit c.args.repo.now.clock c.requires.ready.dated in
-    let list = c.in-Some.list.now in
-    let found = token_found c.args.repo.now.clock c.chunk_of-chunk.result c.args.verb c.args.lists.now.lists (token_of c.args.token.now) list c.in-Some.cursor (simp to_z-of_z at c.in-Some.ensures.found) in
-    ltb-true c.in-Some.cursor list.size (valid_within c.chunk_of-chunk.result list.size list.given c.in-Some.cursor found.2.valid)
-
-pub reply_from-requires-clause-stands : goal.reply_from-requires-clause-stands
-reply_from-requires-clause-stands g c =
-    let fits_now : FitsSigned w64 c.args.repo.now.clock = years_fit c.args.repo.now.clock c.requires.ready.dated in
-    let lists = c.args.lists.now.lists in
+    let now = c.args.repo.now.clock in
+    let config = c.args.repo.now.config.now in
+    let table = c.args.lists.now in
     let all = g.V.Versions.lists c.args.store.now in
     let v = c.args.repo.now.index.now.version in
-    let found = token_found c.args.repo.now.clock c.chunk_of-chunk.result c.args.verb c.args.lists.now.lists (token_of c.args.token.now) c.in-Some.list.now c.in-Some.cursor (simp to_z-of_z at c.in-Some.ensures.found) in
-    let parts = open_parts found.0.list c.args.repo.now.clock (λ _. true) lists c.in-Some.list.now found.2.there (all_true lists) in
-    some_true _ (used_at (v ∷ versions_in c.args.lists.now) all c.in-Some.list.now.version c.requires.ready.stands.used (or_right (eqb v c.in-Some.list.now.version) (has (versions_in c.args.lists.now) c.in-Some.list.now.version) parts.3))
-
-pub reply_from-requires-clause-counted : goal.reply_from-requires-clause-counted
-reply_from-requires-clause-counted g c = λ honest.
-    let fits_now : FitsSigned w64 c.args.repo.now.clock = years_fit c.args.repo.now.clock c.requires.ready.dated in
-    let all = g.V.Versions.lists c.args.store.now in
-    let found = token_found c.args.repo.now.clock c.chunk_of-chunk.result c.args.verb c.args.lists.now.lists (token_of c.args.token.now) c.in-Some.list.now c.in-Some.cursor (simp to_z-of_z at c.in-Some.ensures.found) in
-    (open_parts found.0.list c.args.repo.now.clock (is_counted all) c.args.lists.now.lists c.in-Some.list.now found.2.there (c.requires.ready.agrees honest).counted).2
-
-pub reply_from-requires-clause-marked : goal.reply_from-requires-clause-marked
-reply_from-requires-clause-marked g c = λ honest.
-    let fits_now : FitsSigned w64 c.args.repo.now.clock = years_fit c.args.repo.now.clock c.requires.ready.dated in
-    let all = g.V.Versions.lists c.args.store.now in
-    let found = token_found c.args.repo.now.clock c.chunk_of-chunk.result c.args.verb c.args.lists.now.lists (token_of c.args.token.now) c.in-Some.list.now c.in-Some.cursor (simp to_z-of_z at c.in-Some.ensures.found) in
-    (open_parts found.0.list c.args.repo.now.clock (is_marked all) c.args.lists.now.lists c.in-Some.list.now found.2.there (c.requires.ready.agrees honest).marked).2
+    let list = c.in-Some.list.now in
+    let found = token_found now c.chunk_of-chunk.result c.args.verb table.lists (token_of c.args.token.now) list c.in-Some.cursor (simp to_z-of_z at c.in-Some.ensures.found) in
+    let there = found.2.there in
+    let numbered = open_parts found.0.list now (λ _. true) table.lists list there (all_true table.lists) in
+    record {
+      within = ltb-true c.in-Some.cursor list.size (valid_within c.chunk_of-chunk.result list.size list.given c.in-Some.cursor found.2.valid);
+      known = (open_parts found.0.list now (is_of_format config) table.lists list there c.requires.ready.kept.known).2;
+      lists = records_continued list.verb c.args.verb found.2.right;
+      stands = some_true _ (used_at (v ∷ versions_in table) all list.version c.requires.ready.stands.used (or_right (eqb v list.version) (has (versions_in table) list.version) numbered.3));
+      counted = λ honest. (open_parts found.0.list now (is_counted all) table.lists list there (c.requires.ready.agrees honest).counted).2;
+      marked = λ honest. (open_parts found.0.list now (is_marked all) table.lists list there (c.requires.ready.agrees honest).marked).2;
+    }
 
 pub carry_on-requires : goal.carry_on-requires
 carry_on-requires g c =

@@ -1,23 +1,26 @@
 -- The item that is found is the one of its identifier, and it can be stored.
-use Rattle.std.proofs.Common.{◌≡◌, ◌∙◌, Bool, not, Some, IsTrue, sym, subst}
+use Rattle.std.proofs.Common.{◌≡◌, ◌∙◌, Bool, not, Some, is_some, IsTrue, ap, sym, subst}
 use Rattle.oai_item.specs.Item.{ItemState}
 use Rattle.oai_item.specs.Items.{item_named}
 use Rattle.oai_item.proofs.Named.{of_found}
 use Rattle.oai_repo.specs.Fields.{stored_items}
 use Rattle.oai_repo.specs.Kept.{is_too_large}
-use Rattle.oai_repo.proofs.IndexLemmas.{named_own}
+use Rattle.oai_repo.proofs.IndexLemmas.{named_own, restamped}
 use Rattle.oai_repo.proofs.changes.deletions.delete.Goals as goal
 
-pub delete_item-requires-clause-small : goal.delete_item-requires-clause-small
-delete_item-requires-clause-small g c = λ honest.
-    let was : IsTrue (g.V.Versions.honest c.args.store.now) = subst (λ (b : Bool). IsTrue b) c.find.ensures.reads.store.honesty.same honest in
+pub delete_item-requires-clause-held : goal.delete_item-requires-clause-held
+delete_item-requires-clause-held g c =
     let items = stored_items c.args.index.now (g.V.Versions.lists c.args.store.now) in
-    let here : item_named c.args.identifier.now items ≡ Some c.in-Some.item = sym (c.in_ok-item.ensures.found was) ∙ c.in-Some.is in
-    of_found (λ (item : ItemState). not (is_too_large item)) c.args.identifier.now items c.in-Some.item here (c.requires.small was)
+    let was : IsTrue (g.V.Versions.honest c.find.new.store) → IsTrue (g.V.Versions.honest c.args.store.now) = subst (λ (b : Bool). IsTrue b) c.find.ensures.reads.store.honesty.same in
+    let here : IsTrue (g.V.Versions.honest c.args.store.now) → item_named c.args.identifier.now items ≡ Some c.in-Some.item = λ honest. sym (c.in_ok-item.ensures.found honest) ∙ c.in-Some.is in
+    let named = rw c.in-Some.is at c.in_ok-item.ensures.named in
+    record {
+      entered = rw named (c.in_ok-item.ensures.there (ap is_some c.in-Some.is));
+      small = λ honest. of_found (λ (item : ItemState). not (is_too_large item)) c.args.identifier.now items c.in-Some.item (here (was honest)) (c.requires.small (was honest));
+      there = λ honest. rw c.find.ensures.reads.same (named_own c.args.identifier.now items c.in-Some.item (here (was honest)));
+    }
 
-pub delete_item-requires-clause-there : goal.delete_item-requires-clause-there
-delete_item-requires-clause-there g c = λ honest.
-    let was : IsTrue (g.V.Versions.honest c.args.store.now) = subst (λ (b : Bool). IsTrue b) c.find.ensures.reads.store.honesty.same honest in
-    let items = stored_items c.args.index.now (g.V.Versions.lists c.args.store.now) in
-    let here : item_named c.args.identifier.now items ≡ Some c.in-Some.item = sym (c.in_ok-item.ensures.found was) ∙ c.in-Some.is in
-    rw c.find.ensures.reads.same (named_own c.args.identifier.now items c.in-Some.item here)
+pub returns-clause-entries : goal.returns-clause-entries
+returns-clause-entries g c =
+    let named = rw c.in-Some.is at c.in_ok-item.ensures.named in
+    restamped c.delete_item.result c.args.identifier.now _ _ _ (c.in_ok-item.ensures.there (ap is_some c.in-Some.is)) (rw named at c.delete_item.ensures.stamped) c.delete_item.ensures.fewer

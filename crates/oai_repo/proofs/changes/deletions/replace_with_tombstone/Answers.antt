@@ -14,7 +14,7 @@ returns-then-is_err-clause-store g c = record {
     same = refl;
     damaged = λ e. false_from_ne_true _ (λ honest.
         let fits : FitsSigned w64 c.args.context.now.stamp = stamp_fits c.args.context.now.stamp c.requires.stamped in
-        tombstone_fits c.args.context.now.stamp c.args.item.now c.in_ok-left.left c.encoded_len.result (simp to_z-of_z at c.in_ok-left.ensures) (c.requires.small honest) c.encoded_len.ensures
+        tombstone_fits c.args.context.now.stamp c.args.item.now c.in_ok-left.left c.encoded_len.result (simp to_z-of_z at c.in_ok-left.ensures) (c.requires.held.small honest) c.encoded_len.ensures
         (sym c.is_err.ensures.value ∙ c.if-is_err.true));
   };
 }

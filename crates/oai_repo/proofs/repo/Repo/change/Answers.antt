@@ -1,5 +1,7 @@
 -- Each way out gives the case of the machine, over the fields that the repository is opened to, and leaves the lists of others.
-use Rattle.std.proofs.Common.{◌≡◌, ◌∙◌, ℤ, ◌∷◌, Bool, ap, refl, rules, sym, subst, Ok, Err, FitsSigned, w64, IsTrue}
+use Rattle.std.proofs.Common.{◌≡◌, ◌∙◌, ℕ, ℤ, is_some, ◌∷◌, Bool, ap, refl, rules, sym, subst, Ok, Err, FitsSigned, w64, IsTrue}
+use Rattle.std.specs.List.{list_all}
+use Rattle.std.proofs.lemmas.Bool.{and_parts}
 use Rattle.std.proofs.lemmas.Int.{to_z-of_z}
 use Rattle.oai_item.specs.Refusals.{in_repository}
 use Rattle.oai_time.specs.Clock.{tick}
@@ -15,6 +17,16 @@ use Rattle.oai_repo.proofs.MoveLemmas.{state_moved}
 use Rattle.oai_repo.proofs.NumberLemmas.{in_use_moved, kept_moved, kept_twice, moved_others}
 use Rattle.oai_repo.proofs.StepLemmas.{at_later, step-made, step-refused}
 use Rattle.oai_repo.proofs.repo.Repo.change.Goals as goal
+
+pub make_change-made-requires-clause-held : goal.make_change-made-requires-clause-held
+make_change-made-requires-clause-held g c =
+    let inside = c.self.inside in
+    let owns = rw (← c.self.view_is) at c.requires in
+    let all = g.V.Versions.lists c.args.store.now in
+    record {
+      stands = (and_parts (is_some (all inside.index.version)) (list_all (λ (v : ℕ). is_some (all v)) (versions_in inside.lists)) owns.stands.used).0;
+      indexed = λ honest. (owns.held honest).indexed;
+    }
 
 pub move_to-requires-clause-dated : goal.move_to-requires-clause-dated
 move_to-requires-clause-dated g c =
@@ -136,6 +148,7 @@ returns-in-Err-Refused-clause-refused g c =
       state = c.move_to-in-Err-Refused.ensures.moved
           ∙ state_moved inside.config inside.clock now (tick inside.clock c.args.moment) inside.index after.index inside.sets after.sets inside.lists before between moved same_index same_sets same_lists;
       index = c.move_to-in-Err-Refused.ensures.index ∙ same_index;
+      dropped = record { table = c.move_to-in-Err-Refused.ensures.dropped.table; few = c.move_to-in-Err-Refused.ensures.dropped.few };
     })
 
 pub returns-in-Ok-clause-keeps : goal.returns-in-Ok-clause-keeps
@@ -215,10 +228,5 @@ returns-in-Ok-clause-accepted g c =
       stamped = rw (c.move_to.ensures.keeps.config, clock) stamped;
       kept = record { entries = rw (← ap (λ (s : ItemIndex). s.entries) c.move_to.ensures.index) at kept.entries; sets = ap (λ (s : RepoState). s.holdings.sets) c.move_to.ensures.moved ∙ kept.sets };
       open_lists = ap (λ (s : RepoState). s.open_lists) c.move_to.ensures.moved ∙ ap (still_open c.tick.new.self) same_open ∙ ap (λ (clock : ℤ). still_open clock (open_lists_of inside.clock inside.lists before)) moved;
+      dropped = record { table = c.move_to.ensures.dropped.table; few = c.move_to.ensures.dropped.few };
     }))
-
-pub returns-in-Ok-clause-dropped : goal.returns-in-Ok-clause-dropped
-returns-in-Ok-clause-dropped g c = rw (← c.self.view_is) (record { table = c.move_to.ensures.dropped.table; few = c.move_to.ensures.dropped.few })
-
-pub returns-in-Err-Refused-clause-dropped : goal.returns-in-Err-Refused-clause-dropped
-returns-in-Err-Refused-clause-dropped g c = rw (← c.self.view_is) (record { table = c.move_to-in-Err-Refused.ensures.dropped.table; few = c.move_to-in-Err-Refused.ensures.dropped.few })

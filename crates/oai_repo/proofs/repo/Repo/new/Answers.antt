@@ -10,7 +10,7 @@ invariant_of-result g c =
     let fits : FitsSigned w64 c.earliest.result = record { sfits = c.earliest.type_inv } in
     let clock : c.start-clock.result ≡ c.args.config.earliest = (simp to_z-of_z at c.start-clock.ensures) ∙ c.earliest.ensures.earliest in
     let limit : c.new-lists.result ≡ record { limit = c.args.config.lists; next = 1; lists = [] } = c.new-lists.ensures ∙ ap (λ (n : ℕ). record { limit = n; next = 1; lists = [] }) c.lists.ensures.lists in
-    rw (clock, limit, c.new.ensures) (record { dated = in_years-config c.args.config c.earliest.ensures.valid; few = omega arith; open_lists = record { limit = refl; ends = refl } })
+    rw (clock, limit, c.new.ensures) (record { dated = in_years-config c.args.config c.earliest.ensures.valid; few = omega arith; open_lists = record { limit = refl; ends = refl; known = refl } })
 
 pub returns-clause-new : goal.returns-clause-new
 returns-clause-new g c =
