@@ -2,11 +2,14 @@ pub mod CarriedLemmas
 pub mod EndLemmas
 pub mod PrintedLemmas
 pub mod TakenLemmas
+pub mod SeenLemmas
+pub mod ClientCopyLemmas
 pub mod FollowedLemmas
 pub mod CutLemmas
 pub mod GivenLemmas
 pub mod PartLemmas
 pub mod ThroughoutLemmas
+pub mod ClientHarvestLemmas
 pub mod MetLemmas
 pub mod FoundLemmas
 pub mod WorkedCalls

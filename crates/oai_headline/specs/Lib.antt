@@ -4,5 +4,6 @@ pub mod Headline
 pub mod Throughout
 pub mod Worked
 pub mod WorkedFaults
+pub mod ClientHarvests
 pub mod HostRuns
 pub mod Served

@@ -2,11 +2,13 @@
 //! what was selected, whatever memory was refused and whichever device calls failed.
 #![tactic(auto)]
 
+mod harvests;
 mod laws;
 mod rules;
 mod runs;
 mod served;
 
+pub use harvests::client_harvests_law;
 pub use laws::{
     carried_law, place_law, throughout_law, throughout_on_pages_law, throughout_runs_law,
     visits_law, worked_faults_law, worked_headline_law,

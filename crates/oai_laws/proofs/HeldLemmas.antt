@@ -174,7 +174,7 @@ held_next prefix stamp old new selection copy apart chosen_from since held q =
 
 -- ---- all that it holds
 
-listed_apart : (xs : List ItemState) → are_listed xs ≡ true → are_apart xs ≡ true
+pub listed_apart : (xs : List ItemState) → are_listed xs ≡ true → are_apart xs ≡ true
 listed_apart [] h = refl
 listed_apart (x ∷ xs) h =
     let parts = and_parts (list_all (is_listed_before x) xs) (are_listed xs) h in
