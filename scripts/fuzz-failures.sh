@@ -34,7 +34,7 @@ for crate in crates/oai_* crates/tests_devices crates/tests_stores; do
 done
 {
     grep -E '^(oai_|tests_devices:|tests_stores:)' crates.txt
-    echo 'fuzz_failures: oai_names oai_item oai_catalogue oai_device oai_pool oai_paged oai_http oai_host oai_served tests_devices tests_stores'
+    echo 'fuzz_failures: oai_names oai_item oai_catalogue oai_device oai_pool oai_paged oai_http oai_host tests_devices tests_stores'
 } >"$copy/crates.txt"
 program=$copy/crates/fuzz_failures
 mkdir -p "$program"/{src,specs,proofs}
@@ -243,9 +243,8 @@ use oai_catalogue::Versions;
 use oai_device::{FaultyDevice, MemoryDevice, PageDevice};
 use oai_host::{Answer, Config};
 use oai_item::Fault;
-use oai_paged::PagedVersions;
-use oai_pool::PagePool;
-use oai_served::{device_under, pages_under, store_on};
+use oai_paged::{PagedVersions, VersionsOver};
+use oai_pool::{PagePool, Pool};
 use std::alloc::{AllocError, Global};
 use std::io::{self, Read};
 use std::process::ExitCode;
@@ -281,8 +280,11 @@ struct Trouble<'a> {
 
 /// A store over pages of the device.
 fn store<D: PageDevice>(alloc: Global, config: &str, device: D) -> Result<PagedVersions<D>, AllocError> {
-    match Config::read(alloc, config.as_bytes()) {
-        Ok(config) => store_on(alloc, &config, device),
+    let Ok(config) = Config::read(alloc, config.as_bytes()) else {
+        return Err(AllocError);
+    };
+    match Pool::new(alloc, device, config.cache() as usize) {
+        Ok(pool) => Ok(VersionsOver::new(alloc, pool)),
         Err(_) => Err(AllocError),
     }
 }
@@ -292,14 +294,14 @@ fn without_trouble<'a>(alloc: Global, config: &'a str, steps: Vec<Step<'a>>) -> 
     let device = CountingDevice::new(MemoryDevice::new(alloc));
     let mut host = host_over(alloc, config, store(alloc, config, device)?)?;
     let answers = answers(alloc, &mut host, steps.as_slice())?;
-    let device = device_under(&host);
+    let device = host.versions().pool().device();
     let device_calls = device.reads().wrapping_add(device.writes());
     let mut counted = host_over(alloc, config, counting(store(alloc, config, MemoryDevice::new(alloc))?))?;
     let course = course(&mut counted, steps.as_slice(), answers.as_slice(), Fault::Damaged);
     if course.differs.is_some() {
         return Err(AllocError);
     }
-    let pages = pages_under(&host).used();
+    let pages = host.versions().pool().used();
     let store_calls = counted.versions().hook().calls();
     Ok(Undisturbed { config, steps, answers, pages, device_calls, store_calls })
 }
@@ -315,7 +317,7 @@ impl Undisturbed<'_> {
     fn on<D: PageDevice>(&self, alloc: Global, device: D, fault: Fault) -> Result<Course, AllocError> {
         let mut host = host_over(alloc, self.config, store(alloc, self.config, device)?)?;
         let course = course(&mut host, self.steps.as_slice(), self.answers.as_slice(), fault);
-        if course.differs.is_none() && pages_under(&host).used() != self.pages {
+        if course.differs.is_none() && host.versions().pool().used() != self.pages {
             return Ok(Course { differs: Some(0), ..course });
         }
         Ok(course)

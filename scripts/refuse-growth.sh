@@ -35,7 +35,7 @@ for crate in crates/oai_*; do
 done
 {
     grep -E '^oai_' crates.txt
-    echo 'refuse_growth: oai_names oai_item oai_catalogue oai_device oai_pool oai_paged oai_http oai_host oai_front oai_served oai_copy'
+    echo 'refuse_growth: oai_names oai_item oai_catalogue oai_device oai_pool oai_paged oai_http oai_host oai_front oai_copy'
 } >"$copy/crates.txt"
 program=$copy/crates/refuse_growth
 mkdir -p "$program"/{src,specs,proofs}
@@ -200,9 +200,8 @@ use oai_front::{ConnId, Front, PieceFault};
 use oai_host::{Answer, Call, Config, Exchange, Host};
 use oai_item::Fault;
 use oai_names::Sequence;
-use oai_paged::PagedVersions;
-use oai_pool::PagePool;
-use oai_served::store_on;
+use oai_paged::{PagedVersions, VersionsOver};
+use oai_pool::{PagePool, Pool};
 use std::alloc::{AllocError, AllocFailed, Global};
 use std::env;
 use std::io::{self, Write};
@@ -222,8 +221,10 @@ fn new_host(alloc: Global) -> Result<PagedHost, AllocError> {
     let Ok(config) = Config::read(alloc, configuration().as_bytes()) else {
         return Err(AllocError);
     };
-    let store = store_on(alloc, &config, MemoryDevice::new(alloc))?;
-    match Host::new(alloc, config, store) {
+    let Ok(pool) = Pool::new(alloc, MemoryDevice::new(alloc), config.cache() as usize) else {
+        return Err(AllocError);
+    };
+    match Host::new(alloc, config, VersionsOver::new(alloc, pool)) {
         Ok(host) => Ok(host),
         Err(_) => Err(AllocError),
     }

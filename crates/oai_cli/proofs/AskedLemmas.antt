@@ -6,7 +6,7 @@ use Rattle.std.proofs.lemmas.Bool.{cases_Bool, cond-true, cond-false}
 use Rattle.std.proofs.lemmas.Grind.{flat_map-append}
 use Rattle.std.proofs.lemmas.List.{map-append}
 use Rattle.std.proofs.lemmas.List.Elements.{filter-append}
-use Rattle.oai_host.proofs.RunLemmas.{answered_last, answered_none, exchanged_last}
+use Rattle.oai_host.proofs.RunLemmas.{all_answered, exchanged_last}
 use Rattle.oai_host.specs.Hosts.{HostState}
 use Rattle.oai_http.specs.declared.exchanges.Call.{Call}
 use Rattle.oai_cli.specs.Asked.{AreAsked, AreDone, AreEnded, IsLineOutcome}
@@ -24,7 +24,7 @@ pub ended_none : (host : HostState) (known : Option (List ℕ)) → AreEnded hos
 ended_none host known = record {
   honest = refl;
   counted = refl;
-  done = record { calls = []; answers = []; read = refl; answered = λ honest. answered_none host; exchanged = refl; written = appends_none known };
+  done = record { calls = []; answers = []; read = refl; answered = all_answered [] [] host host refl; exchanged = refl; written = appends_none known };
 }
 
 -- an empty line more
@@ -43,26 +43,25 @@ done_empty front line old new Writes empty done = record {
 
 -- a line more that spells an exchange
 done_line : (front : List (List ℕ)) (line : List ℕ) (old mid new : HostState) (Before Last Writes : List ℕ → Type 0) → ((a b : List ℕ) → Before a → Last b → Writes (a ++ b))
-    → is_line_filled line ≡ true → mid.honest ≡ old.honest → AreDone front old mid Before → IsLineDone line mid new Last → AreDone (front ++ line ∷ []) old new Writes
-done_line front line old mid new Before Last Writes join full honest done last = record {
-  calls = done.calls ++ last.call ∷ [];
-  answers = done.answers ++ last.answer ∷ [];
-  read =
-      let one : filter is_line_filled (line ∷ []) ≡ line ∷ [] = cond-true (is_line_filled line) (line ∷ []) [] full in
-      ap (map parse_exchange) (filter-append is_line_filled front (line ∷ []) ∙ ap (λ (ls : List (List ℕ)). filter is_line_filled front ++ ls) one)
-      ∙ map-append parse_exchange (filter is_line_filled front) (line ∷ [])
-      ∙ ap (λ (xs : List (Option Call)). xs ++ parse_exchange line ∷ []) done.read
-      ∙ ap (λ (x : Option Call). map Some done.calls ++ x ∷ []) last.read
-      ∙ sym (map-append Some done.calls (last.call ∷ []));
-  answered = λ honestly.
-      answered_last done.calls done.answers last.call last.answer old mid new (done.answered honestly)
-      (last.exchanged.answered (subst (λ (b : Bool). IsTrue b) (sym honest) honestly));
-  exchanged = exchanged_last done.calls done.answers last.call last.answer old mid new done.exchanged last.exchanged;
-  written =
-      let all : flat_map shown (done.answers ++ last.answer ∷ []) ≡ flat_map shown done.answers ++ shown last.answer =
-      flat_map-append shown done.answers (last.answer ∷ []) ∙ ap (λ (xs : List ℕ). flat_map shown done.answers ++ xs) (append-nil (shown last.answer)) in
-      subst Writes (sym all) (join (flat_map shown done.answers) (shown last.answer) done.written last.written);
-}
+    → is_line_filled line ≡ true → AreDone front old mid Before → IsLineDone line mid new Last → AreDone (front ++ line ∷ []) old new Writes
+done_line front line old mid new Before Last Writes join full done last =
+    let exchanged = exchanged_last done.calls done.answers last.call last.answer old mid new done.exchanged last.exchanged in record {
+      calls = done.calls ++ last.call ∷ [];
+      answers = done.answers ++ last.answer ∷ [];
+      read =
+          let one : filter is_line_filled (line ∷ []) ≡ line ∷ [] = cond-true (is_line_filled line) (line ∷ []) [] full in
+          ap (map parse_exchange) (filter-append is_line_filled front (line ∷ []) ∙ ap (λ (ls : List (List ℕ)). filter is_line_filled front ++ ls) one)
+          ∙ map-append parse_exchange (filter is_line_filled front) (line ∷ [])
+          ∙ ap (λ (xs : List (Option Call)). xs ++ parse_exchange line ∷ []) done.read
+          ∙ ap (λ (x : Option Call). map Some done.calls ++ x ∷ []) last.read
+          ∙ sym (map-append Some done.calls (last.call ∷ []));
+      answered = all_answered (done.calls ++ last.call ∷ []) (done.answers ++ last.answer ∷ []) old new exchanged;
+      exchanged = exchanged;
+      written =
+          let all : flat_map shown (done.answers ++ last.answer ∷ []) ≡ flat_map shown done.answers ++ shown last.answer =
+          flat_map-append shown done.answers (last.answer ∷ []) ∙ ap (λ (xs : List ℕ). flat_map shown done.answers ++ xs) (append-nil (shown last.answer)) in
+          subst Writes (sym all) (join (flat_map shown done.answers) (shown last.answer) done.written last.written);
+    }
 
 ended_as : (front : List (List ℕ)) (line : List ℕ) (old mid new : HostState) (was is : ℕ) (Before Writes : List ℕ → Type 0) → is ≡ min (was + 1) (2 ^ 64 - 1) → new.honest ≡ mid.honest
     → AreEnded old mid was Before front → AreDone (front ++ line ∷ []) old new Writes → AreEnded old new is Writes (front ++ line ∷ [])
@@ -82,7 +81,7 @@ ended_line : (front : List (List ℕ)) (line : List ℕ) (old mid new : HostStat
     → AreEnded old new is (Appends from after) (front ++ line ∷ [])
 ended_line front line old mid new was is from before after counted full honest last ended =
     ended_as front line old mid new was is (Appends from before) (Appends from after) counted honest ended
-    (done_line front line old mid new (Appends from before) (Appends before after) (Appends from after) (appends_both from before after) full ended.honest ended.done last)
+    (done_line front line old mid new (Appends from before) (Appends before after) (Appends from after) (appends_both from before after) full ended.done last)
 
 -- where nothing is said of what was written
 done_unsaid : (lines : List (List ℕ)) (old new : HostState) (Writes : List ℕ → Type 0) → AreDone lines old new Writes → AreDone lines old new IsUnspecified
@@ -107,7 +106,7 @@ ended_stopped front line old mid new was is from before after stop counted full 
   | inr some ↦
       let so = good some in
       let done : AreDone (front ++ line ∷ []) old new IsUnspecified =
-      done_line front line old mid new (Appends from before) IsUnspecified IsUnspecified (λ a b p q. tt) full ended.honest ended.done so.1 in
+      done_line front line old mid new (Appends from before) IsUnspecified IsUnspecified (λ a b p q. tt) full ended.done so.1 in
       subst (λ (s : Stop). IsLineOutcome front line old (Err s) new is (Appends from after)) (sym so.0) (refl, done)
 ]
 

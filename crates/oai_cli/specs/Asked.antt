@@ -1,8 +1,7 @@
 -- What comes of an input of lines: the exchanges that it spells, and what is written for them. This repository's own.
-use Rattle.std.specs.Prelude.{◌≡◌, ℕ, true, List, map, filter, Some, Result, Ok, Err, IsTrue, ◌+◌, [], ◌∷◌, ◌++◌, length}
+use Rattle.std.specs.Prelude.{◌≡◌, ℕ, true, List, map, filter, Some, Result, Ok, Err, ◌+◌, [], ◌∷◌, ◌++◌, length}
 use Rattle.std.specs.List.{flat_map}
-use Rattle.oai_host.specs.Exchanged.{AreExchanged}
-use Rattle.oai_host.specs.Hosts.{AreAnswered, HostState}
+use Rattle.oai_host.specs.Hosts.{AreAnswered, AreExchanged, HostState}
 use Rattle.oai_http.specs.declared.exchanges.Answer.{Answer}
 use Rattle.oai_http.specs.declared.exchanges.Call.{Call}
 use Rattle.oai_cli.specs.ExchangeLines.{IsUnspecified, is_bad, is_line_filled, shown, parse_exchange}
@@ -15,7 +14,7 @@ pub record AreDone (lines : List (List ℕ)) (old new : HostState) (Writes : Lis
   pub calls : List Call
   pub answers : List Answer
   pub read : map parse_exchange (filter is_line_filled lines) ≡ map Some calls
-  pub answered : IsTrue old.honest → AreAnswered calls answers old new
+  pub answered : AreAnswered calls answers old new
   pub exchanged : AreExchanged calls answers old new
   pub written : Writes (flat_map shown answers)
 

@@ -4,8 +4,7 @@ use Rattle.std.specs.List.{before_first, after_first, count_by, list_any}
 use Rattle.std.specs.Str.{bytes_eq}
 use Rattle.std.specs.Fmt.{signed_decimal}
 use Rattle.std.specs.Int.{w64}
-use Rattle.oai_host.specs.Exchanged.{IsExchanged}
-use Rattle.oai_host.specs.Hosts.{HostState}
+use Rattle.oai_host.specs.Hosts.{HostState, IsExchanged}
 use Rattle.oai_names.specs.Optional.{◌>>=◌, tested}
 use Rattle.oai_http.specs.Statuses.{number_of}
 use Rattle.oai_http.specs.Exchanges.{call_of}

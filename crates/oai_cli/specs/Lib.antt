@@ -8,3 +8,4 @@ pub mod Numbers
 pub mod Outputs
 pub mod Stops
 pub mod Traces
+pub mod Begun

@@ -215,14 +215,14 @@ none_done (d ∷ done) e = absurd (not_nil d.message (messages_of done) e)
 
 -- ---- what was performed, and more behind it
 
-answers_join : (a b : List Done) → answers_of (a ++ b) ≡ answers_of a ++ answers_of b
+pub answers_join : (a b : List Done) → answers_of (a ++ b) ≡ answers_of a ++ answers_of b
 unfolding answers_of
 answers_join a b = flat_map-append done_bytes a b
 
-messages_join : (a b : List Done) → messages_of (a ++ b) ≡ messages_of a ++ messages_of b
+pub messages_join : (a b : List Done) → messages_of (a ++ b) ≡ messages_of a ++ messages_of b
 messages_join a b = map-append (λ (d : Done). d.message) a b
 
-splits_in : (whole : Bool) (bytes rest : List ℕ) (messages : List Message) → ArePerformed whole bytes messages (waits rest) → Splits bytes messages rest
+pub splits_in : (whole : Bool) (bytes rest : List ℕ) (messages : List Message) → ArePerformed whole bytes messages (waits rest) → Splits bytes messages rest
 splits_in true bytes rest messages s = s.0
 splits_in false bytes rest messages s = s.0
 
@@ -232,14 +232,14 @@ stream_in false bytes messages (waits rest) closing s = absurd closing
 stream_in false bytes messages (faults status) closing s = absurd s
 stream_in false bytes messages closes closing s = absurd s
 
-performed_join : (whole : Bool) (bytes rest more : List ℕ) (ms ns : List Message) (end : End) → Splits bytes ms rest → ArePerformed whole (rest ++ more) ns end
+pub performed_join : (whole : Bool) (bytes rest more : List ℕ) (ms ns : List Message) (end : End) → Splits bytes ms rest → ArePerformed whole (rest ++ more) ns end
     → ArePerformed whole (bytes ++ more) (ms ++ ns) end
 performed_join true bytes rest more ms ns end s t = stream_join (bytes ++ more) (rest ++ more) ms ns end (splits_more bytes more rest ms s) t
 performed_join false bytes rest more ms ns (waits other) s t = (splits_join (bytes ++ more) (rest ++ more) other ms ns (splits_more bytes more rest ms s) t.0, t.1)
 performed_join false bytes rest more ms ns (faults status) s t = absurd t
 performed_join false bytes rest more ms ns closes s t = absurd t
 
-told_join : (out : List ℕ) (done now : List Done) (end : End)
+pub told_join : (out : List ℕ) (done now : List Done) (end : End)
     → (out ++ (answers_of done ++ [])) ++ (answers_of now ++ end_bytes end) ≡ out ++ (answers_of (done ++ now) ++ end_bytes end)
 told_join out done now end =
     let more = answers_of now ++ end_bytes end in
@@ -460,7 +460,7 @@ served_more outcomes d =
     flat_map-append (λ (e : CallOutcome). served_by e.call e.done) outcomes (d ∷ [])
     ∙ ap (λ (xs : List Served). flat_map (λ (e : CallOutcome). served_by e.call e.done) outcomes ++ xs) (append-nil (served_by d.call d.done))
 
-done_join : (number : ℕ) (a b : List Served) → done_on number (a ++ b) ≡ done_on number a ++ done_on number b
+pub done_join : (number : ℕ) (a b : List Served) → done_on number (a ++ b) ≡ done_on number a ++ done_on number b
 unfolding done_on
 done_join number a b =
     ap (map (λ (s : Served). s.done)) (filter-append (served_on number) a b) ∙ map-append (λ (s : Served). s.done) (filter (served_on number) a) (filter (served_on number) b)
@@ -610,14 +610,14 @@ with_forgotten false s = λ i. record {
   forgotten = or_false s.forgotten i;
 }
 
-done_here : (number : ℕ) (p : Piece) (done : List Done) → (p.number == number) ≡ true → done_on number (map (served_with p) done) ≡ done
+pub done_here : (number : ℕ) (p : Piece) (done : List Done) → (p.number == number) ≡ true → done_on number (map (served_with p) done) ≡ done
 unfolding done_on
 done_here number p [] e = refl
 done_here number p (d ∷ done) e =
     ap (map (λ (s : Served). s.done)) (cond-true (p.number == number) (served_with p d ∷ filter (served_on number) (map (served_with p) done)) (filter (served_on number) (map (served_with p) done)) e)
     ∙ ap (λ (ds : List Done). d ∷ ds) (done_here number p done e)
 
-done_away : (number : ℕ) (p : Piece) (done : List Done) → (p.number == number) ≡ false → done_on number (map (served_with p) done) ≡ []
+pub done_away : (number : ℕ) (p : Piece) (done : List Done) → (p.number == number) ≡ false → done_on number (map (served_with p) done) ≡ []
 unfolding done_on
 done_away number p [] e = refl
 done_away number p (d ∷ done) e =
@@ -786,7 +786,7 @@ record Does {H : Type 0} (step : Steps H) (call : FrontCall) (old mid : State H)
   stands : (number : ℕ) (c : Connection) (s : Seen) → Stand number c (connection_numbered number old.connections) old.last s
       → Stand number c (connection_numbered number mid.connections) mid.last (seen_more number s call done)
 
-serves_run : {H : Type 0} (step : Steps H) (p : Piece) (old mid : H) (done : List Done) → Run step p.moment old done mid → Serves step old (map (served_with p) done) mid
+pub serves_run : {H : Type 0} (step : Steps H) (p : Piece) (old mid : H) (done : List Done) → Run step p.moment old done mid → Serves step old (map (served_with p) done) mid
 serves_run step p old mid [] r = r
 serves_run step p old mid (d ∷ done) r = (r.0, r.1, serves_run step p r.0 mid done r.2)
 
@@ -1042,7 +1042,7 @@ does step Opened old mid e = does_opened step old mid e
 
 -- ---- all calls
 
-serves_join : {H : Type 0} (step : Steps H) (old mid new : H) (first others : List Served) → Serves step old first mid → Serves step mid others new → Serves step old (first ++ others) new
+pub serves_join : {H : Type 0} (step : Steps H) (old mid new : H) (first others : List Served) → Serves step old first mid → Serves step mid others new → Serves step old (first ++ others) new
 serves_join {H} step old mid new [] others a b = subst (λ (h : H). Serves step h others new) a b
 serves_join step old mid new (s ∷ first) others a b = (a.0, a.1, serves_join step a.0 mid new first others a.2 b)
 

@@ -4,6 +4,7 @@ use Rattle.std.specs.List.{list_all}
 use Rattle.oai_names.specs.Numbered.{numbers_rise}
 use Rattle.oai_front.specs.Connections.{Connection, IsEnded, IsFrontOf, IsTakenIn, fresh}
 use Rattle.oai_front.specs.Performing.{Steps}
+use Rattle.oai_http.specs.declared.handlers.SettleFault.{SettleFault}
 use Rattle.oai_front.specs.declared.faults.OpenFault.{OpenFault}
 use Rattle.oai_front.specs.declared.faults.OpenFault.TheVariants as refusal
 use Rattle.oai_front.specs.declared.faults.NoSuchConnection.{NoSuchConnection as Absent}
@@ -101,6 +102,10 @@ abbrev pub IsOutput : ℕ → List Connection → Option (List ℕ) → Type 0
 IsOutput number connections None = connection_numbered number connections ≡ None
 IsOutput number connections (Some bytes) =
     (c : Connection) × (connection_numbered number connections ≡ Some c) × IsFrontOf bytes c.output
+
+-- the handler settles, and no connection changes
+abbrev pub IsSettling : {H : Type 0} → (H → Result Unit SettleFault → H → Type 0) → State H → Result Unit SettleFault → State H → Type 0
+IsSettling settled old result new = settled old.handler result new.handler × (new ≡ record old { handler = new.handler })
 
 -- so many bytes are to be written on the connection
 abbrev pub HasOutput : ℕ → ℕ → List Connection → Type 0

@@ -1,4 +1,4 @@
-ghost use Rattle.std.specs.Prelude.{◌≡◌, ◌≤◌, length, drop, OnErr, OnOk};
+ghost use Rattle.std.specs.Prelude.{◌≡◌, ◌≤◌, length, drop, nat_lt, OnErr, OnOk};
 ghost use Rattle.oai_front.specs.Connections.{IsEnded, IsFrontOf, IsGoneOver, IsTakenIn, bytes_with, fresh};
 ghost use Rattle.oai_front.specs.Stages.{is_closing};
 
@@ -39,7 +39,7 @@ impl Model for Connection {
 
 impl Connection {
     /// A connection that was opened just now. It takes no memory.
-    pub(crate) fn new(alloc: Global, number: u64) -> Connection
+    pub fn new(alloc: Global, number: u64) -> Connection
         ensures { result ≡ fresh number }
     {
         Connection {
@@ -53,28 +53,45 @@ impl Connection {
     }
 
     /// Its number.
-    pub(crate) fn number(&self) -> u64
+    pub fn number(&self) -> u64
         ensures { result ≡ self.now.number }
     {
         self.number
     }
 
     /// Whether nothing that comes is read any more.
-    pub(crate) fn is_closing(&self) -> bool
+    pub fn is_closing(&self) -> bool
         ensures { result ≡ is_closing self.now.stage }
     {
         self.stage.is_closing()
     }
 
-    /// What is to be written next.
-    pub(crate) fn output(&self) -> &[u8]
+    /// Whether bytes came that belong to no message that was performed.
+    pub fn has_rest(&self) -> bool
+        ensures { result ≡ nat_lt 0 (length self.now.rest) }
+    {
+        self.bytes.len() > 0
+    }
+
+    /// How many bytes it keeps: those that came and belong to no message that was performed, and those that
+    /// wait to be written, with what is taken of the first of their buffers; `usize::MAX` where they are more.
+    pub fn size(&self) -> usize {
+        let mut size = self.bytes.len();
+        for buffer in self.queue.iter() {
+            size = size.saturating_add(buffer.as_slice().len());
+        }
+        size
+    }
+
+    /// What is to be written next: the first of the bytes that wait, none only where none do.
+    pub fn output(&self) -> &[u8]
         ensures { IsFrontOf result.now self.now.output }
     {
         left_of(&self.queue, self.taken)
     }
 
-    /// Drops the first bytes of what is to be written.
-    pub(crate) fn take(&mut self, count: usize)
+    /// Drops the first bytes of what is to be written; so many must be there.
+    pub fn take(&mut self, count: usize)
         requires { count ≤ length self.old.output }
         ensures { self.new ≡ record self.old { output = drop count self.old.output } }
     {
@@ -98,7 +115,7 @@ impl Connection {
 
     /// Takes a piece, and performs at the moment all messages that are whole. The errors are those of
     /// `PieceFault`, the first apart.
-    pub(crate) fn piece<H: Handler>(
+    pub fn piece<H: Handler>(
         &mut self,
         alloc: Global,
         handler: &mut H,

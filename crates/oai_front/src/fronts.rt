@@ -1,14 +1,14 @@
 ghost use Rattle.std.specs.Prelude.{◌≡◌, ◌<◌, ◌∷◌, ◌++◌, [], true, vec_capacity, vec_len};
 ghost use Rattle.std.specs.List.{remove};
 ghost use Rattle.std.specs.Option.{option_copied, option_map};
-ghost use Rattle.oai_front.specs.Fronts.{HasOutput, IsChange, IsEnding, IsForgetting, IsOpening, IsOutput, IsPiece, IsTaking, are_numbered, connection_numbered, nothing_open};
+ghost use Rattle.oai_front.specs.Fronts.{HasOutput, IsChange, IsEnding, IsForgetting, IsOpening, IsOutput, IsPiece, IsSettling, IsTaking, are_numbered, connection_numbered, nothing_open};
 ghost use Rattle.oai_front.specs.Places.{IsPlaced};
 ghost use Rattle.oai_front.specs.Stages.{is_closing};
 
 use crate::connections::Connection;
 use crate::faults::{NoSuchConnection, OpenFault, PieceFault};
 use crate::numbers::{ConnId, LAST_NUMBER};
-use oai_http::Handler;
+use oai_http::{Handler, SettleFault, Settled};
 use std::alloc::Global;
 use std::marker::Model;
 
@@ -164,6 +164,16 @@ impl<H: Handler> Front<H> {
             }
             None => Err(PieceFault::NoSuchConnection),
         }
+    }
+}
+
+impl<H: Settled> Front<H> {
+    /// Makes all that was performed durable; no connection changes. The error is the handler's, and the
+    /// answers that were put out since the last settling that was Ok may then not leave.
+    pub fn settle(&mut self) -> Result<(), SettleFault>
+        ensures { IsSettling H.settled self.old result self.new }
+    {
+        self.handler.settle()
     }
 }
 

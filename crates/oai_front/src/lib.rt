@@ -15,6 +15,7 @@ mod queues;
 mod request_heads;
 mod stages;
 
+pub use connections::Connection;
 pub use faults::{NoSuchConnection, OpenFault, PieceFault};
 pub use framings::{MAX_BODY_BYTES, MAX_DEPOSIT_BYTES};
 pub use fronts::Front;

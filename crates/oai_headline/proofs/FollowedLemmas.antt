@@ -28,13 +28,13 @@ use Rattle.oai_headline.proofs.TakenLemmas.{AreTaken, IsAsking, IsTaken, reachab
 
 -- ---- each visit of a chain is a request
 
-next_asking : (config : Config) (verb : ListVerb) (before : Visit) (others : List Visit) → AreNextVisits config verb before others → AllByRecursion IsAsking others
+pub next_asking : (config : Config) (verb : ListVerb) (before : Visit) (others : List Visit) → AreNextVisits config verb before others → AllByRecursion IsAsking others
 next_asking config verb before [] next = tt
 next_asking config verb before (visit ∷ others) next =
     (record { arguments = next.0.asked.arguments; asked = next.0.asked.asked }, next_asking config verb visit others next.1)
 
 -- and the command of its step is that request
-its_command : (config : Config) (visit : Visit) (step : Exchange) (request : AskOrError) → IsTaken config visit step → IsRequest config.granularity visit.call request
+pub its_command : (config : Config) (visit : Visit) (step : Exchange) (request : AskOrError) → IsTaken config visit step → IsRequest config.granularity visit.call request
     → step.command ≡ requesting request
 its_command config visit step request is asked =
     let asks : asking is.arguments ≡ asking asked.arguments = sym is.asked ∙ asked.asked in

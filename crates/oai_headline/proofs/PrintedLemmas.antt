@@ -20,7 +20,7 @@ use Rattle.oai_headline.proofs.EndLemmas.{AnswerEnds, EndsAt}
 
 -- ---- two tokens that are seen alike
 
-one_second : (a b : ℤ) → IsWritable a → IsWritable b → second_text a ≡ second_text b → a ≡ b
+pub one_second : (a b : ℤ) → IsWritable a → IsWritable b → second_text a ≡ second_text b → a ≡ b
 one_second a b wa wb same =
     let e : OneSecond a ≡ OneSecond b =
     IsBound-unique (second_text b) (OneSecond a) (OneSecond b) (record { in_range = wa; written = sym same }) (record { in_range = wb; written = refl }) in
@@ -105,11 +105,11 @@ IsReplied end (later seconds) = Unit {0}
 IsReplied end (accepted stamp) = ⊥
 IsReplied end (refused_with cause) = ⊥
 
-same_body : (g : Granularity) (d its : Document) → answer_of (outcome_output g (documented d)) ≡ answered_with (document its) → document d ≡ document its
+pub same_body : (g : Granularity) (d its : Document) → answer_of (outcome_output g (documented d)) ≡ answered_with (document its) → document d ≡ document its
 unfolding outcome_output
 same_body g d its same = ap (λ (a : HttpAnswer). a.body) same
 
-never_printed : (g : Granularity) (seconds : ℤ) (body : List ℕ) → answer_of (outcome_output g (later seconds)) ≡ answered_with body → ⊥
+pub never_printed : (g : Granularity) (seconds : ℤ) (body : List ℕ) → answer_of (outcome_output g (later seconds)) ≡ answered_with body → ⊥
 unfolding outcome_output
 never_printed g seconds body same = let e : Some seconds ≡ None = ap (λ (a : HttpAnswer). a.seconds) same in cc
 

@@ -29,10 +29,10 @@ use Rattle.oai_laws.specs.Following.{first_request, next_request}
 use Rattle.oai_laws.specs.Runs.{Timed}
 use Rattle.oai_laws.specs.Worked.{after, delete, deposit, worked_commands}
 use Rattle.oai_laws.proofs.WorkedLemmas.{second}
-use Rattle.oai_harvests.specs.Harvests.{records_since}
-use Rattle.oai_harvests.specs.Worked.{datestamp}
-use Rattle.oai_harvests.specs.Worked as beside
-use Rattle.oai_harvests.proofs.WorkedLemmas.{bound_5, bound_7, stamped}
+use Rattle.oai_laws.specs.Harvests.{records_since}
+use Rattle.oai_laws.specs.WorkedHarvests.{datestamp}
+use Rattle.oai_laws.specs.WorkedHarvests as beside
+use Rattle.oai_laws.proofs.WorkedHarvestLemmas.{bound_5, bound_7, stamped}
 use Rattle.oai_http.specs.declared.exchanges.Call.{Call}
 use Rattle.oai_host.specs.Alone.{own_calls}
 use Rattle.oai_headline.specs.Visits.{commands_in}
@@ -109,7 +109,7 @@ read_b : commands_in Second own_b ≡ carried_with (is_from text_5) text_5 (is_f
 unfolding line_of json_in shape_of has_members deposit_shape deletion_shape text_at texts_at elements_at elements_of records_at records_of record_of field_list_of asked_change have_xml_texts is_identifier is_scheme serde_json_on_literals str.is_utf8 str.chars decoded_pairs form_urlencoded_on_literals lossy.utf8_lossy lossy.utf8_valid_len request_of request_in arguments_in given values_of has_only_keys has_xml_values asked_verb form_of suit first_of first_list_of next_of are_bounds is_prefix is_xml_text lib.Utf8.encode
 read_b = refl
 
-pub carried_b : commands_in Second own_b ≡ beside.worked_commands
+pub carried_b : commands_in Second own_b ≡ beside.harvest_commands
 carried_b =
     read_b
     ∙ ap (λ (text : List ℕ). carried_with (is_from text) text (is_from text_7) text_7) dated_5

@@ -21,10 +21,10 @@ use Rattle.oai_laws.specs.Following.{IsChain, ListRequest, first_request, next_r
 use Rattle.oai_laws.specs.Runs.{Exchange, IsPart, Timed, performed, run}
 use Rattle.oai_laws.specs.Worked.{after, all_headers, all_records, delete, deposit, worked_commands, worked_config, worked_run}
 use Rattle.oai_laws.proofs.WorkedLemmas.{chain, configured, from_2, from_3, from_4, from_5, from_6, from_7, from_8, from_9, from_10, from_11, from_12, from_13, from_14, from_15, last_page, led_1, led_2, led_3, led_4, led_5, led_6, led_7, led_8, led_9, led_10, led_11, led_12, led_13, led_14, opens, page_1, page_2, page_3, passes_over, records_told, s1, s2, s3, s4, s5, s6, s7, s9, s10, s12, s13, s14, second, second_page, takes_up, told_1, told_2, told_3}
-use Rattle.oai_harvests.specs.Harvests.{AreSuccessive, Harvest}
-use Rattle.oai_harvests.specs.Worked.{AreWorkedHarvests, archive_b, prefix, told}
-use Rattle.oai_harvests.specs.Worked as beside
-use Rattle.oai_harvests.proofs.WorkedLemmas.{worked as harvests_worked, configured as beside_configured}
+use Rattle.oai_laws.specs.Harvests.{AreSuccessive, Harvest}
+use Rattle.oai_laws.specs.WorkedHarvests.{AreWorkedHarvests, archive_b, prefix, told}
+use Rattle.oai_laws.specs.WorkedHarvests as beside
+use Rattle.oai_laws.proofs.WorkedHarvestLemmas.{worked as harvests_worked, configured as beside_configured}
 use Rattle.oai_config.specs.Configs.{IsHostConfig, NamedConfig}
 use Rattle.oai_http.specs.Answers.{asked_to_wait}
 use Rattle.oai_http.specs.declared.exchanges.Call.{Call}
@@ -161,9 +161,9 @@ worked_list carried =
 abbrev pub own_b : List Call
 own_b = own_calls (codes "b") worked_calls
 
-beside_of : commands_in Second own_b ≡ beside.worked_commands → (first second third : Harvest) → AreWorkedHarvests first second third → AreMadeBeside first second third
+beside_of : commands_in Second own_b ≡ beside.harvest_commands → (first second third : Harvest) → AreWorkedHarvests first second third → AreMadeBeside first second third
 beside_of carried first second third h =
-    let steps : beside.worked_run ≡ own_steps second_entry worked_calls =
+    let steps : beside.harvest_run ≡ own_steps second_entry worked_calls =
     ap (run archive_b (empty_state archive_b)) (sym carried) ∙ sym (steps_run archive_b (empty_state archive_b) own_b) in
     record {
       successive = subst (λ (all : List Exchange). AreSuccessive archive_b all prefix first (second ∷ third ∷ [])) steps h.successive;
@@ -173,7 +173,7 @@ beside_of carried first second third h =
       copied = h.copied;
     }
 
-pub worked_beside : commands_in Second own_b ≡ beside.worked_commands → (first : Harvest) × (second : Harvest) × (third : Harvest) × AreMadeBeside first second third
+pub worked_beside : commands_in Second own_b ≡ beside.harvest_commands → (first : Harvest) × (second : Harvest) × (third : Harvest) × AreMadeBeside first second third
 worked_beside carried = let h = harvests_worked in (h.0, h.1, h.2, beside_of carried h.0 h.1 h.2 h.3)
 
 -- ---- the host

@@ -1,4 +1,9 @@
 pub mod Visits
 pub mod Chains
 pub mod Headline
+pub mod Throughout
 pub mod Worked
+pub mod WorkedFaults
+pub mod ClientHarvests
+pub mod HostRuns
+pub mod Served

@@ -11,8 +11,8 @@ use Rattle.oai_laws.specs.Following.{joined, page_in}
 use Rattle.oai_laws.specs.Runs.{IsPart}
 use Rattle.oai_laws.specs.Worked.{all_records, identifiers, worked_config}
 use Rattle.oai_copy.specs.Copies.{caught_up_with}
-use Rattle.oai_harvests.specs.Harvests.{AreSuccessive, Harvest, harvested}
-use Rattle.oai_harvests.specs.Worked.{archive_b, prefix, told}
+use Rattle.oai_laws.specs.Harvests.{AreSuccessive, Harvest, harvested}
+use Rattle.oai_laws.specs.WorkedHarvests.{archive_b, prefix, told}
 use Rattle.oai_config.specs.Configs.{HostConfig, NamedConfig}
 use Rattle.oai_http.specs.Answers.{answered_with, asked_to_wait}
 use Rattle.oai_http.specs.declared.exchanges.Call.{Call}

@@ -1,4 +1,4 @@
-ghost use Rattle.std.specs.Prelude.{◌≡◌, ◌∷◌, List, IsTrue, map, true};
+ghost use Rattle.std.specs.Prelude.{◌≡◌, ◌∷◌, ◌++◌, ℕ, Bool, List, IsTrue, None, false, is_none, length, map};
 ghost use Rattle.std.specs.List.{AllByRecursion, AllZip, flat_map};
 ghost use Rattle.oai_item.specs.Formats.{AreRepositoryFormats};
 ghost use Rattle.oai_settings.specs.Config.{Config, IsConfig};
@@ -6,17 +6,19 @@ ghost use Rattle.oai_repo.specs.State.{RepoState, empty_state};
 ghost use Rattle.oai_laws.specs.Following.{IsChain, ListRequest};
 ghost use Rattle.oai_laws.specs.Runs.{Exchange, IsPart, run};
 ghost use Rattle.oai_http.specs.declared.exchanges.Call.{Call};
-ghost use Rattle.oai_harvests.specs.Harvests.{Harvest};
-ghost use Rattle.oai_host.specs.Alone.{answers_alone};
-ghost use Rattle.oai_config.specs.Configs.{HostConfig, IsHostConfig, NamedConfig};
+ghost use Rattle.oai_laws.specs.Harvests.{Harvest};
+ghost use Rattle.oai_host.specs.Alone.{answers_alone, exchanged_alone};
+ghost use Rattle.oai_config.specs.Configs.{HostConfig, IsHostConfig};
 ghost use Rattle.oai_http.specs.declared.exchanges.Answer.{Answer};
-ghost use Rattle.oai_host.specs.Exchanged.{AreExchanged};
-ghost use Rattle.oai_host.specs.Hosts.{AreAsAlone, HostState, begun, none_failed};
-ghost use Rattle.oai_served.specs.Served.{IsBegunOn};
+ghost use Rattle.oai_host.specs.Hosts.{AreAnswered, AreExchanged, HostState};
+ghost use Rattle.oai_host.specs.Tasks.{asking, task_of};
+ghost use Rattle.oai_cli.specs.Begun.{IsBegunOn};
 ghost use Rattle.oai_headline.specs.Chains.{AreReached, IsFollowing, IsStepOf};
-ghost use Rattle.oai_headline.specs.Headline.{HaveRules, IsHeadline, IsMadeOf, MissNothing};
+ghost use Rattle.oai_headline.specs.Headline.{HaveRules, IsMadeOf};
+ghost use Rattle.oai_headline.specs.Throughout.{IsTrueVisit, IsThroughout, left_by, calls_done, visits_given};
 ghost use Rattle.oai_headline.specs.Visits.{IsWrittenVisit, Visit, commands_in, steps_of, visits};
 ghost use Rattle.oai_headline.specs.Worked.{AreMadeBeside, IsWorkedList, worked_host};
+ghost use Rattle.oai_headline.specs.WorkedFaults.{IsWorkedWithFailures};
 
 use oai_catalogue::Versions;
 use oai_device::PageDevice;
@@ -57,42 +59,55 @@ pub fn visits_law()
         → IsFollowing config (visits config (empty_state config) calls) list_request first others }
 {}
 
-/// **The theorem.** For every list of deposits, deletions and requests, each with its moment, in which no memory was refused and no
-/// device call failed, the bytes answered at each base URL are those of the one-repository machine given that repository's commands
-/// alone; and the pages reached by following a list's unexpired tokens are, joined, exactly the records selected at its first
-/// request, each once, in order.
+/// **The theorem.** Exchanges come to a host, one after the other, as `Host::run` and `Host::exchange` say, each with its
+/// moment: deposits, deletions and requests. Whatever memory was refused in them, and whichever device calls failed, at each
+/// repository each answer without a fault is the machine's to that exchange after what was performed before it; the pages
+/// reached by following a list's unexpired tokens, also by repeating what failed, are, joined, exactly the records selected
+/// at its first request, each once, in order; harvests miss nothing, where deleted records are kept; and where no answer
+/// of a repository has a fault, they are those of the one-repository machine given that repository's commands alone.
 ///
 /// The configuration is one that keeps its rules, as each does that was accepted ([`rules_law`]). The host is made of it, as
-/// `Host::new` says, over a store that does what a store of versions does and gives back what was written to it. The exchanges come one
-/// after the other, as `Host::run` and `Host::exchange` say, and no answer has a fault. It does nothing.
-pub fn headline_law<V: Versions>()
+/// `Host::new` says, over a store that does what a store of versions does and gives back what was written to it. It does
+/// nothing.
+pub fn throughout_law<V: Versions>()
     ensures { (config : HostConfig) (store : V) (first last : HostState) (calls : List Call)
         (answers : List Answer) → HaveRules config → IsMadeOf config (V.honest store) first
         → IsTrue (V.honest store) → AreExchanged calls answers first last
-        → none_failed answers ≡ true → IsHeadline config calls answers }
+        → IsThroughout config calls answers last.repositories }
 {}
 
 /// The same of the host that the program runs: its store is the one of pages, over a device that gives back what was written to it, made
 /// as `host_on` of `oai_cli` says. It does nothing.
-pub fn headline_on_pages_law<D: PageDevice>()
+pub fn throughout_on_pages_law<D: PageDevice>()
     ensures { (config : HostConfig) (device : D) (first last : HostState) (calls : List Call)
         (answers : List Answer) → HaveRules config
         → IsBegunOn config (D.honest device) (D.failures device) first → IsTrue (D.honest device)
-        → AreExchanged calls answers first last → none_failed answers ≡ true
-        → IsHeadline config calls answers }
+        → AreExchanged calls answers first last → IsThroughout config calls answers last.repositories }
 {}
 
-/// The same wherever the answers at each repository are those that it alone gives to its own exchanges, from its beginning on: so the clause
-/// `alone` of `host_law` of `oai_runs` says of the bytes of connections. It does nothing.
-pub fn headline_alone_law()
-    ensures { (config : HostConfig) (calls : List Call) (answers : List Answer) → HaveRules config
-        → AreAsAlone calls answers (map begun config.repositories) → IsHeadline config calls answers }
+/// The same wherever the answers at each repository are those of a run of its own exchanges, from its beginning on: so the clause
+/// `answered` of [`host_law`] says of the bytes of connections. It does nothing.
+pub fn throughout_runs_law()
+    ensures { (config : HostConfig) (honest : Bool) (first last : HostState) (calls : List Call)
+        (answers : List Answer) → HaveRules config → IsMadeOf config honest first → IsTrue honest
+        → AreAnswered calls answers first last → IsThroughout config calls answers last.repositories }
 {}
 
-/// Harvests of a repository of a host miss nothing: of the steps that come of its exchanges, which are answered them, written
-/// ([`carried_law`]), is true what `harvest_law` of `oai_harvests` says. It does nothing.
-pub fn harvests_law()
-    ensures { (calls : List Call) (entry : NamedConfig) → IsConfig entry.config → MissNothing calls entry }
+/// What the field `given` of the theorem says at one place: an answer without a fault is the machine's to its exchange, in the
+/// state that what was performed before it has left; and a request that failed is, for all that comes later, as if it had not
+/// been made. It does nothing.
+pub fn place_law()
+    ensures given { (config : Config) (state : RepoState) (front : List Call) (call : Call) (back : List Call)
+        (given : List Answer) (answer : Answer) (more : List Answer) → length front ≡ length given
+        → AllByRecursion (IsTrueVisit config)
+        (visits_given config state (front ++ call ∷ back) (given ++ answer ∷ more))
+        → answer.fault ≡ None
+        → answer ≡ (exchanged_alone config (left_by config state (calls_done front given)) call).0 }
+    ensures failed { (front : List Call) (call : Call) (back : List Call) (given : List Answer)
+        (answer : Answer) (more : List Answer) (arguments : List ℕ) → length front ≡ length given
+        → task_of call ≡ asking arguments → is_none answer.fault ≡ false
+        → calls_done (front ++ call ∷ back) (given ++ answer ∷ more)
+        ≡ calls_done (front ++ back) (given ++ more) }
 {}
 
 /// What the theorem and the laws beside it ask for can be met: a run of a host of two repositories, computed from the bytes of its
@@ -109,4 +124,12 @@ pub fn worked_headline_law()
         × IsWorkedList first waiting second last }
     ensures beside { (first : Harvest) × (second : Harvest) × (third : Harvest)
         × AreMadeBeside first second third }
+{}
+
+/// What the theorem says of failures speaks of something: a run of one repository of the worked host, computed from the bytes of
+/// its messages on, in which a deposit fails in its second line, and a page of a list is refused memory and asked for again. What was
+/// performed of it is what the run without failures performs, and the list is followed over its three pages. It does nothing.
+pub fn worked_faults_law()
+    ensures { (first : Visit) × (second : Visit) × (last : Visit)
+        × IsWorkedWithFailures first second last }
 {}

@@ -1,12 +1,18 @@
 //! The theorem of a host, in one place: its repositories are as if each stood alone, and a list that is followed is
-//! what was selected.
+//! what was selected, whatever memory was refused and whichever device calls failed.
 #![tactic(auto)]
 
+mod harvests;
 mod laws;
 mod rules;
+mod runs;
+mod served;
 
+pub use harvests::client_harvests_law;
 pub use laws::{
-    carried_law, harvests_law, headline_alone_law, headline_law, headline_on_pages_law, visits_law,
-    worked_headline_law,
+    carried_law, place_law, throughout_law, throughout_on_pages_law, throughout_runs_law,
+    visits_law, worked_faults_law, worked_headline_law,
 };
 pub use rules::rules_law;
+pub use runs::host_law;
+pub use served::pages_law;

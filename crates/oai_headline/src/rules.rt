@@ -4,7 +4,8 @@ ghost use Rattle.oai_headline.specs.Headline.{HasRules, HaveRules};
 
 use oai_config::{Config, NamedConfig};
 
-/// A configuration keeps the rules that the theorem asks for. It does nothing.
+/// A configuration keeps the rules that the theorem asks for. It walks through the repositories, since what the
+/// type of each of their configurations keeps is known where that is looked at, and returns nothing.
 pub fn rules_law(config: Config)
     ensures { HaveRules config }
 {

@@ -1,14 +1,10 @@
 -- Faults that answers tell: they have their cause also where more calls came before, or come later.
-use Rattle.std.proofs.Common.{◌≡◌, ◌∙◌, ◌<◌, ◌≤◌, ◌⊎◌, inl, inr, ℕ, Bool, List, [], ◌∷◌, ◌++◌, length, Option, None, Some, Result, Ok, Err, refl, sym, subst, arith}
-use Rattle.std.specs.Prelude.{IfSome, unwrap_or}
+use Rattle.std.proofs.Common.{◌≡◌, ◌∙◌, ◌<◌, ◌≤◌, ◌⊎◌, inl, inr, ℕ, Bool, List, [], ◌∷◌, Result, Ok, Err, sym, subst, arith}
 use Rattle.std.proofs.lemmas.Bool.{cases_lt}
 use Rattle.oai_item.specs.declared.faults.Fault.{Fault}
-use Rattle.oai_item.specs.declared.faults.Fault.TheVariants.{Damaged, Device, NoMemory, TooManyPages}
 use Rattle.oai_catalogue.specs.Store.{IsCounted, IsHonest}
 use Rattle.oai_catalogue.specs.declared.versions.TheConstants.{MAX_FAILURES}
-use Rattle.oai_host.specs.Answers.{AreCounted, AreHonest, OnFailed, Tells, failure_in}
-use Rattle.oai_http.specs.Answers.{failed}
-use Rattle.oai_host.specs.Tasks.{asking, depositing}
+use Rattle.oai_host.specs.Answers.{AreCounted, AreHonest, failure_in}
 use Rattle.oai_http.specs.declared.exchanges.Answer.{Answer}
 
 -- ---- the count of failures
@@ -41,12 +37,6 @@ pub all_counted_since : (answers : List Answer) (old mid new : ℕ) → old ≤ 
 all_counted_since [] old mid new before all = tt
 all_counted_since (a ∷ answers) old mid new before all = (counted_since (failure_in a) old mid new before all.0, all_counted_since answers old mid new before all.1)
 
-pub counted_last : (answers : List Answer) (answer : Answer) (old mid new : ℕ) → old ≤ mid → AreCounted answers old mid → IsCounted (failure_in answer) mid new
-    → AreCounted (answers ++ answer ∷ []) old new
-counted_last [] answer old mid new before all last = (counted_since (failure_in answer) old mid new before last, tt)
-counted_last (a ∷ answers) answer old mid new before all last =
-    (counted_on (failure_in a) old mid new all.0 last.count, counted_last answers answer old mid new before all.1 last)
-
 -- ---- honesty
 
 pub honest_on : (r : Result (Unit {0}) Fault) (old mid new : Bool) → IsHonest r old mid → new ≡ mid → IsHonest r old new
@@ -58,46 +48,3 @@ honest_since r old mid new before h = subst (λ (b : Bool). IsHonest r b new) be
 pub all_honest_since : (answers : List Answer) (old mid new : Bool) → mid ≡ old → AreHonest answers mid new → AreHonest answers old new
 all_honest_since [] old mid new before all = tt
 all_honest_since (a ∷ answers) old mid new before all = (honest_since (failure_in a) old mid new before all.0, all_honest_since answers old mid new before all.1)
-
-pub honest_last : (answers : List Answer) (answer : Answer) (old mid new : Bool) → mid ≡ old → AreHonest answers old mid → IsHonest (failure_in answer) mid new
-    → AreHonest (answers ++ answer ∷ []) old new
-honest_last [] answer old mid new before all last = (honest_since (failure_in answer) old mid new before last, tt)
-honest_last (a ∷ answers) answer old mid new before all last =
-    (honest_on (failure_in a) old mid new all.0 last.same, honest_last answers answer old mid new before all.1 last)
-
--- ---- what a failure leaves
-
-if_some : (P : Type 0) (fault : Option Fault) → P → IfSome fault (λ _. P)
-if_some P None p = tt
-if_some P (Some fault) p = p
-
-if_some_then : (P Q : Type 0) (fault : Option Fault) → (P → Q) → IfSome fault (λ _. P) → IfSome fault (λ _. Q)
-if_some_then P Q None f p = tt
-if_some_then P Q (Some fault) f p = f p
-
-pub left_so : (P : Type 0) (answer : Answer) → P → OnFailed answer P
-left_so P answer p = if_some (unwrap_or answer.done 0 ≡ 0 → P) answer.fault (λ _. p)
-
-pub left_then : (P Q : Type 0) (answer : Answer) → (P → Q) → OnFailed answer P → OnFailed answer Q
-left_then P Q answer f h = if_some_then (unwrap_or answer.done 0 ≡ 0 → P) (unwrap_or answer.done 0 ≡ 0 → Q) answer.fault (λ p none. f (p none)) h
-
--- a deposit tells how many of its lines were done
-pub deposit_left : (P : Type 0) (fault : Fault) (lines : ℕ) → (lines ≡ 0 → P) → OnFailed (failed fault (Some lines)) P
-deposit_left P NoMemory lines left = left
-deposit_left P TooManyPages lines left = left
-deposit_left P Device lines left = left
-deposit_left P Damaged lines left = left
-
--- ---- what is told of it
-
-pub request_told : (arguments : List ℕ) (fault : Fault) → Tells (asking arguments) (failed fault None)
-request_told arguments NoMemory = refl
-request_told arguments TooManyPages = refl
-request_told arguments Device = refl
-request_told arguments Damaged = refl
-
-pub deposit_told : (lines : List (List ℕ)) (fault : Fault) (done : ℕ) → done < length lines → Tells (depositing lines) (failed fault (Some done))
-deposit_told lines NoMemory done less = record { so = refl; less = less }
-deposit_told lines TooManyPages done less = record { so = refl; less = less }
-deposit_told lines Device done less = record { so = refl; less = less }
-deposit_told lines Damaged done less = record { so = refl; less = less }

@@ -1,12 +1,14 @@
 -- Which repository an exchange is for, and what is answered where it is none's.
 use Rattle.std.proofs.Common.{◌≡◌, ◌∙◌, ℕ, zero, suc, true, false, not, List, [], ◌∷◌, ◌++◌, map, None, Some, refl, sym, ap, subst, arith}
-use Rattle.std.specs.List.{AllZip, list_all, list_any, slice_get}
+use Rattle.std.specs.List.{list_all, list_any, slice_get}
 use Rattle.std.specs.Str.{bytes_eq}
-use Rattle.std.proofs.lemmas.Bool.{and_from, and_parts, false_from_ne_true, not-true, not_from_false, or_from, or_parts}
-use Rattle.oai_catalogue.specs.Store.{Lists}
+use Rattle.std.proofs.lemmas.Bool.{and_parts, false_from_ne_true, not-true, or_from, or_parts}
+use Rattle.oai_catalogue.specs.Store.{IsCounted, IsHonest, Lists}
 use Rattle.oai_item.specs.Rules.{has_repeat}
 use Rattle.oai_config.specs.Configs.{AreNamed, NamedConfig, names_of}
-use Rattle.oai_host.specs.Hosts.{HostState, IsAnswered, IsStep, Repository, begun, is_of_none, refused}
+use Rattle.oai_host.specs.Answers.{failure_in}
+use Rattle.oai_host.specs.Hosts.{AreSteps, HostState, IsExchanged, Repository, begun, is_of_none, refused, store_of}
+use Rattle.oai_host.specs.Performed.{StoreState}
 use Rattle.oai_host.specs.NamedRepos.{repo_names, place_in, repositories_of}
 use Rattle.oai_settings.specs.Config.{is_repository_name}
 use Rattle.oai_http.specs.Targets.{front_of, leads_to_repository, path_of}
@@ -63,28 +65,19 @@ owned (x ∷ repos) (suc i) one lists call there leads none =
 pub owned_there : {P : Type 0} (repos : List NamedRepo) (i : ℕ) (endpoint : Endpoint) (lists : Lists) (call : Call) → IsRepoPlace repos i endpoint call.target → is_of_none (repositories_of repos lists) call ≡ true → P
 owned_there repos i endpoint lists call place none = owned repos i place.one lists call place.there (leads_there endpoint place.one.name call.target place.path) none
 
-pub none_there : (repos : List NamedRepo) (i : ℕ) (endpoint : Endpoint) (lists : Lists) (call : Call) (answer : Answer) → IsRepoPlace repos i endpoint call.target
-    → is_of_none (repositories_of repos lists) call ≡ true → answer ≡ refused call
-none_there repos i endpoint lists call answer place none = owned_there repos i endpoint lists call place none
-
 -- the exchange is no repository's
-pub none_nowhere : (repos : List NamedRepo) (lists : Lists) (call : Call) → LeadsNowhere repos call.target → is_of_none (repositories_of repos lists) call ≡ true
-none_nowhere [] lists call nowhere = refl
-none_nowhere (x ∷ repos) lists call nowhere =
-    and_from (not (leads_to_repository x.name call.target)) (is_of_none (repositories_of repos lists) call) (not_from_false (leads_to_repository x.name call.target) nowhere.0)
-    (none_nowhere repos lists call nowhere.1)
-
-none_steps : (repos : List NamedRepo) (lists : Lists) (call : Call) (answer : Answer) (m n : ℕ) → LeadsNowhere repos call.target → AllZip (IsStep call answer m n) (repositories_of repos lists) (repositories_of repos lists)
+none_steps : (repos : List NamedRepo) (lists : Lists) (call : Call) (answer : Answer) (m n : StoreState) → LeadsNowhere repos call.target → AreSteps call answer m n (repositories_of repos lists) (repositories_of repos lists)
 none_steps [] lists call answer m n nowhere = tt
 none_steps (x ∷ repos) lists call answer m n nowhere =
     (record { name = refl; config = refl; own = λ leads. clash (leads_to_repository x.name call.target) leads nowhere.0; other = λ _. refl }, none_steps repos lists call answer m n nowhere.1)
 
-pub answered_nowhere : (repos : List NamedRepo) (lists : Lists) (host : HostState) (call : Call) (answer : Answer) → host.repositories ≡ repositories_of repos lists → LeadsNowhere repos call.target → answer ≡ refused call
-    → IsAnswered call answer host host
-answered_nowhere repos lists host call answer here nowhere is = record {
-  each = subst (λ (rs : List Repository). AllZip (IsStep call answer host.failures host.failures) rs rs) (sym here) (none_steps repos lists call answer host.failures host.failures nowhere);
-  none = λ _. is;
-  count = omega arith;
+pub exchanged_nowhere : (repos : List NamedRepo) (lists : Lists) (host : HostState) (call : Call) (answer : Answer) → host.repositories ≡ repositories_of repos lists → LeadsNowhere repos call.target → answer ≡ refused call
+    → IsExchanged call answer host host
+exchanged_nowhere repos lists host call answer here nowhere is = record {
+  each = subst (λ (rs : List Repository). AreSteps call answer (store_of host) (store_of host) rs rs) (sym here) (none_steps repos lists call answer (store_of host) (store_of host) nowhere);
+  none = λ _. (is, refl);
+  device = subst (λ (a : Answer). IsCounted (failure_in a) host.failures host.failures) (sym is) (record { count = omega arith; device = tt });
+  honesty = subst (λ (a : Answer). IsHonest (failure_in a) host.honest host.honest) (sym is) (record { same = refl; damaged = tt });
 }
 
 -- ---- those that begin

@@ -1,11 +1,13 @@
 pub mod RouteLemmas
 pub mod PlaceLemmas
 pub mod FaultLemmas
-pub mod BrokenLemmas
 pub mod NamedRepoLemmas
-pub mod PerformedLemmas
 pub mod HostLemmas
-pub mod RunLemmas
 pub mod DepositLemmas
+pub mod RunLemmas
+pub mod BrokenLemmas
 pub mod LineLemmas
 pub mod RoomLemmas
+pub mod TaskLemmas
+pub mod RedoLemmas
+pub mod AgainLemmas

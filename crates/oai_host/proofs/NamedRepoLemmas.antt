@@ -1,32 +1,28 @@
 -- One of many repositories changes, and the others stay as they were.
-use Rattle.std.proofs.Common.{◌≡◌, ◌∙◌, ◌<◌, ◌⊎◌, ℕ, zero, suc, Bool, true, false, eqb, List, [], ◌∷◌, ◌++◌, Option, None, Some, unwrap_or, slice_set, IsTrue, refl, sym, ap, subst}
-use Rattle.std.specs.List.{AllZip, list_any, slice_get}
+use Rattle.std.proofs.Common.{◌≡◌, ◌∙◌, ℕ, zero, suc, Bool, true, false, eqb, List, [], ◌∷◌, ◌++◌, Option, None, Some, unwrap_or, slice_set, IsTrue, refl, sym, ap, subst}
+use Rattle.std.specs.List.{list_any, slice_get}
 use Rattle.std.specs.Str.{bytes_eq}
-use Rattle.std.proofs.lemmas.Bool.{cond-false, eqb-true, false_from_ne_true, not-true, or_from, or_left, or_parts, or_right}
+use Rattle.std.proofs.lemmas.Bool.{cond-false, eqb-true, false_from_ne_true, or_from, or_left, or_parts, or_right}
 use Rattle.oai_item.specs.Item.{ItemState}
 use Rattle.oai_catalogue.specs.Store.{Lists}
-use Rattle.oai_catalogue.specs.declared.versions.TheConstants.{MAX_FAILURES}
 use Rattle.oai_settings.specs.Config.{Config}
 use Rattle.oai_repo.specs.Fields.{IsNew, IsStored, Keeps, KeepsOthers, RepoFields, StandsIn, has, numbers_of, open_lists_of, state_of, stored_items, versions_in}
 use Rattle.oai_repo.specs.State.{OpenLists, RepoState}
 use Rattle.oai_repo.proofs.OpenListLemmas.{open_lists_same}
 use Rattle.oai_repo.proofs.NeighbourLemmas.{apart_turned, held_where, stands_where, still_apart, still_held, still_stands}
 use Rattle.oai_repo.proofs.NumberLemmas.{same_number, turned, unused_lacks}
-use Rattle.oai_host.specs.Alone.{IsTried}
 use Rattle.oai_item.specs.Rules.{has_repeat}
 use Rattle.oai_config.specs.Configs.{AreNamed, NamedConfig}
-use Rattle.oai_host.specs.Answers.{OnFailed}
-use Rattle.oai_host.specs.Hosts.{IsLeft, IsStep, LeavesOthers, Repository, begun}
+use Rattle.oai_host.specs.Hosts.{AreSteps, IsStep, Repository, begun}
+use Rattle.oai_host.specs.Performed.{IsPerformed, StoreState}
 use Rattle.oai_host.specs.NamedRepos.{AllApart, AllHeld, AllStand, AreApart, AreNamedRepos, IsApart, repo_names, repositories_of, repository_of}
 use Rattle.oai_settings.specs.Config.{is_repository_name}
 use Rattle.oai_http.specs.Targets.{front_of, leads_to_repository, path_of}
 use Rattle.oai_host.specs.Tasks.{task_at, task_in}
 use Rattle.oai_http.specs.declared.exchanges.Answer.{Answer}
 use Rattle.oai_http.specs.declared.exchanges.Call.{Call}
-use Rattle.oai_http.specs.declared.statuses.Status.TheVariants.{InternalServerError}
 use Rattle.oai_host.specs.declared.repositories.NamedRepo.{NamedRepo}
 use Rattle.oai_http.specs.declared.targets.Endpoint.{Endpoint}
-use Rattle.oai_host.proofs.FaultLemmas.{left_then}
 use Rattle.oai_http.proofs.TargetLemmas.{bytes_turned, clash, endpoint_is, leads_not, leads_there}
 use Rattle.oai_host.proofs.PlaceLemmas.{named_last, names_last, names_set, nothing_there, same_one}
 
@@ -44,18 +40,9 @@ state_same other before after same =
     let with : List ItemState → OpenLists → RepoState = λ xs b. record { clock = other.clock; holdings = record { items = xs; sets = other.sets }; open_lists = b } in
     ap (λ (xs : List ItemState). with xs (open_lists_of other.clock other.table after)) items ∙ ap (with (stored_items other.index before)) open_ones
 
-left_same : (target : List ℕ) (one other : Repository) → other ≡ one → IsLeft target one other
-left_same target one other same =
-    record { name = ap (λ (r : Repository). r.name) same; config = ap (λ (r : Repository). r.config) same; other = λ _. same }
-
 module _ (old new : RepoFields) (before after : Lists) (kept : KeepsOthers (numbers_of old) before (numbers_of new) after) where
   same_lists : (other : RepoFields) → StandsIn other before → AreApart other old → (n : ℕ) → has (numbers_of other) n ≡ true → after n ≡ before n
   same_lists other stands apart n there = kept.others n (apart n there) (still_apart old new other before after kept stands apart n there)
-
-  repository_same : (other : NamedRepo) → StandsIn other.repo before → AreApart other.repo old → repository_of after other ≡ repository_of before other
-  repository_same other stands apart =
-      let with : RepoState → Repository = λ s. record { name = other.name; config = other.repo.config; state = s } in
-      ap with (state_same other.repo before after (same_lists other.repo stands apart))
 
   -- ---- those behind it
 
@@ -73,7 +60,7 @@ module _ (old new : RepoFields) (before after : Lists) (kept : KeepsOthers (numb
   rest_apart (x ∷ others) stand apart =
       (apart_turned x.repo new (still_apart old new x.repo before after kept stand.0 (apart_turned old x.repo apart.0)), rest_apart others stand.1 apart.1)
 
-  other_step : (call : Call) (answer : Answer) (m n : ℕ) (x : NamedRepo) → StandsIn x.repo before → AreApart x.repo old → leads_to_repository x.name call.target ≡ false
+  other_step : (call : Call) (answer : Answer) (m n : StoreState) (x : NamedRepo) → StandsIn x.repo before → AreApart x.repo old → leads_to_repository x.name call.target ≡ false
       → IsStep call answer m n (repository_of before x) (repository_of after x)
   other_step call answer m n x stands apart elsewhere = record {
     name = refl;
@@ -82,20 +69,15 @@ module _ (old new : RepoFields) (before after : Lists) (kept : KeepsOthers (numb
     other = λ _. state_same x.repo before after (same_lists x.repo stands apart);
   }
 
-  rest_steps : (call : Call) (answer : Answer) (m n : ℕ) (endpoint : Endpoint) (name : List ℕ) (others : List NamedRepo) → AllStand others before → IsApart old others
+  rest_steps : (call : Call) (answer : Answer) (m n : StoreState) (endpoint : Endpoint) (name : List ℕ) (others : List NamedRepo) → AllStand others before → IsApart old others
       → path_of call.target ≡ front_of endpoint ++ name → list_any (bytes_eq name) (repo_names others) ≡ false
-      → AllZip (IsStep call answer m n) (repositories_of others before) (repositories_of others after)
+      → AreSteps call answer m n (repositories_of others before) (repositories_of others after)
   rest_steps call answer m n endpoint name [] stand apart path unused = tt
   rest_steps call answer m n endpoint name (x ∷ others) stand apart path unused =
       let parts = or_parts (bytes_eq name x.name) (list_any (bytes_eq name) (repo_names others)) unused in (
         other_step call answer m n x stand.0 (apart_turned old x.repo apart.0) (leads_not endpoint name x.name call.target path parts.0),
         rest_steps call answer m n endpoint name others stand.1 apart.1 path parts.1,
       )
-
-  rest_others : (target : List ℕ) (others : List NamedRepo) → AllStand others before → IsApart old others → LeavesOthers target (repositories_of others before) (repositories_of others after)
-  rest_others target [] stand apart = tt
-  rest_others target (x ∷ others) stand apart =
-      (left_same target (repository_of before x) (repository_of after x) (repository_same x stand.0 (apart_turned old x.repo apart.0)), rest_others target others stand.1 apart.1)
 
 -- ---- the one at a place
 
@@ -150,10 +132,10 @@ module _ (one : NamedRepo) (new : RepoFields) (before after : Lists) (kept : Kee
   set_apart (x ∷ repos) (suc i) there stand apart =
       (apart_set x.repo repos i changed apart.0 (still_apart one.repo new x.repo before after kept stand.0 (apart_at x.repo repos i one there apart.0)), set_apart repos i there stand.1 apart.1)
 
-  set_steps : (call : Call) (answer : Answer) (m n : ℕ) (endpoint : Endpoint) (repos : List NamedRepo) (i : ℕ) → slice_get repos i ≡ Some one → AllStand repos before → AllApart repos
+  set_steps : (call : Call) (answer : Answer) (m n : StoreState) (endpoint : Endpoint) (repos : List NamedRepo) (i : ℕ) → slice_get repos i ≡ Some one → AllStand repos before → AllApart repos
       → has_repeat (repo_names repos) ≡ false → path_of call.target ≡ front_of endpoint ++ one.name
       → IsStep call answer m n (repository_of before one) (repository_of after changed)
-      → AllZip (IsStep call answer m n) (repositories_of repos before) (repositories_of (slice_set repos i changed) after)
+      → AreSteps call answer m n (repositories_of repos before) (repositories_of (slice_set repos i changed) after)
   set_steps call answer m n endpoint [] i there stand apart distinct path step = nothing_there one there
   set_steps call answer m n endpoint (x ∷ repos) zero there stand apart distinct path step =
       let same = same_one x one there in
@@ -169,23 +151,6 @@ module _ (one : NamedRepo) (new : RepoFields) (before after : Lists) (kept : Kee
         set_steps call answer m n endpoint repos i there stand.1 apart.1 parts.1 path step,
       )
 
-  set_others : (target : List ℕ) (endpoint : Endpoint) (repos : List NamedRepo) (i : ℕ) → new.config ≡ one.repo.config → slice_get repos i ≡ Some one → AllStand repos before → AllApart repos
-      → path_of target ≡ front_of endpoint ++ one.name → LeavesOthers target (repositories_of repos before) (repositories_of (slice_set repos i changed) after)
-  set_others target endpoint [] i config there stand apart path = nothing_there one there
-  set_others target endpoint (x ∷ repos) zero config there stand apart path =
-      let same = same_one x one there in (
-        record {
-          name = ap (λ (y : NamedRepo). y.name) (sym same);
-          config = config ∙ ap (λ (y : NamedRepo). y.repo.config) (sym same);
-          other = λ elsewhere. clash (leads_to_repository x.name target) (ap (λ (y : NamedRepo). leads_to_repository y.name target) same ∙ leads_there endpoint one.name target path) elsewhere;
-        },
-        rest_others one.repo new before after kept target repos stand.1 (subst (λ (y : NamedRepo). IsApart y.repo repos) same apart.0),
-      )
-  set_others target endpoint (x ∷ repos) (suc i) config there stand apart path = (
-    left_same target (repository_of before x) (repository_of after x) (repository_same one.repo new before after kept x stand.0 (apart_at x.repo repos i one there apart.0)),
-    set_others target endpoint repos i config there stand.1 apart.1 path,
-  )
-
 -- all of it
 pub repos_set : (was is : Bool) (repos : List NamedRepo) (i : ℕ) (one : NamedRepo) (new : RepoFields) (before after : Lists) → is ≡ was → slice_get repos i ≡ Some one → AreNamedRepos was repos before
     → Keeps was one.repo before new after → AreNamedRepos is (slice_set repos i (record { name = one.name; repo = new })) after
@@ -196,45 +161,17 @@ repos_set was is repos i one new before after same there old kept = record {
   apart = set_apart one new before after kept.others repos i there old.stand old.apart;
 }
 
-pub steps_set : (was : Bool) (call : Call) (answer : Answer) (m n : ℕ) (endpoint : Endpoint) (repos : List NamedRepo) (i : ℕ) (one : NamedRepo) (new : RepoFields) (before after : Lists) → slice_get repos i ≡ Some one → AreNamedRepos was repos before
+pub steps_set : (was : Bool) (call : Call) (answer : Answer) (m n : StoreState) (endpoint : Endpoint) (repos : List NamedRepo) (i : ℕ) (one : NamedRepo) (new : RepoFields) (before after : Lists) → slice_get repos i ≡ Some one → AreNamedRepos was repos before
     → Keeps was one.repo before new after → has_repeat (repo_names repos) ≡ false → path_of call.target ≡ front_of endpoint ++ one.name
-    → IsTried one.repo.config (state_of one.repo before) call.moment (task_in endpoint call) answer (state_of new after)
-    → (answer.status ≡ InternalServerError → (m < n) ⊎ (m ≡ MAX_FAILURES))
-    → AllZip (IsStep call answer m n) (repositories_of repos before) (repositories_of (slice_set repos i (record { name = one.name; repo = new })) after)
-steps_set was call answer m n endpoint repos i one new before after there old kept distinct path tried broken =
+    → IsPerformed one.repo.config call.moment (task_in endpoint call) answer (state_of one.repo before) m (state_of new after) n
+    → AreSteps call answer m n (repositories_of repos before) (repositories_of (slice_set repos i (record { name = one.name; repo = new })) after)
+steps_set was call answer m n endpoint repos i one new before after there old kept distinct path performed =
     set_steps one new before after kept.others call answer m n endpoint repos i there old.stand old.apart distinct path (record {
       name = refl;
       config = kept.config;
-      own = λ _. record {
-        tried = subst (λ (at : Option Endpoint). IsTried one.repo.config (state_of one.repo before) call.moment (task_at at call) answer (state_of new after)) (sym (endpoint_is endpoint one.name call.target path)) tried;
-        broken = broken;
-      };
-      other = λ elsewhere. clash (leads_to_repository one.name call.target) (leads_there endpoint one.name call.target path) (not-true (leads_to_repository one.name call.target) elsewhere);
+      own = λ _. subst (λ (at : Option Endpoint). IsPerformed one.repo.config call.moment (task_at at call) answer (state_of one.repo before) m (state_of new after) n) (sym (endpoint_is endpoint one.name call.target path)) performed;
+      other = λ elsewhere. clash (leads_to_repository one.name call.target) (leads_there endpoint one.name call.target path) elsewhere;
     })
-
-pub others_set : (was : Bool) (target : List ℕ) (endpoint : Endpoint) (repos : List NamedRepo) (i : ℕ) (one : NamedRepo) (new : RepoFields) (before after : Lists) → slice_get repos i ≡ Some one → AreNamedRepos was repos before
-    → Keeps was one.repo before new after → path_of target ≡ front_of endpoint ++ one.name
-    → LeavesOthers target (repositories_of repos before) (repositories_of (slice_set repos i (record { name = one.name; repo = new })) after)
-others_set was target endpoint repos i one new before after there old kept path =
-    set_others one new before after kept.others target endpoint repos i kept.config there old.stand old.apart path
-
-set_same : (repos : List NamedRepo) (i : ℕ) (one : NamedRepo) (new : RepoFields) → slice_get repos i ≡ Some one → new ≡ one.repo → slice_set repos i (record { name = one.name; repo = new }) ≡ repos
-set_same [] i one new there same = nothing_there one there
-set_same (x ∷ repos) zero one new there same =
-    let with : RepoFields → NamedRepo = λ h. record { name = one.name; repo = h } in
-    ap (λ (h : RepoFields). with h ∷ repos) same ∙ ap (λ (y : NamedRepo). y ∷ repos) (sym (same_one x one there))
-set_same (x ∷ repos) (suc i) one new there same = ap (λ (others : List NamedRepo). x ∷ others) (set_same repos i one new there same)
-
--- one that was left as it was
-pub left_set : (answer : Answer) (repos : List NamedRepo) (i : ℕ) (one : NamedRepo) (new : RepoFields) (before after : Lists) → slice_get repos i ≡ Some one
-    → OnFailed answer ((new ≡ one.repo) × (after ≡ before)) → OnFailed answer ((slice_set repos i (record { name = one.name; repo = new }) ≡ repos) × (after ≡ before))
-left_set answer repos i one new before after there left =
-    left_then ((new ≡ one.repo) × (after ≡ before)) ((slice_set repos i (record { name = one.name; repo = new }) ≡ repos) × (after ≡ before)) answer
-    (λ (same : (new ≡ one.repo) × (after ≡ before)). (set_same repos i one new there same.0, same.1)) left
-
-pub others_same : (target : List ℕ) (repositories : List Repository) → LeavesOthers target repositories repositories
-others_same target [] = tt
-others_same target (x ∷ repositories) = (left_same target x x refl, others_same target repositories)
 
 -- ---- one more
 

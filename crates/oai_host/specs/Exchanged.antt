@@ -1,39 +1,44 @@
--- What holds of an exchange with a host over every store, also over one that does not give back what was written to it. This repository's own.
-use Rattle.std.specs.Prelude.{◌≡◌, true, false, ℤ, IsTrue, List, [], ◌∷◌}
-use Rattle.oai_catalogue.specs.Store.{IsCounted, IsHonest}
-use Rattle.oai_host.specs.Answers.{OnFailed, Tells, failure_in}
-use Rattle.oai_host.specs.Hosts.{HostState, IsAnswered, LeavesOthers, is_of_none, refused}
-use Rattle.oai_host.specs.Performed.{PerformsOwn}
-use Rattle.oai_host.specs.Room.{FindsRoom}
-use Rattle.oai_host.specs.Tasks.{task_of}
+-- How a front has its messages performed by a host, and what that does to what the host keeps in a store. This repository's own.
+use Rattle.std.specs.Prelude.{◌≡◌, ◌++◌, ℕ, ℤ, List, Result, OnErr, OnOk}
+use Rattle.oai_catalogue.specs.Calls.{Uses}
+use Rattle.oai_catalogue.specs.declared.versions.Versions.{Ghosts}
+use Rattle.oai_item.specs.declared.changes.Change.{Change}
+use Rattle.oai_item.specs.declared.faults.Fault.{Fault}
+use Rattle.oai_item.specs.declared.refusals.LineRefusal.{LineRefusal}
+use Rattle.oai_repo.specs.Fields.{Keeps, RepoFields, state_of}
 use Rattle.oai_http.specs.Exchanges.{Asked, call_at}
 use Rattle.oai_http.specs.declared.exchanges.Answer.{Answer}
-use Rattle.oai_http.specs.declared.exchanges.Call.{Call}
-
--- over a store that gives back what was written to it, it is answered as `IsAnswered` says. Over every store the repositories of others
--- stay; the one whose it is has performed it, as `IsPerformed` says; an exchange of none is refused, and leaves the host as it was; any
--- other is answered by one of the answers to what it asks; what failed before anything was done left all repositories as they were; a
--- fault has its cause; and no more room is used than was asked for
-pub record IsExchanged (call : Call) (answer : Answer) (before after : HostState) : Type 0 where
-  pub answered : IsTrue before.honest → IsAnswered call answer before after
-  pub others : LeavesOthers call.target before.repositories after.repositories
-  pub performed : PerformsOwn call answer before.repositories after.repositories
-  pub none : is_of_none before.repositories call ≡ true → answer ≡ refused call
-  pub still : is_of_none before.repositories call ≡ true → after ≡ before
-  pub told : is_of_none before.repositories call ≡ false → Tells (task_of call) answer
-  pub left : OnFailed answer (after.repositories ≡ before.repositories)
-  pub room : FindsRoom call answer before.repositories before.room after.room
-  pub device : IsCounted (failure_in answer) before.failures after.failures
-  pub honesty : IsHonest (failure_in answer) before.honest after.honest
+use Rattle.oai_host.specs.Hosts.{HostState, IsExchanged}
+use Rattle.oai_host.specs.Performed.{IsLinePerformed, IsPerformed, StoreState}
+use Rattle.oai_host.specs.Room.{room_for_line}
+use Rattle.oai_host.specs.Tasks.{Task}
 
 -- what is asked at a moment was exchanged, as a front has its messages performed
 abbrev pub IsHandled : HostState → ℤ → Asked → Answer → HostState → Type 0
 IsHandled before moment asked answer after = IsExchanged (call_at moment asked) answer before after
 
--- exchanges, one after the other, each with its answer
-abbrev pub AreExchanged : List Call → List Answer → HostState → HostState → Type 0
-AreExchanged [] [] before after = after ≡ before
-AreExchanged [] (answer ∷ answers) before after = ⊥
-AreExchanged (call ∷ calls) [] before after = ⊥
-AreExchanged (call ∷ calls) (answer ∷ answers) before after =
-    (between : HostState) × IsExchanged call answer before between × AreExchanged calls answers between after
+-- ---- over a store
+
+-- what is said of it
+abbrev pub store_state : {V : Type 0} → Ghosts V → V → StoreState
+store_state g store = record { honest = g.honest store; failures = g.failures store; room = g.room store }
+
+-- a repository in a store performs what is asked, and keeps what it has to keep
+pub record PerformsIn {V : Type 0} (g : Ghosts V) (moment : ℤ) (task : Task) (answer : Answer) (old : RepoFields) (before : V) (new : RepoFields) (after : V) : Type 0 where
+  pub performed : IsPerformed old.config moment task answer (state_of old (g.lists before)) (store_state g before) (state_of new (g.lists after)) (store_state g after)
+  pub kept : Keeps (g.honest before) old (g.lists before) new (g.lists after)
+
+-- ---- a line of a deposit
+
+-- a line was performed, as it was read, and the line for it stands behind the others
+pub record IsLineAdded {V : Type 0} (g : Ghosts V) (moment : ℤ) (read : Result Change LineRefusal) (old : RepoFields) (before : V) (was : List ℕ) (new : RepoFields) (after : V) (is : List ℕ) : Type 0 where
+  pub text : List ℕ
+  pub told : is ≡ was ++ text
+  pub line : IsLinePerformed (g.honest before) old.config moment read (state_of old (g.lists before)) text (state_of new (g.lists after))
+
+-- a repository in a store performs a line, as it was read; a fault leaves the repository and all lists as they were
+pub record PerformsLine {V : Type 0} (g : Ghosts V) (moment : ℤ) (read : Result Change LineRefusal) (result : Result (Unit {0}) Fault) (old : RepoFields) (before : V) (was : List ℕ) (new : RepoFields) (after : V) (is : List ℕ) : Type 0 where
+  pub ok : OnOk result (IsLineAdded g moment read old before was new after is)
+  pub err : OnErr result ((new ≡ old) × (g.lists after ≡ g.lists before))
+  pub kept : Keeps (g.honest before) old (g.lists before) new (g.lists after)
+  pub store : Uses g (room_for_line old.config read) result before after

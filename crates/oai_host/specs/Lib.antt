@@ -3,9 +3,10 @@ pub mod Answers
 pub mod Faults
 pub mod Tasks
 pub mod Alone
-pub mod Hosts
-pub mod Performed
 pub mod Room
+pub mod Performed
+pub mod Hosts
+pub mod Redone
 pub mod Exchanged
 pub mod Rows
 pub mod NamedRepos

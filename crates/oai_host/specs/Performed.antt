@@ -1,7 +1,6 @@
--- What an exchange does to the repository whose it is, over every store, also over one that does not give back what was written to it. This
--- repository's own.
-use Rattle.std.specs.Prelude.{◌≡◌, ◌⊎◌, ◌<◌, ℕ, ℤ, true, List, [], ◌∷◌, ◌++◌, codes, length, take, None, Some, Result, Ok, Err}
-use Rattle.std.specs.List.{AllZip}
+-- What an exchange does to the repository whose it is, over every store, also over one that does not give back what was written to it; and
+-- that over one that does it is what the machine does. This repository's own.
+use Rattle.std.specs.Prelude.{◌≡◌, ◌⊎◌, ◌<◌, ℕ, ℤ, Bool, IsTrue, List, [], ◌∷◌, ◌++◌, codes, length, take, None, Some, Result, Ok, Err}
 use Rattle.oai_time.specs.Clock.{tick}
 use Rattle.oai_time.specs.TimeTexts.{datestamp_text}
 use Rattle.oai_item.specs.Refusals.{Cause, in_line, in_repository, refusal_line}
@@ -9,18 +8,18 @@ use Rattle.oai_item.specs.declared.changes.Change.{Change}
 use Rattle.oai_item.specs.declared.faults.Fault.{Fault}
 use Rattle.oai_item.specs.declared.refusals.ChangeRefusal.{ChangeRefusal}
 use Rattle.oai_item.specs.declared.refusals.LineRefusal.{LineRefusal}
+use Rattle.oai_catalogue.specs.Store.{IsCounted, IsHonest, NeedsRoom}
 use Rattle.oai_deposit.specs.Lines.{line_of}
 use Rattle.oai_settings.specs.Config.{Config}
 use Rattle.oai_repo.specs.Accepted.{sets_with}
 use Rattle.oai_repo.specs.Changes.{stamp_at}
 use Rattle.oai_repo.specs.State.{RepoState, moved}
 use Rattle.oai_http.specs.Answers.{answered, answered_with, failed}
-use Rattle.oai_http.specs.Targets.{leads_to_repository}
 use Rattle.oai_http.specs.declared.exchanges.Answer.{Answer}
-use Rattle.oai_http.specs.declared.exchanges.Call.{Call}
-use Rattle.oai_host.specs.Answers.{IsReply}
-use Rattle.oai_host.specs.Hosts.{Repository}
-use Rattle.oai_host.specs.Tasks.{Task, asking, depositing, refusing, task_of}
+use Rattle.oai_host.specs.Alone.{after_read, done_alone}
+use Rattle.oai_host.specs.Answers.{IsReply, failure_in}
+use Rattle.oai_host.specs.Room.{room_for_task}
+use Rattle.oai_host.specs.Tasks.{Task, asking, depositing, refusing}
 
 -- ---- a line of a deposit
 
@@ -37,54 +36,67 @@ pub record IsAcceptedLine (config : Config) (moment : ℤ) (change : Change) (be
   pub sets : after.holdings.sets ≡ sets_with change before.holdings.sets
   pub open_lists : after.open_lists ≡ (moved moment before).open_lists
 
--- it was performed, as it was read: accepted or refused
-abbrev pub IsLinePerformed : Config → ℤ → Result Change LineRefusal → RepoState → List ℕ → RepoState → Type 0
-IsLinePerformed config moment (Ok change) before line after =
+-- as it was read: accepted or refused
+abbrev pub IsLineAnswered : Config → ℤ → Result Change LineRefusal → RepoState → List ℕ → RepoState → Type 0
+IsLineAnswered config moment (Ok change) before line after =
     IsAcceptedLine config moment change before line after ⊎ ((cause : ChangeRefusal) × IsRefusedLine moment (in_repository cause) before line after)
-IsLinePerformed config moment (Err cause) before line after = IsRefusedLine moment (in_line cause) before line after
+IsLineAnswered config moment (Err cause) before line after = IsRefusedLine moment (in_line cause) before line after
+
+-- it was performed, as it was read; over an honest store it was a step of the machine
+pub record IsLinePerformed (honest : Bool) (config : Config) (moment : ℤ) (read : Result Change LineRefusal) (before : RepoState) (line : List ℕ) (after : RepoState) : Type 0 where
+  pub so : IsLineAnswered config moment read before line after
+  pub exact : IsTrue honest → after_read config moment before read ≡ (line, after)
 
 -- lines were performed one after the other at one moment, and all of their answers are these
-abbrev pub AreLinesPerformed : Config → ℤ → List (List ℕ) → RepoState → List ℕ → RepoState → Type 0
-AreLinesPerformed config moment [] before told after = (told ≡ []) × (after ≡ before)
-AreLinesPerformed config moment (text ∷ lines) before told after =
+abbrev pub AreLinesPerformed : Bool → Config → ℤ → List (List ℕ) → RepoState → List ℕ → RepoState → Type 0
+AreLinesPerformed honest config moment [] before told after = (told ≡ []) × (after ≡ before)
+AreLinesPerformed honest config moment (text ∷ lines) before told after =
     (line : List ℕ)
     × (others : List ℕ)
     × (between : RepoState)
     × (told ≡ line ++ others)
-    × IsLinePerformed config moment (line_of text) before line between
-    × AreLinesPerformed config moment lines between others after
+    × IsLinePerformed honest config moment (line_of text) before line between
+    × AreLinesPerformed honest config moment lines between others after
 
 -- ---- an exchange
 
--- what is asked was performed: nothing; a request, which moves the clock and leaves what is held; or all lines of a deposit
-abbrev pub IsCompleted : Config → ℤ → Task → RepoState → Answer → RepoState → Type 0
-IsCompleted config moment (refusing status) before answer after = (answer ≡ answered status) × (after ≡ before)
-IsCompleted config moment (asking arguments) before answer after =
-    IsReply answer × (after.clock ≡ tick before.clock moment) × (after.holdings ≡ before.holdings)
-IsCompleted config moment (depositing lines) before answer after =
-    (answer ≡ answered_with answer.body) × AreLinesPerformed config moment lines before answer.body after
+-- a request was replied to: it moves the clock and leaves what is held; over an honest store it was a step of the machine
+pub record IsReplied (honest : Bool) (config : Config) (moment : ℤ) (arguments : List ℕ) (before : RepoState) (answer : Answer) (after : RepoState) : Type 0 where
+  pub reply : IsReply answer
+  pub clock : after.clock ≡ tick before.clock moment
+  pub holdings : after.holdings ≡ before.holdings
+  pub exact : IsTrue honest → done_alone config before moment (asking arguments) ≡ (answer, after)
 
--- it failed: a request has left all as it was; of a deposit as many lines were done as the answer says, the first ones, and no other
-abbrev pub HasStopped : Config → ℤ → Task → RepoState → Answer → RepoState → Type 0
-HasStopped config moment (refusing status) before answer after = ⊥
-HasStopped config moment (asking arguments) before answer after = (fault : Fault) × (answer ≡ failed fault None) × (after ≡ before)
-HasStopped config moment (depositing lines) before answer after =
-    (fault : Fault)
-    × (done : ℕ)
+-- what is asked was done: nothing; a request; or all lines of a deposit
+abbrev pub IsDone : Bool → Config → ℤ → Task → RepoState → Answer → RepoState → Type 0
+IsDone honest config moment (refusing status) before answer after = (answer ≡ answered status) × (after ≡ before)
+IsDone honest config moment (asking arguments) before answer after = IsReplied honest config moment arguments before answer after
+IsDone honest config moment (depositing lines) before answer after =
+    (answer ≡ answered_with answer.body) × AreLinesPerformed honest config moment lines before answer.body after
+
+-- a fault ended it: a request has left all as it was; of a deposit as many lines were done as the answer says, the first ones, and no other
+abbrev pub HasStopped : Bool → Config → ℤ → Task → Fault → RepoState → Answer → RepoState → Type 0
+HasStopped honest config moment (refusing status) fault before answer after = ⊥
+HasStopped honest config moment (asking arguments) fault before answer after = (answer ≡ failed fault None) × (after ≡ before)
+HasStopped honest config moment (depositing lines) fault before answer after =
+    (done : ℕ)
     × (done < length lines)
     × (answer ≡ failed fault (Some done))
     × (told : List ℕ)
-    × AreLinesPerformed config moment (take done lines) before told after
+    × AreLinesPerformed honest config moment (take done lines) before told after
 
-abbrev pub IsPerformed : Config → ℤ → Task → RepoState → Answer → RepoState → Type 0
-IsPerformed config moment task before answer after =
-    IsCompleted config moment task before answer after ⊎ HasStopped config moment task before answer after
+-- what is said of a store: whether its device gives back what was written to it, how often that has failed, and how many calls of the store are
+-- sure to find room
+pub record StoreState : Type 0 where
+  pub honest : Bool
+  pub failures : ℕ
+  pub room : ℕ
 
--- an exchange was performed by the repository, where it is its own
-abbrev pub IsOwnPerformed : Call → Answer → Repository → Repository → Type 0
-IsOwnPerformed call answer before after =
-    leads_to_repository before.name call.target ≡ true → IsPerformed before.config call.moment (task_of call) before.state answer after.state
-
--- the one whose it is has performed it
-abbrev pub PerformsOwn : Call → Answer → List Repository → List Repository → Type 0
-PerformsOwn call answer before after = AllZip (IsOwnPerformed call answer) before after
+-- an exchange, from a state of the repository and of the store to another: it was done, or a fault ended it; no more room is used than is asked
+-- for; and the fault has its cause
+pub record IsPerformed (config : Config) (moment : ℤ) (task : Task) (answer : Answer) (before : RepoState) (old : StoreState) (after : RepoState) (new : StoreState) : Type 0 where
+  pub ended : IsDone old.honest config moment task before answer after
+      ⊎ ((fault : Fault) × HasStopped old.honest config moment task fault before answer after)
+  pub room : NeedsRoom (room_for_task config task) (failure_in answer) old.room new.room
+  pub device : IsCounted (failure_in answer) old.failures new.failures
+  pub honesty : IsHonest (failure_in answer) old.honest new.honest

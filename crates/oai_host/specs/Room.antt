@@ -1,20 +1,13 @@
 -- For how many calls of its store an exchange needs room: this repository's own.
-use Rattle.std.specs.Prelude.{◌≡◌, ◌+◌, ℕ, true, List, [], ◌∷◌, Result, Ok, Err}
-use Rattle.std.specs.List.{AllByRecursion}
+use Rattle.std.specs.Prelude.{◌+◌, ℕ, List, [], ◌∷◌, Result, Ok, Err}
 use Rattle.oai_args.specs.Pairs.{decoded_pairs}
 use Rattle.oai_args.specs.Requests.{request_of}
-use Rattle.oai_catalogue.specs.Store.{NeedsRoom}
 use Rattle.oai_deposit.specs.Lines.{line_of}
 use Rattle.oai_item.specs.declared.changes.Change.{Change}
 use Rattle.oai_item.specs.declared.refusals.LineRefusal.{LineRefusal}
 use Rattle.oai_settings.specs.Config.{Config}
 use Rattle.oai_repo.specs.Calls.{room_to_ask, room_to_change}
-use Rattle.oai_host.specs.Answers.{failure_in}
-use Rattle.oai_host.specs.Hosts.{Repository}
-use Rattle.oai_http.specs.Targets.{leads_to_repository}
-use Rattle.oai_host.specs.Tasks.{Task, asking, depositing, refusing, task_of}
-use Rattle.oai_http.specs.declared.exchanges.Answer.{Answer}
-use Rattle.oai_http.specs.declared.exchanges.Call.{Call}
+use Rattle.oai_host.specs.Tasks.{Task, asking, depositing, refusing}
 
 -- a line of a deposit, as it was read: what its change may want where the repository has as many items as it may; and nothing where it is refused
 abbrev pub room_for_line : Config → Result Change LineRefusal → ℕ
@@ -31,10 +24,3 @@ abbrev pub room_for_task : Config → Task → ℕ
 room_for_task config (refusing status) = 0
 room_for_task config (asking arguments) = room_to_ask (request_of config.granularity (decoded_pairs arguments))
 room_for_task config (depositing lines) = room_for_lines config lines
-
--- the exchange needs no more room than what it asks of the repository whose it is
-abbrev pub FindsRoom : Call → Answer → List Repository → ℕ → ℕ → Type 0
-FindsRoom call answer repositories old new =
-    AllByRecursion
-    (λ (repository : Repository). leads_to_repository repository.name call.target ≡ true → NeedsRoom (room_for_task repository.config (task_of call)) (failure_in answer) old new)
-    repositories

@@ -1,25 +1,20 @@
 //! Deposits: lines, each of which is performed and answered in a line of its own.
-ghost use Rattle.oai_catalogue.specs.Calls.{Frees};
-ghost use Rattle.oai_catalogue.specs.Store.{IsCounted, IsHonest, NeedsRoom};
 ghost use Rattle.oai_deposit.specs.Lines.{line_of};
-ghost use Rattle.oai_host.specs.Alone.{IsTried};
-ghost use Rattle.oai_host.specs.Answers.{OnFailed, Tells, failure_in};
 ghost use Rattle.oai_host.specs.Bodies as spec;
 ghost use Rattle.oai_host.specs.Bodies.{lines_in};
-ghost use Rattle.oai_host.specs.DepositLines.{HasMoreLines, IsLineAdded, IsLineWritten, bytes_left, from_line, lines_left};
-ghost use Rattle.oai_host.specs.Performed.{IsPerformed};
-ghost use Rattle.oai_host.specs.Room.{room_for_line, room_for_task};
+ghost use Rattle.oai_host.specs.DepositLines.{AreTaken, bytes_left, from_line, lines_left};
+ghost use Rattle.oai_host.specs.Exchanged.{PerformsIn, PerformsLine};
 ghost use Rattle.oai_host.specs.Tasks.{depositing};
-ghost use Rattle.oai_repo.specs.Fields.{Keeps, Owns, state_of};
-ghost use Rattle.oai_repo.specs.Machine.{line};
+ghost use Rattle.oai_host.specs.declared.deposits.TheConstants.{MAX_LINE};
+ghost use Rattle.oai_repo.specs.Fields.{Owns};
 ghost use Rattle.oai_time.specs.Stamp.{IsWritable};
 ghost use Rattle.oai_time.specs.TimeTexts.{datestamp_text};
 ghost use Rattle.std.specs.Option.{option_copied};
-ghost use Rattle.std.specs.Prelude.{IsTrue, MatchOption, OnErr, OnOk, Some, [], codes, length, vec_capacity, vec_len, ◌++◌, ◌+◌, ◌<◌, ◌∷◌, ◌≡◌, ◌≤◌};
+ghost use Rattle.std.specs.Prelude.{Err, MatchOption, Ok, Some, [], codes, drop, if◌then◌else◌, length, ℕ, vec_capacity, vec_len, ◌++◌, ◌+◌, ◌<◌, ◌∷◌, ◌≡◌, ◌≤◌};
 
 use oai_catalogue::Versions;
 use oai_deposit::{LineFault, read_line};
-use oai_http::{Answer, len_before};
+use oai_http::{Answer, len_before, put};
 use oai_item::{Change, Fault, LineRefusal};
 use oai_names::Sequence;
 use oai_repo::{Refusal, Repo};
@@ -41,20 +36,8 @@ pub(crate) fn perform_lines<V: Versions>(
     body: &[u8],
 ) -> Answer
     requires owns { Owns (V.honest store.old) repo.old (V.lists store.old) }
-    ensures tried { IsTrue (V.honest store.old)
-        → IsTried repo.old.config (state_of repo.old (V.lists store.old)) moment
-        (depositing (lines_in body.now)) result (state_of repo.new (V.lists store.new)) }
-    ensures performed { IsPerformed repo.old.config moment (depositing (lines_in body.now))
-        (state_of repo.old (V.lists store.old)) result (state_of repo.new (V.lists store.new)) }
-    ensures left { OnFailed result ((repo.new ≡ repo.old)
-        × (V.lists store.new ≡ V.lists store.old)) }
-    ensures told { Tells (depositing (lines_in body.now)) result }
-    ensures kept { Keeps (V.honest store.old) repo.old (V.lists store.old) repo.new
-        (V.lists store.new) }
-    ensures room { NeedsRoom (room_for_task repo.old.config
-        (depositing (lines_in body.now))) (failure_in result) (V.room store.old) (V.room store.new) }
-    ensures device { IsCounted (failure_in result) (V.failures store.old) (V.failures store.new) }
-    ensures honesty { IsHonest (failure_in result) (V.honest store.old) (V.honest store.new) }
+    ensures { PerformsIn V.Versions moment (depositing (lines_in body.now)) result repo.old store.old
+        repo.new store.new }
 {
     let mut lines = Lines::new(body);
     let mut told = Vec::new(alloc);
@@ -79,20 +62,8 @@ fn perform_line<V: Versions>(
     told: &mut Vec<u8>,
 ) -> Result<(), Fault>
     requires owns { Owns (V.honest store.old) repo.old (V.lists store.old) }
-    ensures ok { OnOk result (IsTrue (V.honest store.old)
-        → IsLineAdded repo.old (V.lists store.old) moment (line_of text.now) told.old.items repo.new
-        (V.lists store.new) told.new.items) }
-    ensures written { OnOk result (IsLineWritten repo.old (V.lists store.old) moment (line_of text.now)
-        told.old.items repo.new (V.lists store.new) told.new.items) }
-    ensures line { OnOk result (HasMoreLines told.old.items told.new.items) }
-    ensures err { OnErr result (repo.new ≡ repo.old) }
-    ensures err_lists { OnErr result (V.lists store.new ≡ V.lists store.old) }
-    ensures kept { Keeps (V.honest store.old) repo.old (V.lists store.old) repo.new
-        (V.lists store.new) }
-    ensures room { NeedsRoom (room_for_line repo.old.config
-        (line_of text.now)) result (V.room store.old) (V.room store.new) }
-    ensures device { IsCounted result (V.failures store.old) (V.failures store.new) }
-    ensures honesty { IsHonest result (V.honest store.old) (V.honest store.new) }
+    ensures { PerformsLine V.Versions moment (line_of text.now) result repo.old store.old
+        told.old.items repo.new store.new told.new.items }
 {
     told.reserve(MAX_LINE)?;
     match read_line(alloc, text) {
@@ -114,22 +85,10 @@ fn perform_change<V: Versions>(
     change: &Change,
     told: &mut Vec<u8>,
 ) -> Result<(), Fault>
-    requires room { vec_len told.old + 32 ≤ vec_capacity told.old }
+    requires room { vec_len told.old + MAX_LINE ≤ vec_capacity told.old }
     requires owns { Owns (V.honest store.old) repo.old (V.lists store.old) }
-    ensures ok { OnOk result (IsTrue (V.honest store.old)
-        → IsLineAdded repo.old (V.lists store.old) moment (Ok change.now) told.old.items repo.new
-        (V.lists store.new) told.new.items) }
-    ensures written { OnOk result (IsLineWritten repo.old (V.lists store.old) moment (Ok change.now)
-        told.old.items repo.new (V.lists store.new) told.new.items) }
-    ensures line { OnOk result (HasMoreLines told.old.items told.new.items) }
-    ensures err { OnErr result (repo.new ≡ repo.old) }
-    ensures err_lists { OnErr result (V.lists store.new ≡ V.lists store.old) }
-    ensures kept { Keeps (V.honest store.old) repo.old (V.lists store.old) repo.new
-        (V.lists store.new) }
-    ensures room { NeedsRoom (room_for_line repo.old.config
-        (Ok change.now)) result (V.room store.old) (V.room store.new) }
-    ensures device { IsCounted result (V.failures store.old) (V.failures store.new) }
-    ensures honesty { IsHonest result (V.honest store.old) (V.honest store.new) }
+    ensures { PerformsLine V.Versions moment (Ok change.now) result repo.old store.old told.old.items
+        repo.new store.new told.new.items }
 {
     match repo.change(store, moment, change) {
         Ok(stamp) => put_stamp(repo.config().granularity(), stamp, told),
@@ -149,16 +108,10 @@ fn refuse_line<V: Versions>(
     cause: LineRefusal,
     told: &mut Vec<u8>,
 )
-    requires room { vec_len told.old + 32 ≤ vec_capacity told.old }
+    requires room { vec_len told.old + MAX_LINE ≤ vec_capacity told.old }
     requires owns { Owns (V.honest store.old) repo.old (V.lists store.old) }
-    ensures done { IsLineAdded repo.old (V.lists store.old) moment (Err cause) told.old.items repo.new
-        (V.lists store.new) told.new.items }
-    ensures written { IsLineWritten repo.old (V.lists store.old) moment (Err cause) told.old.items
-        repo.new (V.lists store.new) told.new.items }
-    ensures line { HasMoreLines told.old.items told.new.items }
-    ensures kept { Keeps (V.honest store.old) repo.old (V.lists store.old) repo.new
-        (V.lists store.new) }
-    ensures store { Frees V.Versions store.old store.new }
+    ensures { PerformsLine V.Versions moment (Err cause) (Ok tt) repo.old store.old told.old.items
+        repo.new store.new told.new.items }
 {
     repo.advance(store, moment);
     put_line(cause.answer(), told);
@@ -167,7 +120,7 @@ fn refuse_line<V: Versions>(
 /// Writes `ok`, the datestamp and a line end.
 fn put_stamp(granularity: Granularity, stamp: i64, out: &mut Vec<u8>)
     requires writable { IsWritable stamp }
-    requires room { vec_len out.old + 32 ≤ vec_capacity out.old }
+    requires room { vec_len out.old + MAX_LINE ≤ vec_capacity out.old }
     ensures { out.new.items ≡ out.old.items
         ++ ((codes "ok " ++ datestamp_text granularity stamp) ++ 10 ∷ []) }
 {
@@ -183,16 +136,6 @@ fn put_line(text: &str, out: &mut Vec<u8>)
 {
     put(text.as_bytes(), out);
     put(b"\n", out);
-}
-
-/// Writes into room that is there.
-fn put(bytes: &[u8], out: &mut Vec<u8>)
-    requires { vec_len out.old + length bytes.now ≤ vec_capacity out.old }
-    ensures items { out.new.items ≡ out.old.items ++ bytes.now }
-    ensures len { vec_len out.new ≡ vec_len out.old + length bytes.now }
-    ensures room { vec_capacity out.old ≤ vec_capacity out.new }
-{
-    out.extend_from_slice(bytes).unwrap()
 }
 
 /// The lines of a deposit that are still to be taken: its body is cut at each line end, and a line of
@@ -248,6 +191,48 @@ fn cut(text: &[u8]) -> (&[u8], Option<&[u8]>)
     } else {
         (line, None)
     }
+}
+
+/// How many bytes of the body have its first `count` lines, or all of it where it has fewer.
+pub(crate) fn first_lines(body: &[u8], count: u64) -> usize
+    ensures within { result ≤ length body.now }
+    ensures lines { AreTaken body.now result count }
+{
+    let mut rest = body;
+    let mut left = count;
+    while left > 0 && !rest.is_empty() {
+        let (size, others) = first_line(rest, left);
+        rest = &rest[size..];
+        left = others;
+    }
+    body.len() - rest.len()
+}
+
+/// How many bytes what stands before the first line end takes, with it, and how many of `left` lines are left
+/// behind it: a blank one is none of them.
+fn first_line(body: &[u8], left: u64) -> (usize, u64)
+    requires some { 0 < length body.now }
+    requires more { 0 < left }
+    ensures within { result.0 ≤ length body.now }
+    ensures less { 0 < result.0 }
+    ensures lines { (size : ℕ) → AreTaken (drop result.0 body.now) size result.1
+        → AreTaken body.now (result.0 + size) left }
+{
+    let end = len_before(b'\n', body);
+    let others = without_line(is_blank(&body[..end]), left);
+    if end < body.len() {
+        (end + 1, others)
+    } else {
+        (end, others)
+    }
+}
+
+/// How many of the lines are left behind one, which is none of them where it is blank.
+fn without_line(is_blank: bool, left: u64) -> u64
+    requires { 0 < left }
+    ensures { left ≡ (if is_blank then result else result + 1) }
+{
+    if is_blank { left } else { left - 1 }
 }
 
 /// Whether it is a line of nothing but spaces, tabs and CR.

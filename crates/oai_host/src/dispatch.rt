@@ -1,17 +1,15 @@
 //! What exchanges ask of a repository, performed: requests of OAI-PMH, and deposits.
-ghost use Rattle.oai_catalogue.specs.Calls.{Uses};
-ghost use Rattle.oai_catalogue.specs.Store.{IsCounted, IsHonest, NeedsRoom};
-ghost use Rattle.oai_host.specs.Alone.{IsTried};
-ghost use Rattle.oai_host.specs.Answers.{OnFailed, Tells, failure_in};
-ghost use Rattle.oai_host.specs.Performed.{IsPerformed};
-ghost use Rattle.oai_host.specs.Room.{room_for_task};
+ghost use Rattle.oai_host.specs.Exchanged.{PerformsIn};
+ghost use Rattle.oai_host.specs.Redone.{LeavesAgain};
 ghost use Rattle.oai_host.specs.Tasks as spec;
 ghost use Rattle.oai_host.specs.Tasks.{task_in};
 ghost use Rattle.oai_http.specs.Exchanges.{call_of};
-ghost use Rattle.oai_repo.specs.Fields.{Keeps, Owns, state_of};
-ghost use Rattle.std.specs.Prelude.{IsTrue, MatchResult, ℤ, ◌≡◌};
+ghost use Rattle.oai_repo.specs.Fields.{Owns};
+ghost use Rattle.oai_http.specs.declared.targets.Endpoint.TheVariants.{Deposits, Requests};
+ghost use Rattle.std.specs.Option.{option_copied};
+ghost use Rattle.std.specs.Prelude.{MatchResult, ℤ, ◌≡◌};
 
-use crate::deposits::perform_lines;
+use crate::deposits::{first_lines, perform_lines};
 use oai_catalogue::Versions;
 use oai_http::{Answer, Endpoint, Exchange, Status, is_form, query_of};
 use oai_repo::{Reply, Repo};
@@ -27,21 +25,8 @@ pub(crate) fn perform<V: Versions>(
     exchange: &Exchange<'_>,
 ) -> Answer
     requires owns { Owns (V.honest store.old) repo.old (V.lists store.old) }
-    ensures tried { IsTrue (V.honest store.old)
-        → IsTried repo.old.config (state_of repo.old (V.lists store.old)) moment
-        (task_in endpoint (call_of moment exchange.now)) result (state_of repo.new (V.lists store.new)) }
-    ensures performed { IsPerformed repo.old.config moment (task_in endpoint (call_of moment exchange.now))
-        (state_of repo.old (V.lists store.old)) result (state_of repo.new (V.lists store.new)) }
-    ensures left { OnFailed result ((repo.new ≡ repo.old)
-        × (V.lists store.new ≡ V.lists store.old)) }
-    ensures told { Tells (task_in endpoint (call_of moment exchange.now)) result }
-    ensures kept { Keeps (V.honest store.old) repo.old (V.lists store.old) repo.new
-        (V.lists store.new) }
-    ensures room { NeedsRoom (room_for_task repo.old.config
-        (task_in endpoint (call_of moment exchange.now))) (failure_in result) (V.room store.old)
-        (V.room store.new) }
-    ensures device { IsCounted (failure_in result) (V.failures store.old) (V.failures store.new) }
-    ensures honesty { IsHonest (failure_in result) (V.honest store.old) (V.honest store.new) }
+    ensures { PerformsIn V.Versions moment (task_in endpoint (call_of moment exchange.now)) result
+        repo.old store.old repo.new store.new }
 {
     match endpoint {
         Endpoint::Requests => match arguments_of(exchange) {
@@ -92,22 +77,41 @@ pub(crate) fn perform_request<V: Versions>(
     arguments: &[u8],
 ) -> Answer
     requires owns { Owns (V.honest store.old) repo.old (V.lists store.old) }
-    ensures tried { IsTrue (V.honest store.old)
-        → IsTried repo.old.config (state_of repo.old (V.lists store.old)) moment
-        (spec.asking arguments.now) result (state_of repo.new (V.lists store.new)) }
-    ensures performed { IsPerformed repo.old.config moment (spec.asking arguments.now)
-        (state_of repo.old (V.lists store.old)) result (state_of repo.new (V.lists store.new)) }
-    ensures left { OnFailed result ((repo.new ≡ repo.old)
-        × (V.lists store.new ≡ V.lists store.old)) }
-    ensures told { Tells (spec.asking arguments.now) result }
-    ensures kept { Keeps (V.honest store.old) repo.old (V.lists store.old) repo.new
-        (V.lists store.new) }
-    ensures store { Uses V.Versions (room_for_task repo.old.config (spec.asking arguments.now))
-        (failure_in result) store.old store.new }
+    ensures { PerformsIn V.Versions moment (spec.asking arguments.now) result repo.old store.old repo.new
+        store.new }
 {
     match repo.ask(store, moment, arguments) {
         Ok(Reply::Page(page)) => Answer::with_body(page),
         Ok(Reply::Later(seconds)) => Answer::to_wait(alloc, seconds),
         Err(fault) => Answer::of_fault(alloc, fault, None),
+    }
+}
+
+/// The arguments of a request that was performed; `None` where nothing was.
+pub(crate) fn request_done<'a>(exchange: &Exchange<'a>, answer: &Answer) -> Option<&'a [u8]>
+    ensures { LeavesAgain Requests exchange.now answer.now (option_copied result) }
+{
+    match arguments_of(exchange) {
+        Ok(arguments) => match answer.fault {
+            None => Some(arguments),
+            Some(_) => None,
+        },
+        Err(_) => None,
+    }
+}
+
+/// The lines of a deposit that were performed, as far as they were; `None` where nothing was.
+pub(crate) fn lines_done<'a>(exchange: &Exchange<'a>, answer: &Answer) -> Option<&'a [u8]>
+    ensures { LeavesAgain Deposits exchange.now answer.now (option_copied result) }
+{
+    if !is_post(exchange.method) {
+        return None;
+    }
+    match answer.fault {
+        None => Some(exchange.body),
+        Some(_) => match answer.done {
+            Some(lines) => Some(&exchange.body[..first_lines(exchange.body, lines)]),
+            None => None,
+        },
     }
 }

@@ -1,15 +1,10 @@
 //! A host of repositories.
-ghost use Rattle.oai_catalogue.specs.Store.{IsCounted, IsHonest};
-ghost use Rattle.oai_host.specs.Answers.{AreCounted, AreHonest, OnFailed, Tells, failure_in};
-ghost use Rattle.oai_host.specs.Exchanged.{AreExchanged, IsExchanged};
 ghost use Rattle.oai_host.specs.Faults.{HasCause};
-ghost use Rattle.oai_host.specs.Hosts.{AreAnswered, AreAsAlone, IsAnswered, LeavesOthers, begun, is_of_none, none_failed, refused};
+ghost use Rattle.oai_host.specs.Hosts.{AreAloneUnlessFailed, AreAnswered, AreExchanged, IsExchanged, begun};
 ghost use Rattle.oai_host.specs.NamedRepos.{AreNamedRepos, StandFor, repo_names};
-ghost use Rattle.oai_host.specs.Performed.{PerformsOwn};
 ghost use Rattle.oai_host.specs.Places.{IsRepoPlace, LeadsNowhere};
 ghost use Rattle.oai_host.specs.Props.{named_repo_props};
-ghost use Rattle.oai_host.specs.Room.{FindsRoom};
-ghost use Rattle.oai_host.specs.Tasks.{task_of};
+ghost use Rattle.oai_host.specs.Redone.{IsRedone};
 ghost use Rattle.oai_http.specs.Exchanges.{call_of};
 ghost use Rattle.oai_http.specs.Targets as spec;
 ghost use Rattle.oai_http.specs.declared.statuses.Status.TheVariants as status;
@@ -17,13 +12,17 @@ ghost use Rattle.oai_item.specs.declared.faults.Fault.TheVariants.{TooManyPages}
 ghost use Rattle.oai_settings.specs.Config.{is_repository_name};
 ghost use Rattle.std.specs.List.{list_all};
 ghost use Rattle.std.specs.Option.{IfNone};
-ghost use Rattle.std.specs.Prelude.{IfErr, IfOk, IfSome, IsTrue, OnErr, false, if◌then◌else◌, length, map, true, ◌+◌, ◌<◌, ◌≡◌, ◌≤◌};
+ghost use Rattle.std.specs.Prelude.{IfErr, IfOk, IfSome, IsTrue, OnErr, if◌then◌else◌, length, map, true, ◌+◌, ◌<◌, ◌≡◌, ◌≤◌};
 
+use crate::dispatch::{lines_done, request_done};
 use crate::repositories::Repositories;
 use crate::routes::Routes;
 use oai_catalogue::Versions;
 use oai_config::Config;
-use oai_http::{Answer, Call, Endpoint, Exchange, Handler, Status, is_rooted, path_of};
+use oai_http::{
+    Answer, Call, Endpoint, Exchange, Handler, Performed, Replayed, Status, is_rooted, named,
+    path_of,
+};
 use oai_item::Fault;
 use oai_names::Sequence;
 use std::alloc::{AllocError, Global};
@@ -31,10 +30,10 @@ use std::marker::Model;
 
 /// A host: repositories, each reached by its name, and the store that has the items of all of them.
 ///
-/// What happens at one repository cannot be seen at another: where no exchange failed, and the store gives
-/// back what was written to it, what is answered at each is what it alone would answer to its own
-/// exchanges, whatever comes between them. The numbers under which two repositories keep their items in the
-/// store are never the same.
+/// What happens at one repository cannot be seen at another: where none of the exchanges of a repository
+/// failed, and the store gives back what was written to it, what is answered there is what it alone would
+/// answer to them, whatever comes between them. The numbers under which two repositories keep their items
+/// in the store are never the same.
 #[derive(Drop)]
 pub struct Host<V: Versions + Drop> {
     alloc: Global,
@@ -87,31 +86,15 @@ impl<V: Versions + Drop> Host<V> {
     /// Performs an exchange at the moment, in seconds from 1970 on, and answers it. Each fault, out of
     /// memory too, is reported in the answer.
     ///
-    /// Over a store that does not give back what was written to it as well, an exchange leaves all
-    /// repositories but its own as they were, and one that is no repository's is refused and leaves the host
-    /// as it was. At its own repository a request moves the clock and leaves what is held. A line of a deposit
-    /// that is refused moves the clock and changes nothing else; of one that is accepted the datestamp, the
-    /// clock, the sets and the open lists are those of the change, and nothing is said of the items. What
+    /// Over every store an exchange leaves all repositories but its own as they were, and one that is no
+    /// repository's is refused and leaves the host as it was. At its own repository a request moves the clock and
+    /// leaves what is held. A line of a deposit that is refused moves the clock and changes nothing else; of one
+    /// that is accepted the datestamp, the clock, the sets and the open lists are those of the change. Over a
+    /// store that gives back what was written to it, answers and states are those of the machine. What
     /// fails leaves all as it was before that request or line, the clock included: the first `done` lines of a
     /// deposit were performed, and no other. A fault is reported by its own status.
     pub fn exchange(&mut self, moment: i64, exchange: &Exchange<'_>) -> Answer
-        ensures answered { IsTrue self.old.honest → IsAnswered (call_of moment exchange.now) result
-            self.old self.new }
-        ensures others { LeavesOthers exchange.now.target.now self.old.repositories
-            self.new.repositories }
-        ensures performed { PerformsOwn (call_of moment exchange.now) result self.old.repositories
-            self.new.repositories }
-        ensures none { is_of_none self.old.repositories (call_of moment exchange.now) ≡ true
-            → result ≡ refused (call_of moment exchange.now) }
-        ensures still { is_of_none self.old.repositories (call_of moment exchange.now) ≡ true
-            → self.new ≡ self.old }
-        ensures told { is_of_none self.old.repositories (call_of moment exchange.now) ≡ false
-            → Tells (task_of (call_of moment exchange.now)) result }
-        ensures left { OnFailed result (self.new.repositories ≡ self.old.repositories) }
-        ensures room { FindsRoom (call_of moment exchange.now) result
-            self.old.repositories self.old.room self.new.room }
-        ensures device { IsCounted (failure_in result) self.old.failures self.new.failures }
-        ensures honesty { IsHonest (failure_in result) self.old.honest self.new.honest }
+        ensures { IsExchanged (call_of moment exchange.now) result self.old self.new }
     {
         match find(&self.routes, &self.repositories, exchange.target) {
             Some((endpoint, place)) => {
@@ -119,6 +102,17 @@ impl<V: Versions + Drop> Host<V> {
                     .perform(&mut self.store, place, endpoint, moment, exchange)
             }
             None => Answer::of_status(self.alloc, status_of(exchange.target)),
+        }
+    }
+
+    /// Performs an exchange again that was performed before, as `exchange` does, and makes no answer. The error is
+    /// the fault that ended it.
+    pub fn redo(&mut self, moment: i64, exchange: &Exchange<'_>) -> Result<(), Fault>
+        ensures { IsRedone (call_of moment exchange.now) result self.old self.new }
+    {
+        match Host::exchange(self, moment, exchange).fault {
+            Some(fault) => Err(fault),
+            None => Ok(()),
         }
     }
 
@@ -140,22 +134,16 @@ impl<V: Versions + Drop> Host<V> {
         self.exchange(call.moment, &call.exchange())
     }
 
-    /// Performs exchanges, one after the other, and answers them in their order. The error is out of
-    /// memory for the list of the answers; nothing was performed then. Over every store each of them is what
-    /// `exchange` says.
+    /// Performs exchanges, one after the other, as `exchange` does, and answers them in their order. At each
+    /// repository its own exchanges are a run, whatever comes between them; where none of them failed, and the
+    /// store gives back what was written to it, their answers are those that the repository alone gives. The
+    /// error is out of memory for the list of the answers; nothing was performed then.
     pub fn run(&mut self, calls: &[Call]) -> Result<Sequence<Answer>, AllocError>
-        ensures answered { IfOk result (λ answers. IsTrue self.old.honest
-            → AreAnswered calls.now answers self.old self.new) }
-        ensures alone { IfOk result (λ answers. IsTrue self.old.honest → none_failed answers ≡ true
-            → AreAsAlone calls.now answers self.old.repositories) }
         ensures exchanged { IfOk result (λ answers. AreExchanged calls.now answers self.old self.new) }
+        ensures answered { IfOk result (λ answers. AreAnswered calls.now answers self.old self.new) }
+        ensures alone { IfOk result (λ answers. IsTrue self.old.honest
+            → AreAloneUnlessFailed calls.now answers self.old.repositories) }
         ensures err { OnErr result (self.new ≡ self.old) }
-        ensures device { IfOk result (λ answers. AreCounted answers self.old.failures
-            self.new.failures) }
-        ensures damaged { IfOk result (λ answers. AreHonest answers self.old.honest
-            self.new.honest) }
-        ensures count { self.old.failures ≤ self.new.failures }
-        ensures honesty { self.new.honest ≡ self.old.honest }
     {
         let mut answers = Vec::with_capacity(self.alloc, calls.len())?;
         for call in calls {
@@ -195,5 +183,45 @@ impl<V: Versions + Drop> Handler for Host<V> {
 
     fn exchange(&mut self, moment: i64, exchange: &Exchange<'_>) -> Answer {
         self.exchange(moment, exchange)
+    }
+}
+
+impl<V: Versions + Drop> Replayed for Host<V> {
+    ghost use Rattle.std.specs.Prelude.{List};
+    ghost use Rattle.oai_host.specs.Hosts.{HostState, Repository};
+    ghost use Rattle.oai_host.specs.Redone.{redone_all};
+
+    ghost Kept = { List Repository };
+
+    ghost kept = { λ host. host.repositories };
+
+    ghost is_honest = { λ host. host.honest };
+
+    ghost redone = { redone_all };
+
+    fn performed<'a>(exchange: &Exchange<'a>, answer: &Answer) -> Option<Performed<'a>> {
+        match named(exchange.target) {
+            Some((Endpoint::Requests, name)) => match request_done(exchange, answer) {
+                Some(bytes) => Some(Performed {
+                    endpoint: Endpoint::Requests,
+                    name,
+                    bytes,
+                }),
+                None => None,
+            },
+            Some((Endpoint::Deposits, name)) => match lines_done(exchange, answer) {
+                Some(bytes) => Some(Performed {
+                    endpoint: Endpoint::Deposits,
+                    name,
+                    bytes,
+                }),
+                None => None,
+            },
+            None => None,
+        }
+    }
+
+    fn redo(&mut self, moment: i64, exchange: &Exchange<'_>) -> Result<(), Fault> {
+        self.redo(moment, exchange)
     }
 }

@@ -5,9 +5,11 @@
 mod deposits;
 mod dispatch;
 mod host;
+mod laws;
 mod repositories;
 mod routes;
 
 pub use host::Host;
+pub use laws::failures_law;
 pub use oai_config::{Config, ReadFault};
 pub use oai_http::{Answer, Call, Exchange, Status};

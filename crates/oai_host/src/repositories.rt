@@ -1,19 +1,16 @@
 //! The repositories of a host.
 ghost use Rattle.oai_catalogue.specs.Calls.{Uses};
 ghost use Rattle.oai_catalogue.specs.Store.{IsCounted, IsHonest};
-ghost use Rattle.oai_host.specs.Answers.{OnFailed, Tells, failure_in};
-ghost use Rattle.oai_host.specs.Hosts.{IsStep, LeavesOthers, begun};
+ghost use Rattle.oai_host.specs.Answers.{failure_in};
+ghost use Rattle.oai_host.specs.Exchanged.{store_state};
+ghost use Rattle.oai_host.specs.Hosts.{AreSteps, begun};
 ghost use Rattle.oai_host.specs.NamedRepos.{AreNamedRepos, place_in, repo_names, repositories_of};
-ghost use Rattle.oai_host.specs.Performed.{PerformsOwn};
 ghost use Rattle.oai_host.specs.Places.{IsRepoPlace};
-ghost use Rattle.oai_host.specs.Room.{FindsRoom};
-ghost use Rattle.oai_host.specs.Tasks.{task_in};
 ghost use Rattle.oai_http.specs.Exchanges.{call_of};
-ghost use Rattle.oai_http.specs.Targets.{front_of, path_of};
 ghost use Rattle.oai_settings.specs.Config.{is_repository_name};
 ghost use Rattle.std.specs.BTreeMap.{IsUnchanged, get_by_text};
-ghost use Rattle.std.specs.List.{AllZip, list_any, position, slice_get};
-ghost use Rattle.std.specs.Prelude.{IfSome, IsTrue, List, OnErr, OnOk, Some, [], false, get_or, if◌then◌else◌, length, map, true, ℕ, ◌++◌, ◌<◌, ◌∷◌, ◌≡◌};
+ghost use Rattle.std.specs.List.{list_any};
+ghost use Rattle.std.specs.Prelude.{List, OnErr, OnOk, Some, [], false, if◌then◌else◌, true, ℕ, ◌++◌, ◌∷◌, ◌≡◌};
 ghost use Rattle.std.specs.Str.{bytes_eq};
 
 use crate::dispatch::perform;
@@ -123,19 +120,10 @@ impl Repositories {
     ) -> Answer
         requires place { IsRepoPlace self.old place endpoint exchange.now.target.now }
         requires repos { AreNamedRepos (V.honest store.old) self.old (V.lists store.old) }
-        ensures steps { IsTrue (V.honest store.old) → AllZip (IsStep (call_of moment exchange.now) result
-            (V.failures store.old) (V.failures store.new))
-            (repositories_of self.old (V.lists store.old)) (repositories_of self.new (V.lists store.new)) }
-        ensures others { LeavesOthers exchange.now.target.now
-            (repositories_of self.old (V.lists store.old)) (repositories_of self.new (V.lists store.new)) }
-        ensures performed { PerformsOwn (call_of moment exchange.now) result
-            (repositories_of self.old (V.lists store.old)) (repositories_of self.new (V.lists store.new)) }
-        ensures left { OnFailed result ((self.new ≡ self.old)
-            × (V.lists store.new ≡ V.lists store.old)) }
-        ensures told { Tells (task_in endpoint (call_of moment exchange.now)) result }
+        ensures steps { AreSteps (call_of moment exchange.now) result (store_state V.Versions store.old)
+            (store_state V.Versions store.new) (repositories_of self.old (V.lists store.old))
+            (repositories_of self.new (V.lists store.new)) }
         ensures repos { AreNamedRepos (V.honest store.new) self.new (V.lists store.new) }
-        ensures room { FindsRoom (call_of moment exchange.now) result
-            (repositories_of self.old (V.lists store.old)) (V.room store.old) (V.room store.new) }
         ensures device { IsCounted (failure_in result) (V.failures store.old) (V.failures store.new) }
         ensures honesty { IsHonest (failure_in result) (V.honest store.old) (V.honest store.new) }
     {

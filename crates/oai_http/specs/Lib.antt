@@ -3,3 +3,4 @@ pub mod Exchanges
 pub mod Answers
 pub mod Bodies
 pub mod Targets
+pub mod Redone

@@ -13,9 +13,10 @@ mod texts;
 pub use bodies::{FORM, is_form};
 pub use bytes::{len_before, put};
 pub use exchanges::{Answer, Call, Exchange};
-pub use handlers::Handler;
+pub use handlers::{Handler, Performed, Replayed, SettleFault, Settled};
 pub use statuses::Status;
 pub use targets::{
-    DEPOSITS_FRONT, Endpoint, REQUESTS_FRONT, endpoint_of, is_rooted, path_law, path_of, query_of,
+    DEPOSITS_FRONT, Endpoint, REQUESTS_FRONT, endpoint_of, is_rooted, named, path_law, path_of,
+    query_of,
 };
 pub use texts::trim;

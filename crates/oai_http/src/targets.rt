@@ -1,5 +1,6 @@
 //! Where a target leads.
-ghost use Rattle.std.specs.Prelude.{◌≡◌, ℕ, List, true, Some};
+ghost use Rattle.std.specs.Option.{IfNone};
+ghost use Rattle.std.specs.Prelude.{◌≡◌, ◌++◌, ℕ, IfSome, List, true, None, Some};
 ghost use Rattle.oai_http.specs.Targets as spec;
 
 use crate::bytes::len_before;
@@ -31,6 +32,23 @@ pub fn endpoint_of(target: &[u8]) -> Option<Endpoint>
         Some(Endpoint::Deposits)
     } else {
         None
+    }
+}
+
+/// What the target is for, and the name that its path ends with, whether a repository has it or not; `None` where
+/// the path begins in neither way.
+pub fn named(target: &[u8]) -> Option<(Endpoint, &[u8])>
+    ensures named { IfSome result (λ named. spec.path_of target.now
+        ≡ spec.front_of named.0 ++ named.1.now) }
+    ensures none { IfNone result (spec.endpoint_of target.now ≡ None) }
+{
+    let path = path_of(target);
+    match path.strip_prefix(REQUESTS_FRONT.as_bytes()) {
+        Some(name) => Some((Endpoint::Requests, name)),
+        None => match path.strip_prefix(DEPOSITS_FRONT.as_bytes()) {
+            Some(name) => Some((Endpoint::Deposits, name)),
+            None => None,
+        },
     }
 }
 

@@ -14,3 +14,8 @@ pub mod SelectingLemmas
 pub mod WorkedLemmas
 pub mod ShownLemmas
 pub mod ReadLemmas
+pub mod SinceLemmas
+pub mod HarvestedLemmas
+pub mod HeldLemmas
+pub mod HarvestLemmas
+pub mod WorkedHarvestLemmas

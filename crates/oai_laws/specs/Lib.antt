@@ -7,3 +7,5 @@ pub mod Commands
 pub mod Selecting
 pub mod Worked
 pub mod Shown
+pub mod Harvests
+pub mod WorkedHarvests

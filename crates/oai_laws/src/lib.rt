@@ -1,8 +1,12 @@
-//! What is true of a repository in the course of time, whatever it is asked and whatever is deposited.
+//! What is true of a repository in the course of time, whatever it is asked and whatever is deposited: lists,
+//! tokens, changes, and what a harvester that harvests it again and again has of it.
 #![tactic(auto)]
 
+mod harvests;
 mod laws;
 
+pub use harvests::{harvest_law, worked_harvests_law};
 pub use laws::{
-    change_law, effect_law, following_law, number_law, selected_law, shown_law, worked_law,
+    change_law, effect_law, following_law, number_law, selected_law, shown_law, token_law,
+    worked_law,
 };

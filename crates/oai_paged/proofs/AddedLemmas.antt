@@ -1,5 +1,5 @@
 -- Pages added for items, and their place.
-use Rattle.std.proofs.Common.{◌≡◌, ◌∙◌, ◌+◌, ◌≤◌, if◌then◌else◌, ◌==◌, ℕ, List, [], ◌∷◌, ◌++◌, Some, length, refl, sym, ap, arith, append-nil, unwrap_or, Bool, true, false, inl, inr}
+use Rattle.std.proofs.Common.{◌≡◌, ◌∙◌, ◌+◌, ◌≤◌, if◌then◌else◌, ◌==◌, ℕ, List, [], ◌∷◌, ◌++◌, Some, length, refl, sym, ap, subst, arith, append-nil, unwrap_or, Bool, true, false, inl, inr}
 use Rattle.std.specs.Prelude.{map}
 use Rattle.std.proofs.lemmas.Bool.{cases_eq, ne_eqb}
 use Rattle.std.proofs.lemmas.List.{map-append}
@@ -9,7 +9,7 @@ use Rattle.oai_pool.specs.Names.{times}
 use Rattle.oai_pool.specs.declared.pools.PagePool.{Ghosts}
 use Rattle.oai_paged.specs.Calls.{Adds}
 use Rattle.oai_paged.specs.Pages.{FitAlone, FitPage, begins_at, pages_of}
-use Rattle.oai_paged.specs.Places.{IsSoundPlace, Pages, PlaceState, bytes_on, have_records, items_at, named_in, page_at}
+use Rattle.oai_paged.specs.Places.{AreSetCounts, IsSoundPlace, Pages, PlaceState, bytes_on, have_records, items_at, named_in, page_at}
 use Rattle.oai_paged.specs.Recounts.{AddsNumbers, Recounts}
 use Rattle.oai_paged.proofs.NameLemmas.{named_in-cons, named_in-nil, times-append, times-nil, times-one}
 use Rattle.oai_paged.proofs.OverflowLemmas.{fit_pages, page_on}
@@ -79,8 +79,8 @@ unfolding items_at
 items_at-pages pages items place is fit alone = items_in-page (bytes_on pages place.pages) items (page_on pages place.pages items is fit alone)
 
 placed_pages : (pages : Pages) (items : List ItemState) (place : PlaceState) → map (page_at pages) place.pages ≡ pages_of items → FitPage items → FitAlone items
-    → begins_at place.stamp place.identifier items ≡ true → place.len ≡ length items → have_records place.prefixes items ≡ true → IsSoundPlace pages place
-placed_pages pages items place is fit alone begins counted common =
+    → begins_at place.stamp place.identifier items ≡ true → place.len ≡ length items → have_records place.prefixes items ≡ true → AreSetCounts place.sets items → IsSoundPlace pages place
+placed_pages pages items place is fit alone begins counted common sets =
     let same = items_at-pages pages items place is fit alone in
     record {
       page = rw same (page_on pages place.pages items is fit alone);
@@ -88,6 +88,7 @@ placed_pages pages items place is fit alone begins counted common =
       begins = ap (begins_at place.stamp place.identifier) same ∙ begins;
       counted = ap length same ∙ sym counted;
       common = ap (have_records place.prefixes) same ∙ common;
+      sets = subst (λ (zs : List ItemState). AreSetCounts place.sets zs) (sym same) sets;
     }
 
 own_numbers : (place : PlaceState) (numbers : List ℕ) (n : ℕ) → place.pages ≡ numbers → named_in (place ∷ []) n ≡ times n numbers
@@ -98,11 +99,11 @@ own_numbers place numbers n own =
 
 pub adds_page : {P : Type 0} (g : Ghosts P) (items : List ItemState) (place : PlaceState) (numbers : List ℕ) (old new : P) → AddsNumbers g (pages_of items) numbers old new
     → FitPage items → FitAlone items → place.pages ≡ numbers
-    → begins_at place.stamp place.identifier items ≡ true → place.len ≡ length items → have_records place.prefixes items ≡ true → Adds g items (place ∷ []) old new
-adds_page g items place numbers old new h fit alone own begins counted common =
+    → begins_at place.stamp place.identifier items ≡ true → place.len ≡ length items → have_records place.prefixes items ≡ true → AreSetCounts place.sets items → Adds g items (place ∷ []) old new
+adds_page g items place numbers old new h fit alone own begins counted common sets =
     let is : map (page_at (g.pages new)) place.pages ≡ pages_of items = ap (map (page_at (g.pages new))) own ∙ h.pages in
     record {
-      placed = (placed_pages (g.pages new) items place is fit alone begins counted common, tt);
+      placed = (placed_pages (g.pages new) items place is fit alone begins counted common sets, tt);
       items =
           items_on-cons (g.pages new) place [] ∙ ap (λ zs. items_at (g.pages new) place ++ zs) (items_on-nil (g.pages new))
           ∙ append-nil (items_at (g.pages new) place) ∙ items_at-pages (g.pages new) items place is fit alone;

@@ -1,5 +1,5 @@
 -- A directory cut at one of its places.
-use Rattle.std.proofs.Common.{◌≡◌, ◌∙◌, ◌+◌, ◌<◌, ◌⊎◌, inl, inr, ℕ, ℤ, pos, suc, zero, false, List, [], ◌∷◌, ◌++◌, length, take, drop, get_or, sym, ap, subst, arith}
+use Rattle.std.proofs.Common.{◌≡◌, ◌∙◌, ◌+◌, ◌<◌, ◌⊎◌, inl, inr, None, ℕ, ℤ, pos, suc, zero, false, List, [], ◌∷◌, ◌++◌, length, take, drop, get_or, sym, ap, subst, arith}
 use Rattle.std.specs.List.{AllByRecursion}
 use Rattle.std.specs.Ordering.{is_gt}
 use Rattle.std.proofs.lemmas.Bool.{cases_lt}
@@ -19,7 +19,7 @@ use Rattle.oai_paged.proofs.PlaceLemmas.{items_on-append, items_on-cons, items_o
 
 -- a place that is none
 abbrev pub no_place : PlaceState
-no_place = record { pages = []; stamp = pos 0; identifier = []; len = 0; prefixes = [] }
+no_place = record { pages = []; stamp = pos 0; identifier = []; len = 0; prefixes = []; sets = None }
 
 -- the items of places begin where the first place says
 pub goes_on : (pages : Pages) (places : List PlaceState) → AllByRecursion (IsSoundPlace pages) places → GoesOn places (items_on pages places)

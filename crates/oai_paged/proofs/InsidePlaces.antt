@@ -1,6 +1,6 @@
 -- Places of which all items are wanted: they are counted and passed over by their number.
-use Rattle.std.proofs.Common.{◌≡◌, ◌∙◌, ◌==◌, false, ◌∷◌, ◌-◌, ◌<◌, ◌≤◌, ℕ, ℤ, Bool, List, [], Option, None, length, get_or, refl, sym, ap, subst, arith, true, inl, inr}
-use Rattle.std.specs.Prelude.{filter}
+use Rattle.std.proofs.Common.{◌≡◌, ◌∙◌, ◌==◌, false, ◌∷◌, ◌-◌, ◌<◌, ◌≤◌, ℕ, ℤ, Bool, List, [], Option, None, Some, ◌+◌, ◌⊎◌, ⊎_elim, length, get_or, refl, sym, ap, subst, arith, true, inl, inr}
+use Rattle.std.specs.Prelude.{filter, option_map}
 use Rattle.std.proofs.lemmas.Bool.{cases_lt}
 use Rattle.std.proofs.lemmas.List.{get_or_read}
 use Rattle.std.specs.List.{AllByRecursion}
@@ -8,20 +8,24 @@ use Rattle.std.specs.Ordering.{is_gt}
 use Rattle.oai_item.specs.Item.{IsStamp, ItemState}
 use Rattle.oai_item.specs.Items.{item_at, items_after}
 use Rattle.oai_item.specs.Order.{place_cmp}
-use Rattle.oai_item.specs.Selection.{Filter, passes, selected}
+use Rattle.oai_item.specs.Selection.{Filter, is_in_given, passes, selected}
 use Rattle.oai_paged.specs.Directory.{IsDirectory}
 use Rattle.oai_paged.specs.Pages.{fit_one}
-use Rattle.oai_paged.specs.Parts.{IsInside, IsPartTaken}
-use Rattle.oai_paged.specs.Places.{IsSoundPlace, Pages, PlaceState, is_wanted, items_at, items_on}
+use Rattle.oai_paged.specs.Parts.{IsInside, IsKnown, IsPartTaken}
+use Rattle.oai_paged.specs.Places.{AreSetCounts, IsSoundPlace, Pages, PlaceState, is_wanted, items_at, items_on, known_in}
+use Rattle.oai_sums.specs.Sums.{SetTotal, counted_in, number_in}
 use Rattle.oai_paged.specs.Searches.{BelongsAt}
 use Rattle.oai_paged.specs.declared.sizes.TheConstants.{MAX_ENTRY_BYTES}
 use Rattle.oai_paged.proofs.DirectoryLemmas.{item_at-cut, no_place, placed-cut}
 use Rattle.oai_paged.proofs.PageLemmas.{size_of-least}
-use Rattle.oai_paged.proofs.PartLemmas.{filter_alike, filter_both, taken_past}
+use Rattle.oai_paged.proofs.PartLemmas.{fewer, filter_alike, filter_both, taken_past}
 use Rattle.oai_paged.proofs.PlaceLemmas.{items_on-nil}
 use Rattle.oai_paged.proofs.ReadPlaces.{placed_at}
 use Rattle.oai_paged.proofs.ShortLemmas.{fit_parts}
-use Rattle.oai_paged.proofs.WantedPlaces.{inside_all, stored_items}
+use Rattle.oai_paged.proofs.WantedPlaces.{inside_given, stored_items}
+use Rattle.oai_paged.proofs.WantedLemmas.{given_from}
+use Rattle.oai_paged.proofs.LoneLemmas.{outside_none}
+use Rattle.oai_item.specs.Membership.{is_in}
 
 -- items on one page are not more than its bytes
 pub few_items : (items : List ItemState) → fit_one items ≡ true → length items ≤ MAX_ENTRY_BYTES
@@ -35,35 +39,67 @@ few_in pages p placed =
       | inr one ↦ omega (arith, placed.counted, few_items (items_at pages p) (placed.many.one one))
     ]
 
-pub few_placed : (pages : Pages) (places : List PlaceState) (at n : ℕ) (p : PlaceState) → IsDirectory pages places → at < length places → p ≡ get_or places at p → n ≡ p.len → n ≤ MAX_ENTRY_BYTES
-few_placed pages places at n p h within is many = omega (arith, many, few_in pages p (placed_at pages places at p h within is))
+-- ---- what is known of a place
 
--- the number of items that a place tells is that of its items
-counted_at : (pages : Pages) (places : List PlaceState) (at n : ℕ) (p : PlaceState) → IsDirectory pages places → at < length places → p ≡ get_or places at p → n ≡ p.len
-    → length (items_at pages (get_or places at no_place)) ≡ n
-counted_at pages places at n p h within is many =
-    (placed-cut pages places at no_place within h.placed).0.counted ∙ ap (λ (q : PlaceState). q.len) (sym (get_or_read places at p within is no_place)) ∙ sym many
+some_one : {A : Type 0} (a b : A) → Some a ≡ Some b → a ≡ b
+some_one a b e = cc
 
--- so many of them are wanted
-pub inside_counted : (pages : Pages) (places : List PlaceState) (asked : Filter) (stamp : ℤ) (identifier : List ℕ) (at n : ℕ) (p : PlaceState) → IsDirectory pages places → at < length places
-    → p ≡ get_or places at p → n ≡ p.len → IsInside places at asked stamp identifier → (d : PlaceState)
-    → n ≡ length (filter (is_wanted asked stamp identifier) (items_at pages (get_or places at d)))
-inside_counted pages places asked stamp identifier at n p h within is many inside d =
-    sym (counted_at pages places at n p h within is many)
-    ∙ ap length (sym (inside_all pages places asked stamp identifier at h within inside))
-    ∙ ap (λ q. length (filter (is_wanted asked stamp identifier) (items_at pages q))) (sym (get_or_read places at p within is no_place) ∙ get_or_read places at p within is d)
+none_some : {B : Type 0} (n : ℕ) → None ≡ Some n → B
+none_some n e = absurd (let no : ⊥ = cc in no)
 
--- and where so many are to be skipped, all of them are
-pub inside_past : (pages : Pages) (places : List PlaceState) (asked : Filter) (stamp : ℤ) (identifier : List ℕ) (at n : ℕ) (p : PlaceState) (most : ℕ) (part : List ItemState) (skip : ℕ) → IsDirectory pages places
-    → at < length places → p ≡ get_or places at p → n ≡ p.len → n ≤ skip → IsInside places at asked stamp identifier → (d : PlaceState)
+all_of : (items : List ItemState) → filter (λ (x : ItemState). true) items ≡ items
+all_of [] = refl
+all_of (x ∷ items) = ap (λ zs. x ∷ zs) (all_of items)
+
+most_items : (p : ItemState → Bool) (items : List ItemState) → length (filter p items) ≤ length items
+most_items p items = omega (arith, fewer p (λ (x : ItemState). true) (λ x h. refl) items, ap length (all_of items))
+
+-- so many are in the set, where one is given
+known_number : (pages : Pages) (q : PlaceState) (set : Option (List ℕ)) (n : ℕ) → IsSoundPlace pages q → known_in q set ≡ Some n
+    → length (filter (λ (x : ItemState). is_in_given set x.sets) (items_at pages q)) ≡ n
+unfolding number_in
+known_number pages q None n h is = ap length (all_of (items_at pages q)) ∙ h.counted ∙ some_one q.len n is
+known_number pages q (Some set) n h is = by_sets q.sets h.sets is where
+  by_sets : (sets : Option (List SetTotal)) → AreSetCounts sets (items_at pages q) → option_map (counted_in set) sets ≡ Some n
+      → length (filter (λ (x : ItemState). is_in set x.sets) (items_at pages q)) ≡ n
+  by_sets None counts e = none_some n e
+  by_sets (Some totals) counts e = sym (counts totals refl set) ∙ some_one (counted_in set totals) n e
+
+-- the number that is known is that of the items that are wanted
+pub known_counted : (pages : Pages) (places : List PlaceState) (asked : Filter) (stamp : ℤ) (identifier : List ℕ) (at n : ℕ) → IsDirectory pages places → at < length places
+    → IsKnown places at asked stamp identifier n → (d : PlaceState) → n ≡ length (filter (is_wanted asked stamp identifier) (items_at pages (get_or places at d)))
+known_counted pages places asked stamp identifier at n h within (inl out) d = out.1 ∙ sym (ap length (outside_none pages places asked stamp identifier at h within out.0 d))
+known_counted pages places asked stamp identifier at n h within (inr known) d =
+    let own : List ItemState = items_at pages (get_or places at d) in
+    let number = known_number pages (get_or places at d) asked.set n (placed-cut pages places at d within h.placed).0 (known.0 d) in
+    ⊎_elim
+    (λ none. omega (arith, none, number, fewer (is_wanted asked stamp identifier) (λ (x : ItemState). is_in_given asked.set x.sets) (given_from asked stamp identifier) own))
+    (λ inside. sym (ap length (inside_given pages places asked stamp identifier at d h within inside) ∙ number))
+    known.1
+
+-- and no place has more
+pub known_few : (pages : Pages) (places : List PlaceState) (asked : Filter) (stamp : ℤ) (identifier : List ℕ) (at n : ℕ) → IsDirectory pages places → at < length places
+    → IsKnown places at asked stamp identifier n → n ≤ MAX_ENTRY_BYTES
+known_few pages places asked stamp identifier at n h within known =
+    let q : PlaceState = get_or places at no_place in
+    let sound = (placed-cut pages places at no_place within h.placed).0 in
+    omega (arith, known_counted pages places asked stamp identifier at n h within known no_place, few_in pages q sound, sound.counted, most_items (is_wanted asked stamp identifier) (items_at pages q))
+
+-- where so many are to be skipped, all of the place are
+pub known_past : (pages : Pages) (places : List PlaceState) (asked : Filter) (stamp : ℤ) (identifier : List ℕ) (at n most : ℕ) (part : List ItemState) (skip : ℕ) → IsDirectory pages places
+    → at < length places → n ≤ skip → IsKnown places at asked stamp identifier n → (d : PlaceState)
     → IsPartTaken (is_wanted asked stamp identifier) most part part skip (skip - n) (items_at pages (get_or places at d))
-inside_past pages places asked stamp identifier at n p most part skip h within is many past inside d =
+known_past pages places asked stamp identifier at n most part skip h within past known d =
     let wanted = is_wanted asked stamp identifier in
-    let own : List ItemState = items_at pages (get_or places at no_place) in
-    let counted : length own ≡ n = counted_at pages places at n p h within is many in
-    subst (λ (q : PlaceState). IsPartTaken wanted most part part skip (skip - n) (items_at pages q)) (sym (get_or_read places at p within is no_place) ∙ get_or_read places at p within is d)
-    (subst (λ (m : ℕ). IsPartTaken wanted most part part skip (skip - m) own) counted
-    (taken_past wanted most part skip own (inside_all pages places asked stamp identifier at h within inside) (omega (arith, counted, past))))
+    let own : List ItemState = items_at pages (get_or places at d) in
+    let is = known_counted pages places asked stamp identifier at n h within known d in
+    subst (λ (m : ℕ). IsPartTaken wanted most part part skip (skip - m) own) (sym is) (taken_past wanted most part skip own (omega (arith, is, past)))
+
+-- what the code finds
+pub known_from : (places : List PlaceState) (asked : Filter) (stamp : ℤ) (identifier : List ℕ) (at n : ℕ) (p : PlaceState) (set : Option (List ℕ)) → at < length places → p ≡ get_or places at p → known_in p set ≡ Some n
+    → set ≡ asked.set → (n ≡ 0) ⊎ IsInside places at asked stamp identifier → IsKnown places at asked stamp identifier n
+known_from places asked stamp identifier at n p set within is known given so =
+    inr (λ d. subst (λ (q : PlaceState). known_in q asked.set ≡ Some n) (get_or_read places at p within is d) (ap (known_in p) (sym given) ∙ known), so)
 
 -- ---- in the words of those who ask
 

@@ -61,16 +61,31 @@ part_full most part rest whole enough h =
     let none : most - length part ≡ 0 = omega arith in
     sym (append-nil part) ∙ ap (λ m. part ++ take m rest) (sym none) ∙ h
 
--- a place of wanted items, passed over by their number
-pub taken_past : (p : ItemState → Bool) (most : ℕ) (part : List ItemState) (skip : ℕ) (items : List ItemState) → filter p items ≡ items → length items ≤ skip
-    → IsPartTaken p most part part skip (skip - length items) items
-taken_past p most part skip items all few rest =
+-- items of which no more are wanted than are to be skipped
+pub taken_past : (p : ItemState → Bool) (most : ℕ) (part : List ItemState) (skip : ℕ) (items : List ItemState) → length (filter p items) ≤ skip
+    → IsPartTaken p most part part skip (skip - length (filter p items)) items
+taken_past p most part skip items few rest =
     ap (λ zs. part ++ take (most - length part) zs)
-    (sym (ap (λ zs. drop skip zs) (filter-append p items rest ∙ ap (λ zs. zs ++ filter p rest) all) ∙ drop_past items (filter p rest) skip few)) where
+    (sym (ap (λ zs. drop skip zs) (filter-append p items rest) ∙ drop_past (filter p items) (filter p rest) skip few)) where
       drop_past : (xs ys : List ItemState) (n : ℕ) → length xs ≤ n → drop n (xs ++ ys) ≡ drop (n - length xs) ys
       drop_past [] ys n few = let e : n ≡ n - 0 = omega arith in ap (λ m. drop m ys) e
       drop_past (x ∷ xs) ys zero few = absurd (omega arith)
       drop_past (x ∷ xs) ys (suc n) few = let e : suc n - length (x ∷ xs) ≡ n - length xs = omega arith in drop_past xs ys n (omega arith) ∙ ap (λ m. drop m ys) (sym e)
+
+-- a test that is weaker passes no fewer
+pub fewer : (p q : ItemState → Bool) → ((x : ItemState) → p x ≡ true → q x ≡ true) → (items : List ItemState) → length (filter p items) ≤ length (filter q items)
+fewer p q so [] = omega arith
+fewer p q so (x ∷ items) =
+    let rest = fewer p q so items in
+    elim (cases_Bool (p x)) [
+      | inl passes ↦
+          omega (arith, rest, ap length (cond-true (p x) (x ∷ filter p items) (filter p items) passes), ap length (cond-true (q x) (x ∷ filter q items) (filter q items) (so x passes)))
+      | inr fails ↦
+          omega (arith, rest, ap length (cond-false (p x) (x ∷ filter p items) (filter p items) fails), no_less (q x))
+    ] where
+      no_less : (b : Bool) → length (filter q items) ≤ length (cond b (x ∷ filter q items) (filter q items))
+      no_less true = omega arith
+      no_less false = omega arith
 
 -- what passes two tests
 pub filter_both : (p q : ItemState → Bool) (items : List ItemState) → filter p (filter q items) ≡ filter (λ x. q x && p x) items

@@ -6,7 +6,7 @@ use Rattle.std.proofs.lemmas.Grind.{flat_map-append}
 use Rattle.oai_item.specs.Item.{ItemState}
 use Rattle.oai_pool.specs.Names.{times}
 use Rattle.oai_paged.specs.Pages.{IsPage, begins_at, fit_one, items_in, joined}
-use Rattle.oai_paged.specs.Places.{FitPages, IsSoundPlace, Pages, PlaceState, bytes_on, have_records, items_at, items_on, named_in, page_at}
+use Rattle.oai_paged.specs.Places.{AreSetCounts, FitPages, IsSoundPlace, Pages, PlaceState, bytes_on, have_records, items_at, items_on, named_in, page_at}
 use Rattle.oai_paged.specs.declared.sizes.TheConstants.{FRONT_BYTES}
 use Rattle.oai_paged.proofs.NameLemmas.{named_in-cons, named_own, times-cons, times-first, times-here}
 
@@ -73,6 +73,7 @@ placed-same old new place kept h =
       begins = ap (begins_at place.stamp place.identifier) items ∙ h.begins;
       counted = ap length items ∙ h.counted;
       common = ap (have_records place.prefixes) items ∙ h.common;
+      sets = subst (λ (zs : List ItemState). AreSetCounts place.sets zs) (sym items) h.sets;
     }
 
 -- each page that the places name is as it was

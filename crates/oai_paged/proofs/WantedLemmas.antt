@@ -128,11 +128,14 @@ prefix_of_each prefix prefixes items h among =
     (λ item each. of_each (λ p. has_record p item.formats) prefix prefixes each among) items h
 
 -- what passes in each part is wanted
-pub wanted_from : (asked : Filter) (stamp : ℤ) (identifier : List ℕ) (x : ItemState) → asked.set ≡ None → is_gt (place_cmp x stamp identifier) ≡ true → has_record asked.prefix x.formats ≡ true
-    → int_le asked.lower x.stamp ≡ true → int_le x.stamp asked.upper ≡ true → is_wanted asked stamp identifier x ≡ true
-wanted_from asked stamp identifier x any behind has lower upper =
-    and_from (is_gt (place_cmp x stamp identifier)) (passes asked x) behind
-    (and_from (has_record asked.prefix x.formats && int_le asked.lower x.stamp && int_le x.stamp asked.upper) (is_in_given asked.set x.sets)
-    (and_from (has_record asked.prefix x.formats && int_le asked.lower x.stamp) (int_le x.stamp asked.upper)
-    (and_from (has_record asked.prefix x.formats) (int_le asked.lower x.stamp) has lower) upper)
-    (ap (λ set. is_in_given set x.sets) any))
+and_all : (a b c d e : Bool) → a ≡ true → b ≡ true → c ≡ true → d ≡ true → (a && (((b && c) && d) && e)) ≡ e
+and_all a b c d e ha hb hc hd = rw (ha, hb, hc, hd) refl
+
+pub wanted_given : (asked : Filter) (stamp : ℤ) (identifier : List ℕ) (x : ItemState) → is_gt (place_cmp x stamp identifier) ≡ true → has_record asked.prefix x.formats ≡ true
+    → int_le asked.lower x.stamp ≡ true → int_le x.stamp asked.upper ≡ true → is_wanted asked stamp identifier x ≡ is_in_given asked.set x.sets
+wanted_given asked stamp identifier x behind has lower upper =
+    and_all (is_gt (place_cmp x stamp identifier)) (has_record asked.prefix x.formats) (int_le asked.lower x.stamp) (int_le x.stamp asked.upper) (is_in_given asked.set x.sets) behind has lower upper
+
+-- what is wanted is in the set, where one is given
+pub given_from : (asked : Filter) (stamp : ℤ) (identifier : List ℕ) (x : ItemState) → is_wanted asked stamp identifier x ≡ true → is_in_given asked.set x.sets ≡ true
+given_from asked stamp identifier x h = (and_parts _ (is_in_given asked.set x.sets) (and_parts (is_gt (place_cmp x stamp identifier)) (passes asked x) h).1).1

@@ -1,6 +1,6 @@
 -- The places of a directory that may have wanted items, and those of which all items are.
 use Rattle.std.specs.Prelude.{filter, int_le, length}
-use Rattle.std.proofs.Common.{◌≡◌, ◌∙◌, ◌+◌, ◌-◌, ◌<◌, ◌≤◌, ◌≤ℤ◌, ◌⊎◌, inl, inr, ⊎_elim, ℕ, ℤ, pos, suc, zero, Bool, true, false, not, ◌==◌, Option, Some, is_some, List, [], ◌∷◌, ◌++◌, None, take, drop, get_or, refl, sym, ap, subst, arith, length-append}
+use Rattle.std.proofs.Common.{◌≡◌, ◌∙◌, ◌+◌, ◌-◌, ◌<◌, ◌≤◌, ◌≤ℤ◌, ◌⊎◌, inl, inr, ⊎_elim, ℕ, ℤ, pos, suc, zero, Bool, true, false, cond, not, ◌==◌, Some, List, [], ◌∷◌, ◌++◌, None, take, drop, get_or, refl, sym, ap, subst, arith, length-append}
 use Rattle.std.specs.List.{AllByRecursion, list_all}
 use Rattle.std.specs.Ordering.{is_gt, is_lt, ordering_index}
 use Rattle.std.specs.declared.cmp.Ordering.{Ordering}
@@ -9,11 +9,11 @@ use lib.Signed.{lt_z}
 use Rattle.std.proofs.lemmas.Bool.{and_from, and_parts, cases_lt, false_from_ne_true, not_from_false}
 use Rattle.std.proofs.lemmas.Int.{ints}
 use Rattle.std.proofs.lemmas.List.{drop_all, drop_more, get_or_read, take-append-drop}
-use Rattle.oai_names.proofs.Lists.{all-weaker, filter_all, filter_none}
+use Rattle.oai_names.proofs.Lists.{all-weaker, filter_none}
 use Rattle.oai_item.specs.Item.{ItemState, has_record}
 use Rattle.oai_names.specs.Names.{is_among}
 use Rattle.oai_item.specs.Order.{are_in_order, place_cmp}
-use Rattle.oai_item.specs.Selection.{Filter}
+use Rattle.oai_item.specs.Selection.{Filter, is_in_given}
 use Rattle.oai_item.proofs.Around.{in_order-append}
 use Rattle.oai_paged.specs.Directory.{IsDirectory}
 use Rattle.oai_paged.specs.Pages.{AreStorable, begins_at}
@@ -24,7 +24,7 @@ use Rattle.oai_paged.proofs.DirectoryLemmas.{goes_on, items-cut, no_place, place
 use Rattle.oai_paged.proofs.OrderedPlaces.{GoesOn, all_above, below_place, own_below}
 use Rattle.std.proofs.lemmas.List.Elements.{filter-append}
 use Rattle.oai_paged.proofs.PlaceLemmas.{items_on-append, items_on-cons, items_on-nil, placed-parts}
-use Rattle.oai_paged.proofs.WantedLemmas.{earlier, earlier_stamp, not_behind, prefix_of_each, stamps_from, too_early, too_late, wanted_from}
+use Rattle.oai_paged.proofs.WantedLemmas.{earlier, earlier_stamp, not_behind, prefix_of_each, stamps_from, too_early, too_late, wanted_given}
 
 -- before the place at which a search starts no item is wanted
 pub none_before : (pages : Pages) (places : List PlaceState) (asked : Filter) (stamp : ℤ) (identifier : List ℕ) (at : ℕ) → IsDirectory pages places → StartsAt places asked stamp identifier at
@@ -90,41 +90,40 @@ ended_by (next ∷ _) items upper stored below ends =
     all-weaker (λ (x : ItemState). is_lt (place_cmp x next.stamp next.identifier)) (λ x. int_le x.stamp upper)
     (λ x before. int_trans x.stamp next.stamp upper (earlier_stamp next.stamp next.identifier x before) ends) items below
 
-all_five : (a b c d : ItemState → Bool) (p : ItemState → Bool) → ((x : ItemState) → a x ≡ true → b x ≡ true → c x ≡ true → d x ≡ true → p x ≡ true) → (xs : List ItemState)
-    → list_all a xs ≡ true → list_all b xs ≡ true → list_all c xs ≡ true → list_all d xs ≡ true → list_all p xs ≡ true
-all_five a b c d p so [] ha hb hc hd = refl
-all_five a b c d p so (x ∷ xs) ha hb hc hd =
+alike_where : (a b c d p q : ItemState → Bool) → ((x : ItemState) → a x ≡ true → b x ≡ true → c x ≡ true → d x ≡ true → p x ≡ q x) → (xs : List ItemState)
+    → list_all a xs ≡ true → list_all b xs ≡ true → list_all c xs ≡ true → list_all d xs ≡ true → filter p xs ≡ filter q xs
+alike_where a b c d p q so [] ha hb hc hd = refl
+alike_where a b c d p q so (x ∷ xs) ha hb hc hd =
     let pa = and_parts (a x) (list_all a xs) ha in
     let pb = and_parts (b x) (list_all b xs) hb in
     let pc = and_parts (c x) (list_all c xs) hc in
     let pd = and_parts (d x) (list_all d xs) hd in
-    and_from (p x) (list_all p xs) (so x pa.0 pb.0 pc.0 pd.0) (all_five a b c d p so xs pa.1 pb.1 pc.1 pd.1)
+    ap (λ t. cond t (x ∷ filter p xs) (filter p xs)) (so x pa.0 pb.0 pc.0 pd.0)
+    ∙ ap (λ zs. cond (q x) (x ∷ zs) zs) (alike_where a b c d p q so xs pa.1 pb.1 pc.1 pd.1)
 
-pub inside_all : (pages : Pages) (places : List PlaceState) (asked : Filter) (stamp : ℤ) (identifier : List ℕ) (at : ℕ) → IsDirectory pages places → at < length places
-    → IsInside places at asked stamp identifier → filter (is_wanted asked stamp identifier) (items_at pages (get_or places at no_place)) ≡ items_at pages (get_or places at no_place)
-inside_all pages places asked stamp identifier at h within inside =
-    let q : PlaceState = get_or places at no_place in
+-- then those are wanted that are in the set, where one is given
+pub inside_given : (pages : Pages) (places : List PlaceState) (asked : Filter) (stamp : ℤ) (identifier : List ℕ) (at : ℕ) (d : PlaceState) → IsDirectory pages places → at < length places
+    → IsInside places at asked stamp identifier
+    → filter (is_wanted asked stamp identifier) (items_at pages (get_or places at d)) ≡ filter (λ (x : ItemState). is_in_given asked.set x.sets) (items_at pages (get_or places at d))
+inside_given pages places asked stamp identifier at d h within inside =
+    let q : PlaceState = get_or places at d in
     let before = items_on pages (take at places) in
     let own = items_at pages q in
     let next = drop (at + 1) places in
     let behind = items_on pages next in
-    let parts = placed-cut pages places at no_place within h.placed in
-    let rising : are_in_order (before ++ (own ++ behind)) ≡ true = sym (ap are_in_order (items-cut pages places at no_place within)) ∙ h.rising in
+    let parts = placed-cut pages places at d within h.placed in
+    let rising : are_in_order (before ++ (own ++ behind)) ≡ true = sym (ap are_in_order (items-cut pages places at d within)) ∙ h.rising in
     let inner : are_in_order (own ++ behind) ≡ true = (in_order-append before (own ++ behind) rising).1 in
     let own_rising : are_in_order own ≡ true = (in_order-append own behind inner).0 in
-    filter_all (is_wanted asked stamp identifier) own
-    (all_five (λ x. is_gt (place_cmp x stamp identifier)) (λ x. has_record asked.prefix x.formats) (λ x. int_le q.stamp x.stamp) (λ x. int_le x.stamp asked.upper) (is_wanted asked stamp identifier)
-    (λ x is_behind has from until. wanted_from asked stamp identifier x inside.any_set is_behind has (int_trans_left asked.lower q.stamp x.stamp (inside.lower no_place) from) until) own
-    (all_above (q ∷ []) stamp identifier own own_rising parts.0.begins (inside.behind no_place))
-    (prefix_of_each asked.prefix q.prefixes own parts.0.common (inside.prefix no_place))
+    alike_where (λ x. is_gt (place_cmp x stamp identifier)) (λ x. has_record asked.prefix x.formats) (λ x. int_le q.stamp x.stamp) (λ x. int_le x.stamp asked.upper) (is_wanted asked stamp identifier)
+    (λ x. is_in_given asked.set x.sets)
+    (λ x is_behind has from until. wanted_given asked stamp identifier x is_behind has (int_trans_left asked.lower q.stamp x.stamp (inside.lower d) from) until) own
+    (all_above (q ∷ []) stamp identifier own own_rising parts.0.begins (inside.behind d))
+    (prefix_of_each asked.prefix q.prefixes own parts.0.common (inside.prefix d))
     (stamps_from q.stamp q.identifier own own_rising parts.0.begins)
-    (ended_by next own asked.upper parts.0.page.fit.storable (own_below next own behind inner (goes_on pages next parts.1)) inside.upper))
+    (ended_by next own asked.upper parts.0.page.fit.storable (own_below next own behind inner (goes_on pages next parts.1)) inside.upper)
 
 -- ---- what the code tests, as it is said of a place
-
-pub none_given : {A : Type 0} (given : Option A) → is_some given ≡ false → given ≡ None
-none_given None h = refl
-none_given (Some a) h = cc
 
 greater_is : (o : Ordering) → is_gt o ≡ not (not (ordering_index o == 2))
 greater_is Less = refl
@@ -145,10 +144,9 @@ lower_from a b x y test ax by = subst (λ (v : ℤ). v ≤ℤ y) ax (subst (λ (
 
 -- a place that passed each test
 pub inside_from : (places : List PlaceState) (asked : Filter) (stamp : ℤ) (identifier : List ℕ) (at : ℕ) (p : PlaceState) → at < length places → p ≡ get_or places at p
-    → asked.set ≡ None → asked.lower ≤ℤ p.stamp → is_gt (first_cmp p stamp identifier) ≡ true → is_among p.prefixes asked.prefix ≡ true → EndsBy (drop (at + 1) places) asked.upper
+    → asked.lower ≤ℤ p.stamp → is_gt (first_cmp p stamp identifier) ≡ true → is_among p.prefixes asked.prefix ≡ true → EndsBy (drop (at + 1) places) asked.upper
     → IsInside places at asked stamp identifier
-inside_from places asked stamp identifier at p within is any lower behind among ends = record {
-  any_set = any;
+inside_from places asked stamp identifier at p within is lower behind among ends = record {
   lower = λ d. subst (λ (q : PlaceState). asked.lower ≤ℤ q.stamp) (get_or_read places at p within is d) lower;
   behind = λ d. subst (λ (q : PlaceState). is_gt (first_cmp q stamp identifier) ≡ true) (get_or_read places at p within is d) behind;
   prefix = λ d. subst (λ (q : PlaceState). is_among q.prefixes asked.prefix ≡ true) (get_or_read places at p within is d) among;

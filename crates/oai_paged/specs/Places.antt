@@ -1,5 +1,5 @@
 -- Places of a directory: where items stand in a pool of pages, and what is known of them.
-use Rattle.std.specs.Prelude.{◌≡◌, ◌==◌, ◌&&◌, ◌+◌, ◌<◌, ◌≤◌, ℕ, ℤ, Bool, true, List, [], ◌∷◌, length, drop, map, Option, unwrap_or, slice_index}
+use Rattle.std.specs.Prelude.{◌≡◌, ◌==◌, ◌&&◌, ◌+◌, ◌<◌, ◌≤◌, ℕ, ℤ, Bool, true, List, [], ◌∷◌, length, drop, map, Option, None, Some, option_map, unwrap_or, slice_index}
 use Rattle.std.specs.List.{flat_map, list_all}
 use Rattle.std.specs.Ordering.{nat_cmp, int_cmp, ordering_then, is_gt, is_lt}
 use Rattle.std.specs.declared.cmp.Ordering.{Ordering}
@@ -8,17 +8,19 @@ use Rattle.oai_item.specs.Item.{ItemState, has_record}
 use Rattle.oai_item.specs.Order.{place_cmp}
 use Rattle.oai_item.specs.Selection.{Filter, passes}
 use Rattle.oai_pool.specs.Names.{times}
+use Rattle.oai_sums.specs.Sums.{AreCounts, SetTotal, counted_in}
 use Rattle.oai_paged.specs.Pages.{IsPage, begins_at, fit_one, items_in, joined}
 use Rattle.oai_paged.specs.declared.sizes.TheConstants.{FRONT_BYTES, MAX_OVERFLOW_PAGES}
 
--- a place: the numbers of its pages, the datestamp and the identifier of its first item, how many items there are, and prefixes of which each
--- of them has a record
+-- a place: the numbers of its pages, the datestamp and the identifier of its first item, how many items there are, prefixes of which each of
+-- them has a record, and how many are in each set, where that is known
 pub record PlaceState : Type 0 where
   pub pages : List ℕ
   pub stamp : ℤ
   pub identifier : List ℕ
   pub len : ℕ
   pub prefixes : List (List ℕ)
+  pub sets : Option (List SetTotal)
 
 -- the page under each number
 abbrev pub Pages : Type 0
@@ -47,6 +49,15 @@ unfoldable pub have_records : List (List ℕ) → List ItemState → Bool
 have_records prefixes items =
     list_all (λ (item : ItemState). list_all (λ prefix. has_record prefix item.formats) prefixes) items
 
+-- where it is known how many are in each set, so many of the items are
+abbrev pub AreSetCounts : Option (List SetTotal) → List ItemState → Type 0
+AreSetCounts sets items = (totals : List SetTotal) → sets ≡ Some totals → AreCounts totals items
+
+-- how many items of the place are known to be in the set, where one is given
+abbrev pub known_in : PlaceState → Option (List ℕ) → Option ℕ
+known_in place None = Some place.len
+known_in place (Some set) = option_map (counted_in set) place.sets
+
 -- how many pages items may have: one where they fit on it; one item may have overflow pages besides, and then nothing but zeros stands
 -- behind the front of the first page
 pub record FitPages (pages : Pages) (numbers : List ℕ) (items : List ItemState) : Type 0 where
@@ -64,6 +75,7 @@ pub record IsSoundPlace (pages : Pages) (place : PlaceState) : Type 0 where
   pub begins : begins_at place.stamp place.identifier (items_at pages place) ≡ true
   pub counted : length (items_at pages place) ≡ place.len
   pub common : have_records place.prefixes (items_at pages place) ≡ true
+  pub sets : AreSetCounts place.sets (items_at pages place)
 
 -- ---- their order
 

@@ -19,6 +19,7 @@ use oai_device::PAGE_BYTES;
 use oai_item::Fault;
 use oai_names::{Prefix, Sequence};
 use oai_pool::{PageNo, PagePool};
+use oai_sums::SetNames;
 use std::alloc::{AllocError, Global};
 use std::rc::Rc;
 
@@ -41,6 +42,7 @@ pub(crate) struct Changed {
 pub(crate) fn change<P: PagePool>(
     alloc: Global,
     pages: &mut P,
+    names: &mut SetNames,
     places: &mut Vec<SharedPlace>,
     at: usize,
     len: usize,
@@ -60,7 +62,7 @@ pub(crate) fn change<P: PagePool>(
     ensures err { OnErr result (ChangesNothing P.PagePool places.old.items places.new.items pages.old pages.new) }
     ensures pool { AddsPages P.PagePool entries.now result pages.old pages.new }
 {
-    let mut others = add_all(alloc, pages, entries, cuts, places.get(at))?;
+    let mut others = add_all(alloc, pages, names, entries, cuts, places.get(at))?;
     match reserve(places, &mut others) {
         Ok(()) => {
             let count = others.len();
@@ -99,6 +101,7 @@ pub(crate) fn undo<P: PagePool>(pages: &mut P, places: &mut Vec<SharedPlace>, ch
 fn add_all<P: PagePool>(
     alloc: Global,
     pages: &mut P,
+    names: &mut SetNames,
     entries: &Entries,
     cuts: Cuts,
     near: Option<&SharedPlace>,
@@ -110,7 +113,7 @@ fn add_all<P: PagePool>(
     ensures pool { AddsPages P.PagePool entries.now result pages.old pages.new }
 {
     let mut added = Vec::with_capacity(alloc, MAX_PARTS)?;
-    match add_parts(alloc, pages, entries, cuts, near, &mut added) {
+    match add_parts(alloc, pages, names, entries, cuts, near, &mut added) {
         Ok(()) => Ok(added),
         Err(fault) => {
             drop_all(pages, added);
@@ -124,6 +127,7 @@ fn add_all<P: PagePool>(
 fn add_parts<P: PagePool>(
     alloc: Global,
     pages: &mut P,
+    names: &mut SetNames,
     entries: &Entries,
     cuts: Cuts,
     near: Option<&SharedPlace>,
@@ -138,9 +142,18 @@ fn add_parts<P: PagePool>(
     ensures pool { AddsPages P.PagePool entries.now result pages.old pages.new }
 {
     let len = entries.len();
-    add_part(alloc, pages, entries, 0, cuts.first, near, added)?;
-    add_part(alloc, pages, entries, cuts.first, cuts.second, near, added)?;
-    add_part(alloc, pages, entries, cuts.second, len, near, added)
+    add_part(alloc, pages, names, entries, 0, cuts.first, near, added)?;
+    add_part(
+        alloc,
+        pages,
+        names,
+        entries,
+        cuts.first,
+        cuts.second,
+        near,
+        added,
+    )?;
+    add_part(alloc, pages, names, entries, cuts.second, len, near, added)
 }
 
 /// Adds the pages of the entries from the one place up to the other, where there are any, and puts their place behind the others. Any fault but
@@ -148,6 +161,7 @@ fn add_parts<P: PagePool>(
 fn add_part<P: PagePool>(
     alloc: Global,
     pages: &mut P,
+    names: &mut SetNames,
     entries: &Entries,
     from: usize,
     to: usize,
@@ -171,7 +185,7 @@ fn add_part<P: PagePool>(
         return Ok(());
     }
     let _all = entries.len();
-    let place = add_page(alloc, pages, entries, from, to, near)?;
+    let place = add_page(alloc, pages, names, entries, from, to, near)?;
     added.push(place).unwrap();
     Ok(())
 }
@@ -181,6 +195,7 @@ fn add_part<P: PagePool>(
 fn add_page<P: PagePool>(
     alloc: Global,
     pages: &mut P,
+    names: &mut SetNames,
     entries: &Entries,
     from: usize,
     to: usize,
@@ -198,6 +213,7 @@ fn add_page<P: PagePool>(
     let stamp = entries.stamp(from);
     let identifier = entries.identifier(alloc, from)?;
     let prefixes = prefixes_near(alloc, entries, from, to, near)?;
+    let sets = entries.set_counts(alloc, names, from, to);
     let numbers = add_numbers(alloc, pages, entries, from, to)?;
     match SharedPlace::new(
         alloc,
@@ -206,6 +222,7 @@ fn add_page<P: PagePool>(
         identifier,
         to - from,
         prefixes,
+        sets,
     ) {
         Ok(place) => Ok(place),
         Err(_) => {

@@ -10,7 +10,7 @@ ghost use Rattle.oai_item.specs.Selection.{passes};
 ghost use Rattle.oai_item.specs.declared.sizes.TheConstants.{MAX_ITEM_BYTES};
 ghost use Rattle.oai_paged.specs.Entries.{HasEntries, IsEntryReading};
 ghost use Rattle.oai_paged.specs.Pages.{AreCuts, AreStorable, FitAlone, IsPageReading, IsRemoval, are_short, begins_at, between, entries_of, entry_of, filled, first_number, fit_one, overflow_of, pages_of, size_of};
-ghost use Rattle.oai_paged.specs.Places.{have_records};
+ghost use Rattle.oai_paged.specs.Places.{AreSetCounts, have_records};
 ghost use Rattle.oai_paged.specs.declared.sizes.TheConstants.{MAX_ENTRY_BYTES, MAX_WHOLE_BYTES};
 
 use crate::sizes::{FRONT_BYTES, FULL_BYTES, MAX_ENTRY_BYTES, MAX_WHOLE_BYTES, NUMBER_BYTES};
@@ -19,6 +19,7 @@ use oai_device::PAGE_BYTES;
 use oai_item::{DecodeFault, Item, Spelling, is_spelling};
 use oai_names::{Identifier, Prefix, Sequence};
 use oai_pool::Page;
+use oai_sums::{SetCounts, SetNames};
 use std::alloc::{AllocError, Global};
 use std::cmp::Ordering;
 use std::marker::Model;
@@ -324,6 +325,27 @@ impl Entries {
             all = all && has_each(&self.spelled(at), prefixes);
         }
         all
+    }
+
+    /// How many of the items from the one place up to the other are in each set, with setSpecs of those names. None where there are too many sets, or
+    /// memory is refused.
+    pub(crate) fn set_counts(
+        &self,
+        alloc: Global,
+        names: &mut SetNames,
+        from: usize,
+        to: usize,
+    ) -> Option<SetCounts>
+        requires order { from ≤ to }
+        requires within { to ≤ length self.now }
+        ensures { AreSetCounts result (between from to self.now) }
+    {
+        let mut counts = SetCounts::new(alloc);
+        for at in from..to {
+            counts.add(names, self.spelled(at).sets())?;
+        }
+        counts.fit();
+        Some(counts)
     }
 
     /// How many records the item at that place has.

@@ -1,10 +1,11 @@
 ghost use Rattle.std.specs.Prelude.{◌≡◌, nat_lt, ℕ, length, IfOk};
 ghost use Rattle.oai_names.specs.Names.{is_among};
-ghost use Rattle.oai_paged.specs.Places.{first_cmp};
+ghost use Rattle.oai_paged.specs.Places.{first_cmp, known_in};
 
 use crate::page_numbers::PageNumbers;
-use oai_names::{Identifier, Prefix, Sequence};
+use oai_names::{Identifier, Prefix, Sequence, SetSpec};
 use oai_pool::PageNo;
+use oai_sums::SetCounts;
 use std::alloc::{AllocError, Global};
 use std::cmp::Ordering;
 use std::marker::Model;
@@ -19,6 +20,8 @@ struct Place {
     len: usize,
     /// Many places have the same: these have one list in common, so that it is at hand where many are asked.
     prefixes: Rc<Sequence<Prefix>>,
+    /// None where the sets were too many, or memory was refused.
+    sets: Option<SetCounts>,
 }
 
 impl Model for Place {
@@ -32,6 +35,7 @@ impl Model for Place {
       identifier = p.identifier;
       len = p.len;
       prefixes = p.prefixes.value;
+      sets = p.sets;
     } };
 }
 
@@ -51,7 +55,8 @@ impl Model for SharedPlace {
 
 impl SharedPlace {
     /// The place of so many items on the pages of these numbers, of which the first item has this datestamp, in seconds
-    /// from 1970 on, and identifier, and each has a record of each of the prefixes. The error is out of memory.
+    /// from 1970 on, and identifier, and each has a record of each of the prefixes. So many are in each set, where that is known. The error is
+    /// out of memory.
     pub(crate) fn new(
         alloc: Global,
         pages: &[PageNo],
@@ -59,6 +64,7 @@ impl SharedPlace {
         identifier: Identifier,
         len: usize,
         prefixes: Rc<Sequence<Prefix>>,
+        sets: Option<SetCounts>,
     ) -> Result<SharedPlace, AllocError>
         ensures { IfOk result (λ place. place ≡ record {
           pages = pages.now;
@@ -66,6 +72,7 @@ impl SharedPlace {
           identifier = identifier;
           len = len;
           prefixes = prefixes.value;
+          sets = sets;
         }) }
     {
         let place = Place {
@@ -74,6 +81,7 @@ impl SharedPlace {
             identifier,
             len,
             prefixes,
+            sets,
         };
         Ok(SharedPlace {
             place: Rc::new(alloc, place)?,
@@ -136,6 +144,19 @@ impl SharedPlace {
         ensures { result ≡ is_among self.now.prefixes prefix.now }
     {
         is_among(self.place.prefixes.as_slice(), prefix)
+    }
+
+    /// How many items are in the set, where one is given, or else how many there are; None where that is not known.
+    pub(crate) fn items_in(&self, set: &Option<SetSpec>) -> Option<usize>
+        ensures { result ≡ known_in self.now set.now }
+    {
+        match set {
+            Some(set) => match &self.place.sets {
+                Some(counts) => Some(counts.count(set.as_str())),
+                None => None,
+            },
+            None => Some(self.place.len),
+        }
     }
 
     /// How the first item stands to this datestamp, in seconds from 1970 on, and identifier.

@@ -17,6 +17,7 @@ use crate::reading::read_place;
 use crate::searches::place_of;
 use oai_item::{Fault, Item};
 use oai_pool::PagePool;
+use oai_sums::SetNames;
 use std::alloc::Global;
 use std::cmp::Ordering;
 
@@ -25,6 +26,7 @@ use std::cmp::Ordering;
 pub(crate) fn put<P: PagePool>(
     alloc: Global,
     pages: &mut P,
+    names: &mut SetNames,
     places: &mut Vec<SharedPlace>,
     item: &Item,
 ) -> Result<(), Fault>
@@ -34,7 +36,7 @@ pub(crate) fn put<P: PagePool>(
         ≡ with_item item.now (items_on (P.pages pages.old) places.old.items)) }
     ensures changes { Changes P.PagePool (3 + MAX_OVERFLOW_PAGES) result places.old.items places.new.items pages.old pages.new }
 {
-    let changed = put_in(alloc, pages, places, item)?;
+    let changed = put_in(alloc, pages, names, places, item)?;
     drop_all(pages, changed.gone);
     Ok(())
 }
@@ -44,6 +46,7 @@ pub(crate) fn put<P: PagePool>(
 pub(crate) fn remove<P: PagePool>(
     alloc: Global,
     pages: &mut P,
+    names: &mut SetNames,
     places: &mut Vec<SharedPlace>,
     stamp: i64,
     identifier: &str,
@@ -55,7 +58,7 @@ pub(crate) fn remove<P: PagePool>(
         ≡ without_at stamp identifier.now (items_on (P.pages pages.old) places.old.items)) }
     ensures changes { Changes P.PagePool 1 result places.old.items places.new.items pages.old pages.new }
 {
-    match take_out(alloc, pages, places, stamp, identifier)? {
+    match take_out(alloc, pages, names, places, stamp, identifier)? {
         Some(changed) => {
             drop_all(pages, changed.gone);
             Ok(true)
@@ -70,6 +73,7 @@ pub(crate) fn remove<P: PagePool>(
 pub(crate) fn replace<P: PagePool>(
     alloc: Global,
     pages: &mut P,
+    names: &mut SetNames,
     places: &mut Vec<SharedPlace>,
     stamp: i64,
     identifier: &str,
@@ -83,11 +87,11 @@ pub(crate) fn replace<P: PagePool>(
         ≡ with_item item.now (without_at stamp identifier.now (items_on (P.pages pages.old) places.old.items))) }
     ensures changes { Changes P.PagePool (4 + MAX_OVERFLOW_PAGES) result places.old.items places.new.items pages.old pages.new }
 {
-    let Some(first) = take_out(alloc, pages, places, stamp, identifier)? else {
-        put(alloc, pages, places, item)?;
+    let Some(first) = take_out(alloc, pages, names, places, stamp, identifier)? else {
+        put(alloc, pages, names, places, item)?;
         return Ok(false);
     };
-    match put_in(alloc, pages, places, item) {
+    match put_in(alloc, pages, names, places, item) {
         Ok(second) => {
             drop_all(pages, second.gone);
             drop_all(pages, first.gone);
@@ -104,6 +108,7 @@ pub(crate) fn replace<P: PagePool>(
 fn put_in<P: PagePool>(
     alloc: Global,
     pages: &mut P,
+    names: &mut SetNames,
     places: &mut Vec<SharedPlace>,
     item: &Item,
 ) -> Result<Changed, Fault>
@@ -118,13 +123,13 @@ fn put_in<P: PagePool>(
     ensures pool { Takes P.PagePool (3 + MAX_OVERFLOW_PAGES) result pages.old pages.new }
 {
     if places.is_empty() {
-        return put_alone(alloc, pages, places, 0, 0, item);
+        return put_alone(alloc, pages, names, places, 0, 0, item);
     }
     let at = place_of(places.as_slice(), item.stamp(), item.identifier().as_str());
     if places[at].is_long() {
-        return put_by_long(alloc, pages, places, at, item);
+        return put_by_long(alloc, pages, names, places, at, item);
     }
-    put_among(alloc, pages, places, at, item)
+    put_among(alloc, pages, names, places, at, item)
 }
 
 /// Puts the item in among those of the place at `at`, which has one page, and to which it belongs. Any fault may come; directory and pages are then as
@@ -132,6 +137,7 @@ fn put_in<P: PagePool>(
 fn put_among<P: PagePool>(
     alloc: Global,
     pages: &mut P,
+    names: &mut SetNames,
     places: &mut Vec<SharedPlace>,
     at: usize,
     item: &Item,
@@ -153,7 +159,7 @@ fn put_among<P: PagePool>(
     let comes_last = at + 1 == places.len()
         && old.are_before(item.stamp(), item.identifier().as_str());
     let (entries, cuts) = old.put(alloc, item, comes_last)?;
-    change(alloc, pages, places, at, 1, &entries, cuts)
+    change(alloc, pages, names, places, at, 1, &entries, cuts)
 }
 
 /// Puts the item in beside the one of the place at `at`, which has overflow pages, and to which the item belongs, or in its place. Nothing is read. Any
@@ -161,6 +167,7 @@ fn put_among<P: PagePool>(
 fn put_by_long<P: PagePool>(
     alloc: Global,
     pages: &mut P,
+    names: &mut SetNames,
     places: &mut Vec<SharedPlace>,
     at: usize,
     item: &Item,
@@ -179,9 +186,9 @@ fn put_by_long<P: PagePool>(
     ensures pool { Takes P.PagePool (3 + MAX_OVERFLOW_PAGES) result pages.old pages.new }
 {
     match places[at].order_to(item.stamp(), item.identifier().as_str()) {
-        Ordering::Less => put_alone(alloc, pages, places, at + 1, 0, item),
-        Ordering::Equal => put_alone(alloc, pages, places, at, 1, item),
-        Ordering::Greater => put_alone(alloc, pages, places, at, 0, item),
+        Ordering::Less => put_alone(alloc, pages, names, places, at + 1, 0, item),
+        Ordering::Equal => put_alone(alloc, pages, names, places, at, 1, item),
+        Ordering::Greater => put_alone(alloc, pages, names, places, at, 0, item),
     }
 }
 
@@ -190,6 +197,7 @@ fn put_by_long<P: PagePool>(
 fn put_alone<P: PagePool>(
     alloc: Global,
     pages: &mut P,
+    names: &mut SetNames,
     places: &mut Vec<SharedPlace>,
     at: usize,
     len: usize,
@@ -209,7 +217,7 @@ fn put_alone<P: PagePool>(
     ensures pool { Takes P.PagePool (3 + MAX_OVERFLOW_PAGES) result pages.old pages.new }
 {
     let (entries, cuts) = Entries::new(alloc).put(alloc, item, false)?;
-    change(alloc, pages, places, at, len, &entries, cuts)
+    change(alloc, pages, names, places, at, len, &entries, cuts)
 }
 
 /// Takes the item of that datestamp, in seconds from 1970 on, and identifier out, if there is one; the pages that it was on are still named. It adds one
@@ -217,6 +225,7 @@ fn put_alone<P: PagePool>(
 fn take_out<P: PagePool>(
     alloc: Global,
     pages: &mut P,
+    names: &mut SetNames,
     places: &mut Vec<SharedPlace>,
     stamp: i64,
     identifier: &str,
@@ -237,9 +246,9 @@ fn take_out<P: PagePool>(
     }
     let at = place_of(places.as_slice(), stamp, identifier);
     if places[at].is_long() {
-        return take_out_long(alloc, pages, places, at, stamp, identifier);
+        return take_out_long(alloc, pages, names, places, at, stamp, identifier);
     }
-    take_out_among(alloc, pages, places, at, stamp, identifier)
+    take_out_among(alloc, pages, names, places, at, stamp, identifier)
 }
 
 /// Takes the item out of those of the place at `at`, which has one page, and to which its datestamp and identifier belong. Any fault may come; directory
@@ -247,6 +256,7 @@ fn take_out<P: PagePool>(
 fn take_out_among<P: PagePool>(
     alloc: Global,
     pages: &mut P,
+    names: &mut SetNames,
     places: &mut Vec<SharedPlace>,
     at: usize,
     stamp: i64,
@@ -270,7 +280,7 @@ fn take_out_among<P: PagePool>(
     match old.remove(alloc, stamp, identifier)? {
         Some(entries) => {
             let cuts = entries.cuts(false);
-            let changed = change(alloc, pages, places, at, 1, &entries, cuts)?;
+            let changed = change(alloc, pages, names, places, at, 1, &entries, cuts)?;
             Ok(Some(changed))
         }
         None => Ok(None),
@@ -282,6 +292,7 @@ fn take_out_among<P: PagePool>(
 fn take_out_long<P: PagePool>(
     alloc: Global,
     pages: &mut P,
+    names: &mut SetNames,
     places: &mut Vec<SharedPlace>,
     at: usize,
     stamp: i64,
@@ -305,6 +316,6 @@ fn take_out_long<P: PagePool>(
         return Ok(None);
     }
     let none = Entries::new(alloc);
-    let changed = change(alloc, pages, places, at, 1, &none, Cuts::none())?;
+    let changed = change(alloc, pages, names, places, at, 1, &none, Cuts::none())?;
     Ok(Some(changed))
 }

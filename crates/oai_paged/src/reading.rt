@@ -1,5 +1,5 @@
 //! What is read of a directory: which items it has.
-ghost use Rattle.std.specs.Prelude.{◌≡◌, ◌+◌, ◌^◌, ◌<◌, ◌≤◌, ◌++◌, ℕ, [], true, false, length, take, drop, filter, HoldsAt, IfErr, IfOk, IsSome, IsTrue, OnOk};
+ghost use Rattle.std.specs.Prelude.{◌≡◌, ◌+◌, ◌^◌, ◌<◌, ◌≤◌, ◌++◌, ℕ, [], true, false, length, take, drop, filter, HoldsAt, IfErr, IfOk, IfSome, IsSome, IsTrue, OnOk};
 ghost use Rattle.std.specs.List.{flat_map, list_all};
 ghost use Rattle.std.specs.Ordering.{is_eq};
 ghost use Rattle.oai_item.specs.Items.{item_at, items_after};
@@ -12,7 +12,7 @@ ghost use Rattle.oai_pool.specs.declared.pools.TheConstants.{MAX_PAGES};
 ghost use Rattle.oai_paged.specs.Calls.{ReadsPages};
 ghost use Rattle.oai_paged.specs.Directory.{StandsIn};
 ghost use Rattle.oai_paged.specs.Pages.{FitPage, IsPage, fit_one, items_in};
-ghost use Rattle.oai_paged.specs.Parts.{EndsBy, IsInside, IsOutside, IsPartTaken};
+ghost use Rattle.oai_paged.specs.Parts.{EndsBy, IsInside, IsKnown, IsOutside, IsPartTaken};
 ghost use Rattle.oai_paged.specs.Places.{FitPages, IsSoundPlace, are_below, bytes_on, first_cmp, is_wanted, items_at, items_on, page_at};
 ghost use Rattle.oai_paged.specs.Searches.{MayBeAt, StartsAt};
 
@@ -267,7 +267,7 @@ fn is_other(place: &SharedPlace, stamp: i64, identifier: &str) -> bool
 }
 
 /// How many items pass the filter. It reads the pages of those places only that are partly within the bounds, or of whose items it is not known that they
-/// have the prefix, or all where a set is asked for. Any fault but `TooManyPages`.
+/// have the prefix, or how many are in the set that is asked for. Any fault but `TooManyPages`.
 pub(crate) fn count<P: PagePool>(
     alloc: Global,
     pages: &mut P,
@@ -407,16 +407,34 @@ fn start_of(places: &[SharedPlace], wanted: Wanted<'_>) -> usize
     }
 }
 
-/// Whether it is known without reading its page that all items of the place are wanted.
+/// How many items of the place are wanted, where that is known without reading its pages.
+fn known_at(places: &[SharedPlace], at: usize, wanted: Wanted<'_>) -> Option<usize>
+    requires { at < length places.now }
+    ensures { IfSome result (λ n. IsKnown places.now at wanted.entry.filter.now wanted.entry.stamp wanted.entry.identifier.now n) }
+{
+    if is_outside(places, at, wanted) {
+        return Some(0);
+    }
+    let filter = wanted.filter;
+    let Some(count) = places[at].items_in(&filter.set) else {
+        return None;
+    };
+    if count == 0 {
+        return Some(0);
+    }
+    if is_inside(places, at, wanted) {
+        return Some(count);
+    }
+    None
+}
+
+/// Whether it is known without reading its page that all items of the place are wanted that are in the set, where one is asked for.
 fn is_inside(places: &[SharedPlace], at: usize, wanted: Wanted<'_>) -> bool
     requires { at < length places.now }
     ensures { IsTrue result → IsInside places.now at wanted.entry.filter.now wanted.entry.stamp wanted.entry.identifier.now }
 {
     let place = &places[at];
     let filter = wanted.filter;
-    if filter.set.is_some() {
-        return false;
-    }
     if filter.lower > place.stamp() {
         return false;
     }
@@ -472,11 +490,8 @@ fn count_at<P: PagePool>(
     ensures few { IfOk result (λ n. n < 2 ^ 32) }
     ensures pages { ReadsPages P.PagePool result pages.old pages.new }
 {
-    if is_outside(places, at, wanted) {
-        return Ok(0);
-    }
-    if is_inside(places, at, wanted) {
-        return Ok(places[at].len());
+    if let Some(count) = known_at(places, at, wanted) {
+        return Ok(count);
     }
     let entries = read_place(alloc, pages, places, at)?;
     Ok(count_in(&entries, wanted))
@@ -523,12 +538,10 @@ fn take_at<P: PagePool>(
         part.old.items part.new.items skip left (items_at (P.pages pages.old) place)) places.now at) }
     ensures pages { ReadsPages P.PagePool result pages.old pages.new }
 {
-    if is_outside(places, at, wanted) {
-        return Ok(skip);
-    }
-    let len = places[at].len();
-    if skip >= len && is_inside(places, at, wanted) {
-        return Ok(skip - len);
+    if let Some(count) = known_at(places, at, wanted) {
+        if skip >= count {
+            return Ok(skip - count);
+        }
     }
     let entries = read_place(alloc, pages, places, at)?;
     Ok(take_in(alloc, &entries, wanted, skip, most, part)?)

@@ -16,6 +16,7 @@ use oai_device::PageDevice;
 use oai_item::{Fault, Item};
 use oai_names::{Identifier, Sequence};
 use oai_pool::{PagePool, Pool};
+use oai_sums::SetNames;
 use slab::Slab;
 use std::alloc::Global;
 
@@ -29,6 +30,8 @@ pub type PagedVersions<D> = VersionsOver<Pool<D>>;
 pub struct VersionsOver<P: PagePool + Drop> {
     alloc: Global,
     pool: P,
+    /// The setSpecs of the sets that the places count.
+    names: SetNames,
     directories: Slab<Directory>,
     ghost shelved: { AreShelved (P.counts pool) (P.pages pool) directories.slots } by { Prim.hlevel shelved_props },
 }
@@ -65,7 +68,13 @@ impl<P: PagePool + Drop> Versions for VersionsOver<P> {
         let Some(directory) = self.directories.get_mut(v as usize) else {
             unreachable!()
         };
-        put(self.alloc, &mut self.pool, &mut directory.places, item)
+        put(
+            self.alloc,
+            &mut self.pool,
+            &mut self.names,
+            &mut directory.places,
+            item,
+        )
     }
 
     fn remove(&mut self, v: u64, stamp: i64, identifier: &Identifier) -> Result<bool, Fault> {
@@ -76,6 +85,7 @@ impl<P: PagePool + Drop> Versions for VersionsOver<P> {
         remove(
             self.alloc,
             &mut self.pool,
+            &mut self.names,
             places,
             stamp,
             identifier.as_str(),
@@ -96,6 +106,7 @@ impl<P: PagePool + Drop> Versions for VersionsOver<P> {
         replace(
             self.alloc,
             &mut self.pool,
+            &mut self.names,
             places,
             stamp,
             identifier.as_str(),
@@ -191,6 +202,7 @@ impl<P: PagePool + Drop> VersionsOver<P> {
         VersionsOver {
             alloc,
             pool,
+            names: SetNames::new(alloc),
             directories: Slab::new(alloc),
         }
     }

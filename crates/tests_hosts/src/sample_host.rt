@@ -2,8 +2,8 @@
 use oai_catalogue::Versions;
 use oai_device::PageDevice;
 use oai_host::{Config, Host};
-use oai_paged::PagedVersions;
-use oai_served::store_on;
+use oai_paged::{PagedVersions, VersionsOver};
+use oai_pool::Pool;
 use std::alloc::Global;
 use std::panic::Expect;
 use std::process::Abort;
@@ -21,5 +21,7 @@ pub(crate) fn host<V: Versions + Drop>(rt: &impl Abort, alloc: Global, store: V)
 
 /// An empty store over pages of the device, with the cache of the worked configuration.
 pub(crate) fn paged<D: PageDevice>(rt: &impl Abort, alloc: Global, device: D) -> PagedVersions<D> {
-    store_on(alloc, &config(rt, alloc), device).expect(rt, "store_on")
+    let cache = config(rt, alloc).cache() as usize;
+    let pool = Pool::new(alloc, device, cache).expect(rt, "Pool::new");
+    VersionsOver::new(alloc, pool)
 }

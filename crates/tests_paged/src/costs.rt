@@ -52,14 +52,16 @@ fn assert_item_and_count(rt: &impl Abort, both: &mut Both<CountedVersions>) {
     assert_reads(rt, both, Call::Count(all()), 0);
 }
 
-/// A count between bounds reads the pages at the two ends alone: those of the numbers 1, where the items before 2 end, and 4.
+/// A count between bounds reads the pages at the two ends alone: those of the numbers 1, where the items before 2 end, and 4. Of
+/// a set in which no item is none is read, neither for a count nor for a part.
 fn assert_count_between_bounds(rt: &impl Abort, both: &mut Both<CountedVersions>) {
     assert_reads(rt, both, Call::Count(dated(20, 40, all())), 2);
     let in_set = Asked {
         in_set: true,
         ..all()
     };
-    assert_reads(rt, both, Call::Count(in_set), 5);
+    assert_reads(rt, both, Call::Count(in_set), 0);
+    assert_reads(rt, both, Call::Part(in_set, 0, 9), 0);
 }
 
 /// A part reads the pages of its items alone, and one behind a key that of the key too.

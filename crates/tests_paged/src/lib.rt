@@ -37,6 +37,8 @@ mod random;
 #[cfg(test)]
 mod samples;
 #[cfg(test)]
+mod sets;
+#[cfg(test)]
 mod side_by_side;
 #[cfg(test)]
 mod sizes;

@@ -1,5 +1,5 @@
 //! Tests of a host by many exchanges: as one run, of repositories in turns, and where each call of a store or a device fails in turn
-//! (`oai_host`, `oai_served`). It holds nothing else.
+//! (`oai_host`). It holds nothing else.
 #![tactic(auto)]
 
 #[cfg(test)]

@@ -1,6 +1,5 @@
 use Rattle.std.proofs.Common.{◌≡◌, ◌≤◌, ◌+◌, length}
-use Rattle.std.specs.List.{count_by}
-use Rattle.oai_host.specs.Bodies.{is_line_end, lines_in}
+use Rattle.oai_host.specs.Bodies.{lines_in}
 use Rattle.oai_host.specs.Room.{room_for_lines}
 use Rattle.oai_host.proofs.DepositLemmas.{AreDone}
 use Rattle.oai_host.proofs.deposits.perform_lines.Given as goal
@@ -11,8 +10,6 @@ invariant-loop-text g l =
     let V = g.V.Versions in
     record {
       lines : AreDone (V.honest l.initial.store) l.initial.repo (V.lists l.initial.store) l.moment (lines_in l.body) l.lines l.told.items l.done l.repo (V.lists l.store);
-      untouched : l.done ≡ 0 → (l.repo ≡ l.initial.repo) × (V.lists l.store ≡ V.lists l.initial.store);
-      each : length (lines_in l.body) ≤ length l.lines + count_by is_line_end l.told.items;
       room : V.room l.initial.store + room_for_lines l.initial.repo.config l.lines ≤ V.room l.store + room_for_lines l.initial.repo.config (lines_in l.body);
       count : V.failures l.initial.store ≤ V.failures l.store;
       honesty : V.honest l.store ≡ V.honest l.initial.store;

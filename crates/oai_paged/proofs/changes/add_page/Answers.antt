@@ -1,11 +1,12 @@
-use Rattle.std.proofs.Common.{◌∙◌, FitsSigned, List, ap, arith, sym, [], pos, w64}
+use Rattle.std.proofs.Common.{◌∙◌, FitsSigned, List, Option, ap, arith, subst, sym, [], pos, w64}
 use Rattle.std.proofs.lemmas.Int.{to_z-of_z}
 use Rattle.oai_item.specs.Item.{ItemState}
 use Rattle.oai_item.proofs.Around.{only_place}
 use Rattle.oai_pool.specs.Names.{times}
 use Rattle.oai_paged.specs.Calls.{Renames}
 use Rattle.oai_paged.specs.Pages.{begins_at, between}
-use Rattle.oai_paged.specs.Places.{PlaceState, have_records}
+use Rattle.oai_paged.specs.Places.{AreSetCounts, PlaceState, have_records}
+use Rattle.oai_sums.specs.Sums.{SetTotal}
 use Rattle.oai_paged.proofs.AddedLemmas.{adds_page}
 use Rattle.oai_paged.proofs.BetweenLemmas.{begins-between, fit-between, length-between}
 use Rattle.oai_paged.proofs.CutLemmas.{few_between}
@@ -29,6 +30,7 @@ returns-in-Ok-clause-added g c =
     ∙ begins-between c.stamp-stamp.result c.in_ok-identifier.identifier c.args.from c.args.to c.args.entries.now d c.requires.order c.requires.within (c.stamp-stamp.ensures d) (c.in_ok-identifier.ensures d))
     (ap (λ (p : PlaceState). p.len) is ∙ sym (length-between c.args.from c.args.to c.args.entries.now c.requires.within))
     (ap (λ (p : PlaceState). have_records p.prefixes items) is ∙ c.in_ok-prefixes.ensures)
+    (subst (λ (sets : Option (List SetTotal)). AreSetCounts sets items) (sym (ap (λ (p : PlaceState). p.sets) is)) c.set_counts-sets.ensures)
 
 pub returns-in_err-numbers-clause-undone : goal.returns-in_err-numbers-clause-undone
 returns-in_err-numbers-clause-undone g c =

@@ -6,7 +6,7 @@ use Rattle.oai_item.specs.Selection.{Filter}
 use Rattle.oai_names.specs.Names.{is_among}
 use Rattle.oai_paged.specs.Parts.{EndsBy}
 use Rattle.oai_paged.specs.Places.{PlaceState, first_cmp}
-use Rattle.oai_paged.proofs.WantedPlaces.{greater_from, inside_from, lower_from, none_given}
+use Rattle.oai_paged.proofs.WantedPlaces.{greater_from, inside_from, lower_from}
 use Rattle.oai_paged.proofs.reading.is_inside.Goals as goal
 use lib.Signed.{lt_z}
 
@@ -19,7 +19,6 @@ returns c =
     let own : to_z w64 (of_z w64 c.stamp.result) ≡ c.stamp.result = to_z-of_z w64 c.stamp.result (record { sfits = c.stamp.type_inv }) in
     let stamp : to_z w64 (of_z w64 c.args.wanted.stamp) ≡ c.args.wanted.stamp = search (rules, to_z-of_z) in
     λ ends. inside_from c.args.places.now asked c.args.wanted.stamp c.args.wanted.identifier.now c.args.at place c.requires c.index-places-at.is
-    (ap (λ (f : Filter). f.set) (sym c.filter.view_is) ∙ none_given c.filter.inside.set (sym c.is_some.ensures ∙ c.if-is_some.false))
     (lower_from c.filter.inside.lower c.stamp.result asked.lower place.stamp (sym (λ i. lt_z (own i) (low i)) ∙ c.if-filter-stamp.false) (ap (λ (f : Filter). f.lower) c.filter.view_is) c.stamp.ensures)
     (ap is_gt (sym (c.order_to.ensures ∙ ap (λ s. first_cmp place s c.args.wanted.identifier.now) stamp)) ∙ greater_from c.order_to.result (sym c.ne.ensures ∙ c.if-ne.false))
     (ap (is_among place.prefixes) (sym (c.as_str.ensures.text ∙ ap (λ (f : Filter). f.prefix) c.filter.view_is)) ∙ sym c.has_prefix.ensures ∙ c.if-not-has_prefix.false)

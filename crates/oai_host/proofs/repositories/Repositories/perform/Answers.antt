@@ -3,12 +3,9 @@ use Rattle.std.proofs.Common.{◌≡◌, ◌∙◌, FitsSigned, w64}
 use Rattle.std.proofs.lemmas.Int.{to_z-of_z}
 use Rattle.std.proofs.lemmas.Option.{get_or_from_slice_get}
 use Rattle.oai_http.specs.Exchanges.{call_of}
-use Rattle.oai_host.specs.Tasks.{task_in}
-use Rattle.oai_host.proofs.BrokenLemmas.{broken_cause, task_not_broken}
-use Rattle.oai_host.proofs.NamedRepoLemmas.{held_at, repos_set, left_set, others_set, stands_at, steps_set}
-use Rattle.oai_host.proofs.PerformedLemmas.{performed_set}
+use Rattle.oai_host.specs.Exchanged.{store_state}
+use Rattle.oai_host.proofs.NamedRepoLemmas.{held_at, repos_set, stands_at, steps_set}
 use Rattle.oai_host.proofs.PlaceLemmas.{names_set}
-use Rattle.oai_host.proofs.RoomLemmas.{room_set}
 use Rattle.oai_host.proofs.repositories.Repositories.perform.Goals as goal
 
 pub perform-requires : goal.perform-requires
@@ -32,7 +29,7 @@ invariant_of-self g c =
     rw (one, names_set c.self.inside.repos.items c.args.place p.one c.perform.new.repo there) c.self.invariant
 
 pub returns-clause-steps : goal.returns-clause-steps
-returns-clause-steps g c = λ honest.
+returns-clause-steps g c =
     let V = g.V.Versions in
     let fits : FitsSigned w64 c.args.moment = c.ranges.moment in
     let p = c.requires.place in
@@ -41,13 +38,12 @@ returns-clause-steps g c = λ honest.
     let one : c.index_mut.result.now ≡ p.one = c.index_mut.ensures.value ∙ get_or_from_slice_get inside c.args.place p.one c.index_mut.result.now there in
     let repos = rw (← c.self.view_is) at c.requires.repos in
     let kept = rw one at c.perform.ensures.kept in
-    let call = call_of c.args.moment c.args.exchange.now in
-    let tried = rw one at (simp to_z-of_z at (c.perform.ensures.tried honest)) in
-    let broken = broken_cause (V.failures c.args.store.now) (V.failures c.perform.new.store) (V.honest c.args.store.now) (V.honest c.perform.new.store) honest _ _ call.moment (task_in c.args.endpoint call) c.perform.result _
-    (task_not_broken c.args.endpoint call) tried c.perform.ensures.device c.perform.ensures.honesty in
+    let performed = rw one at (simp to_z-of_z at c.perform.ensures.performed) in
+    let before = c.args.store.now in
+    let after = c.perform.new.store in
     rw (← c.self.view_is, one)
-    (steps_set (V.honest c.args.store.now) call c.perform.result (V.failures c.args.store.now) (V.failures c.perform.new.store) c.args.endpoint inside c.args.place p.one c.perform.new.repo (V.lists c.args.store.now) (V.lists c.perform.new.store) there repos kept
-    repos.named.distinct p.path tried broken)
+    (steps_set (V.honest before) (call_of c.args.moment c.args.exchange.now) c.perform.result (store_state V before) (store_state V after) c.args.endpoint inside c.args.place p.one c.perform.new.repo (V.lists before) (V.lists after) there repos kept
+    repos.named.distinct p.path performed)
 
 pub returns-clause-repos : goal.returns-clause-repos
 returns-clause-repos g c =
@@ -58,52 +54,4 @@ returns-clause-repos g c =
     let one : c.index_mut.result.now ≡ p.one = c.index_mut.ensures.value ∙ get_or_from_slice_get inside c.args.place p.one c.index_mut.result.now there in
     let repos = rw (← c.self.view_is) at c.requires.repos in
     let kept = rw one at c.perform.ensures.kept in
-    rw one (repos_set (V.honest c.args.store.now) (V.honest c.perform.new.store) inside c.args.place p.one c.perform.new.repo (V.lists c.args.store.now) (V.lists c.perform.new.store) c.perform.ensures.honesty.same there repos kept)
-
-pub returns-clause-others : goal.returns-clause-others
-returns-clause-others g c =
-    let V = g.V.Versions in
-    let p = c.requires.place in
-    let inside = c.self.inside.repos.items in
-    let there = rw (← c.self.view_is) at p.there in
-    let one : c.index_mut.result.now ≡ p.one = c.index_mut.ensures.value ∙ get_or_from_slice_get inside c.args.place p.one c.index_mut.result.now there in
-    let repos = rw (← c.self.view_is) at c.requires.repos in
-    let kept = rw one at c.perform.ensures.kept in
-    rw (← c.self.view_is, one)
-    (others_set (V.honest c.args.store.now) c.args.exchange.now.target.now c.args.endpoint inside c.args.place p.one c.perform.new.repo (V.lists c.args.store.now) (V.lists c.perform.new.store) there repos kept p.path)
-
-pub returns-clause-performed : goal.returns-clause-performed
-returns-clause-performed g c =
-    let V = g.V.Versions in
-    let fits : FitsSigned w64 c.args.moment = c.ranges.moment in
-    let p = c.requires.place in
-    let inside = c.self.inside.repos.items in
-    let there = rw (← c.self.view_is) at p.there in
-    let one : c.index_mut.result.now ≡ p.one = c.index_mut.ensures.value ∙ get_or_from_slice_get inside c.args.place p.one c.index_mut.result.now there in
-    let repos = rw (← c.self.view_is) at c.requires.repos in
-    let done = rw one at (simp to_z-of_z at c.perform.ensures.performed) in
-    rw (← c.self.view_is, one)
-    (performed_set (call_of c.args.moment c.args.exchange.now) c.perform.result (V.lists c.args.store.now) (V.lists c.perform.new.store) c.args.endpoint inside c.args.place p.one c.perform.new.repo there repos.named.distinct p.path done)
-
-pub returns-clause-left : goal.returns-clause-left
-returns-clause-left g c =
-    let V = g.V.Versions in
-    let p = c.requires.place in
-    let inside = c.self.inside.repos.items in
-    let there = rw (← c.self.view_is) at p.there in
-    let one : c.index_mut.result.now ≡ p.one = c.index_mut.ensures.value ∙ get_or_from_slice_get inside c.args.place p.one c.index_mut.result.now there in
-    let left = rw one at c.perform.ensures.left in
-    rw (← c.self.view_is, one) (left_set c.perform.result inside c.args.place p.one c.perform.new.repo (V.lists c.args.store.now) (V.lists c.perform.new.store) there left)
-
-pub returns-clause-room : goal.returns-clause-room
-returns-clause-room g c =
-    let V = g.V.Versions in
-    let fits : FitsSigned w64 c.args.moment = c.ranges.moment in
-    let p = c.requires.place in
-    let inside = c.self.inside.repos.items in
-    let there = rw (← c.self.view_is) at p.there in
-    let one : c.index_mut.result.now ≡ p.one = c.index_mut.ensures.value ∙ get_or_from_slice_get inside c.args.place p.one c.index_mut.result.now there in
-    let repos = rw (← c.self.view_is) at c.requires.repos in
-    let need = rw one at (simp to_z-of_z at c.perform.ensures.room) in
-    rw (← c.self.view_is)
-    (room_set (call_of c.args.moment c.args.exchange.now) c.perform.result (V.lists c.args.store.now) (V.room c.args.store.now) (V.room c.perform.new.store) c.args.endpoint inside c.args.place p.one there repos.named.distinct p.path need)
+    rw one (repos_set (V.honest c.args.store.now) (V.honest c.perform.new.store) inside c.args.place p.one c.perform.new.repo (V.lists c.args.store.now) (V.lists c.perform.new.store) c.perform.ensures.performed.honesty.same there repos kept)

@@ -8,7 +8,7 @@ invariant_of-result g c =
     let G = g.P.PagePool in
     let pool = c.args.pool in
     record {
-      shelved = subst (λ (slots : Directories). AreShelved (G.counts pool) (G.pages pool) slots) (sym c.new.ensures.empty)
+      shelved = subst (λ (slots : Directories). AreShelved (G.counts pool) (G.pages pool) slots) (sym c.new-2.ensures.empty)
           (shelved_none (G.counts pool) (G.pages pool) c.requires);
     }
 

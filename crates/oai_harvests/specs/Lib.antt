@@ -1,2 +1,0 @@
-pub mod Harvests
-pub mod Worked

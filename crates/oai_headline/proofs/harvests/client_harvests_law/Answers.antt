@@ -1,0 +1,6 @@
+use Rattle.oai_headline.proofs.ClientHarvestLemmas.{client_harvests_given}
+use Rattle.oai_headline.proofs.SeenLemmas.{seen_once}
+use Rattle.oai_headline.proofs.harvests.client_harvests_law.Goals as goal
+
+pub returns : goal.returns
+returns c = record { copied = client_harvests_given; seen = seen_once }

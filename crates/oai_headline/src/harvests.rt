@@ -1,0 +1,33 @@
+//! Harvests in a client's words.
+ghost use Rattle.std.specs.Prelude.{◌≡◌, ◌∷◌, ℕ, List};
+ghost use Rattle.oai_item.specs.declared.deleted_record.DeletedRecord.TheVariants.{Persistent};
+ghost use Rattle.oai_answers.specs.Seen.{SeenDocument};
+ghost use Rattle.oai_repo.specs.State.{RepoState};
+ghost use Rattle.oai_config.specs.Configs.{NamedConfig};
+ghost use Rattle.oai_http.specs.declared.exchanges.Answer.{Answer};
+ghost use Rattle.oai_http.specs.declared.exchanges.Call.{Call};
+ghost use Rattle.oai_headline.specs.ClientHarvests.{AreSuccessiveByClient, ClientHarvest, IsSeen, IsWholeClientCopy, client_copy, last_client_harvest};
+ghost use Rattle.oai_headline.specs.Headline.{HasRules};
+ghost use Rattle.oai_headline.specs.Throughout.{IsThroughoutAt, own_given, whole_visits};
+ghost use Rattle.oai_headline.specs.Visits.{found_by};
+
+/// Harvests miss nothing, in a client's words (OAI-PMH 2.0, sections 2.5.1, 2.7.1 and 3.5). At a repository of which
+/// the theorem ([`throughout_law`](crate::throughout_law)) holds and which keeps its deleted records, a client asks for
+/// all records in a metadataPrefix, follows the list by the tokens that it sees in the answers, each before its
+/// expirationDate, and does so again any number of times, each time from the day or the second of the responseDate on
+/// that it saw in the first answer of the time before. Whatever else is asked and deposited between and amid its
+/// requests, and whatever failed, let it keep, of all records that it saw, the last of each identifier. Then it has just
+/// the records, live and deleted, of the items that had one in that metadataPrefix when the last harvest began.
+///
+/// What it sees is determined by the bytes of the answer: of two documents that could be seen in it, both show the
+/// same. It does nothing.
+pub fn client_harvests_law()
+    ensures copied { (calls : List Call) (answers : List Answer) (entry : NamedConfig) (left : RepoState)
+        (prefix : List ℕ) (first : ClientHarvest) (others : List ClientHarvest) → HasRules entry
+        → entry.config.deleted ≡ Persistent → IsThroughoutAt calls answers entry left
+        → AreSuccessiveByClient entry.config (whole_visits (own_given entry calls answers)) prefix first others
+        → IsWholeClientCopy entry.config prefix (found_by (last_client_harvest first others).first.visit)
+        (client_copy (first ∷ others)) }
+    ensures seen { (answer : Answer) (one other : SeenDocument) → IsSeen answer one → IsSeen answer other
+        → one ≡ other }
+{}

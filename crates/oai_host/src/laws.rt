@@ -1,0 +1,30 @@
+//! What is true of the exchanges with a host, in a law: an empty function whose contract is the statement.
+ghost use Rattle.oai_catalogue.specs.declared.versions.TheConstants.{MAX_FAILURES};
+ghost use Rattle.oai_host.specs.Answers.{tells_of_device};
+ghost use Rattle.oai_host.specs.Hosts.{AreExchanged, HostState, IsRun};
+ghost use Rattle.oai_host.specs.Performed.{StoreState};
+ghost use Rattle.oai_http.specs.declared.exchanges.Answer.{Answer};
+ghost use Rattle.oai_http.specs.declared.exchanges.Call.{Call};
+ghost use Rattle.oai_http.specs.declared.statuses.Status.TheVariants.{InternalServerError};
+ghost use Rattle.oai_repo.specs.State.{RepoState};
+ghost use Rattle.oai_settings.specs.Config.{Config};
+ghost use Rattle.std.specs.List.{AllByRecursion};
+ghost use Rattle.std.specs.Prelude.{IsTrue, List, filter, length, true, ◌+◌, ◌<◌, ◌≡◌, ◌≤◌};
+
+/// No more answers report a failed device than failures were counted meanwhile: of all exchanges with a host,
+/// and of those of each repository, as long as the count has not come to its last number. And over a store that
+/// gives back what was written to it, an exchange is answered that it could not be performed (RFC 9110, section
+/// 15.6.1) only with the fault that a device failed. It does nothing.
+pub fn failures_law()
+    ensures exchanged { (calls : List Call) (answers : List Answer) (before after : HostState)
+        → AreExchanged calls answers before after → after.failures < MAX_FAILURES
+        → length (filter tells_of_device answers) + before.failures ≤ after.failures }
+    ensures run { (config : Config) (calls : List Call) (answers : List Answer) (before : RepoState)
+        (old : StoreState) (after : RepoState) (new : StoreState)
+        → IsRun config calls answers before old after new → new.failures < MAX_FAILURES
+        → length (filter tells_of_device answers) + old.failures ≤ new.failures }
+    ensures broken { (calls : List Call) (answers : List Answer) (before after : HostState)
+        → IsTrue before.honest → AreExchanged calls answers before after
+        → AllByRecursion (λ (answer : Answer). answer.status ≡ InternalServerError
+        → tells_of_device answer ≡ true) answers }
+{}

@@ -1,0 +1,12 @@
+pub mod ChangeLemmas
+pub mod CrashLemmas
+pub mod DamageLemmas
+pub mod FileLemmas
+pub mod FitLemmas
+pub mod FrameLemmas
+pub mod GroupLemmas
+pub mod HeadLemmas
+pub mod KeptLemmas
+pub mod NumeralLemmas
+pub mod ReadingLemmas
+pub mod RecoveryLemmas

@@ -1,0 +1,53 @@
+-- The file of a journal: frames, each behind a gate, and then a gate that is closed. This repository's own.
+use Rattle.std.specs.Prelude.{◌≡◌, ◌⊎◌, ℕ, ◌==◌, ◌<◌, Bool, true, false, ◌||◌, List, [], ◌∷◌, ◌++◌, length, map}
+use Rattle.oai_journal.specs.Frames.{frame, next_digest}
+use Rattle.oai_journal.specs.Records.{Entry, IsFit, is_first_kind}
+
+-- `+` begins a group that counts, and `&` a further frame of its group
+abbrev pub is_open : ℕ → Bool
+is_open gate = gate == 43 || gate == 38
+
+-- a gate, and the record whose frame stands behind it
+pub record Gated : Type 0 where
+  pub gate : ℕ
+  pub entry : Entry
+
+-- frames one behind the other, the first of them behind the digest `before`
+abbrev pub spelled : ℕ → List Gated → List ℕ
+spelled before [] = []
+spelled before (f ∷ fs) = f.gate ∷ (frame before f.entry ++ spelled (next_digest before f.entry) fs)
+
+-- the digest of the last of them
+abbrev pub digest_after : ℕ → List Gated → ℕ
+digest_after before [] = before
+digest_after before (f ∷ fs) = digest_after (next_digest before f.entry) fs
+
+-- a frame that counts
+pub record IsGated (f : Gated) : Type 0 where
+  pub opened : is_open f.gate ≡ true
+  pub fit : IsFit f.entry
+  pub kind : is_first_kind f.entry.kind ≡ false
+
+abbrev pub AreGated : List Gated → Type 0
+AreGated [] = Unit {0}
+AreGated (f ∷ fs) = IsGated f × AreGated fs
+
+-- a record with which a journal begins
+pub record IsFirst (e : Entry) : Type 0 where
+  pub fit : IsFit e
+  pub kind : is_first_kind e.kind ≡ true
+
+-- the first record, and then frames: what stands before the gate that ends the journal
+abbrev pub front : Entry → List Gated → List ℕ
+front first frames = 43 ∷ (frame 0 first ++ spelled (next_digest 0 first) frames)
+
+-- the file is a journal that begins with the first record, and these are the others
+pub record Ends (file : List ℕ) (first : Entry) (entries : List Entry) : Type 0 where
+  pub frames : List Gated
+  pub gate : ℕ
+  pub behind : List ℕ
+  pub is : file ≡ front first frames ++ gate ∷ behind
+  pub closed : is_open gate ≡ false
+  pub begins : IsFirst first
+  pub are : AreGated frames
+  pub says : map (λ f. f.entry) frames ≡ entries

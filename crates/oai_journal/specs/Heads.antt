@@ -1,0 +1,79 @@
+-- The head of a frame, up to its digest: `<moment> <kind> <name> <length> `. This repository's own.
+use Rattle.std.specs.Prelude.{◌≡◌, ℕ, ◌==◌, ℤ, Bool, true, false, List, [], ◌++◌, length, codes, decimal, Option, Some, None, if◌then◌else◌, FitsSigned, IsTrue, ◌<◌, ◌≤◌, ◌^◌}
+use Rattle.std.specs.Fmt.{signed_decimal}
+use Rattle.std.specs.Int.{w64}
+use Rattle.std.specs.List.{before_first, after_first, list_all}
+use Rattle.std.specs.Str.{bytes_eq}
+use Rattle.oai_journal.specs.Numbers.{moment_of, number_in}
+use Rattle.oai_journal.specs.Records.{word_of, is_name_byte}
+use Rattle.oai_journal.specs.declared.heads.Head.{Head}
+use Rattle.oai_journal.specs.declared.records.Kind.{Kind}
+use Rattle.oai_journal.specs.declared.records.Kind.TheVariants.{Journal, Oai, Deposit, Tick, Begin, Set, Item}
+use Rattle.oai_journal.specs.declared.records.TheConstants.{MAX_NAME}
+
+-- bytes as they stand; named so that the search does not spell them out
+unfoldable pub plain : List ℕ → List ℕ
+plain bytes = bytes
+
+-- what a head says
+pub record HeadFields : Type 0 where
+  pub moment : ℤ
+  pub kind : Kind
+  pub name : List ℕ
+  pub size : ℕ
+
+abbrev pub fields_of : Head → HeadFields
+fields_of h = record { moment = h.moment; kind = h.kind; name = h.name.now; size = h.size }
+
+-- a head: its four fields, each with a space behind it
+unfoldable pub front_of : HeadFields → List ℕ
+front_of h =
+    signed_decimal h.moment ++ plain (codes " ") ++ plain (word_of h.kind) ++ plain (codes " ") ++ h.name ++ plain (codes " ")
+    ++ decimal h.size ++ plain (codes " ")
+
+-- fields that a head can spell
+pub record IsSpellable (h : HeadFields) : Type 0 where
+  pub moment : FitsSigned w64 h.moment
+  pub name : list_all is_name_byte h.name ≡ true
+  pub short : length h.name ≤ MAX_NAME
+  pub size : h.size < 2 ^ 64
+
+-- ---- how it is read
+
+abbrev pub is_separator : ℕ → Bool
+is_separator b = b == 32
+
+-- what stands before the first space, and what stands after it
+abbrev pub part : List ℕ → List ℕ
+part text = before_first is_separator text
+
+abbrev pub rest : List ℕ → List ℕ
+rest text = after_first is_separator text
+
+-- the kind of a word
+unfoldable pub kind_in : List ℕ → Option Kind
+kind_in word =
+    if bytes_eq word (codes "oai") then Some Oai else
+    (if bytes_eq word (codes "deposit") then Some Deposit else
+    (if bytes_eq word (codes "tick") then Some Tick else
+    (if bytes_eq word (codes "journal") then Some Journal else
+    (if bytes_eq word (codes "begin") then Some Begin else
+    (if bytes_eq word (codes "set") then Some Set else
+    (if bytes_eq word (codes "item") then Some Item else None))))))
+
+infixl 10 ◌>>=◌
+abbrev pub ◌>>=◌ : {A B : Type 0} → Option A → (A → Option B) → Option B
+(Some x) >>= f = f x
+None >>= f = None
+
+-- the value, where it passes the test
+abbrev pub tested : {A : Type 0} → (A → Bool) → A → Option A
+tested passes x = if passes x then Some x else None
+
+-- the fields in front of bytes; that these spell them is not looked at
+unfoldable pub head_in : List ℕ → Option HeadFields
+head_in bytes = do
+  moment ← moment_of (part bytes)
+  kind ← kind_in (part (rest bytes))
+  size ← number_in (part (rest (rest (rest bytes))))
+  Some (record { moment = moment; kind = kind; name = part (rest (rest bytes)); size = size })

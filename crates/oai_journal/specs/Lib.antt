@@ -1,0 +1,11 @@
+pub mod Changes
+pub mod Files
+pub mod Frames
+pub mod Groups
+pub mod Heads
+pub mod Journals
+pub mod Kept
+pub mod Numbers
+pub mod Records
+pub mod Recovered
+pub mod Recoveries

@@ -1,0 +1,134 @@
+-- A journal's file as it is read from its first byte on. This repository's own.
+use Rattle.std.specs.Prelude.{◌≡◌, ◌⊎◌, ℕ, ◌+◌, ◌<◌, ◌≤◌, Bool, true, false, List, [], ◌∷◌, ◌++◌, length, map, take, drop, slice_index, Option, Some, None, MatchOption, IsTrue, IfOk, Result}
+use Rattle.sqlite_disk.specs.Disk.{Only}
+use Rattle.oai_journal.specs.Files.{AreGated, Ends, Gated, IsFirst, digest_after, front, is_open}
+use Rattle.oai_journal.specs.Frames.{entry_in, frame, next_digest}
+use Rattle.oai_journal.specs.Records.{Entry, IsFit, is_first_kind}
+use Rattle.oai_journal.specs.declared.recovery.Step.{Step}
+use Rattle.oai_journal.specs.declared.recovery.Step.TheVariants.{End, Frame, Damage}
+
+-- the bytes are the frame of a record, the first of a journal or another one
+pub record IsFrame (first : Bool) (before : ℕ) (bytes : List ℕ) (e : Entry) : Type 0 where
+  pub fit : IsFit e
+  pub kind : is_first_kind e.kind ≡ first
+  pub is : bytes ≡ frame before e
+
+-- they are one, whose digest is the answer, or none
+pub record IsChecked (first : Bool) (before : ℕ) (bytes : List ℕ) (digest : ℕ) : Type 0 where
+  pub entry : Entry
+  pub frame : IsFrame first before bytes entry
+  pub digest_is : digest ≡ next_digest before entry
+  pub read : entry_in bytes ≡ Some entry
+
+abbrev pub Checks : Bool → ℕ → List ℕ → Option ℕ → Type 0
+Checks first before bytes result = MatchOption result ((e : Entry) → IsFrame first before bytes e → ⊥) (λ digest. IsChecked first before bytes digest)
+
+-- a frame that stands in front of these bytes has so many of them; where there is no number none does
+abbrev pub IsLenAt : List ℕ → Option ℕ → Type 0
+IsLenAt bytes found = (before : ℕ) (e : Entry) (after : List ℕ) → IsFit e → bytes ≡ frame before e ++ after → found ≡ Some (length (frame before e))
+
+-- no frame stands in front of these bytes
+abbrev pub HasNoFrame : Bool → ℕ → List ℕ → Type 0
+HasNoFrame first before bytes = (e : Entry) (after : List ℕ) → IsFit e → is_first_kind e.kind ≡ first → bytes ≡ frame before e ++ after → ⊥
+
+-- a frame stands in front of them
+pub record HasFrame (first : Bool) (before : ℕ) (bytes read : List ℕ) (digest : ℕ) : Type 0 where
+  pub entry : Entry
+  pub fit : IsFit entry
+  pub kind : is_first_kind entry.kind ≡ first
+  pub after : List ℕ
+  pub is : bytes ≡ frame before entry ++ after
+  pub read_is : read ≡ frame before entry
+  pub digest_is : digest ≡ next_digest before entry
+
+abbrev pub Finds : Bool → ℕ → List ℕ → List ℕ → Option ℕ → Type 0
+Finds first before bytes read result = MatchOption result (HasNoFrame first before bytes) (λ digest. HasFrame first before bytes read digest)
+
+-- ---- damage
+
+-- behind an open gate no frame stands
+pub record IsOpenWithNone (before : ℕ) (bytes : List ℕ) : Type 0 where
+  pub gate : ℕ
+  pub behind : List ℕ
+  pub is : bytes ≡ gate ∷ behind
+  pub opened : is_open gate ≡ true
+  pub none : HasNoFrame false before behind
+
+-- a journal as far as that byte, where no gate stands or an open one with no frame behind it
+pub record IsBroken (file : List ℕ) (at : ℕ) : Type 0 where
+  pub first : Entry
+  pub frames : List Gated
+  pub rest : List ℕ
+  pub is : file ≡ front first frames ++ rest
+  pub begins : IsFirst first
+  pub are : AreGated frames
+  pub place : at ≡ length (front first frames)
+  pub broken : (rest ≡ []) ⊎ IsOpenWithNone (digest_after (next_digest 0 first) frames) rest
+
+-- the file does not begin with an open gate and the frame of a first record
+abbrev pub HasNoFirst : List ℕ → Type 0
+HasNoFirst file = (behind : List ℕ) → file ≡ 43 ∷ behind → HasNoFrame true 0 behind
+
+-- the file is no journal, by what stands at that byte
+abbrev pub IsDamagedAt : List ℕ → ℕ → Type 0
+IsDamagedAt file at = ((at ≡ 0) × HasNoFirst file) ⊎ IsBroken file at
+
+-- ---- how far it was read
+
+-- the file is a journal as far as it was read: the first record and these, and behind them stands `rest`
+pub record ReadsTo (file : List ℕ) (at digest : ℕ) (first : Entry) (entries : List Entry) : Type 0 where
+  pub frames : List Gated
+  pub rest : List ℕ
+  pub is : file ≡ front first frames ++ rest
+  pub begins : IsFirst first
+  pub are : AreGated frames
+  pub says : map (λ f. f.entry) frames ≡ entries
+  pub place : at ≡ length (front first frames)
+  pub last : digest ≡ digest_after (next_digest 0 first) frames
+
+-- ---- one step
+
+-- the gate at that place, or none where the file ends there
+abbrev pub IsGateAt : List ℕ → ℕ → Option ℕ → Type 0
+IsGateAt file at gate = MatchOption gate (drop at file ≡ []) (λ g. drop at file ≡ g ∷ drop (at + 1) file)
+
+-- a file that begins with an open gate and the frame of a first record, which was read
+pub record StartsAs (file read : List ℕ) (digest : ℕ) : Type 0 where
+  pub first : Entry
+  pub begins : IsFirst first
+  pub after : List ℕ
+  pub is : file ≡ 43 ∷ (frame 0 first ++ after)
+  pub read_is : read ≡ frame 0 first
+  pub digest_is : digest ≡ next_digest 0 first
+
+abbrev pub Starts : List ℕ → List ℕ → Option ℕ → Type 0
+Starts file read found = MatchOption found (HasNoFirst file) (λ digest. StartsAs file read digest)
+
+-- a closed gate
+pub record EndsHere (rest : List ℕ) : Type 0 where
+  pub gate : ℕ
+  pub behind : List ℕ
+  pub is : rest ≡ gate ∷ behind
+  pub closed : is_open gate ≡ false
+
+-- an open gate and a frame, which was read
+pub record Continues (rest : List ℕ) (before : ℕ) (read : List ℕ) (digest : ℕ) : Type 0 where
+  pub gate : ℕ
+  pub entry : Entry
+  pub after : List ℕ
+  pub is : rest ≡ gate ∷ (frame before entry ++ after)
+  pub opened : is_open gate ≡ true
+  pub fit : IsFit entry
+  pub kind : is_first_kind entry.kind ≡ false
+  pub read_is : read ≡ frame before entry
+  pub digest_is : digest ≡ next_digest before entry
+
+abbrev pub IsStep : List ℕ → ℕ → List ℕ → Step → Type 0
+IsStep rest before read End = EndsHere rest
+IsStep rest before read (Frame digest) = Continues rest before read digest
+IsStep rest before read Damage = (rest ≡ []) ⊎ IsOpenWithNone before rest
+
+-- a frame that was read is within the file
+abbrev pub StepsWithin : ℕ → List ℕ → ℕ → Step → Type 0
+StepsWithin at read len (Frame digest) = at + 1 + length read ≤ len
+StepsWithin at read len other = Unit {0}

@@ -1,0 +1,105 @@
+//! Whether the gate that ends a journal was once open: what stands behind it then goes on with the chain of digests.
+ghost use Rattle.std.specs.Prelude.{◌≡◌, ◌≤◌, ◌↔◌, ℕ, List, length, drop, vec_capacity, IsTrue, IfOk};
+ghost use Rattle.oai_journal.specs.Changes.{BeginsWithFrame, GoesOn, IsTurn, TurnsOn};
+ghost use Rattle.oai_journal.specs.declared.frames.TheConstants.{FRONT_ROOM};
+
+use crate::groups::{FURTHER_GATE, OPEN_GATE};
+use crate::journals::JournalFault;
+use crate::readings::{read_frame, read_gate};
+use sqlite_disk::Disk;
+
+/// How far it is known whether bytes go on.
+pub(crate) enum Turn {
+    /// They do where those at that place do, behind a frame of that digest.
+    Further(usize, u64),
+    /// They do, or they do not.
+    Done(bool),
+}
+
+/// Whether at that place, behind the digest, stand the frames of a group without the gate of the first, and behind
+/// them the gate that begins a further group, and its frame.
+pub(crate) fn goes_on<D: Disk>(
+    disk: &mut D,
+    len: usize,
+    at: usize,
+    digest: u64,
+    frame: &mut Vec<u8>,
+    out: &mut Vec<u8>,
+) -> Result<bool, JournalFault>
+    requires room { FRONT_ROOM ≤ vec_capacity out.old }
+    ensures found { IfOk result (λ on. IsTrue (D.Disk.is_clean disk.new) → len ≡ length (D.Disk.seen disk.old)
+        → IsTrue on ↔ GoesOn digest (drop at (D.Disk.seen disk.old))) }
+    ensures seen { D.Disk.seen disk.new ≡ D.Disk.seen disk.old }
+    ensures crash { (c : List ℕ) → D.Disk.may_leave disk.new c → D.Disk.may_leave disk.old c }
+    ensures clean { IsTrue (D.Disk.is_clean disk.new) → IsTrue (D.Disk.is_clean disk.old) }
+{
+    let mut place = at;
+    let mut last = digest;
+    loop {
+        match take_turn(disk, len, place, last, frame, out)? {
+            Turn::Further(next, further) => {
+                place = next;
+                last = further;
+            }
+            Turn::Done(on) => return Ok(on),
+        }
+    }
+}
+
+/// Reads the frame at that place and the gate behind it.
+fn take_turn<D: Disk>(
+    disk: &mut D,
+    len: usize,
+    at: usize,
+    digest: u64,
+    frame: &mut Vec<u8>,
+    out: &mut Vec<u8>,
+) -> Result<Turn, JournalFault>
+    requires room { FRONT_ROOM ≤ vec_capacity out.old }
+    ensures found { IfOk result (λ turn. IsTrue (D.Disk.is_clean disk.new) → len ≡ length (D.Disk.seen disk.old)
+        → IsTurn (D.Disk.seen disk.old) at digest turn) }
+    ensures on { IfOk result (λ turn. TurnsOn at len turn) }
+    ensures room { vec_capacity out.old ≤ vec_capacity out.new }
+    ensures seen { D.Disk.seen disk.new ≡ D.Disk.seen disk.old }
+    ensures crash { (c : List ℕ) → D.Disk.may_leave disk.new c → D.Disk.may_leave disk.old c }
+    ensures clean { IsTrue (D.Disk.is_clean disk.new) → IsTrue (D.Disk.is_clean disk.old) }
+{
+    let Some(last) = read_frame(disk, len, at, false, digest, frame, out)? else {
+        return Ok(Turn::Done(false));
+    };
+    let gate = at + frame.len();
+    let Some(byte) = read_gate(disk, len, gate, frame)? else {
+        return Ok(Turn::Done(false));
+    };
+    if byte == FURTHER_GATE {
+        return Ok(Turn::Further(gate + 1, last));
+    }
+    if byte != OPEN_GATE {
+        return Ok(Turn::Done(false));
+    }
+    let on = begins_with_frame(disk, len, gate + 1, last, frame, out)?;
+    Ok(Turn::Done(on))
+}
+
+/// Whether a frame stands at that place behind the digest.
+fn begins_with_frame<D: Disk>(
+    disk: &mut D,
+    len: usize,
+    at: usize,
+    digest: u64,
+    frame: &mut Vec<u8>,
+    out: &mut Vec<u8>,
+) -> Result<bool, JournalFault>
+    requires room { FRONT_ROOM ≤ vec_capacity out.old }
+    ensures found { IfOk result (λ on. IsTrue (D.Disk.is_clean disk.new) → len ≡ length (D.Disk.seen disk.old)
+        → IsTrue on ↔ BeginsWithFrame digest (drop at (D.Disk.seen disk.old))) }
+    ensures room { vec_capacity out.old ≤ vec_capacity out.new }
+    ensures seen { D.Disk.seen disk.new ≡ D.Disk.seen disk.old }
+    ensures crash { (c : List ℕ) → D.Disk.may_leave disk.new c → D.Disk.may_leave disk.old c }
+    ensures clean { IsTrue (D.Disk.is_clean disk.new) → IsTrue (D.Disk.is_clean disk.old) }
+{
+    match read_frame(disk, len, at, false, digest, frame, out)? {
+        Some(_) => Ok(true),
+        None => Ok(false),
+    }
+}

@@ -1,0 +1,161 @@
+//! The head of a frame: `<moment> <kind> <name> <length> `, before its digest.
+ghost use Rattle.std.specs.Prelude.{◌≡◌, ◌≤◌, ◌+◌, ◌++◌, ◌<◌, ◌^◌, ◌∷◌, length, List, ℕ, drop, vec_len, vec_capacity, OnOk, IfSome};
+ghost use Rattle.std.specs.List.{position, position_or_len};
+ghost use Rattle.std.specs.Option.{option_map};
+ghost use Rattle.oai_journal.specs.Heads as spec;
+ghost use Rattle.oai_journal.specs.declared.records.TheConstants.{MAX_NAME};
+ghost use Rattle.oai_journal.specs.Numbers.{moment_of, number_in};
+
+use crate::records::Kind;
+use itoa::Buffer;
+
+/// How many bytes a head has at most: 20 for each number, 7 for the kind, the name, and a space behind each.
+pub(crate) const MAX_HEAD: usize = 83;
+
+/// What begins no number here, though `parse` takes it.
+const PLUS: &[u8] = b"+";
+
+/// What a head says: the fields of a record, with the length of its bytes in their place.
+#[derive(Clone, Copy)]
+pub(crate) struct Head<'a> {
+    pub moment: i64,
+    pub kind: Kind,
+    pub name: &'a [u8],
+    pub size: usize,
+}
+
+/// Writes a head into room that is there.
+#[tactic(auto, unfolding(crate::specs::Heads::front_of, crate::specs::Heads::plain))]
+pub(crate) fn write_head(head: &Head<'_>, out: &mut Vec<u8>)
+    requires name { length head.now.name.now ≤ MAX_NAME }
+    requires room { vec_len out.old + MAX_HEAD ≤ vec_capacity out.old }
+    ensures items { out.new.items ≡ out.old.items ++ spec.front_of (spec.fields_of head.now) }
+    ensures len { vec_len out.new ≤ vec_len out.old + MAX_HEAD }
+    ensures room { vec_capacity out.old ≤ vec_capacity out.new }
+{
+    let mut number = Buffer::new();
+    put(number.format(head.moment).as_bytes(), out);
+    put(b" ", out);
+    put(head.kind.word().as_bytes(), out);
+    put(b" ", out);
+    put(head.name, out);
+    put(b" ", out);
+    put(number.format(head.size).as_bytes(), out);
+    put(b" ", out);
+}
+
+/// Writes into room that is there.
+pub(crate) fn put(bytes: &[u8], out: &mut Vec<u8>)
+    requires { vec_len out.old + length bytes.now ≤ vec_capacity out.old }
+    ensures items { out.new.items ≡ out.old.items ++ bytes.now }
+    ensures len { vec_len out.new ≡ vec_len out.old + length bytes.now }
+    ensures room { vec_capacity out.old ≤ vec_capacity out.new }
+{
+    out.extend_from_slice(bytes).unwrap()
+}
+
+/// Reads the fields of the head in front of bytes; that these spell them is not looked at.
+#[tactic(auto, unfolding(crate::specs::Heads::head_in))]
+pub(crate) fn parse_head(bytes: &[u8]) -> Option<Head<'_>>
+    ensures { option_map spec.fields_of result ≡ spec.head_in bytes.now }
+{
+    let (moment, rest) = cut(bytes);
+    let (kind, rest) = cut(rest);
+    let (name, rest) = cut(rest);
+    let (size, _) = cut(rest);
+    let moment = read_moment(moment)?;
+    let kind = read_kind(kind)?;
+    let size = read_number(size)?;
+    Some(Head {
+        moment,
+        kind,
+        name,
+        size: size as usize,
+    })
+}
+
+/// The kind of a word.
+#[tactic(auto, unfolding(crate::specs::Heads::kind_in))]
+fn read_kind(word: &[u8]) -> Option<Kind>
+    ensures { result ≡ spec.kind_in word.now }
+{
+    if word == b"oai".as_slice() {
+        return Some(Kind::Oai);
+    }
+    if word == b"deposit".as_slice() {
+        return Some(Kind::Deposit);
+    }
+    if word == b"tick".as_slice() {
+        return Some(Kind::Tick);
+    }
+    if word == b"journal".as_slice() {
+        return Some(Kind::Journal);
+    }
+    if word == b"begin".as_slice() {
+        return Some(Kind::Begin);
+    }
+    if word == b"set".as_slice() {
+        return Some(Kind::Set);
+    }
+    if word == b"item".as_slice() {
+        return Some(Kind::Item);
+    }
+    None
+}
+
+/// What stands before the first space, and what stands after it; all and nothing where none does.
+fn cut(text: &[u8]) -> (&[u8], &[u8])
+    ensures front { result.0.now ≡ spec.part text.now }
+    ensures back { result.1.now ≡ spec.rest text.now }
+{
+    let front = front_len(text);
+    if front < text.len() {
+        (&text[..front], &text[front + 1..])
+    } else {
+        (text, &[])
+    }
+}
+
+/// How many bytes stand before the first space.
+fn front_len(text: &[u8]) -> usize
+    ensures length { result ≡ position_or_len spec.is_separator text.now }
+    ensures within { result ≤ length text.now }
+{
+    match first_space(text) {
+        Some(at) => at,
+        None => text.len(),
+    }
+}
+
+/// The place of the first space.
+fn first_space(text: &[u8]) -> Option<usize>
+    ensures { result ≡ position spec.is_separator text.now }
+{
+    text.iter().position(|b| *b == b' ')
+}
+
+/// Reads a moment: decimal digits, after a minus where it is negative.
+fn read_moment(text: &[u8]) -> Option<i64>
+    ensures { result ≡ moment_of text.now }
+{
+    if text.starts_with(PLUS) {
+        return None;
+    }
+    let Ok(text) = std::str::from_utf8(text) else {
+        return None;
+    };
+    text.parse().ok()
+}
+
+/// Reads a number: decimal digits alone, below 2^64.
+fn read_number(text: &[u8]) -> Option<u64>
+    ensures { result ≡ number_in text.now }
+{
+    if text.starts_with(PLUS) {
+        return None;
+    }
+    let Ok(text) = std::str::from_utf8(text) else {
+        return None;
+    };
+    text.parse().ok()
+}

@@ -1,0 +1,20 @@
+//! A journal: records, one behind the other, of which a crash leaves a prefix that has all durable ones; and its
+//! file, of frames in groups that no crash can tear.
+#![tactic(auto)]
+
+mod changes;
+mod file;
+mod frames;
+mod groups;
+mod heads;
+mod journals;
+mod laws;
+mod readings;
+mod records;
+mod recovery;
+
+pub use file::FileJournal;
+pub use journals::{Journal, JournalFault};
+pub use laws::{damage_law, one_journal_law};
+pub use records::{Kind, MAX_BODY, MAX_FIRST_BODY, MAX_NAME, Record};
+pub use recovery::{Recovery, RecoveryFault};

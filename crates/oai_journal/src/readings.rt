@@ -1,0 +1,172 @@
+//! Frames, read from a disk one at a time, each into a buffer that grows to the longest of them.
+ghost use Rattle.std.specs.Prelude.{◌≡◌, ◌+◌, ◌<◌, ◌≤◌, ℕ, List, Option, Some, length, take, drop, vec_capacity, IsTrue, OnOk, IfOk, IfSome};
+ghost use Rattle.sqlite_disk.specs.Disk.{Only};
+ghost use Rattle.oai_journal.specs.Frames.{entry_in};
+ghost use Rattle.oai_journal.specs.Records.{entry_of};
+ghost use Rattle.oai_journal.specs.Recoveries.{Checks, Finds, IsGateAt, IsLenAt};
+
+use crate::frames::{FRAME_ROOM, FRONT_ROOM, frame_digest, frame_len, record_in};
+use crate::journals::JournalFault;
+use crate::records::Record;
+use sqlite_disk::Disk;
+
+/// Reads the gate at that place; None where the file ends there.
+pub(crate) fn read_gate<D: Disk>(
+    disk: &mut D,
+    len: usize,
+    at: usize,
+    frame: &mut Vec<u8>,
+) -> Result<Option<u8>, JournalFault>
+    ensures found { IfOk result (λ gate. IsTrue (D.Disk.is_clean disk.new) → len ≡ length (D.Disk.seen disk.old)
+        → IsGateAt (D.Disk.seen disk.old) at gate) }
+    ensures within { IfOk result (λ gate. IfSome gate (λ byte. at < len)) }
+    ensures seen { D.Disk.seen disk.new ≡ D.Disk.seen disk.old }
+    ensures crash { (c : List ℕ) → D.Disk.may_leave disk.new c → D.Disk.may_leave disk.old c }
+    ensures clean { IsTrue (D.Disk.is_clean disk.new) → IsTrue (D.Disk.is_clean disk.old) }
+{
+    if len <= at {
+        return Ok(None);
+    }
+    read_bytes(disk, at, 1, frame)?;
+    Ok(Some(frame[0]))
+}
+
+/// Reads the frame that stands at that place behind the digest `before`, of the first record of a journal or of
+/// another one; answers its digest, or None where none does. Its bytes are then in `frame`. `out` needs room for
+/// what stands before a record's bytes. Of a frame that is cut short, or whose head is of another form or has too
+/// great a length, no more is read than that head.
+pub(crate) fn read_frame<D: Disk>(
+    disk: &mut D,
+    len: usize,
+    at: usize,
+    first: bool,
+    before: u64,
+    frame: &mut Vec<u8>,
+    out: &mut Vec<u8>,
+) -> Result<Option<u64>, JournalFault>
+    requires room { FRONT_ROOM ≤ vec_capacity out.old }
+    ensures found { IfOk result (λ found. IsTrue (D.Disk.is_clean disk.new) → len ≡ length (D.Disk.seen disk.old)
+        → Finds first before (drop at (D.Disk.seen disk.old)) frame.new.items found) }
+    ensures within { IfOk result (λ found. IfSome found (λ digest. at + length frame.new.items ≤ len)) }
+    ensures room { vec_capacity out.old ≤ vec_capacity out.new }
+    ensures seen { D.Disk.seen disk.new ≡ D.Disk.seen disk.old }
+    ensures crash { (c : List ℕ) → D.Disk.may_leave disk.new c → D.Disk.may_leave disk.old c }
+    ensures clean { IsTrue (D.Disk.is_clean disk.new) → IsTrue (D.Disk.is_clean disk.old) }
+{
+    match read_len(disk, len, at, frame, out)? {
+        None => Ok(None),
+        Some(size) => {
+            read_bytes(disk, at, size, frame)?;
+            Ok(check_frame(first, before, frame, out))
+        }
+    }
+}
+
+/// How many bytes the frame has that begins at that place, and None where none does. They are within the file.
+fn read_len<D: Disk>(
+    disk: &mut D,
+    len: usize,
+    at: usize,
+    frame: &mut Vec<u8>,
+    out: &mut Vec<u8>,
+) -> Result<Option<usize>, JournalFault>
+    requires room { FRONT_ROOM ≤ vec_capacity out.old }
+    ensures found { IfOk result (λ found. IsTrue (D.Disk.is_clean disk.new) → len ≡ length (D.Disk.seen disk.old)
+        → IsLenAt (drop at (D.Disk.seen disk.old)) found) }
+    ensures some { IfOk result (λ found. IfSome found (λ size. 0 < size)) }
+    ensures within { IfOk result (λ found. IfSome found (λ size. at + size ≤ len)) }
+    ensures room { vec_capacity out.old ≤ vec_capacity out.new }
+    ensures seen { D.Disk.seen disk.new ≡ D.Disk.seen disk.old }
+    ensures crash { (c : List ℕ) → D.Disk.may_leave disk.new c → D.Disk.may_leave disk.old c }
+    ensures clean { IsTrue (D.Disk.is_clean disk.new) → IsTrue (D.Disk.is_clean disk.old) }
+{
+    if len <= at {
+        return Ok(None);
+    }
+    read_bytes(disk, at, FRAME_ROOM.min(len - at), frame)?;
+    match frame_len(frame, out) {
+        Some(size) if size <= len - at => Ok(Some(size)),
+        _ => Ok(None),
+    }
+}
+
+/// Reads so many bytes at that place. Failed where the disk fails, or has failed; NoRoom where memory is refused.
+pub(crate) fn read_bytes<D: Disk>(
+    disk: &mut D,
+    at: usize,
+    size: usize,
+    bytes: &mut Vec<u8>,
+) -> Result<(), JournalFault>
+    requires { 0 < size }
+    ensures read { OnOk result (IsTrue (D.Disk.is_clean disk.new)
+        → bytes.new.items ≡ take size (drop at (D.Disk.seen disk.old))) }
+    ensures within { OnOk result (IsTrue (D.Disk.is_clean disk.new) → at + size ≤ length (D.Disk.seen disk.old)) }
+    ensures size { OnOk result (length bytes.new.items ≡ size) }
+    ensures seen { D.Disk.seen disk.new ≡ D.Disk.seen disk.old }
+    ensures crash { (c : List ℕ) → D.Disk.may_leave disk.new c → D.Disk.may_leave disk.old c }
+    ensures clean { IsTrue (D.Disk.is_clean disk.new) → IsTrue (D.Disk.is_clean disk.old) }
+{
+    if !disk.may_be_used() {
+        return Err(JournalFault::Failed);
+    }
+    bytes.resize(size, 0)?;
+    match disk.read_at(at, bytes) {
+        Ok(()) => Ok(()),
+        Err(_) => Err(JournalFault::Failed),
+    }
+}
+
+/// Whether the bytes are the frame of a record behind the digest `before`, of the first one of a journal or of
+/// another; its digest.
+fn check_frame(first: bool, before: u64, bytes: &[u8], out: &mut Vec<u8>) -> Option<u64>
+    requires room { FRONT_ROOM ≤ vec_capacity out.old }
+    ensures checked { Checks first before bytes.now result }
+    ensures room { vec_capacity out.old ≤ vec_capacity out.new }
+{
+    match record_in(bytes) {
+        Some(entry) => check_record(first, before, &entry, bytes, out),
+        None => None,
+    }
+}
+
+/// Whether the bytes in which that record was read are its frame.
+fn check_record(
+    first: bool,
+    before: u64,
+    entry: &Record<'_>,
+    bytes: &[u8],
+    out: &mut Vec<u8>,
+) -> Option<u64>
+    requires read { entry_in bytes.now ≡ Some (entry_of entry.now) }
+    requires room { FRONT_ROOM ≤ vec_capacity out.old }
+    ensures checked { Checks first before bytes.now result }
+    ensures room { vec_capacity out.old ≤ vec_capacity out.new }
+{
+    let _moment = entry.moment;
+    if !entry.is_fit() {
+        return None;
+    }
+    if entry.kind.is_first() != first {
+        return None;
+    }
+    frame_digest(before, entry, bytes, out)
+}
+
+/// Syncs the file; answers how many bytes it has.
+pub(crate) fn open_len<D: Disk>(disk: &mut D) -> Result<usize, JournalFault>
+    ensures len { IfOk result (λ len. IsTrue (D.Disk.is_clean disk.new) → len ≡ length (D.Disk.seen disk.old)) }
+    ensures durable { OnOk result (Only (D.Disk.seen disk.new) (D.Disk.may_leave disk.new)) }
+    ensures crash { (c : List ℕ) → D.Disk.may_leave disk.new c → D.Disk.may_leave disk.old c }
+    ensures seen { D.Disk.seen disk.new ≡ D.Disk.seen disk.old }
+{
+    if !disk.may_be_used() {
+        return Err(JournalFault::Failed);
+    }
+    let Ok(()) = disk.sync() else {
+        return Err(JournalFault::Failed);
+    };
+    match disk.len() {
+        Ok(len) => Ok(len),
+        Err(_) => Err(JournalFault::Failed),
+    }
+}

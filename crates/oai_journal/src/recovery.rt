@@ -1,0 +1,225 @@
+//! A journal's file, read from its first byte on, a record at a time.
+ghost use Rattle.std.specs.Prelude.{◌≡◌, ◌<◌, ◌≤◌, ◌+◌, ◌++◌, [], ◌∷◌, ℕ, List, Some, true, false, length, drop, IsTrue, IfOk, IfErr, IfSome, OnOk};
+ghost use Rattle.oai_journal.specs.Files.{Ends};
+ghost use Rattle.oai_journal.specs.Kept.{HoldsRecords};
+ghost use Rattle.oai_journal.specs.Records.{Entry, entry_of};
+ghost use Rattle.oai_journal.specs.Recoveries.{IsDamagedAt, IsStep, Starts, StepsWithin};
+ghost use Rattle.std.specs.Option.{option_map};
+ghost use Rattle.oai_journal.specs.declared.recovery.RecoveryFault.TheVariants as fault;
+
+use crate::file::FileJournal;
+use crate::frames::{FRONT_ROOM, record_in};
+use crate::groups::{OPEN_GATE, is_open};
+use crate::journals::JournalFault;
+use crate::readings::{open_len, read_frame, read_gate};
+use crate::records::Record;
+use sqlite_disk::Disk;
+use std::alloc::Global;
+use thiserror::Error;
+
+/// Why a journal is not read on.
+#[derive(Clone, Copy, Debug, PartialEq, Eq, Error)]
+pub enum RecoveryFault {
+    /// The file is no journal, by what stands at that byte.
+    #[error("damaged at byte {0}")]
+    Damaged(usize),
+    /// Memory was refused, or the disk failed.
+    #[error("{0}")]
+    Stopped(JournalFault),
+}
+
+impl From<JournalFault> for RecoveryFault {
+    ghost from_gives = { λ cause e. e ≡ fault.Stopped cause };
+
+    fn from(cause: JournalFault) -> RecoveryFault {
+        RecoveryFault::Stopped(cause)
+    }
+}
+
+/// What stands at a place of a journal at which a gate has to stand.
+pub(crate) enum Step {
+    /// A closed gate, which ends the journal.
+    End,
+    /// An open gate and a frame, with that digest.
+    Frame(u64),
+    /// No gate, or an open one and no frame.
+    Damage,
+}
+
+/// The recovery of a journal from its file: its first record, and then one after the other. It reads each frame into
+/// one buffer, which grows to the longest of them, and writes nothing.
+#[derive(Drop)]
+pub struct Recovery<D: Disk> {
+    alloc: Global,
+    disk: D,
+    /// How many bytes the file has.
+    len: usize,
+    /// Where the gate stands that is read next.
+    at: usize,
+    /// The digest of the frame that was read last.
+    digest: u64,
+    /// Its bytes.
+    frame: Vec<u8>,
+    /// Whether the gate that is read next is the closed one that ends the journal.
+    ended: bool,
+}
+
+impl<D: Disk + Drop> Recovery<D> {
+    ghost use Rattle.oai_journal.specs.Recovered.{HasRead, current, disk_of};
+
+    /// The recovery of the journal on that disk. Nothing is read yet.
+    pub fn new(alloc: Global, disk: D) -> Recovery<D>
+        ensures { disk_of result ≡ disk }
+    {
+        Recovery {
+            alloc,
+            disk,
+            len: 0,
+            at: 0,
+            digest: 0,
+            frame: Vec::new(alloc),
+            ended: false,
+        }
+    }
+
+    /// Syncs the file, so that what is read of it is durable, and reads the first record. Damaged at byte 0 where the
+    /// file does not begin with an open gate and the frame of a first record.
+    pub fn begin(&mut self) -> Result<(), RecoveryFault>
+        ensures begun { OnOk result (IsTrue (D.Disk.is_clean (disk_of self.new))
+            → (first : Entry) × HasRead D.Disk.seen D.Disk.may_leave self.new first [] × (current self.new ≡ Some first)) }
+        ensures damaged { IfErr result (λ cause. (at : ℕ) → cause ≡ fault.Damaged at
+            → IsTrue (D.Disk.is_clean (disk_of self.new)) → IsDamagedAt (D.Disk.seen (disk_of self.new)) at) }
+        ensures seen { D.Disk.seen (disk_of self.new) ≡ D.Disk.seen (disk_of self.old) }
+        ensures crash { (c : List ℕ) → D.Disk.may_leave (disk_of self.new) c → D.Disk.may_leave (disk_of self.old) c }
+    {
+        self.ended = false;
+        self.len = open_len(&mut self.disk)?;
+        let found = read_first(self.alloc, &mut self.disk, self.len, &mut self.frame)?;
+        let Some(digest) = found else {
+            return Err(RecoveryFault::Damaged(0));
+        };
+        self.digest = digest;
+        self.at = 1 + self.frame.len();
+        Ok(())
+    }
+
+    /// Reads the next record; false where there is none, since the journal ends. Damaged at the byte of the gate where
+    /// none stands, or an open one with no frame behind it.
+    pub fn advance(&mut self) -> Result<bool, RecoveryFault>
+        ensures next { IfOk result (λ more. IsTrue (D.Disk.is_clean (disk_of self.new)) → (first : Entry) (entries : List Entry)
+            → HasRead D.Disk.seen D.Disk.may_leave self.old first entries → IsTrue more
+            → (e : Entry) × HasRead D.Disk.seen D.Disk.may_leave self.new first (entries ++ e ∷ []) × (current self.new ≡ Some e)) }
+        ensures end { IfOk result (λ more. IsTrue (D.Disk.is_clean (disk_of self.new)) → (first : Entry) (entries : List Entry)
+            → HasRead D.Disk.seen D.Disk.may_leave self.old first entries → more ≡ false
+            → HasRead D.Disk.seen D.Disk.may_leave self.new first entries × Ends (D.Disk.seen (disk_of self.new)) first entries) }
+        ensures damaged { IfErr result (λ cause. (at : ℕ) → cause ≡ fault.Damaged at
+            → IsTrue (D.Disk.is_clean (disk_of self.new)) → (first : Entry) (entries : List Entry)
+            → HasRead D.Disk.seen D.Disk.may_leave self.old first entries → IsDamagedAt (D.Disk.seen (disk_of self.new)) at) }
+        ensures seen { D.Disk.seen (disk_of self.new) ≡ D.Disk.seen (disk_of self.old) }
+        ensures crash { (c : List ℕ) → D.Disk.may_leave (disk_of self.new) c → D.Disk.may_leave (disk_of self.old) c }
+    {
+        if self.ended {
+            return Ok(false);
+        }
+        match read_step(
+            self.alloc,
+            &mut self.disk,
+            self.len,
+            self.at,
+            self.digest,
+            &mut self.frame,
+        )? {
+            Step::End => {
+                self.ended = true;
+                Ok(false)
+            }
+            Step::Frame(digest) => {
+                self.digest = digest;
+                self.at += 1 + self.frame.len();
+                Ok(true)
+            }
+            Step::Damage => Err(RecoveryFault::Damaged(self.at)),
+        }
+    }
+
+    /// The record that was read last; None where none was.
+    pub fn record(&self) -> Option<Record<'_>>
+        ensures { option_map entry_of result ≡ current self.now }
+    {
+        record_in(&self.frame)
+    }
+
+    /// Where the gate stands that is read next, in bytes.
+    pub fn position(&self) -> usize {
+        self.at
+    }
+
+    /// How many bytes the file has.
+    pub fn file_len(&self) -> usize {
+        self.len
+    }
+
+    /// The journal, once its end was read, and None before that. All its records are durable.
+    pub fn into_journal(self) -> Option<FileJournal<D>>
+        ensures { IfSome result (λ journal. (first : Entry) (entries : List Entry)
+            → HasRead D.Disk.seen D.Disk.may_leave self first entries
+            → HoldsRecords D.Disk.seen D.Disk.may_leave journal entries (length entries)) }
+    {
+        if !self.ended {
+            return None;
+        }
+        Some(FileJournal::at_end(self.alloc, self.disk, self.at, self.digest))
+    }
+}
+
+/// Reads the first record of the journal; None where the file does not begin with an open gate and its frame.
+fn read_first<D: Disk>(
+    alloc: Global,
+    disk: &mut D,
+    len: usize,
+    frame: &mut Vec<u8>,
+) -> Result<Option<u64>, JournalFault>
+    ensures found { IfOk result (λ found. IsTrue (D.Disk.is_clean disk.new) → len ≡ length (D.Disk.seen disk.old)
+        → Starts (D.Disk.seen disk.old) frame.new.items found) }
+    ensures within { IfOk result (λ found. IfSome found (λ digest. 1 + length frame.new.items ≤ len)) }
+    ensures seen { D.Disk.seen disk.new ≡ D.Disk.seen disk.old }
+    ensures crash { (c : List ℕ) → D.Disk.may_leave disk.new c → D.Disk.may_leave disk.old c }
+    ensures clean { IsTrue (D.Disk.is_clean disk.new) → IsTrue (D.Disk.is_clean disk.old) }
+{
+    match read_gate(disk, len, 0, frame)? {
+        Some(gate) if gate == OPEN_GATE => {
+            let mut out = Vec::with_capacity(alloc, FRONT_ROOM)?;
+            read_frame(disk, len, 1, true, 0, frame, &mut out)
+        }
+        _ => Ok(None),
+    }
+}
+
+/// Reads what stands at a place at which a gate has to stand.
+fn read_step<D: Disk>(
+    alloc: Global,
+    disk: &mut D,
+    len: usize,
+    at: usize,
+    digest: u64,
+    frame: &mut Vec<u8>,
+) -> Result<Step, JournalFault>
+    ensures found { IfOk result (λ step. IsTrue (D.Disk.is_clean disk.new) → len ≡ length (D.Disk.seen disk.old)
+        → IsStep (drop at (D.Disk.seen disk.old)) digest frame.new.items step) }
+    ensures within { IfOk result (λ step. StepsWithin at frame.new.items len step) }
+    ensures seen { D.Disk.seen disk.new ≡ D.Disk.seen disk.old }
+    ensures crash { (c : List ℕ) → D.Disk.may_leave disk.new c → D.Disk.may_leave disk.old c }
+    ensures clean { IsTrue (D.Disk.is_clean disk.new) → IsTrue (D.Disk.is_clean disk.old) }
+{
+    let Some(gate) = read_gate(disk, len, at, frame)? else {
+        return Ok(Step::Damage);
+    };
+    if !is_open(gate) {
+        return Ok(Step::End);
+    }
+    let mut out = Vec::with_capacity(alloc, FRONT_ROOM)?;
+    match read_frame(disk, len, at + 1, false, digest, frame, &mut out)? {
+        Some(digest) => Ok(Step::Frame(digest)),
+        None => Ok(Step::Damage),
+    }
+}

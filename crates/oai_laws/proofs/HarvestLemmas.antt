@@ -1,0 +1,160 @@
+-- Harvests, one after the other, give a copy of the items as the last one found them.
+use Rattle.std.proofs.Common.{◌≡◌, inl, inr, ℕ, ℤ, ◌≤ℤ◌, true, List, [], ◌∷◌, map, Option, None, Some, refl, sym, ap, subst}
+use Rattle.oai_time.specs.Bound.{IsBound, lower_of}
+use Rattle.oai_time.specs.Stamp.{IsWritable, stamp_of}
+use Rattle.oai_time.specs.TimeTexts.{datestamp_text}
+use Rattle.oai_time.specs.declared.bound.Bound.{Bound}
+use Rattle.oai_time.specs.declared.bound.Bound.TheVariants.{Day as WholeDay, Second as OneSecond}
+use Rattle.oai_time.specs.declared.granularity.Granularity.{Granularity}
+use Rattle.oai_time.specs.declared.granularity.Granularity.TheVariants.{Day, Second}
+use Rattle.oai_time.proofs.BoundLemmas.{stamp_of-IsMidnight}
+use Rattle.oai_time.proofs.ReadingLemmas.{IsBound-unique}
+use Rattle.oai_item.specs.Item.{ItemState}
+use Rattle.oai_item.specs.Items.{are_apart}
+use Rattle.oai_item.specs.declared.deleted_record.DeletedRecord.TheVariants.{Persistent}
+use Rattle.oai_settings.specs.Config.{Config, IsConfig}
+use Rattle.oai_repo.specs.Changes.{stamp_at}
+use Rattle.oai_repo.specs.State.{empty_state}
+use Rattle.oai_repo.proofs.ClockLemmas.{in_years-config, writable}
+use Rattle.oai_laws.specs.Following.{ListRequest, selection_in}
+use Rattle.oai_laws.specs.Runs.{Exchange, IsPart, Throughout, Timed, run}
+use Rattle.oai_laws.specs.Selecting.{IsSelection}
+use Rattle.oai_laws.proofs.EffectLemmas.{sound_empty}
+use Rattle.oai_laws.proofs.SelectingLemmas.{selected_throughout}
+use Rattle.oai_copy.specs.Copies.{are_listed, caught_up, caught_up_with}
+use Rattle.oai_copy.proofs.ListedLemmas.{listed_caught}
+use Rattle.oai_laws.specs.Harvests.{AreHarvests, AreSuccessive, Harvest, IsHarvest, IsWholeCopy, datestamp_of, harvested, last_harvest, records_since}
+use Rattle.oai_laws.proofs.HarvestedLemmas.{harvest_told}
+use Rattle.oai_laws.proofs.HeldLemmas.{AnyItem, IsChosen, IsFromOn, IsHeld, held_first, held_members, held_next}
+use Rattle.oai_laws.proofs.SinceLemmas.{IsReached, after_itself, left_after, reached}
+
+-- ---- parts of a run
+
+part_of_none : {A : Type 0} (whole : List A) → IsPart [] whole
+part_of_none [] = refl
+part_of_none (x ∷ whole) = inl (part_of_none whole)
+
+-- the first of a part, and the part behind it
+pub part_first : {A : Type 0} (x : A) (others whole : List A) → IsPart (x ∷ others) whole → IsPart (x ∷ []) whole
+part_first x others [] part = cc
+part_first x others (y ∷ whole) (inl part) = inl (part_first x others whole part)
+part_first x others (y ∷ whole) (inr here) = let is : x ≡ y = cc in inr ([], ap (λ z. z ∷ []) is, part_of_none whole)
+
+pub part_behind : {A : Type 0} (x : A) (others whole : List A) → IsPart (x ∷ others) whole → IsPart others whole
+part_behind x others [] part = cc
+part_behind x others (y ∷ whole) (inl part) = inl (part_behind x others whole part)
+part_behind x others (y ∷ whole) (inr here) = let are : here.0 ≡ others = cc in inl (subst (λ zs. IsPart zs whole) are here.2)
+
+pub throughout_at : (P : Exchange → Type 0) (exchange : Exchange) (whole : List Exchange) → Throughout P whole → IsPart (exchange ∷ []) whole → P exchange
+throughout_at P exchange [] all part = cc
+throughout_at P exchange (e ∷ whole) all (inl part) = throughout_at P exchange whole all.1 part
+throughout_at P exchange (e ∷ whole) all (inr here) = let is : e ≡ exchange = cc in subst P is all.0
+
+-- ---- what is selected
+
+-- the datestamp that the repository writes at a clock stands for it
+stamp_bound : (granularity : Granularity) (clock : ℤ) → IsWritable clock → (bound : Bound) → IsBound (datestamp_text granularity (stamp_of granularity clock)) bound → lower_of bound ≡ stamp_of granularity clock
+stamp_bound Day clock h bound is =
+    ap lower_of (IsBound-unique (datestamp_text Day (stamp_of Day clock)) bound (WholeDay (stamp_of Day clock)) is (record { in_range = stamp_of-IsMidnight clock h; written = refl }))
+stamp_bound Second clock h bound is = ap lower_of (IsBound-unique (datestamp_text Second clock) bound (OneSecond clock) is (record { in_range = h; written = refl }))
+
+chosen_all : (prefix : List ℕ) (items selection : List ItemState) → IsSelection (records_since prefix None) items selection → IsChosen prefix AnyItem items selection
+chosen_all prefix items selection s = record {
+  only = λ item h. let found = (s.members item).0 h in (found.0, found.1.prefix);
+  all = λ item h has within. (s.members item).1 (h, record { prefix = has; from = tt; until = tt; set = tt });
+}
+
+chosen_from : (prefix : List ℕ) (granularity : Granularity) (clock : ℤ) (items selection : List ItemState) → IsWritable clock
+    → IsSelection (records_since prefix (Some (datestamp_text granularity (stamp_of granularity clock)))) items selection → IsChosen prefix (IsFromOn (stamp_of granularity clock)) items selection
+chosen_from prefix granularity clock items selection h s = record {
+  only = λ item c. let found = (s.members item).0 c in (found.0, found.1.prefix);
+  all = λ item c has within.
+      (s.members item).1 (
+        c,
+        record {
+          prefix = has;
+          from = λ bound is. subst (λ (z : ℤ). z ≤ℤ item.stamp) (sym (stamp_bound granularity clock h bound is)) within;
+          until = tt;
+          set = tt;
+        },
+      );
+}
+
+-- ---- one harvest after the other
+
+-- the copy as it is when a harvest is done that began there
+pub record IsCopied (config : Config) (prefix : List ℕ) (exchange : Exchange) (copy : List ItemState) : Type 0 where
+  pub held : IsHeld prefix exchange.found.holdings.items copy
+  pub listed : are_listed copy ≡ true
+  pub apart : are_apart exchange.found.holdings.items ≡ true
+
+selects : (config : Config) (commands : List Timed) (list_request : ListRequest) (exchange : Exchange) → IsConfig config → IsPart (exchange ∷ []) (run config (empty_state config) commands)
+    → IsSelection list_request exchange.found.holdings.items (selection_in exchange.found list_request)
+selects config commands list_request exchange good among =
+    throughout_at (λ (e : Exchange). IsSelection list_request e.found.holdings.items (selection_in e.found list_request)) exchange (run config (empty_state config) commands)
+    (selected_throughout config commands list_request good) among
+
+first_copied : (config : Config) (commands : List Timed) (prefix : List ℕ) (harvest : Harvest) (clock : ℤ) (old : List ItemState) (others : List Exchange) → IsConfig config
+    → IsPart (harvest.first ∷ []) (run config (empty_state config) commands) → IsReached config clock old harvest.first others
+    → IsHarvest config (run config (empty_state config) commands) (records_since prefix None) harvest → IsCopied config prefix harvest.first (caught_up [] (harvested harvest))
+first_copied config commands prefix harvest clock old others good among reached h =
+    let request : ListRequest = records_since prefix None in
+    let items : List ItemState = harvest.first.found.holdings.items in
+    let selection : List ItemState = selection_in harvest.first.found request in
+    let told = harvest_told config commands prefix None harvest good reached.found.sound among reached.told h in
+    record {
+      held = subst (λ (xs : List ItemState). IsHeld prefix items (caught_up [] xs)) (sym told)
+          (held_first prefix items selection reached.found.sound.kept.apart (chosen_all prefix items selection (selects config commands request harvest.first good among)));
+      listed = listed_caught [] (harvested harvest) refl;
+      apart = reached.found.sound.kept.apart;
+    }
+
+next_copied : (config : Config) (commands : List Timed) (prefix : List ℕ) (before : Exchange) (harvest : Harvest) (copy : List ItemState) (others : List Exchange) → IsConfig config → IsWritable before.found.clock
+    → IsPart (harvest.first ∷ []) (run config (empty_state config) commands) → IsReached config before.found.clock before.found.holdings.items harvest.first others
+    → IsHarvest config (run config (empty_state config) commands) (records_since prefix (Some (datestamp_text config.granularity (stamp_at config before.found.clock)))) harvest
+    → IsCopied config prefix before copy → IsCopied config prefix harvest.first (caught_up copy (harvested harvest))
+next_copied config commands prefix before harvest copy others good in_range among reached h copied =
+    let from : Option (List ℕ) = Some (datestamp_text config.granularity (stamp_at config before.found.clock)) in
+    let request : ListRequest = records_since prefix from in
+    let items : List ItemState = harvest.first.found.holdings.items in
+    let selection : List ItemState = selection_in harvest.first.found request in
+    let told = harvest_told config commands prefix from harvest good reached.found.sound among reached.told h in
+    record {
+      held = subst (λ (xs : List ItemState). IsHeld prefix items (caught_up copy xs)) (sym told)
+          (held_next prefix (stamp_at config before.found.clock) before.found.holdings.items items selection copy reached.found.sound.kept.apart
+          (chosen_from prefix config.granularity before.found.clock items selection in_range (selects config commands request harvest.first good among)) reached.found.since copied.held);
+      listed = listed_caught copy (harvested harvest) copied.listed;
+      apart = reached.found.sound.kept.apart;
+    }
+
+-- those that follow a harvest which is done
+others_copied : (config : Config) (commands : List Timed) (prefix : List ℕ) (before : Harvest) (harvests : List Harvest) (copy : List ItemState) (clock : ℤ) (old : List ItemState) → IsConfig config → config.deleted ≡ Persistent
+    → IsPart (map (λ (harvest : Harvest). harvest.first) harvests) (run config (empty_state config) commands)
+    → IsReached config clock old before.first (map (λ (harvest : Harvest). harvest.first) harvests)
+    → AreHarvests config (run config (empty_state config) commands) prefix (Some (datestamp_of config before)) harvests → IsCopied config prefix before.first copy
+    → IsCopied config prefix (last_harvest before harvests).first (caught_up_with copy (map harvested harvests))
+others_copied config commands prefix before [] copy clock old good persistent among at_before h copied = copied
+others_copied config commands prefix before (harvest ∷ harvests) copy clock old good persistent among at_before h copied =
+    let later : List Exchange = map (λ (harvest : Harvest). harvest.first) harvests in
+    let exchanges : List Exchange = run config (empty_state config) commands in
+    let at_next = reached config before.first.found.clock before.first.found.holdings.items before.first.left at_before.commands harvest.first later persistent
+    (left_after config clock old before.first (harvest.first ∷ later) persistent at_before) at_before.behind in
+    let done = next_copied config commands prefix before.first harvest copy later good at_before.found.writable (part_first harvest.first later exchanges among) at_next h.0 copied in
+    others_copied config commands prefix harvest harvests (caught_up copy (harvested harvest)) before.first.found.clock before.first.found.holdings.items good persistent
+    (part_behind harvest.first later exchanges among) at_next h.1 done
+
+-- all of them
+pub harvests_copied : (config : Config) (commands : List Timed) (prefix : List ℕ) (first : Harvest) (others : List Harvest) → IsConfig config → config.deleted ≡ Persistent
+    → AreSuccessive config (run config (empty_state config) commands) prefix first others
+    → IsWholeCopy prefix (last_harvest first others).first.found (caught_up_with [] (map harvested (first ∷ others)))
+harvests_copied config commands prefix first others good persistent s =
+    let exchanges : List Exchange = run config (empty_state config) commands in
+    let later : List Exchange = map (λ (harvest : Harvest). harvest.first) others in
+    let start = after_itself config (empty_state config) (sound_empty config) (writable config.earliest (in_years-config config good)) in
+    let at_first = reached config config.earliest [] (empty_state config) commands first.first later persistent start s.begun in
+    let done = first_copied config commands prefix first config.earliest [] later good (part_first first.first later exchanges s.begun) at_first s.harvests.0 in
+    let copied = others_copied config commands prefix first others (caught_up [] (harvested first)) config.earliest [] good persistent (part_behind first.first later exchanges s.begun) at_first s.harvests.1 done in
+    record {
+      members = held_members prefix (last_harvest first others).first.found.holdings.items (caught_up_with [] (map harvested (first ∷ others))) copied.apart copied.listed copied.held;
+      listed = copied.listed;
+    }

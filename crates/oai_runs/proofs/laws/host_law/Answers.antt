@@ -1,5 +1,0 @@
-use Rattle.oai_runs.proofs.HostRunLemmas.{served_by_host}
-use Rattle.oai_runs.proofs.laws.host_law.Goals as goal
-
-pub returns : goal.returns
-returns g c = record { hosted = served_by_host }

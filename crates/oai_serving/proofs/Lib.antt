@@ -1,0 +1,4 @@
+pub mod KnownBytes
+pub mod TurnLemmas
+pub mod TableLemmas
+pub mod RoundLemmas

@@ -1,0 +1,342 @@
+-- Turns of a link: what came of it before stays, and more comes behind it.
+use Rattle.std.proofs.Common.{◌≡◌, ◌∙◌, ◌⊎◌, inl, inr, ℕ, ℤ, Bool, true, false, cond, List, [], ◌∷◌, ◌++◌, append_assoc, length, take, drop, ◌≤◌, ◌+◌, ◌-◌, arith, Option, refl, sym, ap, subst}
+use Rattle.std.specs.Prelude.{Result, Ok, Err}
+use Rattle.std.proofs.lemmas.Bool.{false≢true}
+use Rattle.std.proofs.lemmas.List.{append-nil, drop-append-le, drop-drop, take-append-drop}
+use Rattle.std.specs.Io.KnownBytes.{Appends, Consumes, Keeps}
+use Rattle.oai_front.proofs.RunLemmas.{messages_join, performed_join, splits_in, told_join}
+use Rattle.oai_front.specs.Connections.{Connection, IsGoneOver, IsTakenIn, bytes_with, connection_at, rest_at, stage_at}
+use Rattle.oai_front.specs.Messages.{End, Message, closes, faults, waits}
+use Rattle.oai_front.specs.Performing.{Done, Run, Steps, answers_of, end_bytes, messages_of}
+use Rattle.oai_front.specs.Runs.{ArePerformed}
+use Rattle.oai_front.specs.Stages.{is_closing}
+use Rattle.oai_front.specs.declared.faults.PieceFault.{PieceFault}
+use Rattle.oai_front.specs.declared.faults.PieceFault.TheVariants.{NoSuchConnection, NoMemory, Unfinished}
+use Rattle.oai_front.specs.declared.stages.Stage.{Stage}
+use Rattle.oai_front.specs.declared.stages.Stage.TheVariants.{Reading}
+use Rattle.oai_serving.proofs.KnownBytes.{appends_kept, appends_none, appends_then, consumes_none, consumes_then, keeps_appends, keeps_consumes, keeps_same, keeps_then}
+use Rattle.oai_serving.specs.Links.{IsFollowed, IsHolding, IsRead, IsSent, IsTurn, Link}
+use Rattle.oai_serving.specs.Received.{IsReceived}
+
+-- ---- runs behind each other
+
+pub run_then : {H : Type 0} (step : Steps H) (moment : ℤ) (old mid new : H) (first others : List Done) → Run step moment old first mid → Run step moment mid others new
+    → Run step moment old (first ++ others) new
+run_then {H} step moment old mid new [] others a b = subst (λ (h : H). Run step moment h others new) a b
+run_then step moment old mid new (d ∷ first) others a b = (a.0, a.1, run_then step moment a.0 mid new first others a.2 b)
+
+idle_then : {S : Type 0} (a b c : Link S) → (a.connection.output ≡ []) ⊎ (b ≡ a) → (b.connection.output ≡ []) ⊎ (c ≡ b) → (a.connection.output ≡ []) ⊎ (c ≡ a)
+idle_then a b c (inl none) t = inl none
+idle_then {S} a b c (inr same) (inl none) = inl (sym (ap (λ (l : Link S). l.connection.output) same) ∙ none)
+idle_then a b c (inr same) (inr still) = inr (still ∙ same)
+
+module _ {S H : Type 0} (step : Steps H) (contents remaining : S → Option (List ℕ)) (moment : ℤ) where
+  -- nothing changes
+  pub turn_none : (link : Link S) (handler : H) → IsTurn step contents remaining moment link handler link handler
+  turn_none link handler = record {
+    done = [];
+    run = refl;
+    same = refl;
+    unwritten = keeps_same (contents link.stream);
+    read = [];
+    consumed = consumes_none (remaining link.stream);
+    idle = inr refl;
+    follows = λ first earlier f. subst (λ (ds : List Done). IsFollowed contents remaining first ds link) (sym (append-nil earlier)) f;
+  }
+
+  -- two turns, one behind the other
+  pub turn_then : (a b c : Link S) (h k l : H) → IsTurn step contents remaining moment a h b k → IsTurn step contents remaining moment b k c l
+      → IsTurn step contents remaining moment a h c l
+  turn_then a b c h k l s t = record {
+    done = s.done ++ t.done;
+    run = run_then step moment h k l s.done t.done s.run t.run;
+    same = t.same ∙ s.same;
+    unwritten = keeps_then (contents a.stream) (contents b.stream) (contents c.stream) s.unwritten t.unwritten;
+    read = s.read ++ t.read;
+    consumed = consumes_then (remaining a.stream) (remaining b.stream) (remaining c.stream) s.read t.read s.consumed t.consumed;
+    idle = idle_then a b c s.idle t.idle;
+    follows = λ first earlier f.
+        subst (λ (ds : List Done). IsFollowed contents remaining first ds c) (append_assoc earlier s.done t.done)
+        (t.follows first (earlier ++ s.done) (s.follows first earlier f));
+  }
+
+  -- bytes may have been read, and none was written
+  pub received_still : (first before after : S) (done : List Done) (read : List ℕ) → Keeps (contents before) (contents after) → Consumes (remaining before) (remaining after) read
+      → IsReceived contents remaining first before done → IsReceived contents remaining first after done
+  received_still first before after done read unwritten consumes r = record {
+    came = r.came;
+    others = r.others ++ read;
+    whole = r.whole;
+    end = r.end;
+    sent = r.sent;
+    waiting = r.waiting;
+    read = subst (λ (xs : List ℕ). Consumes (remaining first) (remaining after) xs) (append_assoc r.came r.others read)
+        (consumes_then (remaining first) (remaining before) (remaining after) (r.came ++ r.others) read r.read consumes);
+    performed = r.performed;
+    answers = r.answers;
+    written = keeps_appends (contents first) (contents before) (contents after) r.sent r.written unwritten;
+  }
+
+  -- the same connection, of which bytes may have been read
+  pub read_follows : (first : S) (done : List Done) (old new : Link S) (read : List ℕ) → new.connection ≡ old.connection → Keeps (contents old.stream) (contents new.stream)
+      → Consumes (remaining old.stream) (remaining new.stream) read → (new.able ≡ true → (old.able ≡ true) × (new.held ≡ old.held ++ read))
+      → IsFollowed contents remaining first done old → IsFollowed contents remaining first done new
+  unfolding received_still
+  read_follows first done old new read same unwritten consumes held f =
+      record {
+        received = received_still first old.stream new.stream done read unwritten consumes f.received;
+        waiting = f.waiting ∙ sym (ap (λ (c : Connection). c.output) same);
+        rest = ap (λ (c : Connection). c.rest) same ∙ f.rest;
+        stage = ap (λ (c : Connection). c.stage) same ∙ f.stage;
+        held = λ able. let h = held able in ap (λ (xs : List ℕ). xs ++ read) (f.held h.0) ∙ sym h.1;
+      }
+
+  pub read_turn : (old new : Link S) (handler : H) (read : List ℕ) → new.connection ≡ old.connection → Keeps (contents old.stream) (contents new.stream)
+      → Consumes (remaining old.stream) (remaining new.stream) read → (new.able ≡ true → (old.able ≡ true) × (new.held ≡ old.held ++ read))
+      → old.connection.output ≡ [] → IsTurn step contents remaining moment old handler new handler
+  read_turn old new handler read same unwritten consumes held none = record {
+    done = [];
+    run = refl;
+    same = ap (λ (c : Connection). c.number) same;
+    unwritten = unwritten;
+    read = read;
+    consumed = consumes;
+    idle = inl none;
+    follows = λ first earlier f.
+        subst (λ (ds : List Done). IsFollowed contents remaining first ds new) (sym (append-nil earlier)) (read_follows first earlier old new read same unwritten consumes held f);
+  }
+
+-- ---- a piece
+
+-- what came of a piece: these messages were performed, up to that end
+record Came {H : Type 0} (step : Steps H) (moment : ℤ) (bytes : List ℕ) (x : Connection) (before : H) (y : Connection) (after : H) : Type 0 where
+  done : List Done
+  whole : Bool
+  end : End
+  run : Run step moment before done after
+  performed : ArePerformed whole bytes (messages_of done) end
+  is : y ≡ connection_at (record x { rest = bytes }) end (answers_of done ++ end_bytes end)
+
+module _ {H : Type 0} (step : Steps H) (moment : ℤ) where
+  came_whole : (bytes : List ℕ) (x y : Connection) (before after : H) → IsGoneOver step moment (record x { rest = bytes }) before (Ok tt) y after → Came step moment bytes x before y after
+  came_whole bytes x y before after t =
+      let comp = t.2 in record {
+        done = comp.done;
+        whole = true;
+        end = t.0;
+        run = comp.run;
+        performed = comp.stream;
+        is = t.3 ∙ ap (connection_at (record x { rest = bytes }) t.0) comp.told;
+      }
+
+  came_part : (bytes : List ℕ) (x y : Connection) (before after : H) → IsGoneOver step moment (record x { rest = bytes }) before (Err Unfinished) y after → Came step moment bytes x before y after
+  came_part bytes x y before after t =
+      let part = t.2 in record {
+        done = part.done;
+        whole = false;
+        end = waits t.0;
+        run = part.run;
+        performed = (part.splits, t.3);
+        is = t.4 ∙ ap (connection_at (record x { rest = bytes }) (waits t.0)) (part.told ∙ sym (append-nil (answers_of part.done)));
+      }
+
+not_ok : (fault : PieceFault) → ◌≡◌ {A = Result Unit PieceFault} (Err fault) (Ok tt) → ⊥
+not_ok fault e = cc
+
+reads_at : (c : Connection) (piece : List ℕ) → is_closing c.stage ≡ false → bytes_with c piece ≡ c.rest ++ piece
+reads_at c piece open_ = ap (λ (b : Bool). cond b c.rest (c.rest ++ piece)) open_
+
+module _ {S H : Type 0} (step : Steps H) (contents remaining : S → Option (List ℕ)) (moment : ℤ) where
+  -- the messages of a piece go behind those of the bytes before it
+  abbrev came_received : (first last : S) (came others piece tail sent out : List ℕ) (before whole : Bool) (rest : List ℕ) (end : End) (earlier now : List Done)
+      → Consumes (remaining first) (remaining last) (came ++ others) → others ≡ piece ++ tail → ArePerformed before came (messages_of earlier) (waits rest)
+      → answers_of earlier ++ [] ≡ sent ++ out → Appends (contents first) (contents last) sent → ArePerformed whole (rest ++ piece) (messages_of now) end
+      → IsReceived contents remaining first last (earlier ++ now)
+  came_received first last came others piece tail sent out before whole rest end earlier now read split performed answers written next =
+      let more = answers_of now ++ end_bytes end in record {
+        came = came ++ piece;
+        others = tail;
+        whole = whole;
+        end = end;
+        sent = sent;
+        waiting = out ++ more;
+        read = subst (λ (xs : List ℕ). Consumes (remaining first) (remaining last) xs) (ap (λ (xs : List ℕ). came ++ xs) split ∙ sym (append_assoc came piece tail)) read;
+        performed = subst (λ (ms : List Message). ArePerformed whole (came ++ piece) ms end) (sym (messages_join earlier now))
+            (performed_join whole came rest piece (messages_of earlier) (messages_of now) end (splits_in before came rest (messages_of earlier) performed) next);
+        answers = sym (told_join [] earlier now end) ∙ ap (λ (xs : List ℕ). xs ++ more) answers ∙ append_assoc sent out more;
+        written = written;
+      }
+
+  -- a link that reads
+  came_at : (first : S) (earlier : List Done) (piece tail : List ℕ) (old new : Link S) (before after : H)
+      (g : Came step moment (old.connection.rest ++ piece) old.connection before new.connection after) → new.stream ≡ old.stream → (new.able ≡ true → new.held ≡ tail)
+      → (came others sent waiting : List ℕ) (whole : Bool) (end : End)
+      → Consumes (remaining first) (remaining old.stream) (came ++ others) → ArePerformed whole came (messages_of earlier) end
+      → answers_of earlier ++ end_bytes end ≡ sent ++ waiting → Appends (contents first) (contents old.stream) sent → waiting ≡ old.connection.output
+      → old.connection.rest ≡ rest_at end → old.connection.stage ≡ stage_at Reading end → is_closing old.connection.stage ≡ false → others ≡ piece ++ tail
+      → IsFollowed contents remaining first (earlier ++ g.done) new
+  came_at first earlier piece tail old new before after g stream held came others sent waiting whole (waits rest) read performed answers written out left stage open_ split =
+      let received = came_received first old.stream came others piece tail sent waiting whole g.whole rest g.end earlier g.done read split performed answers written
+      (subst (λ (xs : List ℕ). ArePerformed g.whole (xs ++ piece) (messages_of g.done) g.end) left g.performed) in
+      let more = answers_of g.done ++ end_bytes g.end in
+      subst (λ (s : S). IsFollowed contents remaining first (earlier ++ g.done) (record { stream = s; connection = new.connection; held = new.held; able = new.able })) (sym stream)
+      (record {
+        received = received;
+        waiting = ap (λ (xs : List ℕ). xs ++ more) out ∙ sym (ap (λ (c : Connection). c.output) g.is);
+        rest = ap (λ (c : Connection). c.rest) g.is;
+        stage = ap (λ (c : Connection). c.stage) g.is ∙ ap (λ (s : Stage). stage_at s g.end) stage;
+        held = λ able. sym (held able);
+      })
+  came_at first earlier piece tail old new before after g stream held came others sent waiting whole closes read performed answers written out left stage open_ split =
+      absurd (false≢true (sym open_ ∙ ap is_closing stage))
+  came_at first earlier piece tail old new before after g stream held came others sent waiting whole (faults status) read performed answers written out left stage open_ split =
+      absurd (false≢true (sym open_ ∙ ap is_closing stage))
+
+  came_turn : (piece tail : List ℕ) (old new : Link S) (before after : H) → Came step moment (old.connection.rest ++ piece) old.connection before new.connection after
+      → new.stream ≡ old.stream → (new.able ≡ true → new.held ≡ tail) → old.able ≡ true → is_closing old.connection.stage ≡ false → old.held ≡ piece ++ tail
+      → old.connection.output ≡ [] → IsTurn step contents remaining moment old before new after
+  came_turn piece tail old new before after g stream held able open_ split none = record {
+    done = g.done;
+    run = g.run;
+    same = ap (λ (c : Connection). c.number) g.is;
+    unwritten = subst (λ (s : S). Keeps (contents old.stream) (contents s)) (sym stream) (keeps_same (contents old.stream));
+    read = [];
+    consumed = subst (λ (s : S). Consumes (remaining old.stream) (remaining s) []) (sym stream) (consumes_none (remaining old.stream));
+    idle = inl none;
+    follows = λ first earlier f.
+        let r = f.received in
+        came_at first earlier piece tail old new before after g stream held r.came r.others r.sent r.waiting r.whole r.end r.read r.performed r.answers r.written f.waiting
+        f.rest f.stage open_ (f.held able ∙ split);
+  }
+
+  -- a piece, whatever comes of it
+  pub piece_turn : (piece tail : List ℕ) (result : Result Unit PieceFault) (old new : Link S) (before after : H)
+      → IsTakenIn step moment piece old.connection before result new.connection after → new.stream ≡ old.stream
+      → (new.able ≡ true → (new.held ≡ tail) × (result ≡ Ok tt)) → old.able ≡ true → is_closing old.connection.stage ≡ false → old.held ≡ piece ++ tail
+      → old.connection.output ≡ [] → IsTurn step contents remaining moment old before new after
+  piece_turn piece tail (Ok done) old new before after taken stream held able open_ split none =
+      let bytes = reads_at old.connection piece open_ in
+      came_turn piece tail old new before after
+      (came_whole step moment (old.connection.rest ++ piece) old.connection new.connection before after
+      (subst (λ (xs : List ℕ). IsGoneOver step moment (record old.connection { rest = xs }) before (Ok tt) new.connection after) bytes taken))
+      stream (λ a. (held a).0) able open_ split none
+  piece_turn piece tail (Err Unfinished) old new before after taken stream held able open_ split none =
+      let bytes = reads_at old.connection piece open_ in
+      came_turn piece tail old new before after
+      (came_part step moment (old.connection.rest ++ piece) old.connection new.connection before after
+      (subst (λ (xs : List ℕ). IsGoneOver step moment (record old.connection { rest = xs }) before (Err Unfinished) new.connection after) bytes taken))
+      stream (λ a. (held a).0) able open_ split none
+  piece_turn piece tail (Err NoSuchConnection) old new before after taken stream held able open_ split none = absurd taken
+  piece_turn piece tail (Err NoMemory) old new before after taken stream held able open_ split none =
+      subst (λ (h : H). IsTurn step contents remaining moment old before new h) (sym taken.1)
+      (read_turn step contents remaining moment old new before [] taken.0
+      (subst (λ (s : S). Keeps (contents old.stream) (contents s)) (sym stream) (keeps_same (contents old.stream)))
+      (subst (λ (s : S). Consumes (remaining old.stream) (remaining s) []) (sym stream) (consumes_none (remaining old.stream)))
+      (λ a. absurd (not_ok NoMemory (held a).1)) none)
+
+others_of : (c d : Connection) → d ≡ c → d ≡ record c { output = d.output }
+others_of c d same = same ∙ sym (ap (λ (e : Connection). record c { output = e.output }) same)
+
+-- ---- writing
+
+module _ {S : Type 0} (contents remaining : S → Option (List ℕ)) where
+  -- what is written is the front of what waits
+  pub sent_follows : (first : S) (done : List Done) (old new : Link S) → IsSent contents remaining old new → IsFollowed contents remaining first done old
+      → IsFollowed contents remaining first done new
+  sent_follows first done old new s f =
+      let r = f.received in record {
+        received = record {
+          came = r.came;
+          others = r.others;
+          whole = r.whole;
+          end = r.end;
+          sent = r.sent ++ s.sent;
+          waiting = new.connection.output;
+          read = keeps_consumes (remaining first) (remaining old.stream) (remaining new.stream) (r.came ++ r.others) r.read s.unread;
+          performed = r.performed;
+          answers = r.answers ∙ ap (λ (xs : List ℕ). r.sent ++ xs) (f.waiting ∙ s.waiting) ∙ sym (append_assoc r.sent s.sent new.connection.output);
+          written = appends_then (contents first) (contents old.stream) (contents new.stream) r.sent s.sent r.written s.written;
+        };
+        waiting = refl;
+        rest = ap (λ (c : Connection). c.rest) s.others ∙ f.rest;
+        stage = ap (λ (c : Connection). c.stage) s.others ∙ f.stage;
+        held = λ able. let h = s.held able in f.held h.0 ∙ sym h.1;
+      }
+
+-- ---- what is read, and turns in which nothing is written
+
+module _ {S H : Type 0} (step : Steps H) (contents remaining : S → Option (List ℕ)) (moment : ℤ) where
+  pub input_turn : (old new : Link S) (handler : H) → IsRead contents remaining old new → old.connection.output ≡ [] → IsTurn step contents remaining moment old handler new handler
+  input_turn old new handler r none = read_turn step contents remaining moment old new handler r.read r.connection r.unwritten r.consumed r.held none
+
+module _ {S : Type 0} (contents remaining : S → Option (List ℕ)) where
+  pub sent_none : (link : Link S) → IsSent contents remaining link link
+  sent_none link = record {
+    sent = [];
+    written = appends_none (contents link.stream);
+    waiting = refl;
+    unread = keeps_same (remaining link.stream);
+    others = refl;
+    held = λ able. (able, refl);
+  }
+
+  pub sent_then : (a b c : Link S) → IsSent contents remaining a b → IsSent contents remaining b c → IsSent contents remaining a c
+  sent_then a b c s t = record {
+    sent = s.sent ++ t.sent;
+    written = appends_then (contents a.stream) (contents b.stream) (contents c.stream) s.sent t.sent s.written t.written;
+    waiting = s.waiting ∙ ap (λ (xs : List ℕ). s.sent ++ xs) t.waiting ∙ sym (append_assoc s.sent t.sent c.connection.output);
+    unread = keeps_then (remaining a.stream) (remaining b.stream) (remaining c.stream) s.unread t.unread;
+    others = t.others ∙ ap (λ (d : Connection). record d { output = c.connection.output }) s.others;
+    held = λ able. let h = t.held able in let k = s.held h.0 in (k.0, h.1 ∙ k.1);
+  }
+
+  -- nothing but how far it has come changes
+  pub holding_sent : (old new : Link S) → IsHolding [] old new → IsSent contents remaining old new
+  holding_sent old new h = record {
+    sent = [];
+    written = subst (λ (s : S). Appends (contents old.stream) (contents s) []) (sym h.stream) (appends_none (contents old.stream));
+    waiting = ap (λ (c : Connection). c.output) (sym h.connection);
+    unread = subst (λ (s : S). Keeps (remaining old.stream) (remaining s)) (sym h.stream) (keeps_same (remaining old.stream));
+    others = others_of old.connection new.connection h.connection;
+    held = λ able. let k = h.held able in (k.0, k.1 ∙ append-nil old.held);
+  }
+
+-- ---- what is held
+
+pub held_parts : (start count : ℕ) (xs : List ℕ) → drop start xs ≡ take (start + count - start) (drop start xs) ++ drop (start + count) xs
+held_parts start count xs =
+    let less : start + count - start ≡ count = omega arith in
+    sym (take-append-drop count (drop start xs)) ∙ ap (λ (ys : List ℕ). take count (drop start xs) ++ ys) (drop-drop count start xs)
+    ∙ ap (λ (n : ℕ). take n (drop start xs) ++ drop (start + count) xs) (sym less)
+
+-- ---- a write
+
+module _ {S : Type 0} (contents remaining : S → Option (List ℕ)) where
+  -- so many bytes of what waits were written
+  pub written_sent : (old new : Link S) (bytes later : List ℕ) (count : ℕ) → old.connection.output ≡ bytes ++ later → count ≤ length bytes
+      → Appends (contents old.stream) (contents new.stream) (take count bytes) → Keeps (remaining old.stream) (remaining new.stream)
+      → new.connection ≡ record old.connection { output = drop count old.connection.output } → (new.able ≡ true → (old.able ≡ true) × (new.held ≡ old.held))
+      → IsSent contents remaining old new
+  written_sent old new bytes later count front within appends unread taken held =
+      let out : new.connection.output ≡ drop count bytes ++ later = ap (λ (c : Connection). c.output) taken ∙ ap (drop count) front ∙ drop-append-le count bytes later within in
+      record {
+        sent = take count bytes;
+        written = appends;
+        waiting = front ∙ ap (λ (xs : List ℕ). xs ++ later) (sym (take-append-drop count bytes)) ∙ append_assoc (take count bytes) (drop count bytes) later
+            ∙ ap (λ (xs : List ℕ). take count bytes ++ xs) (sym out);
+        unread = unread;
+        others = taken ∙ sym (ap (λ (c : Connection). record old.connection { output = c.output }) taken);
+        held = held;
+      }
+
+  -- nothing was written
+  pub kept_sent : (old new : Link S) → Keeps (contents old.stream) (contents new.stream) → Keeps (remaining old.stream) (remaining new.stream) → new.connection ≡ old.connection
+      → (new.able ≡ true → (old.able ≡ true) × (new.held ≡ old.held)) → IsSent contents remaining old new
+  kept_sent old new unwritten unread same held = record {
+    sent = [];
+    written = appends_kept (contents old.stream) (contents new.stream) unwritten;
+    waiting = ap (λ (c : Connection). c.output) (sym same);
+    unread = unread;
+    others = others_of old.connection new.connection same;
+    held = held;
+  }

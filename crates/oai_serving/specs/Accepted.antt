@@ -1,0 +1,14 @@
+-- Streams that are accepted one after the other, where they are known. This repository's own.
+use Rattle.std.specs.Prelude.{◌≡◌, List, [], ◌∷◌, ◌++◌, ⊤, Option, Some, None, Result, Ok, Err}
+
+-- known streams grow by these
+abbrev pub Accepts : {S : Type 0} → Option (List S) → Option (List S) → List S → Type 0
+Accepts None later streams = ⊤
+Accepts (Some known) None streams = ⊥
+Accepts (Some known) (Some later) streams = later ≡ known ++ streams
+
+-- the next stream was accepted, or none was
+abbrev pub IsAcceptance : {S E : Type 0} → Option (List S) → Result (Option S) E → Option (List S) → Type 0
+IsAcceptance known (Ok (Some stream)) later = Accepts known later (stream ∷ [])
+IsAcceptance known (Ok None) later = Accepts known later []
+IsAcceptance known (Err fault) later = Accepts known later []

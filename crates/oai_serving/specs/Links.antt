@@ -1,0 +1,72 @@
+-- Connections over streams, and what a turn does to one. This repository's own.
+use Rattle.std.specs.Prelude.{◌≡◌, ◌⊎◌, ℕ, ℤ, Bool, true, false, List, [], ◌++◌, Option}
+use Rattle.std.specs.Io.KnownBytes.{Appends, Consumes, Keeps}
+use Rattle.oai_front.specs.Connections.{Connection, fresh, rest_at, stage_at}
+use Rattle.oai_front.specs.Performing.{Done, Run, Steps}
+use Rattle.oai_front.specs.declared.stages.Stage.TheVariants.{Reading}
+use Rattle.oai_serving.specs.Received.{IsReceived}
+use Rattle.oai_serving.specs.declared.phases.Phase.{Phase}
+use Rattle.oai_serving.specs.declared.phases.Phase.TheVariants.{Open, Last, Closing, Over}
+
+-- messages are performed in that phase
+abbrev pub is_able : Phase → Bool
+is_able Open = true
+is_able Last = false
+is_able (Closing since dropped) = false
+is_able Over = false
+
+-- a stream, its connection, the bytes that were read and did not yet come to the connection, and whether they still may
+pub record Link (S : Type 0) : Type 0 where
+  pub stream : S
+  pub connection : Connection
+  pub held : List ℕ
+  pub able : Bool
+
+-- one that was opened just now
+abbrev pub opened : {S : Type 0} → ℕ → S → Link S
+opened number stream = record { stream = stream; connection = fresh number; held = []; able = true }
+
+-- the stream was that one when it was accepted, these messages of it were performed, and the link is what comes of that: what waits to be
+-- written is the rest of their answers, what the connection keeps is the rest of the bytes that came to it, and while the link is able what is
+-- held is all that was read and has not come
+pub record IsFollowed {S : Type 0} (contents remaining : S → Option (List ℕ)) (first : S) (done : List Done) (link : Link S) : Type 0 where
+  pub received : IsReceived contents remaining first link.stream done
+  pub waiting : received.waiting ≡ link.connection.output
+  pub rest : link.connection.rest ≡ rest_at received.end
+  pub stage : link.connection.stage ≡ stage_at Reading received.end
+  pub held : link.able ≡ true → received.others ≡ link.held
+
+-- those bytes were read of the stream of the link: they are held, or nothing more is performed
+pub record IsHolding {S : Type 0} (read : List ℕ) (old new : Link S) : Type 0 where
+  pub stream : new.stream ≡ old.stream
+  pub connection : new.connection ≡ old.connection
+  pub held : new.able ≡ true → (old.able ≡ true) × (new.held ≡ old.held ++ read)
+
+-- the stream of the link was read, and what came is held, or nothing more is performed
+pub record IsRead {S : Type 0} (contents remaining : S → Option (List ℕ)) (old new : Link S) : Type 0 where
+  pub read : List ℕ
+  pub consumed : Consumes (remaining old.stream) (remaining new.stream) read
+  pub unwritten : Keeps (contents old.stream) (contents new.stream)
+  pub connection : new.connection ≡ old.connection
+  pub held : new.able ≡ true → (old.able ≡ true) × (new.held ≡ old.held ++ read)
+
+-- a turn in which a link is read: some messages are performed, at that moment, nothing is written, and whatever came of the link before, these
+-- messages come behind it; while something waits to be written nothing is read and nothing performed
+pub record IsTurn {S H : Type 0} (step : Steps H) (contents remaining : S → Option (List ℕ)) (moment : ℤ) (old : Link S) (before : H) (new : Link S) (after : H) : Type 0 where
+  pub done : List Done
+  pub run : Run step moment before done after
+  pub same : new.connection.number ≡ old.connection.number
+  pub unwritten : Keeps (contents old.stream) (contents new.stream)
+  pub read : List ℕ
+  pub consumed : Consumes (remaining old.stream) (remaining new.stream) read
+  pub idle : (old.connection.output ≡ []) ⊎ (new ≡ old)
+  pub follows : (first : S) (earlier : List Done) → IsFollowed contents remaining first earlier old → IsFollowed contents remaining first (earlier ++ done) new
+
+-- a turn in which a link is written: the front of what waits goes to the stream, once and in order; nothing is read, and nothing performed
+pub record IsSent {S : Type 0} (contents remaining : S → Option (List ℕ)) (old new : Link S) : Type 0 where
+  pub sent : List ℕ
+  pub written : Appends (contents old.stream) (contents new.stream) sent
+  pub waiting : old.connection.output ≡ sent ++ new.connection.output
+  pub unread : Keeps (remaining old.stream) (remaining new.stream)
+  pub others : new.connection ≡ record old.connection { output = new.connection.output }
+  pub held : new.able ≡ true → (old.able ≡ true) × (new.held ≡ old.held)

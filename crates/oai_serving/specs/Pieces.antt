@@ -1,0 +1,32 @@
+-- Pieces that end where a head may end: at a line feed behind the end of a line. This repository's own.
+use Rattle.std.specs.Prelude.{ℕ, ◌+◌, Bool, true, false, ◌&&◌, ◌==◌, if◌then◌else◌, List, [], ◌∷◌}
+use Rattle.oai_serving.specs.declared.pieces.Line.{Line}
+use Rattle.oai_serving.specs.declared.pieces.Line.TheVariants.{Begun, Ended, Returned}
+
+-- a carriage return behind a line feed, or behind something else
+abbrev pub returned : Line → Line
+returned Ended = Returned
+returned Begun = Begun
+returned Returned = Begun
+
+-- what the bytes end with once that byte came behind them
+abbrev pub line_after : Line → ℕ → Line
+line_after line byte = if byte == 10 then Ended else (if byte == 13 then returned line else Begun)
+
+abbrev pub is_ended : Line → Bool
+is_ended Ended = true
+is_ended Returned = true
+is_ended Begun = false
+
+-- the byte ends a piece: a line feed behind the end of a line
+abbrev pub ends_piece : Line → ℕ → Bool
+ends_piece line byte = (byte == 10) && is_ended line
+
+-- so many bytes more
+abbrev pub more : ℕ → ℕ × Line → ℕ × Line
+more count piece = (count + piece.0, piece.1)
+
+-- how many of the bytes are the next piece, those through the first that ends one, or all; and what they end with
+abbrev pub piece_of : Line → List ℕ → ℕ × Line
+piece_of line [] = (0, line)
+piece_of line (byte ∷ bytes) = if ends_piece line byte then (1, line_after line byte) else more 1 (piece_of (line_after line byte) bytes)

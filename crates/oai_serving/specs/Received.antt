@@ -1,0 +1,20 @@
+-- What a client received over a stream. This repository's own.
+use Rattle.std.specs.Prelude.{◌≡◌, ℕ, Bool, List, ◌++◌, Option}
+use Rattle.std.specs.Io.KnownBytes.{Appends, Consumes}
+use Rattle.oai_front.specs.Messages.{End}
+use Rattle.oai_front.specs.Performing.{Done, answers_of, end_bytes, messages_of}
+use Rattle.oai_front.specs.Runs.{ArePerformed}
+
+-- of the bytes that were read of the stream the first ones, `came`, were looked at for messages; these were performed, all or the first of
+-- them; and what was written to it is the front of their answers, and of the answer to a connection fault behind them
+pub record IsReceived {S : Type 0} (contents remaining : S → Option (List ℕ)) (first last : S) (done : List Done) : Type 0 where
+  pub came : List ℕ
+  pub others : List ℕ
+  pub whole : Bool
+  pub end : End
+  pub sent : List ℕ
+  pub waiting : List ℕ
+  pub read : Consumes (remaining first) (remaining last) (came ++ others)
+  pub performed : ArePerformed whole came (messages_of done) end
+  pub answers : answers_of done ++ end_bytes end ≡ sent ++ waiting
+  pub written : Appends (contents first) (contents last) sent

@@ -1,0 +1,130 @@
+-- A server: what a round does, and many of them. This repository's own.
+use Rattle.std.specs.Prelude.{◌≡◌, ◌⊎◌, ℕ, ◌+◌, List, [], ◌∷◌, ◌++◌, length, Option, None, Some, Result, Ok, Err}
+use Rattle.std.specs.List.{flat_map}
+use Rattle.slab.specs.Slab.{SameValues, Slab, Updates, get}
+use Rattle.oai_http.specs.declared.handlers.SettleFault.{SettleFault}
+use Rattle.oai_front.specs.Performing.{Chain, Steps}
+use Rattle.oai_front.specs.Runs.{Served, Serves}
+use Rattle.oai_serving.specs.Accepted.{Accepts}
+use Rattle.oai_serving.specs.Links.{Link}
+use Rattle.oai_serving.specs.Tables.{AreAnswered, AreKept, AreSent}
+use Rattle.oai_serving.specs.declared.faults.ServeFault.{ServeFault}
+use Rattle.oai_serving.specs.declared.faults.ServeFault.TheVariants.{Wait, Clock, Unsettled}
+
+-- what performs the messages, the links, and how many streams were accepted
+pub record World (S H : Type 0) : Type 0 where
+  pub handler : H
+  pub links : Slab (Link S)
+  pub last : ℕ
+
+-- ---- steps of a round
+
+-- links were written, or taken away
+pub record IsWritten {S H : Type 0} (contents remaining : S → Option (List ℕ)) (old new : World S H) : Type 0 where
+  pub handler : new.handler ≡ old.handler
+  pub last : new.last ≡ old.last
+  pub links : AreSent contents remaining old.links new.links
+
+-- streams were accepted, each with the next number, and links begin with them, or they were let go
+pub record AreAccepted {S H : Type 0} (contents remaining : S → Option (List ℕ)) (known later : Option (List S)) (old new : World S H) : Type 0 where
+  pub streams : List S
+  pub accepts : Accepts known later streams
+  pub handler : new.handler ≡ old.handler
+  pub last : new.last ≡ old.last + length streams
+  pub kept : (accepted : List S) (served : List Served) → old.last ≡ length accepted → AreKept contents remaining accepted served old.links
+      → AreKept contents remaining (accepted ++ streams) served new.links
+
+-- that link was put under a key that had none, or was let go; no other changes
+abbrev pub HasOneMore : {S : Type 0} → Link S → Slab (Link S) → Slab (Link S) → Type 0
+HasOneMore link old new = ((key : ℕ) × (get old key ≡ None) × Updates old new key (Some link)) ⊎ SameValues old new
+
+-- the stream was accepted with the next number, and a link begins with it, or it was let go
+pub record IsAdmitted {S H : Type 0} (contents remaining : S → Option (List ℕ)) (stream : S) (old new : World S H) : Type 0 where
+  pub handler : new.handler ≡ old.handler
+  pub last : new.last ≡ old.last + 1
+  pub kept : (accepted : List S) (served : List Served) → old.last ≡ length accepted → AreKept contents remaining accepted served old.links
+      → AreKept contents remaining (accepted ++ stream ∷ []) served new.links
+
+-- ---- a round
+
+-- what a handler does to settle: from what it was it may return that, and go on as what it then is
+abbrev pub Settles : Type 0 → Type 1
+Settles H = H → Result Unit SettleFault → H → Type 0
+
+-- how a round ends: the handler settled, or did not, or came to nothing
+abbrev pub IsSettled : {H : Type 0} → Settles H → H → Result Unit ServeFault → H → Type 0
+IsSettled settled mid (Ok done) new = settled mid (Ok tt) new
+IsSettled settled mid (Err Unsettled) new = (cause : SettleFault) × settled mid (Err cause) new
+IsSettled settled mid (Err Wait) new = new ≡ mid
+IsSettled settled mid (Err Clock) new = new ≡ mid
+
+-- after a round that was Ok the links are what came of all that was served; after another no client has more than the answers to what was
+-- served before the round
+abbrev pub Outcome : {S : Type 0} → (S → Option (List ℕ)) → (S → Option (List ℕ)) → List S → List Served → List Served → Result Unit ServeFault → Slab (Link S) → Type 0
+Outcome contents remaining accepted earlier served (Ok done) links = AreKept contents remaining accepted (earlier ++ served) links
+Outcome contents remaining accepted earlier served (Err fault) links = AreAnswered contents remaining accepted earlier links
+
+-- links are read, what comes is served, the handler settles, and only then links are written
+pub record IsPerformance {S H : Type 0} (step : Steps H) (settled : Settles H) (contents remaining : S → Option (List ℕ)) (old : World S H) (result : Result Unit ServeFault) (new : World S H) : Type 0 where
+  pub served : List Served
+  pub mid : H
+  pub run : Serves step old.handler served mid
+  pub settles : IsSettled settled mid result new.handler
+  pub last : new.last ≡ old.last
+  pub outcome : (accepted : List S) (earlier : List Served) → AreKept contents remaining accepted earlier old.links → Outcome contents remaining accepted earlier served result new.links
+
+-- a round: streams are accepted, links are read, what comes is served, the handler settles, and only then links are written
+pub record IsRound {S H : Type 0} (step : Steps H) (settled : Settles H) (contents remaining : S → Option (List ℕ)) (known later : Option (List S))
+    (old : World S H) (result : Result Unit ServeFault) (new : World S H) : Type 0 where
+  pub served : List Served
+  pub mid : H
+  pub run : Serves step old.handler served mid
+  pub settles : IsSettled settled mid result new.handler
+  pub streams : List S
+  pub accepts : Accepts known later streams
+  pub last : new.last ≡ old.last + length streams
+  pub outcome : (accepted : List S) (earlier : List Served) → old.last ≡ length accepted → AreKept contents remaining accepted earlier old.links
+      → Outcome contents remaining (accepted ++ streams) earlier served result new.links
+
+-- ---- rounds
+
+-- what was served in rounds, in order
+abbrev pub served_in : List (List Served) → List Served
+served_in rounds = flat_map (λ (served : List Served). served) rounds
+
+-- in each of the rounds messages were served, and then the handler settled
+abbrev pub AreSettled : {H : Type 0} → Steps H → Settles H → List (List Served) → H → H → Type 0
+AreSettled {H} step settled rounds old new = Chain (λ served before after. (mid : H) × Serves step before served mid × settled mid (Ok tt) after) rounds old new
+
+-- rounds, all of them Ok
+pub record AreRounds {S H : Type 0} (step : Steps H) (settled : Settles H) (contents remaining : S → Option (List ℕ)) (known later : Option (List S)) (old new : World S H) : Type 0 where
+  pub rounds : List (List Served)
+  pub settles : AreSettled step settled rounds old.handler new.handler
+  pub streams : List S
+  pub accepts : Accepts known later streams
+  pub last : new.last ≡ old.last + length streams
+  pub kept : (accepted : List S) (earlier : List Served) → old.last ≡ length accepted → AreKept contents remaining accepted earlier old.links
+      → AreKept contents remaining (accepted ++ streams) (earlier ++ served_in rounds) new.links
+
+-- how it ended: what the last round performed, and whether the handler settled behind it
+pub record IsEnd {H : Type 0} (step : Steps H) (settled : Settles H) (mid : H) (fault : ServeFault) (new : H) : Type 0 where
+  pub served : List Served
+  pub performed : H
+  pub run : Serves step mid served performed
+  pub settles : IsSettled settled performed (Err fault) new
+
+abbrev pub Ends : {H : Type 0} → Steps H → Settles H → H → Result Unit ServeFault → H → Type 0
+Ends step settled mid (Ok done) new = new ≡ mid
+Ends step settled mid (Err fault) new = IsEnd step settled mid fault new
+
+-- a service: rounds in which the handler settled, and one that ended it, in which further messages may have been performed. No client has more
+-- than the front of the answers to those of its messages that were served in the rounds that settled
+pub record IsService {S H : Type 0} (step : Steps H) (settled : Settles H) (contents remaining : S → Option (List ℕ)) (known later : Option (List S)) (old : World S H) (result : Result Unit ServeFault) (new : World S H) : Type 0 where
+  pub rounds : List (List Served)
+  pub mid : H
+  pub settles : AreSettled step settled rounds old.handler mid
+  pub ends : Ends step settled mid result new.handler
+  pub streams : List S
+  pub accepts : Accepts known later streams
+  pub answered : (accepted : List S) (earlier : List Served) → old.last ≡ length accepted → AreKept contents remaining accepted earlier old.links
+      → AreAnswered contents remaining (accepted ++ streams) (earlier ++ served_in rounds) new.links

@@ -1,0 +1,64 @@
+-- Links under keys, and what a round does to them. This repository's own.
+use Rattle.std.specs.Prelude.{◌≡◌, ℕ, ℤ, ◌+◌, ◌<◌, ◌≤◌, List, [], ◌∷◌, ◌++◌, length, ⊤, Option, Some}
+use Rattle.std.specs.Io.KnownBytes.{Consumes, Keeps}
+use Rattle.slab.specs.Slab.{Slab, get, slab_len}
+use Rattle.oai_front.specs.Performing.{Steps}
+use Rattle.oai_front.specs.Runs.{Served, Serves, done_on}
+use Rattle.oai_serving.specs.Links.{IsFollowed, IsSent, Link}
+use Rattle.oai_serving.specs.Received.{IsReceived}
+
+-- the stream is the one of that number among those that were accepted
+pub record IsNumbered {S : Type 0} (accepted : List S) (number : ℕ) (stream : S) : Type 0 where
+  pub front : List S
+  pub later : List S
+  pub stands : accepted ≡ front ++ stream ∷ later
+  pub at : number ≡ length front + 1
+
+-- the link is what came of the stream that was accepted under its number, where these messages were served
+pub record IsKept {S : Type 0} (contents remaining : S → Option (List ℕ)) (accepted : List S) (served : List Served) (link : Link S) : Type 0 where
+  pub first : S
+  pub numbered : IsNumbered accepted link.connection.number first
+  pub follows : IsFollowed contents remaining first (done_on link.connection.number served) link
+
+-- each of the links is what came of its stream, no two are of one, and nothing was served of one that is not yet accepted
+pub record AreKept {S : Type 0} (contents remaining : S → Option (List ℕ)) (accepted : List S) (served : List Served) (links : Slab (Link S)) : Type 0 where
+  pub each : (key : ℕ) (link : Link S) → get links key ≡ Some link → IsKept contents remaining accepted served link
+  pub one : (key other : ℕ) (a b : Link S) → get links key ≡ Some a → get links other ≡ Some b → a.connection.number ≡ b.connection.number → key ≡ other
+  pub later : (number : ℕ) → length accepted < number → done_on number served ≡ []
+
+-- the client of that link received no more than the front of the answers to those of its messages that were served
+pub record IsAnswered {S : Type 0} (contents remaining : S → Option (List ℕ)) (accepted : List S) (served : List Served) (link : Link S) : Type 0 where
+  pub first : S
+  pub numbered : IsNumbered accepted link.connection.number first
+  pub received : IsReceived contents remaining first link.stream (done_on link.connection.number served)
+
+abbrev pub AreAnswered : {S : Type 0} → (S → Option (List ℕ)) → (S → Option (List ℕ)) → List S → List Served → Slab (Link S) → Type 0
+AreAnswered {S} contents remaining accepted served links = (key : ℕ) (link : Link S) → get links key ≡ Some link → IsAnswered contents remaining accepted served link
+
+-- all was served at that moment
+abbrev pub AreAt : ℤ → List Served → Type 0
+AreAt moment [] = ⊤
+AreAt moment (s ∷ served) = (s.moment ≡ moment) × AreAt moment served
+
+-- the link of the key was there, and since then it may have been read, and nothing was written to it
+pub record IsUnwritten {S : Type 0} (contents remaining : S → Option (List ℕ)) (old : Slab (Link S)) (key : ℕ) (link : Link S) : Type 0 where
+  pub before : Link S
+  pub stood : get old key ≡ Some before
+  pub same : link.connection.number ≡ before.connection.number
+  pub unwritten : Keeps (contents before.stream) (contents link.stream)
+  pub read : List ℕ
+  pub consumed : Consumes (remaining before.stream) (remaining link.stream) read
+
+-- links were read, and what came was served at that moment; nothing was written
+pub record AreTurned {S H : Type 0} (step : Steps H) (contents remaining : S → Option (List ℕ)) (moment : ℤ) (old : Slab (Link S)) (before : H) (new : Slab (Link S)) (after : H) : Type 0 where
+  pub served : List Served
+  pub run : Serves step before served after
+  pub at : AreAt moment served
+  pub unwritten : (key : ℕ) (link : Link S) → get new key ≡ Some link → IsUnwritten contents remaining old key link
+  pub follows : (accepted : List S) (earlier : List Served) → AreKept contents remaining accepted earlier old → AreKept contents remaining accepted (earlier ++ served) new
+  pub count : slab_len new ≡ slab_len old
+
+-- links were written, each of what waits on it, and some were taken away
+pub record AreSent {S : Type 0} (contents remaining : S → Option (List ℕ)) (old new : Slab (Link S)) : Type 0 where
+  pub each : (key : ℕ) (link : Link S) → get new key ≡ Some link → (before : Link S) × (get old key ≡ Some before) × IsSent contents remaining before link
+  pub count : slab_len new ≤ slab_len old

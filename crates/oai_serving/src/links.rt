@@ -1,0 +1,384 @@
+//! A connection over a stream.
+ghost use Rattle.std.specs.Prelude.{◌≡◌, ◌≤◌, ◌<◌, [], true, false, length};
+ghost use Rattle.oai_front.specs.Stages.{is_closing};
+ghost use Rattle.oai_serving.specs.Links.{IsHolding, IsRead, IsSent, IsTurn, is_able, opened};
+
+use crate::phases::Phase;
+use crate::pieces::{Line, next_piece};
+use crate::sockets::Stream;
+use oai_front::Connection;
+use oai_http::Handler;
+use std::alloc::Global;
+use std::io::{self, ErrorKind};
+use std::marker::Model;
+
+/// The most bytes of one read.
+pub const READ_BYTES: usize = 65_536;
+
+/// The most writes of a turn.
+const MAX_WRITES: usize = 64;
+
+/// The seconds in which no byte goes either way after which a connection is closed.
+const IDLE_SECONDS: u64 = 60;
+
+/// The seconds after its first byte within which a message has to become whole.
+const MESSAGE_SECONDS: u64 = 300;
+
+/// The seconds for which a connection that is shut for writing is still read.
+const CLOSING_SECONDS: u64 = 2;
+
+/// The bytes that are read, and dropped, of a connection that is shut for writing.
+const CLOSING_BYTES: usize = 1_048_576;
+
+/// A connection over a stream: the bytes that were read and did not yet come to the connection, those from
+/// `start` on in `held`; and when a byte went either way last, and the message that is not whole began, in
+/// seconds of a clock.
+#[derive(Drop)]
+pub struct Link<S> {
+    stream: S,
+    connection: Connection,
+    held: Vec<u8>,
+    start: usize,
+    line: Line,
+    phase: Phase,
+    readable: bool,
+    writable: bool,
+    ended: bool,
+    heard: u64,
+    begun: Option<u64>,
+}
+
+impl<S> Model for Link<S> {
+    ghost use Rattle.oai_serving.specs.Links.{Link as View};
+
+    ghost Value = { View S };
+
+    ghost use Rattle.oai_serving.specs.Inside.{IsLink, link_in};
+
+    ghost view = { link_in };
+
+    ghost invariant = { IsLink };
+}
+
+impl<S: Stream> Link<S> {
+    /// A connection of that number that was opened over the stream in that second.
+    pub(crate) fn new(alloc: Global, number: u64, stream: S, second: u64) -> Link<S>
+        ensures { result ≡ opened number stream }
+    {
+        Link {
+            stream,
+            connection: Connection::new(alloc, number),
+            held: Vec::new(alloc),
+            start: 0,
+            line: Line::Begun,
+            phase: Phase::Open,
+            readable: true,
+            writable: true,
+            ended: false,
+            heard: second,
+            begun: None,
+        }
+    }
+
+    /// Whether something waits to be written.
+    fn waits(&self) -> bool
+        ensures { result ≡ false → self.now.connection.output ≡ [] }
+    {
+        !self.connection.output().is_empty()
+    }
+
+    /// Whether there is a piece that may be performed: one is held, and nothing waits to be written.
+    fn has_piece(&self) -> bool
+        ensures able { result ≡ true → self.now.able ≡ true }
+        ensures reads { result ≡ true → is_closing self.now.connection.stage ≡ false }
+        ensures idle { result ≡ true → self.now.connection.output ≡ [] }
+    {
+        if !self.phase.is_open() || self.start == self.held.len() {
+            return false;
+        }
+        if self.connection.is_closing() {
+            return false;
+        }
+        !self.waits()
+    }
+
+    /// Hands in the next piece, and performs what is whole with it. Nothing may wait to be written.
+    fn hand_in<H: Handler>(&mut self, alloc: Global, handler: &mut H, moment: i64)
+        requires able { self.old.able ≡ true }
+        requires reads { is_closing self.old.connection.stage ≡ false }
+        requires idle { self.old.connection.output ≡ [] }
+        ensures { IsTurn H.step S.contents S.remaining moment self.old handler.old self.new handler.new }
+    {
+        let (count, line) = next_piece(self.line, &self.held[self.start..]);
+        let piece = &self.held[self.start..self.start + count];
+        match self.connection.piece(alloc, handler, moment, piece) {
+            Ok(()) => {
+                self.start += count;
+                self.line = line;
+            }
+            Err(_) => self.phase = Phase::Last,
+        }
+    }
+
+    /// Hands in pieces until something waits to be written, or none is held.
+    fn perform<H: Handler>(&mut self, alloc: Global, handler: &mut H, moment: i64)
+        ensures { IsTurn H.step S.contents S.remaining moment self.old handler.old self.new handler.new }
+    {
+        for _ in 0..READ_BYTES {
+            if !self.has_piece() {
+                return;
+            }
+            self.hand_in(alloc, handler, moment);
+        }
+    }
+
+    /// A turn in which it is read: reads at most once, and performs what came, until something waits to be
+    /// written. While something waits nothing is read and nothing performed. Returns how many bytes it then
+    /// keeps, none where something waited.
+    pub(crate) fn read<H: Handler>(
+        &mut self,
+        alloc: Global,
+        handler: &mut H,
+        moment: i64,
+        second: u64,
+        buffer: &mut [u8],
+    ) -> usize
+        ensures { IsTurn H.step S.contents S.remaining moment self.old handler.old self.new handler.new }
+    {
+        if self.waits() {
+            return 0;
+        }
+        self.take_input(alloc, second, buffer);
+        self.perform(alloc, handler, moment);
+        self.size()
+    }
+
+    /// Whether the stream may have something, and all that was read has come to the connection.
+    fn may_read(&self) -> bool
+        ensures { result ≡ true → self.now.held ≡ [] }
+    {
+        self.readable && self.start == self.held.len()
+    }
+
+    /// Reads once where it may: what comes is held.
+    fn take_input(&mut self, alloc: Global, second: u64, buffer: &mut [u8])
+        ensures { IsRead S.contents S.remaining self.old self.new }
+    {
+        if !self.may_read() {
+            return;
+        }
+        match self.stream.read(buffer) {
+            Ok(0) => self.phase = self.phase.at_end(),
+            Ok(count) => {
+                let whole = count == buffer.len();
+                self.keep(alloc, second, &buffer[..count], whole);
+            }
+            Err(error) => self.unread(error),
+        }
+    }
+
+    /// Holds the bytes that were read, where they are performed; whether they filled the buffer.
+    fn keep(&mut self, alloc: Global, second: u64, bytes: &[u8], whole: bool)
+        requires { self.old.held ≡ [] }
+        ensures { IsHolding bytes.now self.old self.new }
+    {
+        self.heard = second;
+        self.readable = whole || self.ended;
+        match self.phase {
+            Phase::Open => self.hold(alloc, bytes),
+            Phase::Last => {}
+            Phase::Closing { since, dropped } => {
+                self.phase = closing(since, dropped.saturating_add(bytes.len()));
+            }
+            Phase::Over => {}
+        }
+    }
+
+    /// Holds the bytes; where memory is refused nothing more is performed.
+    fn hold(&mut self, alloc: Global, bytes: &[u8])
+        requires { self.old.held ≡ [] }
+        ensures { IsHolding bytes.now self.old self.new }
+    {
+        let mut held = Vec::new(alloc);
+        match held.extend_from_slice(bytes) {
+            Ok(()) => {
+                self.held = held;
+                self.start = 0;
+            }
+            Err(_) => self.phase = Phase::Last,
+        }
+    }
+
+    /// What a read that failed makes of it: it waits, tries again or is over.
+    fn unread(&mut self, error: io::Error)
+        ensures { IsHolding [] self.old self.new }
+    {
+        match error.kind() {
+            ErrorKind::WouldBlock => self.readable = self.ended,
+            ErrorKind::Interrupted => {}
+            _ => self.phase = Phase::Over,
+        }
+    }
+
+    /// Whether something waits to be written, and may be.
+    fn may_write(&self) -> bool {
+        self.writable && self.phase != Phase::Over && self.waits()
+    }
+
+    /// A turn in which it is written: what waits is written as far as it goes; and it goes on in its life.
+    pub(crate) fn put(&mut self, alloc: Global, second: u64)
+        ensures { IsSent S.contents S.remaining self.old self.new }
+    {
+        self.write_all(second);
+        self.go_on(alloc, second);
+    }
+
+    /// Writes what waits as far as it goes.
+    fn write_all(&mut self, second: u64)
+        ensures { IsSent S.contents S.remaining self.old self.new }
+    {
+        for _ in 0..MAX_WRITES {
+            if !self.may_write() {
+                return;
+            }
+            self.write(second);
+        }
+    }
+
+    /// Writes once.
+    fn write(&mut self, second: u64)
+        ensures { IsSent S.contents S.remaining self.old self.new }
+    {
+        match self.stream.write(self.connection.output()) {
+            Ok(0) => self.phase = Phase::Over,
+            Ok(count) => {
+                self.connection.take(count);
+                self.heard = second;
+            }
+            Err(error) => self.unwritten(error),
+        }
+    }
+
+    /// What a write that failed makes of it: it waits, tries again or is over.
+    fn unwritten(&mut self, error: io::Error)
+        ensures { IsHolding [] self.old self.new }
+    {
+        match error.kind() {
+            ErrorKind::WouldBlock => self.writable = false,
+            ErrorKind::Interrupted => {}
+            _ => self.phase = Phase::Over,
+        }
+    }
+
+    /// Takes note of what became ready.
+    pub(crate) fn note(&mut self, readable: bool, writable: bool, ended: bool)
+        ensures { self.new ≡ self.old }
+    {
+        self.ended = self.ended || ended;
+        self.readable = self.readable || readable || ended;
+        self.writable = self.writable || writable;
+    }
+
+    /// Goes on in its life, in that second: once nothing waits to be written it is shut where the connection
+    /// is closed, and over where nothing more is performed; and it is over when its time is.
+    fn go_on(&mut self, alloc: Global, second: u64)
+        ensures { IsSent S.contents S.remaining self.old self.new }
+    {
+        self.note_begun(second);
+        if self.is_late(second) {
+            self.phase = Phase::Over;
+            return;
+        }
+        if self.waits() {
+            return;
+        }
+        match self.phase {
+            Phase::Open => self.close_after(alloc, second),
+            Phase::Last => self.phase = Phase::Over,
+            Phase::Closing {
+                since: _,
+                dropped: _,
+            } => {}
+            Phase::Over => {}
+        }
+    }
+
+    /// Shuts it for writing, where the connection is closed.
+    fn close_after(&mut self, alloc: Global, second: u64)
+        ensures { IsSent S.contents S.remaining self.old self.new }
+    {
+        if !self.connection.is_closing() {
+            return;
+        }
+        self.stream.finish();
+        self.phase = closing(second, 0);
+        self.held = Vec::new(alloc);
+        self.start = 0;
+    }
+
+    /// Takes note of when the message began that is not whole.
+    fn note_begun(&mut self, second: u64)
+        ensures { self.new ≡ self.old }
+    {
+        if !self.connection.has_rest() {
+            self.begun = None;
+            return;
+        }
+        if self.waits() || self.begun.is_none() {
+            self.begun = Some(second);
+        }
+    }
+
+    /// Whether its time is over in that second.
+    fn is_late(&self, second: u64) -> bool {
+        match self.phase {
+            Phase::Open => self.is_idle(second),
+            Phase::Last => self.is_idle(second),
+            Phase::Closing { since, dropped } => {
+                second.saturating_sub(since) >= CLOSING_SECONDS || dropped >= CLOSING_BYTES
+            }
+            Phase::Over => true,
+        }
+    }
+
+    /// Whether no byte went either way for 60 seconds, or a message has not become whole for 300.
+    fn is_idle(&self, second: u64) -> bool {
+        if second.saturating_sub(self.heard) >= IDLE_SECONDS {
+            return true;
+        }
+        match self.begun {
+            Some(begun) => second.saturating_sub(begun) >= MESSAGE_SECONDS,
+            None => false,
+        }
+    }
+
+    /// Whether it is to be taken away.
+    pub(crate) fn is_over(&self) -> bool {
+        self.phase == Phase::Over
+    }
+
+    /// Whether it has something to do without waiting.
+    pub(crate) fn is_busy(&self) -> bool {
+        if self.waits() {
+            return self.writable;
+        }
+        self.has_piece() || self.may_read()
+    }
+
+    /// The second in which a byte went either way last.
+    pub(crate) fn heard(&self) -> u64 {
+        self.heard
+    }
+
+    /// How many bytes it keeps, at most `usize::MAX`.
+    pub(crate) fn size(&self) -> usize {
+        self.connection.size().saturating_add(self.held.len())
+    }
+}
+
+/// It was shut for writing in that second, and so many bytes were dropped since.
+fn closing(since: u64, dropped: usize) -> Phase
+    ensures { is_able result ≡ false }
+{
+    Phase::Closing { since, dropped }
+}

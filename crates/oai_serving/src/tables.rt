@@ -1,0 +1,171 @@
+//! Links under keys.
+ghost use Rattle.std.specs.Prelude.{◌≡◌, ◌≤◌, ◌<◌, length};
+ghost use Rattle.oai_serving.specs.Tables.{AreSent, AreTurned};
+
+use crate::links::Link;
+use crate::sockets::Stream;
+use oai_http::Handler;
+use slab::Slab;
+use std::alloc::Global;
+
+/// The most connections that are open at once.
+pub const MAX_LINKS: usize = 1_024;
+
+/// The bytes that may be held back in a round before it performs no more.
+const MAX_ROUND_BYTES: usize = 16_777_216;
+
+/// The bytes that all links may keep.
+const MAX_BYTES: usize = 268_435_456;
+
+/// Reads the link of the key, and performs what came; how many bytes it keeps then, none where it waited to be
+/// written.
+fn read_at<S: Stream, H: Handler>(
+    alloc: Global,
+    links: &mut Slab<Link<S>>,
+    key: usize,
+    handler: &mut H,
+    moment: i64,
+    second: u64,
+    buffer: &mut [u8],
+) -> usize
+    ensures { AreTurned H.step S.contents S.remaining moment links.old handler.old links.new handler.new }
+{
+    match links.get_mut(key) {
+        Some(link) => link.read(alloc, handler, moment, second, buffer),
+        None => 0,
+    }
+}
+
+/// Reads the links, from that key on, and performs what comes, until more is held back than a round may; the
+/// key at which the next round begins.
+pub(crate) fn read_all<S: Stream, H: Handler>(
+    alloc: Global,
+    links: &mut Slab<Link<S>>,
+    first: usize,
+    handler: &mut H,
+    moment: i64,
+    second: u64,
+    buffer: &mut [u8],
+) -> usize
+    ensures { AreTurned H.step S.contents S.remaining moment links.old handler.old links.new handler.new }
+{
+    let most = links.capacity();
+    let mut key = first;
+    let mut bytes: usize = 0;
+    for _ in 0..most {
+        if bytes > MAX_ROUND_BYTES {
+            return key;
+        }
+        if key >= most {
+            key = 0;
+        }
+        bytes = bytes.saturating_add(read_at(alloc, links, key, handler, moment, second, buffer));
+        key = key.saturating_add(1);
+    }
+    first
+}
+
+/// Takes note that the link of the key became ready.
+pub(crate) fn note_at<S: Stream>(
+    links: &mut Slab<Link<S>>,
+    key: usize,
+    readable: bool,
+    writable: bool,
+    ended: bool,
+)
+    ensures { AreSent S.contents S.remaining links.old links.new }
+{
+    match links.get_mut(key) {
+        Some(link) => link.note(readable, writable, ended),
+        None => {}
+    }
+}
+
+/// Writes what waits on the link of the key, as far as it goes, and lets it go on in its life.
+fn put_at<S: Stream>(alloc: Global, links: &mut Slab<Link<S>>, key: usize, second: u64)
+    ensures { AreSent S.contents S.remaining links.old links.new }
+{
+    match links.get_mut(key) {
+        Some(link) => link.put(alloc, second),
+        None => {}
+    }
+}
+
+/// Takes the link of the key away, where it is over.
+fn end_at<S: Stream + Drop>(links: &mut Slab<Link<S>>, key: usize)
+    ensures { AreSent S.contents S.remaining links.old links.new }
+{
+    if is_over_at(links, key) {
+        take_away(links, key);
+    }
+}
+
+/// Takes the link of the key away, where there is one.
+fn take_away<S: Stream + Drop>(links: &mut Slab<Link<S>>, key: usize)
+    ensures { AreSent S.contents S.remaining links.old links.new }
+{
+    links.try_remove(key);
+}
+
+/// Whether the link of the key is over.
+fn is_over_at<S: Stream>(links: &Slab<Link<S>>, key: usize) -> bool {
+    match links.get(key) {
+        Some(link) => link.is_over(),
+        None => false,
+    }
+}
+
+/// Writes what waits on all links, and takes away those that are over.
+pub(crate) fn put_all<S: Stream + Drop>(alloc: Global, links: &mut Slab<Link<S>>, second: u64)
+    ensures { AreSent S.contents S.remaining links.old links.new }
+{
+    for key in 0..links.capacity() {
+        put_at(alloc, links, key, second);
+        end_at(links, key);
+    }
+}
+
+/// Takes links away while all keep more than they may, the one on which no byte went for the longest first.
+pub(crate) fn shed_all<S: Stream + Drop>(links: &mut Slab<Link<S>>)
+    ensures { AreSent S.contents S.remaining links.old links.new }
+{
+    for _ in 0..links.capacity() {
+        if size_of(links) <= MAX_BYTES {
+            return;
+        }
+        let key = idlest_of(links);
+        take_away(links, key);
+    }
+}
+
+/// How many bytes all links keep, at most `usize::MAX`.
+fn size_of<S: Stream>(links: &Slab<Link<S>>) -> usize {
+    let mut size: usize = 0;
+    for (_, link) in links.iter() {
+        size = size.saturating_add(link.size());
+    }
+    size
+}
+
+/// The key of the link on which no byte went for the longest; 0 where there is none.
+fn idlest_of<S: Stream>(links: &Slab<Link<S>>) -> usize {
+    let mut idlest = 0;
+    let mut heard = u64::MAX;
+    for (key, link) in links.iter() {
+        if link.heard() < heard {
+            idlest = key;
+            heard = link.heard();
+        }
+    }
+    idlest
+}
+
+/// Whether a link has something to do without waiting.
+pub(crate) fn is_any_busy<S: Stream>(links: &Slab<Link<S>>) -> bool {
+    for (_, link) in links.iter() {
+        if link.is_busy() {
+            return true;
+        }
+    }
+    false
+}

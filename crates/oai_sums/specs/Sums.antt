@@ -1,0 +1,31 @@
+-- How many of many items are in each set. OAI-PMH 2.0, section 2.6: an item that is in a set is in each set above it too.
+use Rattle.std.specs.Prelude.{◌≡◌, ◌+◌, ℕ, Bool, true, false, if◌then◌else◌, List, [], ◌∷◌, length, filter}
+use Rattle.std.specs.Str.{bytes_eq}
+use Rattle.oai_item.specs.Item.{ItemState}
+use Rattle.oai_item.specs.Membership.{is_in}
+
+-- how many of the items are in the set
+unfoldable pub number_in : List ℕ → List ItemState → ℕ
+number_in set items = length (filter (λ (item : ItemState). is_in set item.sets) items)
+
+-- a set, and how many items are counted in it
+pub record SetTotal : Type 0 where
+  pub set : List ℕ
+  pub count : ℕ
+
+-- how many items are counted in the set: none where it is not there
+abbrev pub counted_in : List ℕ → List SetTotal → ℕ
+counted_in set [] = 0
+counted_in set (total ∷ totals) = if bytes_eq set total.set then total.count else counted_in set totals
+
+-- each set has as many of the items as are counted in it
+abbrev pub AreCounts : List SetTotal → List ItemState → Type 0
+AreCounts totals items = (set : List ℕ) → counted_in set totals ≡ number_in set items
+
+-- 1 where it is so, else 0
+abbrev pub one_if : Bool → ℕ
+one_if so = if so then 1 else 0
+
+-- one item more is counted in just those sets that pass
+abbrev pub CountsMore : (List ℕ → Bool) → List SetTotal → List SetTotal → Type 0
+CountsMore passes old new = (set : List ℕ) → counted_in set new ≡ counted_in set old + one_if (passes set)

@@ -1,0 +1,194 @@
+ghost use Rattle.std.specs.Prelude.{◌≡◌, ◌+◌, ◌&&◌, ◌++◌, ◌∷◌, ℕ, List, [], not, IfSome, OnSome, OnOk};
+ghost use Rattle.std.specs.Str.{bytes_eq};
+ghost use Rattle.oai_item.specs.Membership.{is_in};
+ghost use Rattle.oai_names.specs.Sets.{covers};
+ghost use Rattle.oai_sums.specs.Sums.{CountsMore, counted_in, one_if};
+
+use crate::set_names::SetNames;
+use oai_item::SpelledSets;
+use oai_names::{Text, covers, parent_of};
+use std::alloc::Global;
+use std::marker::Model;
+use std::rc::Rc;
+
+/// How many sets are counted at most.
+pub const MAX_COUNTED_SETS: usize = 64;
+
+/// A set, and how many items are in it.
+#[derive(Drop)]
+struct SetCount {
+    set: Rc<Text>,
+    count: u32,
+}
+
+impl Model for SetCount {
+    ghost use Rattle.oai_sums.specs.Sums.{SetTotal};
+
+    ghost Value = { SetTotal };
+
+    ghost view = { λ c. record { set = c.set.value; count = c.count } };
+}
+
+impl SetCount {
+    /// A set with one item.
+    fn one(set: Rc<Text>) -> SetCount
+        ensures { result ≡ record { set = set.value; count = 1 } }
+    {
+        SetCount { set, count: 1 }
+    }
+
+    /// The setSpec.
+    fn set(&self) -> &str
+        ensures { result.now ≡ self.now.set }
+    {
+        self.set.as_str()
+    }
+
+    /// How many items are in the set.
+    fn count(&self) -> usize
+        ensures { result ≡ self.now.count }
+    {
+        self.count as usize
+    }
+
+    /// One item more, or None where no more can be counted.
+    fn add_one(&mut self) -> Option<()>
+        ensures { OnSome result (self.new ≡ record { set = self.old.set; count = self.old.count + 1 }) }
+    {
+        match self.count.checked_add(1) {
+            Some(count) => {
+                self.count = count;
+                Some(())
+            }
+            None => None,
+        }
+    }
+}
+
+/// How many items are in each set: in the sets that their setSpecs say, and in those above these. An item counts once in each. Contracts see the sets
+/// with the counts; a set that is not there has no items.
+#[derive(Drop)]
+pub struct SetCounts {
+    counts: Vec<SetCount>,
+}
+
+impl Model for SetCounts {
+    ghost use Rattle.std.specs.Prelude.{List};
+    ghost use Rattle.oai_sums.specs.Sums.{SetTotal};
+
+    ghost Value = { List SetTotal };
+
+    ghost view = { λ c. c.counts.items };
+}
+
+impl SetCounts {
+    /// The counts of no items. It takes no memory.
+    pub fn new(alloc: Global) -> SetCounts
+        ensures { result ≡ [] }
+    {
+        SetCounts {
+            counts: Vec::new(alloc),
+        }
+    }
+
+    /// How many items are in the set.
+    pub fn count(&self, set: &str) -> usize
+        ensures { result ≡ counted_in set.now self.now }
+    {
+        for at in 0..self.counts.len() {
+            let count = &self.counts[at];
+            if set == count.set() {
+                return count.count();
+            }
+        }
+        0
+    }
+
+    /// Counts an item of these setSpecs too. None where there would be more than `MAX_COUNTED_SETS` sets, where one has too many items to be counted, or
+    /// memory is refused; the counts are then those of no items in particular.
+    pub fn add(&mut self, names: &mut SetNames, sets: SpelledSets<'_>) -> Option<()>
+        ensures { OnSome result (CountsMore (λ set. is_in set sets.entry) self.old self.new) }
+    {
+        let mut rest = sets;
+        while let Some(set) = rest.next() {
+            self.add_path(names, set, &rest)?;
+        }
+        Some(())
+    }
+
+    /// Frees the memory that is kept for more sets, as far as that can be done. It takes no memory of its own.
+    pub fn fit(&mut self)
+        ensures { self.new ≡ self.old }
+    {
+        self.counts.shrink_to_fit();
+    }
+
+    /// Counts an item in the set and in those above it, but in none in which one of the other setSpecs says that it is.
+    fn add_path(&mut self, names: &mut SetNames, set: &str, others: &SpelledSets<'_>) -> Option<()>
+        ensures { OnSome result (CountsMore (λ q. covers q set.now && not (is_in q others.now)) self.old self.new) }
+    {
+        let mut path = set;
+        self.add_unless(names, path, others)?;
+        while let Some(parent) = parent_of(path) {
+            self.add_unless(names, parent, others)?;
+            path = parent;
+        }
+        Some(())
+    }
+
+    /// Counts an item in the set, unless one of the other setSpecs says that it is in the set.
+    fn add_unless(
+        &mut self,
+        names: &mut SetNames,
+        set: &str,
+        others: &SpelledSets<'_>,
+    ) -> Option<()>
+        ensures { OnSome result (CountsMore (λ q. bytes_eq q set.now && not (is_in q others.now)) self.old self.new) }
+    {
+        if is_in(others.copy(), set) {
+            return Some(());
+        }
+        self.add_one(names, set)
+    }
+
+    /// Counts an item in the set.
+    fn add_one(&mut self, names: &mut SetNames, set: &str) -> Option<()>
+        ensures { OnSome result (CountsMore (λ q. bytes_eq q set.now) self.old self.new) }
+    {
+        for at in 0..self.counts.len() {
+            if set == self.counts[at].set() {
+                return self.counts[at].add_one();
+            }
+        }
+        if self.counts.len() >= MAX_COUNTED_SETS {
+            return None;
+        }
+        match names.name(set) {
+            Ok(name) => self.push(SetCount::one(name)),
+            Err(_) => None,
+        }
+    }
+
+    /// Puts a set behind the others, or gives None where memory is refused.
+    fn push(&mut self, count: SetCount) -> Option<()>
+        ensures { OnSome result (self.new ≡ self.old ++ count ∷ []) }
+    {
+        match self.counts.push(count) {
+            Ok(()) => Some(()),
+            Err(_) => None,
+        }
+    }
+}
+
+/// Whether an item of these setSpecs is in the set.
+#[tactic(auto, unfolding(oai_item::specs::Membership::is_in))]
+fn is_in(mut sets: SpelledSets<'_>, set: &str) -> bool
+    ensures { result ≡ is_in set.now sets.entry }
+{
+    while let Some(other) = sets.next() {
+        if covers(set, other) {
+            return true;
+        }
+    }
+    false
+}
