@@ -1,8 +1,8 @@
 -- What a call does to the pool of pages and to a directory.
-use Rattle.std.specs.Prelude.{◌≡◌, ◌⊎◌, ◌+◌, ◌<◌, ◌≤◌, ℕ, ℤ, Bool, true, List, [], ◌++◌, take, drop, is_some, Result, OnErr, OnOk}
+use Rattle.std.specs.Prelude.{◌≡◌, ◌⊎◌, ◌+◌, ◌<◌, ◌≤◌, ℕ, ℤ, Bool, true, List, [], ◌++◌, take, drop, is_some, IfNone, IfOk, IfSome, IsTrue, Option, Result, OnErr, OnOk}
 use Rattle.oai_catalogue.specs.Store.{Spares, Spends}
 use Rattle.oai_item.specs.Item.{ItemState}
-use Rattle.oai_item.specs.Items.{item_at, without_at}
+use Rattle.oai_item.specs.Items.{item_at, with_item, without_at}
 use Rattle.oai_item.specs.declared.faults.Fault.{Fault}
 use Rattle.oai_item.specs.declared.faults.Fault.TheVariants as told
 use Rattle.oai_pool.specs.declared.pools.PoolFault.{PoolFault}
@@ -13,6 +13,7 @@ use Rattle.oai_pool.specs.declared.pools.PagePool.{Ghosts}
 use Rattle.oai_paged.specs.Directory.{IsDirectory, StandsIn}
 use Rattle.oai_paged.specs.Pages.{fit_one}
 use Rattle.oai_paged.specs.Places.{IsSoundPlace, PlaceState, items_on, named_in}
+use Rattle.oai_paged.specs.declared.changes.Changed.{Changed}
 use Rattle.oai_paged.specs.declared.sizes.TheConstants.{MAX_OVERFLOW_PAGES}
 use Rattle.std.specs.List.{AllByRecursion}
 
@@ -102,3 +103,17 @@ pub record IsDirectoryChanged {P : Type 0} (g : Ghosts P) (items : List ItemStat
 pub record IsRemoved (stamp : ℤ) (identifier : List ℕ) (found : Bool) (old new : List ItemState) : Type 0 where
   pub was : found ≡ is_some (item_at stamp identifier old)
   pub left : new ≡ without_at stamp identifier old
+
+-- the item is put in, and the pages of the places that are gone are still named; where it fails, directory and pages are as they were
+pub record PutsItem {P : Type 0} (g : Ghosts P) (item : ItemState) (result : Result Changed Fault) (before after : List PlaceState) (old new : P) : Type 0 where
+  pub list : OnOk result (IsTrue (g.honest old) → items_on (g.pages new) after ≡ with_item item (items_on (g.pages old) before))
+  pub staged : IfOk result (λ changed. Stages g changed.at changed.len changed.gone.items before after old new)
+  pub err : OnErr result (ChangesNothing g before after old new)
+
+-- the item of a datestamp and identifier is taken out, where there is one, and the pages that it was on are still named; where there is none
+-- or it fails, directory and pages are as they were
+pub record TakesItemOut {P : Type 0} (g : Ghosts P) (stamp : ℤ) (identifier : List ℕ) (result : Result (Option Changed) Fault) (before after : List PlaceState) (old new : P) : Type 0 where
+  pub list : IfOk result (λ changed. IsTrue (g.honest old) → IsRemoved stamp identifier (is_some changed) (items_on (g.pages old) before) (items_on (g.pages new) after))
+  pub staged : IfOk result (λ changed. IfSome changed (λ some. Stages g some.at some.len some.gone.items before after old new))
+  pub none : IfOk result (λ changed. IfNone changed (ChangesNothing g before after old new))
+  pub err : OnErr result (ChangesNothing g before after old new)

@@ -1,5 +1,5 @@
 -- The entries of a page in memory, for private functions.
-use Rattle.std.specs.Prelude.{◌≡◌, ◌+◌, ℕ, List, [], ◌∷◌, ◌++◌, length, drop, Result, Ok, Err, ⊤}
+use Rattle.std.specs.Prelude.{◌≡◌, ◌+◌, ◌≤◌, ℕ, List, [], ◌∷◌, ◌++◌, length, drop, Result, Ok, Err, ⊤}
 use Rattle.oai_item.specs.Encoding.{Spells, encoded}
 use Rattle.oai_item.specs.Item.{ItemState}
 use Rattle.oai_item.specs.declared.decodings.DecodeFault.{DecodeFault}
@@ -47,3 +47,8 @@ pub record HasEntries (bytes ends : List ℕ) (count size : ℕ) : Type 0 where
   pub long : size ≡ size_of items
   pub parts : bytes ≡ entries_of items ++ drop size bytes
   pub ending : ends ≡ ends_from 0 items
+
+-- a place among so many entries, from another one on or behind the last
+pub record IsPlaceFrom (from place len : ℕ) : Type 0 where
+  pub above : from ≤ place
+  pub within : place ≤ len

@@ -8,7 +8,7 @@ ghost use Rattle.oai_item.specs.Items.{item_at, with_item, without_at};
 ghost use Rattle.oai_item.specs.Order.{IsPlace, are_in_order, place_cmp};
 ghost use Rattle.oai_item.specs.Selection.{passes};
 ghost use Rattle.oai_item.specs.declared.sizes.TheConstants.{MAX_ITEM_BYTES};
-ghost use Rattle.oai_paged.specs.Entries.{HasEntries, IsEntryReading};
+ghost use Rattle.oai_paged.specs.Entries.{HasEntries, IsEntryReading, IsPlaceFrom};
 ghost use Rattle.oai_paged.specs.Pages.{AreCuts, AreStorable, FitAlone, IsPageReading, IsRemoval, are_short, begins_at, between, entries_of, entry_of, filled, first_number, fit_one, overflow_of, pages_of, size_of};
 ghost use Rattle.oai_paged.specs.Places.{AreSetCounts, have_records};
 ghost use Rattle.oai_paged.specs.declared.sizes.TheConstants.{MAX_ENTRY_BYTES, MAX_WHOLE_BYTES};
@@ -432,8 +432,7 @@ impl Entries {
         requires within { from ≤ length self.now }
         requires goal { goal ≤ MAX_ENTRY_BYTES }
         requires short { are_short self.now ≡ true }
-        ensures above { from ≤ result }
-        ensures within { result ≤ length self.now }
+        ensures place { IsPlaceFrom from result (length self.now) }
         ensures some { from < length self.now → from < result }
         ensures fits { size_of (between from result self.now) ≤ MAX_ENTRY_BYTES }
         ensures most { result < length self.now

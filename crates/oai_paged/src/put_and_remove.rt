@@ -1,9 +1,9 @@
 //! Items put into a directory, and taken out.
-ghost use Rattle.std.specs.Prelude.{◌≡◌, ◌+◌, ◌<◌, ◌≤◌, ℕ, [], true, length, take, drop, is_some, HoldsAt, vec_capacity, vec_len, IfNone, IfOk, IfSome, IsTrue, OnErr, OnOk};
+ghost use Rattle.std.specs.Prelude.{◌≡◌, ◌+◌, ◌<◌, ◌≤◌, ℕ, [], true, length, take, drop, is_some, HoldsAt, vec_capacity, vec_len, IfOk, IfSome, IsTrue, OnOk};
 ghost use Rattle.oai_item.specs.Encoding.{encoded};
 ghost use Rattle.oai_item.specs.Items.{item_at, with_item, without_at};
 ghost use Rattle.oai_item.specs.declared.sizes.TheConstants.{MAX_ITEM_BYTES};
-ghost use Rattle.oai_paged.specs.Calls.{Changes, ChangesNothing, HasWayBack, IsRemoved, Stages, Takes};
+ghost use Rattle.oai_paged.specs.Calls.{Changes, HasWayBack, PutsItem, Takes, TakesItemOut};
 ghost use Rattle.oai_paged.specs.Directory.{PutsAt, StandsIn};
 ghost use Rattle.oai_paged.specs.Places.{items_on};
 ghost use Rattle.oai_paged.specs.Searches.{BelongsAt};
@@ -114,12 +114,8 @@ fn put_in<P: PagePool>(
 ) -> Result<Changed, Fault>
     requires stands { StandsIn P.PagePool pages.old places.old.items }
     requires fits { length (encoded item.now) ≤ MAX_ITEM_BYTES }
-    ensures list { OnOk result (IsTrue (P.honest pages.old) → items_on (P.pages pages.new) places.new.items
-        ≡ with_item item.now (items_on (P.pages pages.old) places.old.items)) }
-    ensures staged { IfOk result (λ changed. Stages P.PagePool changed.at changed.len changed.gone.items
-        places.old.items places.new.items pages.old pages.new) }
+    ensures item { PutsItem P.PagePool item.now result places.old.items places.new.items pages.old pages.new }
     ensures capacity { vec_capacity places.old ≤ vec_capacity places.new }
-    ensures err { OnErr result (ChangesNothing P.PagePool places.old.items places.new.items pages.old pages.new) }
     ensures pool { Takes P.PagePool (3 + MAX_OVERFLOW_PAGES) result pages.old pages.new }
 {
     if places.is_empty() {
@@ -147,12 +143,8 @@ fn put_among<P: PagePool>(
     requires belongs { BelongsAt places.old.items item.now.stamp item.now.identifier at }
     requires stands { StandsIn P.PagePool pages.old places.old.items }
     requires fits { length (encoded item.now) ≤ MAX_ITEM_BYTES }
-    ensures list { OnOk result (IsTrue (P.honest pages.old) → items_on (P.pages pages.new) places.new.items
-        ≡ with_item item.now (items_on (P.pages pages.old) places.old.items)) }
-    ensures staged { IfOk result (λ changed. Stages P.PagePool changed.at changed.len changed.gone.items
-        places.old.items places.new.items pages.old pages.new) }
+    ensures item { PutsItem P.PagePool item.now result places.old.items places.new.items pages.old pages.new }
     ensures capacity { vec_capacity places.old ≤ vec_capacity places.new }
-    ensures err { OnErr result (ChangesNothing P.PagePool places.old.items places.new.items pages.old pages.new) }
     ensures pool { Takes P.PagePool (3 + MAX_OVERFLOW_PAGES) result pages.old pages.new }
 {
     let old = read_place(alloc, pages, places.as_slice(), at)?;
@@ -177,12 +169,8 @@ fn put_by_long<P: PagePool>(
     requires belongs { BelongsAt places.old.items item.now.stamp item.now.identifier at }
     requires stands { StandsIn P.PagePool pages.old places.old.items }
     requires fits { length (encoded item.now) ≤ MAX_ITEM_BYTES }
-    ensures list { OnOk result (IsTrue (P.honest pages.old) → items_on (P.pages pages.new) places.new.items
-        ≡ with_item item.now (items_on (P.pages pages.old) places.old.items)) }
-    ensures staged { IfOk result (λ changed. Stages P.PagePool changed.at changed.len changed.gone.items
-        places.old.items places.new.items pages.old pages.new) }
+    ensures item { PutsItem P.PagePool item.now result places.old.items places.new.items pages.old pages.new }
     ensures capacity { vec_capacity places.old ≤ vec_capacity places.new }
-    ensures err { OnErr result (ChangesNothing P.PagePool places.old.items places.new.items pages.old pages.new) }
     ensures pool { Takes P.PagePool (3 + MAX_OVERFLOW_PAGES) result pages.old pages.new }
 {
     match places[at].order_to(item.stamp(), item.identifier().as_str()) {
@@ -208,12 +196,8 @@ fn put_alone<P: PagePool>(
     requires stands { StandsIn P.PagePool pages.old places.old.items }
     requires fits { length (encoded item.now) ≤ MAX_ITEM_BYTES }
     requires puts { PutsAt (P.pages pages.old) places.old.items item.now at len }
-    ensures list { OnOk result (IsTrue (P.honest pages.old) → items_on (P.pages pages.new) places.new.items
-        ≡ with_item item.now (items_on (P.pages pages.old) places.old.items)) }
-    ensures staged { IfOk result (λ changed. Stages P.PagePool changed.at changed.len changed.gone.items
-        places.old.items places.new.items pages.old pages.new) }
+    ensures item { PutsItem P.PagePool item.now result places.old.items places.new.items pages.old pages.new }
     ensures capacity { vec_capacity places.old ≤ vec_capacity places.new }
-    ensures err { OnErr result (ChangesNothing P.PagePool places.old.items places.new.items pages.old pages.new) }
     ensures pool { Takes P.PagePool (3 + MAX_OVERFLOW_PAGES) result pages.old pages.new }
 {
     let (entries, cuts) = Entries::new(alloc).put(alloc, item, false)?;
@@ -231,14 +215,9 @@ fn take_out<P: PagePool>(
     identifier: &str,
 ) -> Result<Option<Changed>, Fault>
     requires { StandsIn P.PagePool pages.old places.old.items }
-    ensures list { IfOk result (λ changed. IsTrue (P.honest pages.old) → IsRemoved stamp identifier.now
-        (is_some changed) (items_on (P.pages pages.old) places.old.items) (items_on (P.pages pages.new) places.new.items)) }
-    ensures staged { IfOk result (λ changed. IfSome changed (λ some. Stages P.PagePool some.at some.len some.gone.items
-        places.old.items places.new.items pages.old pages.new)) }
+    ensures item { TakesItemOut P.PagePool stamp identifier.now result places.old.items places.new.items pages.old pages.new }
     ensures back { IfOk result (λ changed. IfSome changed (λ some. HasWayBack some.at some.len
         (vec_len places.new) (vec_capacity places.new) (vec_len some.gone) (vec_capacity some.gone))) }
-    ensures none { IfOk result (λ changed. IfNone changed (ChangesNothing P.PagePool places.old.items places.new.items pages.old pages.new)) }
-    ensures err { OnErr result (ChangesNothing P.PagePool places.old.items places.new.items pages.old pages.new) }
     ensures pool { Takes P.PagePool 1 result pages.old pages.new }
 {
     if places.is_empty() {
@@ -266,14 +245,9 @@ fn take_out_among<P: PagePool>(
     requires short { HoldsAt (λ place. length place.pages ≤ 1) places.old.items at }
     requires belongs { BelongsAt places.old.items stamp identifier.now at }
     requires stands { StandsIn P.PagePool pages.old places.old.items }
-    ensures list { IfOk result (λ changed. IsTrue (P.honest pages.old) → IsRemoved stamp identifier.now
-        (is_some changed) (items_on (P.pages pages.old) places.old.items) (items_on (P.pages pages.new) places.new.items)) }
-    ensures staged { IfOk result (λ changed. IfSome changed (λ some. Stages P.PagePool some.at some.len some.gone.items
-        places.old.items places.new.items pages.old pages.new)) }
+    ensures item { TakesItemOut P.PagePool stamp identifier.now result places.old.items places.new.items pages.old pages.new }
     ensures back { IfOk result (λ changed. IfSome changed (λ some. HasWayBack some.at some.len
         (vec_len places.new) (vec_capacity places.new) (vec_len some.gone) (vec_capacity some.gone))) }
-    ensures none { IfOk result (λ changed. IfNone changed (ChangesNothing P.PagePool places.old.items places.new.items pages.old pages.new)) }
-    ensures err { OnErr result (ChangesNothing P.PagePool places.old.items places.new.items pages.old pages.new) }
     ensures pool { Takes P.PagePool 1 result pages.old pages.new }
 {
     let old = read_place(alloc, pages, places.as_slice(), at)?;
@@ -302,14 +276,9 @@ fn take_out_long<P: PagePool>(
     requires long { HoldsAt (λ place. 1 < length place.pages) places.old.items at }
     requires belongs { BelongsAt places.old.items stamp identifier.now at }
     requires stands { StandsIn P.PagePool pages.old places.old.items }
-    ensures list { IfOk result (λ changed. IsTrue (P.honest pages.old) → IsRemoved stamp identifier.now
-        (is_some changed) (items_on (P.pages pages.old) places.old.items) (items_on (P.pages pages.new) places.new.items)) }
-    ensures staged { IfOk result (λ changed. IfSome changed (λ some. Stages P.PagePool some.at some.len some.gone.items
-        places.old.items places.new.items pages.old pages.new)) }
+    ensures item { TakesItemOut P.PagePool stamp identifier.now result places.old.items places.new.items pages.old pages.new }
     ensures back { IfOk result (λ changed. IfSome changed (λ some. HasWayBack some.at some.len
         (vec_len places.new) (vec_capacity places.new) (vec_len some.gone) (vec_capacity some.gone))) }
-    ensures none { IfOk result (λ changed. IfNone changed (ChangesNothing P.PagePool places.old.items places.new.items pages.old pages.new)) }
-    ensures err { OnErr result (ChangesNothing P.PagePool places.old.items places.new.items pages.old pages.new) }
     ensures pool { Takes P.PagePool 1 result pages.old pages.new }
 {
     if places[at].order_to(stamp, identifier) != Ordering::Equal {

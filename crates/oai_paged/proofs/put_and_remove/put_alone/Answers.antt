@@ -1,4 +1,4 @@
-use Rattle.std.proofs.Common.{◌≡◌, ◌∙◌, [], ◌∷◌, IsTrue, List, ap, subst, sym}
+use Rattle.std.proofs.Common.{◌≡◌, ◌∙◌, [], ◌∷◌, IsTrue, List, ap, rules, subst, sym}
 use Rattle.oai_item.specs.Item.{ItemState}
 use Rattle.oai_item.specs.Items.{with_item}
 use Rattle.oai_paged.specs.Calls.{IsDirectoryChanged}
@@ -22,8 +22,8 @@ change-requires-clause-may_stand g c =
     let made : c.in_ok-entries.entries ≡ item ∷ [] = c.in_ok-entries.ensures.with ∙ ap (with_item item) c.new.ensures ∙ put_none item in
     subst (λ (es : List ItemState). MayStand pages places c.args.at c.args.len es) (sym made) (may_stand_put pages places item c.args.at c.args.len c.requires.stands.directory c.requires.puts)
 
-pub returns-clause-list : goal.returns-clause-list
-returns-clause-list g c =
+pub returns-clause-item : goal.returns-clause-item
+returns-clause-item g c =
     let G = g.P.PagePool in
     let p = c.args.pages.now in
     let q = c.change.new.pages in
@@ -34,8 +34,12 @@ returns-clause-list g c =
     let after : List PlaceState = c.change.new.places.items in
     let entries : List ItemState = c.in_ok-entries.entries in
     let made : entries ≡ item ∷ [] = c.in_ok-entries.ensures.with ∙ ap (with_item item) c.new.ensures ∙ put_none item in
-    on_ok_from (λ (changed : Changed). IsDirectoryChanged G entries at len changed.at changed.len changed.gone.items before after p q)
-    (IsTrue (G.honest p) → items_on (G.pages q) after ≡ with_item item (items_on (G.pages p) before)) c.change.result
-    (λ changed is honest. items_beside G item at len changed.at changed.len changed.gone.items before after p q c.requires.stands
-    (subst (λ (es : List ItemState). IsDirectoryChanged G es at len changed.at changed.len changed.gone.items before after p q) made is) c.requires.puts)
-    c.change.ensures.ok
+    record {
+      list = on_ok_from (λ (changed : Changed). IsDirectoryChanged G entries at len changed.at changed.len changed.gone.items before after p q)
+          (IsTrue (G.honest p) → items_on (G.pages q) after ≡ with_item item (items_on (G.pages p) before)) c.change.result
+          (λ changed is honest. items_beside G item at len changed.at changed.len changed.gone.items before after p q c.requires.stands
+          (subst (λ (es : List ItemState). IsDirectoryChanged G es at len changed.at changed.len changed.gone.items before after p q) made is) c.requires.puts)
+          c.change.ensures.ok;
+      staged = search rules;
+      err = search rules;
+    }

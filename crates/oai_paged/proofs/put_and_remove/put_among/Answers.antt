@@ -1,4 +1,4 @@
-use Rattle.std.proofs.Common.{◌≡◌, ◌∙◌, ◌<◌, IsTrue, List, ap, arith, get_or, length, subst}
+use Rattle.std.proofs.Common.{◌≡◌, ◌∙◌, ◌<◌, IsTrue, List, ap, arith, get_or, length, rules, subst}
 use Rattle.oai_item.specs.Item.{ItemState}
 use Rattle.oai_item.specs.Items.{with_item}
 use Rattle.oai_paged.specs.Calls.{IsDirectoryChanged}
@@ -29,8 +29,8 @@ change-requires-clause-may_stand g c =
     let stands = stands_read G c.read_place.result before p c.read_place.new.pages c.requires.stands c.read_place.ensures.pages in
     rw c.in_ok-entries.ensures.with (may_stand_with (G.pages c.read_place.new.pages) before item at old stands.directory within c.requires.belongs read)
 
-pub returns-clause-list : goal.returns-clause-list
-returns-clause-list g c =
+pub returns-clause-item : goal.returns-clause-item
+returns-clause-item g c =
     let G = g.P.PagePool in
     let p = c.args.pages.now in
     let item : ItemState = c.args.item.now in
@@ -42,10 +42,14 @@ returns-clause-list g c =
     let q = c.change.new.pages in
     let after : List PlaceState = c.change.new.places.items in
     let entries : List ItemState = c.in_ok-entries.entries in
-    on_ok_from (λ (changed : Changed). IsDirectoryChanged G entries at 1 changed.at changed.len changed.gone.items before after mid q)
-    (IsTrue (G.honest p) → items_on (G.pages q) after ≡ with_item item (items_on (G.pages p) before)) c.change.result
-    (λ changed is honest.
-    let held : old ≡ items_at (G.pages p) (get_or c.as_slice.result.now at no_place) = c.in_ok-old.ensures.items honest no_place in
-    one_put G c.read_place.result item old entries at changed.at changed.len changed.gone.items before after p mid q c.requires.stands c.read_place.ensures.pages within c.requires.belongs is
-    c.in_ok-entries.ensures.with (held ∙ ap (λ (ps : List PlaceState). items_at (G.pages p) (get_or ps at no_place)) c.as_slice.ensures.value))
-    c.change.ensures.ok
+    record {
+      list = on_ok_from (λ (changed : Changed). IsDirectoryChanged G entries at 1 changed.at changed.len changed.gone.items before after mid q)
+          (IsTrue (G.honest p) → items_on (G.pages q) after ≡ with_item item (items_on (G.pages p) before)) c.change.result
+          (λ changed is honest.
+          let held : old ≡ items_at (G.pages p) (get_or c.as_slice.result.now at no_place) = c.in_ok-old.ensures.items honest no_place in
+          one_put G c.read_place.result item old entries at changed.at changed.len changed.gone.items before after p mid q c.requires.stands c.read_place.ensures.pages within c.requires.belongs is
+          c.in_ok-entries.ensures.with (held ∙ ap (λ (ps : List PlaceState). items_at (G.pages p) (get_or ps at no_place)) c.as_slice.ensures.value))
+          c.change.ensures.ok;
+      staged = search rules;
+      err = search rules;
+    }

@@ -1,12 +1,17 @@
-use Rattle.std.proofs.Common.{◌≡◌, ◌∙◌, [], List, arith, sym, vec_len}
+use Rattle.std.proofs.Common.{◌≡◌, ◌∙◌, [], List, arith, rules, sym, vec_len}
 use Rattle.std.proofs.lemmas.Bool.{eqb-true}
 use Rattle.std.proofs.lemmas.List.{nil_from_length}
 use Rattle.oai_paged.specs.Places.{PlaceState}
 use Rattle.oai_paged.proofs.DirectoryChanges.{nothing_removed}
 use Rattle.oai_paged.proofs.put_and_remove.take_out.Goals as goal
 
-pub returns-then-is_empty-clause-list : goal.returns-then-is_empty-clause-list
-returns-then-is_empty-clause-list g c =
+pub returns-then-is_empty-clause-item : goal.returns-then-is_empty-clause-item
+returns-then-is_empty-clause-item g c =
     let before : List PlaceState = c.args.places.now.items in
     let none : before ≡ [] = nil_from_length before (omega (arith, eqb-true (vec_len c.args.places.now) 0 (sym c.is_empty.ensures ∙ c.if-is_empty.true), c.args.places.now.ok.0)) in
-    λ honest. nothing_removed (g.P.PagePool.pages c.args.pages.now) c.args.stamp c.args.identifier.now before none
+    record {
+      list = λ honest. nothing_removed (g.P.PagePool.pages c.args.pages.now) c.args.stamp c.args.identifier.now before none;
+      staged = search rules;
+      none = search rules;
+      err = search rules;
+    }

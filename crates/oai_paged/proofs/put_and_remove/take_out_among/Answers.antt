@@ -77,8 +77,8 @@ returns-in-Some-clause-pool g c =
     let then = c.in_ok-changed-in-Some.ensures.pool.few (left fits) in
     takes_ok G 1 changed (Some changed) p q (takes_read G 1 c.read_place.result (ok_of changed) p mid q c.read_place.ensures.pages then)
 
-pub returns-in-Some-clause-list : goal.returns-in-Some-clause-list
-returns-in-Some-clause-list g c =
+pub returns-in-Some-clause-item : goal.returns-in-Some-clause-item
+returns-in-Some-clause-item g c =
     let G = g.P.PagePool in
     let p = c.args.pages.now in
     let stamp : ℤ = c.args.stamp in
@@ -91,14 +91,19 @@ returns-in-Some-clause-list g c =
     subst (λ (z : ℤ). IsRemoval z identifier old c.in_ok-entries.field-0) (to_z-of_z w64 stamp c.ranges.stamp) c.in_ok-entries.ensures.removal in
     let removal : IsRemoval stamp identifier old (Some c.in-Some.entries) = subst (λ (o : Option (List ItemState)). IsRemoval stamp identifier old o) c.in-Some.is taken in
     let changed = c.in_ok-changed-in-Some.changed in
-    λ honest.
-    let held : old ≡ items_at (G.pages p) (get_or c.as_slice.result.now at no_place) = c.in_ok-old.ensures.items honest no_place in
-    one_removed G c.read_place.result stamp identifier old c.in-Some.entries at changed.at changed.len changed.gone.items before c.change.new.places.items p c.read_place.new.pages c.change.new.pages
-    c.requires.stands c.read_place.ensures.pages within c.requires.belongs c.in_ok-changed-in-Some.ensures.ok (sym removal.0) removal.1
-    (held ∙ ap (λ (ps : List PlaceState). items_at (G.pages p) (get_or ps at no_place)) c.as_slice.ensures.value)
+    record {
+      list = λ honest.
+          let held : old ≡ items_at (G.pages p) (get_or c.as_slice.result.now at no_place) = c.in_ok-old.ensures.items honest no_place in
+          one_removed G c.read_place.result stamp identifier old c.in-Some.entries at changed.at changed.len changed.gone.items before c.change.new.places.items p c.read_place.new.pages c.change.new.pages
+          c.requires.stands c.read_place.ensures.pages within c.requires.belongs c.in_ok-changed-in-Some.ensures.ok (sym removal.0) removal.1
+          (held ∙ ap (λ (ps : List PlaceState). items_at (G.pages p) (get_or ps at no_place)) c.as_slice.ensures.value);
+      staged = search rules;
+      none = search rules;
+      err = search rules;
+    }
 
-pub returns-clause-list : goal.returns-clause-list
-returns-clause-list g c =
+pub returns-clause-item : goal.returns-clause-item
+returns-clause-item g c =
     let G = g.P.PagePool in
     let p = c.args.pages.now in
     let stamp : ℤ = c.args.stamp in
@@ -110,7 +115,12 @@ returns-clause-list g c =
     let taken : IsRemoval stamp identifier old c.in_ok-entries.field-0 =
     subst (λ (z : ℤ). IsRemoval z identifier old c.in_ok-entries.field-0) (to_z-of_z w64 stamp c.ranges.stamp) c.in_ok-entries.ensures.removal in
     let removal : IsRemoval stamp identifier old None = subst (λ (o : Option (List ItemState)). IsRemoval stamp identifier old o) c.in-None.is taken in
-    λ honest.
-    let held : old ≡ items_at (G.pages p) (get_or c.as_slice.result.now at no_place) = c.in_ok-old.ensures.items honest no_place in
-    none_removed (G.pages p) (G.pages c.read_place.new.pages) stamp identifier old at before c.requires.stands.directory within c.requires.belongs removal
-    (held ∙ ap (λ (ps : List PlaceState). items_at (G.pages p) (get_or ps at no_place)) c.as_slice.ensures.value) c.read_place.ensures.pages.same
+    record {
+      list = λ honest.
+          let held : old ≡ items_at (G.pages p) (get_or c.as_slice.result.now at no_place) = c.in_ok-old.ensures.items honest no_place in
+          none_removed (G.pages p) (G.pages c.read_place.new.pages) stamp identifier old at before c.requires.stands.directory within c.requires.belongs removal
+          (held ∙ ap (λ (ps : List PlaceState). items_at (G.pages p) (get_or ps at no_place)) c.as_slice.ensures.value) c.read_place.ensures.pages.same;
+      staged = search rules;
+      none = search rules;
+      err = search rules;
+    }

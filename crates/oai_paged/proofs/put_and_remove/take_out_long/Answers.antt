@@ -14,8 +14,8 @@ use Rattle.oai_paged.proofs.TakenLemmas.{takes_failed, takes_ok}
 use Rattle.oai_paged.specs.Pages.{fit_one}
 use Rattle.oai_paged.proofs.put_and_remove.take_out_long.Goals as goal
 
-pub returns-then-ne-clause-list : goal.returns-then-ne-clause-list
-returns-then-ne-clause-list g c =
+pub returns-then-ne-clause-item : goal.returns-then-ne-clause-item
+returns-then-ne-clause-item g c =
     let G = g.P.PagePool in
     let p = c.args.pages.now in
     let pages = G.pages p in
@@ -30,8 +30,13 @@ returns-then-ne-clause-list g c =
     let seen : c.order_to.result ≡ first_cmp place stamp identifier =
     c.order_to.ensures ∙ (λ i. first_cmp (here i) (to_z-of_z w64 stamp c.ranges.stamp i) identifier) in
     let other : is_eq (first_cmp place stamp identifier) ≡ false = ap is_eq (sym seen) ∙ unequal_from c.order_to.result (sym c.ne.ensures ∙ c.if-ne.true) in
-    λ honest. none_removed pages pages stamp identifier (items_at pages place) at places c.requires.stands.directory within c.requires.belongs
-    (lone_other pages places stamp identifier at c.requires.stands.directory within c.requires.belongs one other) refl refl
+    record {
+      list = λ honest. none_removed pages pages stamp identifier (items_at pages place) at places c.requires.stands.directory within c.requires.belongs
+          (lone_other pages places stamp identifier at c.requires.stands.directory within c.requires.belongs one other) refl refl;
+      staged = search rules;
+      none = search rules;
+      err = search rules;
+    }
 
 pub change-requires-clause-may_stand : goal.change-requires-clause-may_stand
 change-requires-clause-may_stand g c =
@@ -57,8 +62,8 @@ returns-in_err-changed-clause-pool g c =
     takes_failed g.P.PagePool 1 1 c.in_err-changed.field-0.0 c.from_residual.result c.args.pages.now c.change.new.pages is (omega arith)
     (c.in_err-changed.ensures.pool.few (ap fit_one c.new-none.ensures ∙ fit-nil))
 
-pub returns-clause-list : goal.returns-clause-list
-returns-clause-list g c =
+pub returns-clause-item : goal.returns-clause-item
+returns-clause-item g c =
     let G = g.P.PagePool in
     let p = c.args.pages.now in
     let pages = G.pages p in
@@ -76,8 +81,13 @@ returns-clause-list g c =
     let q = c.change.new.pages in
     let after : List PlaceState = c.change.new.places.items in
     let changed = c.in_ok-changed.changed in
-    λ honest. lone_removed G stamp identifier at changed.at changed.len changed.gone.items places after p q c.requires.stands within c.requires.belongs one same
-    (subst (λ (es : List ItemState). IsDirectoryChanged G es at 1 changed.at changed.len changed.gone.items places after p q) c.new-none.ensures c.in_ok-changed.ensures.ok)
+    record {
+      list = λ honest. lone_removed G stamp identifier at changed.at changed.len changed.gone.items places after p q c.requires.stands within c.requires.belongs one same
+          (subst (λ (es : List ItemState). IsDirectoryChanged G es at 1 changed.at changed.len changed.gone.items places after p q) c.new-none.ensures c.in_ok-changed.ensures.ok);
+      staged = search rules;
+      none = search rules;
+      err = search rules;
+    }
 
 pub returns-clause-pool : goal.returns-clause-pool
 returns-clause-pool g c =

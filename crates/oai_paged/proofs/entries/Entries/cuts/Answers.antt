@@ -19,12 +19,12 @@ returns c =
     let first = c.front-first.ensures in
     let second = c.front-second.ensures in
     record {
-      first_below = second.above;
-      second_below = second.within;
+      first_below = second.place.above;
+      second_below = second.place.within;
       one = fit_from (between 0 c.front-first.result items) first.fits (short-between 0 c.front-first.result items c.requires.short);
       two = inl (fit_from (between c.front-first.result c.front-second.result items) second.fits (short-between c.front-first.result c.front-second.result items c.requires.short));
       three = fit_from (between c.front-second.result (length items) items)
-          (third_fits items c.front-first.result c.front-second.result c.if-fills.goal c.requires.size (omega (arith, low, c.size-half.ensures)) second.above second.within second.some first.most)
+          (third_fits items c.front-first.result c.front-second.result c.if-fills.goal c.requires.size (omega (arith, low, c.size-half.ensures)) second.place.above second.place.within second.some first.most)
           (short-between c.front-second.result (length items) items c.requires.short);
       whole = λ fits.
           let none : size_of (take 0 items) ≡ 0 = size_of-nil in

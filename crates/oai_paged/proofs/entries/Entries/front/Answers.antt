@@ -46,8 +46,8 @@ loop-to-preserved c =
       );
     }
 
-pub returns-else-end-start-clause-above : goal.returns-else-end-start-clause-above
-returns-else-end-start-clause-above c = omega (arith, c.loop-to.invariant.above)
+pub returns-else-end-start-clause-place : goal.returns-else-end-start-clause-place
+returns-else-end-start-clause-place c = record { above = omega (arith, c.loop-to.invariant.above); within = c.loop-to.invariant.within }
 
 pub returns-else-end-start-clause-some : goal.returns-else-end-start-clause-some
 returns-else-end-start-clause-some c = λ _. c.loop-to.invariant.above
@@ -69,8 +69,8 @@ returns-else-end-start-clause-most c = λ _.
       size_of-between c.args.self.now c.args.from (c.loop-to.to + 1) (omega (arith, c.loop-to.invariant.above)),
     )
 
-pub returns-after-loop-to-clause-within : goal.returns-after-loop-to-clause-within
-returns-after-loop-to-clause-within c = c.loop-to.invariant.within
+pub returns-after-loop-to-clause-place : goal.returns-after-loop-to-clause-place
+returns-after-loop-to-clause-place c = record { above = omega (arith, c.loop-to.invariant.above); within = c.loop-to.invariant.within }
 
 pub returns-after-loop-to-clause-whole : goal.returns-after-loop-to-clause-whole
 returns-after-loop-to-clause-whole c = λ fits.
