@@ -15,7 +15,8 @@ use Rattle.oai_answers.specs.Seen.{IsRegular}
 use Rattle.oai_settings.specs.Config.{Config}
 use Rattle.oai_repo.specs.Listing.{answer_by_verb}
 use Rattle.oai_repo.specs.Machine.{outcome_output}
-use Rattle.oai_laws.specs.Following.{IsFollowedThrough, ListRequest, TokenOffer, is_of_records, offer_in, page_in, selection_in}
+use Rattle.oai_args.specs.Verbs.{is_of_records}
+use Rattle.oai_laws.specs.Following.{IsFollowedThrough, ListRequest, TokenOffer, offer_in, page_in, selection_in}
 use Rattle.oai_laws.specs.Runs.{Exchange, IsPart}
 use Rattle.oai_http.specs.Answers.{answered_with}
 use Rattle.oai_http.specs.declared.exchanges.Answer.{Answer}

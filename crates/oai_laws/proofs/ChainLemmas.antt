@@ -23,7 +23,8 @@ use Rattle.oai_answers.specs.declared.errors.ErrorCode.TheVariants.{NoSetHierarc
 use Rattle.oai_repo.specs.Answers.{filter_of}
 use Rattle.oai_settings.specs.Config.{Config, IsConfig, are_limits, is_chunk, is_items, is_lifetime, is_lists}
 use Rattle.oai_laws.specs.Effects.{IsSound}
-use Rattle.oai_laws.specs.Following.{AreNext, answer_in, IsChain, IsFollowedThrough, ListRequest, first_request, is_later, is_of_records, joined, selection_in}
+use Rattle.oai_args.specs.Verbs.{is_of_records}
+use Rattle.oai_laws.specs.Following.{AreNext, answer_in, IsChain, IsFollowedThrough, ListRequest, first_request, is_later, joined, selection_in}
 use Rattle.oai_repo.specs.Kept.{AreKept}
 use Rattle.oai_repo.specs.Listing.{answer_by_verb, request_response, opens_list, has_no_sets, new_list, part_from, with_answer, format_response, selection_response, complete_answer, wait_at}
 use Rattle.oai_repo.specs.Machine.{Command, act}

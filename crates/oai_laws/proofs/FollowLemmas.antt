@@ -21,7 +21,8 @@ use Rattle.oai_answers.specs.Answers.{Answer, Attributes, Continuation, Page, co
 use Rattle.oai_repo.specs.Answers.{arguments_of_request}
 use Rattle.oai_settings.specs.Config.{Config}
 use Rattle.oai_laws.specs.Effects.{IsSound, is_given}
-use Rattle.oai_laws.specs.Following.{AreLasting, ArePagesAt, AreNext, IsLasting, IsNextRequest, IsPageAt, TokenOffer, answer_in, are_complete, extent_in, is_later, is_of_records, joined, next_request, offer_in, page_in}
+use Rattle.oai_args.specs.Verbs.{is_of_records}
+use Rattle.oai_laws.specs.Following.{AreLasting, ArePagesAt, AreNext, IsLasting, IsNextRequest, IsPageAt, TokenOffer, answer_in, are_complete, extent_in, is_later, joined, next_request, offer_in, page_in}
 use Rattle.oai_repo.specs.Listing.{Response, request_response, continued_response, carried_on, extent_at, highest_given, is_of_number, is_continued, is_handed_out, is_same_verb, is_valid_cursor, items_from, next_cursor, part_from, part_answer, prolonged, with_answer, answer_by_verb, token_response, retry_after, where_continued, with_carried_on}
 use Rattle.oai_repo.specs.Machine.{Command, act, requesting, outcome_of}
 use Rattle.oai_laws.specs.Runs.{Exchange, IsPart, Timed, performed, run}

@@ -26,7 +26,8 @@ use Rattle.oai_repo.specs.Listing.{Response, answer_by_verb, carried_on, carried
 use Rattle.oai_repo.specs.Machine.{Command, Outcome, act, changing, outcome_of, rejecting, requesting}
 use Rattle.oai_repo.specs.State.{FrozenList, OpenLists, RepoState, empty_state, is_open_at, moved}
 use Rattle.oai_laws.specs.Effects.{IsSound, is_of_format}
-use Rattle.oai_laws.specs.Following.{IsOffered, WasOffered, is_of_records, next_request, page_shown}
+use Rattle.oai_args.specs.Verbs.{is_of_records}
+use Rattle.oai_laws.specs.Following.{IsOffered, WasOffered, next_request, page_shown}
 use Rattle.oai_laws.specs.Runs.{Exchange, Timed, performed, run}
 use Rattle.oai_laws.proofs.ChainLemmas.{some_in_part}
 use Rattle.oai_laws.proofs.EffectLemmas.{sound_act, sound_empty, sound_moved}

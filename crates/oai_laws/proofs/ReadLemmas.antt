@@ -15,7 +15,8 @@ use Rattle.oai_answers.specs.Seen.{IsRegular, SeenDocument, SeenHeader, SeenReco
 use Rattle.oai_answers.proofs.RegularLemmas.{same_seen}
 use Rattle.oai_settings.specs.Config.{Config}
 use Rattle.oai_laws.specs.Effects.{IsSound}
-use Rattle.oai_laws.specs.Following.{ArePagesAt, ListRequest, answer_in, are_complete, is_of_records, joined, offer_in, page_in, selection_in}
+use Rattle.oai_args.specs.Verbs.{is_of_records}
+use Rattle.oai_laws.specs.Following.{ArePagesAt, ListRequest, answer_in, are_complete, joined, offer_in, page_in, selection_in}
 use Rattle.oai_repo.specs.Listing.{answer_by_verb}
 use Rattle.oai_repo.specs.Machine.{Outcome, accepted, documented, later, refused_with, outcome_output}
 use Rattle.oai_laws.specs.Runs.{Exchange, IsPart, Throughout, Timed, performed, run}

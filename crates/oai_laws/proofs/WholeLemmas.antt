@@ -16,7 +16,8 @@ use Rattle.oai_settings.specs.Config.{Config}
 use Rattle.oai_repo.specs.Listing.{Response, request_response, opens_list, has_no_sets, list_response, new_list, with_answer, answer_by_verb, format_response, selection_response, complete_answer, wait_at, complete_page}
 use Rattle.oai_repo.specs.State.{OpenLists, RepoState}
 use Rattle.oai_laws.specs.Effects.{IsSound}
-use Rattle.oai_laws.specs.Following.{IsAnsweredNone, IsAnsweredWhole, ListRequest, first_request, is_of_records, selection_in}
+use Rattle.oai_args.specs.Verbs.{is_of_records}
+use Rattle.oai_laws.specs.Following.{IsAnsweredNone, IsAnsweredWhole, ListRequest, first_request, selection_in}
 use Rattle.oai_laws.proofs.ChainLemmas.{format_there, sets_there}
 use Rattle.oai_laws.proofs.FollowLemmas.{asked_page}
 

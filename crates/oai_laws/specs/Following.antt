@@ -2,7 +2,6 @@
 use Rattle.std.specs.Prelude.{◌≡◌, ◌≢◌, ◌⊎◌, ◌<◌, ◌+◌, ◌+ℤ◌, ℕ, ℤ, pos, int_lt, Bool, true, false, List, [], ◌∷◌, ◌++◌, length, map, Option, Some, None, is_none, option_and_then}
 use Rattle.std.specs.List.{flat_map, list_any}
 use Rattle.oai_names.specs.declared.list_verbs.ListVerb.{ListVerb}
-use Rattle.oai_names.specs.declared.list_verbs.ListVerb.TheVariants as list
 use Rattle.oai_item.specs.Formats.{format_named}
 use Rattle.oai_item.specs.Item.{ItemState}
 use Rattle.oai_item.specs.Items.{are_apart}
@@ -10,6 +9,7 @@ use Rattle.oai_item.specs.Order.{are_in_order}
 use Rattle.oai_item.specs.Selection.{selected}
 use Rattle.oai_item.specs.declared.formats.Format.{Format}
 use Rattle.oai_args.specs.Asks.{asks}
+use Rattle.oai_args.specs.Verbs.{is_of_records}
 use Rattle.oai_args.specs.declared.requests.Ask.TheVariants as ask
 use Rattle.oai_answers.specs.Answers.{Answer, Continuation, Page, completes, fails, gives_record, identifies, lists_formats, lists_headers, lists_records, lists_sets, remains, whole}
 use Rattle.oai_answers.specs.declared.errors.ErrorCode.{ErrorCode}
@@ -69,12 +69,6 @@ extent_in (completes extent) = Some extent
 extent_in whole = None
 
 -- ---- a chain of requests
-
--- ListIdentifiers or ListRecords
-abbrev pub is_of_records : ListVerb → Bool
-is_of_records list.Identifiers = true
-is_of_records list.Records = true
-is_of_records list.Sets = false
 
 -- what a list request asks for: the verb and its arguments
 pub record ListRequest : Type 0 where

@@ -3,6 +3,7 @@ pub mod Waiting
 pub mod Changing
 pub mod Runs
 pub mod Following
+pub mod Commands
 pub mod Selecting
 pub mod Worked
 pub mod Shown

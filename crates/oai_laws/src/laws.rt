@@ -6,23 +6,22 @@ ghost use Rattle.std.specs.List.{list_all};
 ghost use Rattle.oai_names.specs.declared.list_verbs.ListVerb.{ListVerb};
 ghost use Rattle.oai_item.specs.Refusals.{Cause};
 ghost use Rattle.oai_item.specs.declared.changes.Change.{Change};
-ghost use Rattle.oai_args.specs.Asks.{AskOrError, asks};
-ghost use Rattle.oai_args.specs.declared.requests.Ask.TheVariants as ask;
-ghost use Rattle.oai_answers.specs.Answers.{Document, Page, fails};
-ghost use Rattle.oai_answers.specs.declared.errors.ErrorCode.TheVariants.{BadResumptionToken};
+ghost use Rattle.oai_answers.specs.Answers.{Document, Page};
 ghost use Rattle.oai_answers.specs.Documents.{document};
 ghost use Rattle.oai_answers.specs.Seen.{document_seen};
 ghost use Rattle.oai_settings.specs.Config.{Config, IsConfig};
 ghost use Rattle.oai_laws.specs.Changing.{DoesChange};
-ghost use Rattle.oai_laws.specs.Effects.{Effect, IsEffected, IsPossible, IsSound, effected, is_of_no_list};
-ghost use Rattle.oai_laws.specs.Following.{IsChain, IsContinued, IsFollowedThrough, IsAnsweredNone, IsAnsweredWhole, ListRequest, WasOffered, answer_in, is_of_records, next_request, page_shown, selection_in};
-ghost use Rattle.oai_repo.specs.Machine.{Command, accepted, act, requesting, changing, later, refused_with};
+ghost use Rattle.oai_laws.specs.Commands.{ActsOn, StaysSound};
+ghost use Rattle.oai_laws.specs.Effects.{IsSound};
+ghost use Rattle.oai_args.specs.Verbs.{is_of_records};
+ghost use Rattle.oai_laws.specs.Following.{IsChain, IsFollowedThrough, IsAnsweredNone, IsAnsweredWhole, ListRequest, WasOffered, next_request, page_shown, selection_in};
+ghost use Rattle.oai_repo.specs.Machine.{Command, accepted, act, changing, refused_with};
 ghost use Rattle.oai_laws.specs.Runs.{Exchange, Throughout, Timed, are_never_last, numbers_rise_strictly, numbers_given, run};
 ghost use Rattle.oai_laws.specs.Selecting.{IsSelection, has_granular_stamp};
 ghost use Rattle.oai_laws.specs.Shown.{IsFollowedList, IsSomeAnswer, bytes_written, is_followed_to_its_end, selection_seen};
 ghost use Rattle.oai_repo.specs.Listing.{wait_at};
-ghost use Rattle.oai_repo.specs.State.{OpenLists, RepoState, empty_state, moved, still_open};
-ghost use Rattle.oai_laws.specs.Waiting.{IsRetriedLater, IsWait};
+ghost use Rattle.oai_repo.specs.State.{OpenLists, RepoState, empty_state, still_open};
+ghost use Rattle.oai_laws.specs.Waiting.{IsWait};
 ghost use Rattle.oai_laws.specs.Worked.{IsWorked, worked_config};
 
 /// What a command can do: in a sound state it leaves the state, puts an item, takes one out, lets the
@@ -36,32 +35,11 @@ ghost use Rattle.oai_laws.specs.Worked.{IsWorked, worked_config};
 /// further list may begin, since as many are open as may be or no number is left. It leaves the state, and the
 /// time is a second or more; where the table was full, a list has ended by then, and none before.
 pub fn effect_law()
-    ensures does { (config : Config) (state : RepoState) (command : Command) → IsSound config state
-        → IsEffected config state (act config state command).1 }
-    ensures empty { (config : Config) → IsSound config (empty_state config) }
-    ensures later { (config : Config) (moment : ℤ) (state : RepoState) → IsSound config state
-        → IsSound config (moved moment state) }
-    ensures keeps { (config : Config) (state : RepoState) (effect : Effect)
-        → IsPossible config state effect → IsSound config state
-        → IsSound config (effected config state effect) }
-    ensures requests { (config : Config) (state : RepoState) (request : AskOrError)
-        → (act config state (requesting request)).1.holdings ≡ state.holdings }
-    ensures lines { (config : Config) (state : RepoState) (change : Change)
-        → (act config state (changing change)).1.open_lists ≡ state.open_lists }
-    ensures others { (config : Config) (state : RepoState) (request : AskOrError)
-        → is_of_no_list request ≡ true → (act config state (requesting request)).1 ≡ state }
-    ensures tokens { (config : Config) (state : RepoState) (verb : ListVerb) (token : List ℕ)
-        → (let done = act config state (requesting (asks (ask.Resume verb token))) in
-        answer_in done.0 ≡ Some (fails BadResumptionToken) → done.1 ≡ state) }
-    ensures continued { (config : Config) (state : RepoState) (verb : ListVerb) (token : List ℕ)
-        → IsSound config state
-        → IsContinued (act config state (requesting (asks (ask.Resume verb token)))).0 }
+    ensures sound { (config : Config) → StaysSound config }
+    ensures acts { (config : Config) (state : RepoState) → ActsOn config state }
     ensures retry_after { (config : Config) (clock seconds : ℤ) (open_lists : OpenLists) → IsConfig config
         → wait_at config clock (still_open clock open_lists) ≡ Some seconds
         → IsWait config clock (still_open clock open_lists) seconds }
-    ensures told { (config : Config) (state : RepoState) (command : Command) (seconds : ℤ)
-        → (let done = act config state command in
-        done.0 ≡ later seconds → IsRetriedLater config state seconds done.1) }
 {}
 
 /// What a change does (OAI-PMH 2.0, sections 2.3 to 2.6). One that is accepted is answered with the
