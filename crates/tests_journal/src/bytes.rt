@@ -21,13 +21,34 @@ fn example_is_read(rt: HostRuntime) {
     let alloc = rt.alloc();
     let mut recovery = Recovery::new(alloc, disk_of(&rt, alloc, EXAMPLE));
     recovery.begin().expect(&rt, "begin");
-    assert_record(&rt, &recovery, 1_767_225_600, Kind::Journal, "oaihostd", "1\n{}");
+    assert_record(
+        &rt,
+        &recovery,
+        1_767_225_600,
+        Kind::Journal,
+        "oaihostd",
+        "1\n{}",
+    );
     assert!(&rt; recovery.advance() == Ok(true));
     assert_record(&rt, &recovery, 1_767_225_600, Kind::Tick, "a", "");
     assert!(&rt; recovery.advance() == Ok(true));
-    assert_record(&rt, &recovery, 1_767_225_601, Kind::Deposit, "a", "{\"a\":1}\n{\"b\":2}\n");
+    assert_record(
+        &rt,
+        &recovery,
+        1_767_225_601,
+        Kind::Deposit,
+        "a",
+        "{\"a\":1}\n{\"b\":2}\n",
+    );
     assert!(&rt; recovery.advance() == Ok(true));
-    assert_record(&rt, &recovery, 1_767_225_602, Kind::Oai, "b", "verb=Identify");
+    assert_record(
+        &rt,
+        &recovery,
+        1_767_225_602,
+        Kind::Oai,
+        "b",
+        "verb=Identify",
+    );
     assert!(&rt; recovery.advance() == Ok(false));
     assert!(&rt; recovery.position() == 203);
 }

@@ -33,15 +33,21 @@ fn assert_torn(rt: &impl Abort, alloc: Global, bytes: &[u8], mut seed: u64) -> u
         *gate = b'-';
     }
     for _byte in 0..seed % 40 {
-        seed = seed.wrapping_mul(6_364_136_223_846_793_005).wrapping_add(1_442_695_040_888_963_407);
+        seed = next_seed(seed);
         let at = 93 + (seed >> 33) as usize % 111;
         if let Some(byte) = torn.get_mut(at) {
-            *byte = (seed >> 20) as u8;
+            *byte = ((seed >> 20) % 256) as u8;
         }
     }
-    seed = seed.wrapping_mul(6_364_136_223_846_793_005).wrapping_add(1_442_695_040_888_963_407);
+    seed = next_seed(seed);
     assert!(rt; found_in(alloc, disk_of(rt, alloc, &torn)) == Found::Whole(1));
     seed >> 3
+}
+
+/// The next of a row of numbers that look random.
+fn next_seed(seed: u64) -> u64 {
+    seed.wrapping_mul(6_364_136_223_846_793_005)
+        .wrapping_add(1_442_695_040_888_963_407)
 }
 
 /// Whatever byte the gate of the last group becomes, all of the group is found or nothing of it.
