@@ -1,7 +1,7 @@
 //! A journal's file, read from its first byte on, a record at a time.
 ghost use Rattle.std.specs.Prelude.{◌≡◌, ◌⊎◌, ◌<◌, ◌≤◌, ◌+◌, ◌++◌, [], ◌∷◌, ℕ, List, Some, true, false, length, drop, IsTrue, IfOk, IfErr, IfSome, OnOk};
 ghost use Rattle.oai_journal.specs.Changes.{IsChangedAt, IsWhole};
-ghost use Rattle.oai_journal.specs.Kept.{HoldsRecords};
+ghost use Rattle.oai_journal.specs.Kept.{HoldsRecords, Survives};
 ghost use Rattle.oai_journal.specs.Records.{Entry, entry_of};
 ghost use Rattle.oai_journal.specs.Recoveries.{IsDamagedAt, IsStep, Starts, StepsWithin, step_of};
 ghost use Rattle.std.specs.Option.{option_map};
@@ -14,7 +14,7 @@ use crate::groups::{OPEN_GATE, is_open};
 use crate::journals::JournalFault;
 use crate::readings::{open_len, read_frame, read_gate};
 use crate::records::Record;
-use sqlite_disk::Disk;
+use sqlite_disk::{Crash, Disk};
 use std::alloc::Global;
 use thiserror::Error;
 
@@ -201,6 +201,22 @@ fn read_first<D: Disk>(
             read_frame(disk, len, 1, true, 0, frame, &mut out)
         }
         _ => Ok(None),
+    }
+}
+
+impl<D: Crash + Drop> FileJournal<D> {
+    ghost use Rattle.oai_journal.specs.Recovered.{disk_of};
+
+    /// The machine crashes and comes back: the recovery of what is left on the disk. For tests, and for theorems that
+    /// span a restart; a `FileJournal<Memory>` is a journal in memory that can crash.
+    pub fn crash(self, alloc: Global) -> Recovery<D>
+        ensures { (entries : List Entry) (durable : ℕ)
+            → HoldsRecords D.Disk.seen D.Disk.may_leave self entries durable
+            → (first : Entry) × Survives (D.Disk.seen (disk_of result)) first entries durable }
+    {
+        let mut disk = self.into_disk();
+        disk.crash();
+        Recovery::new(alloc, disk)
     }
 }
 
