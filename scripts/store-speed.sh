@@ -14,12 +14,12 @@ fi
 copy=${COPY:-$(mktemp -d)}
 trap '[ -n "${COPY:-}" ] || rm -rf "$copy"' EXIT
 mkdir -p "$copy/crates"
-for crate in oai_names oai_time oai_item oai_catalogue oai_device oai_pool oai_paged; do
+for crate in oai_names oai_time oai_item oai_catalogue oai_device oai_pool oai_sums oai_paged; do
     mkdir "$copy/crates/$crate"
     cp -r "crates/$crate"/{src,specs,proofs} "$copy/crates/$crate"
 done
 {
-    grep -E '^oai_(names|time|item|catalogue|device|pool|paged):' crates.txt
+    grep -E '^oai_(names|time|item|catalogue|device|pool|sums|paged):' crates.txt
     echo 'store_speed: oai_names oai_item oai_catalogue oai_device oai_pool oai_paged'
 } >"$copy/crates.txt"
 program=$copy/crates/store_speed

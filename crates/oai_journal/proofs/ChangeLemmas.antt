@@ -76,10 +76,10 @@ module _ (before : ℕ) (e : Entry) (after : List ℕ) (fit : IsFit e) (kind : i
 no_bytes : (gate : ℕ) (behind : List ℕ) → [] ≡ gate ∷ behind → ⊥
 no_bytes gate behind is = cc
 
-apart : 38 ≡ 43 → ⊥
-apart is = omega (arith, is)
+apart : (a b : ℕ) → a ≡ 38 → b ≡ 43 → a ≡ b → ⊥
+apart a b low high is = omega (arith, low, high, is)
 
-abbrev Begins : Bool → ℕ → List ℕ → Type 0
+abbrev pub Begins : Bool → ℕ → List ℕ → Type 0
 Begins on before bytes = IsTrue on ↔ BeginsWithFrame before bytes
 
 pub begins_none : (before : ℕ) (bytes : List ℕ) → HasNoFrame false before bytes → Begins false before bytes
@@ -117,17 +117,51 @@ module _ (file : List ℕ) (at before last : ℕ) (read : List ℕ) (f : HasFram
         subst (GoesOn before) (sym f.is) (back_open before f.entry f.after f.fit f.kind (drop (at + length read + 1) file) (sym after_is ∙ gate) next),
     λ g. ⊎_elim
         (λ (b : (r : List ℕ) × (drop (at + length read) file ≡ 43 ∷ r) × BeginsWithFrame last r). begins.1 (subst (BeginsWithFrame last) (tails_same _ _ _ _ (sym b.1 ∙ gate)) b.2))
-        (λ (b : (r : List ℕ) × (drop (at + length read) file ≡ 38 ∷ r) × GoesOn last r). absurd (apart (heads_same _ _ _ _ (sym b.1 ∙ gate))))
+        (λ (b : (r : List ℕ) × (drop (at + length read) file ≡ 38 ∷ r) × GoesOn last r). absurd (apart 38 43 refl refl (heads_same _ _ _ _ (sym b.1 ∙ gate))))
         (behind_it g),
   )
 
   pub turn_further : drop (at + length read) file ≡ 38 ∷ drop (at + length read + 1) file → IsTurn file at before (Further (at + length read + 1) last)
   turn_further gate = (
     λ g. ⊎_elim
-        (λ (b : (r : List ℕ) × (drop (at + length read) file ≡ 43 ∷ r) × BeginsWithFrame last r). absurd (apart (heads_same _ _ _ _ (sym gate ∙ b.1))))
+        (λ (b : (r : List ℕ) × (drop (at + length read) file ≡ 43 ∷ r) × BeginsWithFrame last r). absurd (apart 38 43 refl refl (heads_same _ _ _ _ (sym gate ∙ b.1))))
         (λ (b : (r : List ℕ) × (drop (at + length read) file ≡ 38 ∷ r) × GoesOn last r). subst (GoesOn last) (tails_same _ _ _ _ (sym b.1 ∙ gate)) b.2)
         (behind_it g),
     λ g.
         let next = subst (λ m. GoesOn m (drop (at + length read + 1) file)) f.digest_is g in
         subst (GoesOn before) (sym f.is) (back_further before f.entry f.after f.fit f.kind (drop (at + length read + 1) file) (sym after_is ∙ gate) next),
   )
+
+-- ---- the same, as the code has it
+
+moved : (file seen : List ℕ) (at n m b gate : ℕ) → drop (at + n) seen ≡ b ∷ drop (at + n + 1) seen → n ≡ m → seen ≡ file → b ≡ gate → drop (at + m) file ≡ gate ∷ drop (at + m + 1) file
+moved file seen at n m b gate there size same is =
+    subst (λ x. drop (at + x) file ≡ gate ∷ drop (at + x + 1) file) size
+    (subst (λ (l : List ℕ). drop (at + n) l ≡ gate ∷ drop (at + n + 1) l) same (subst (λ y. drop (at + n) seen ≡ y ∷ drop (at + n + 1) seen) is there))
+
+module _ (file seen : List ℕ) (at before last n : ℕ) (read : List ℕ) (f : HasFrame false before (drop at file) read last) (size : n ≡ length read) (same : seen ≡ file) where
+  pub turn_at_none : IsGateAt seen (at + n) None → IsTurn file at before (Done false)
+  turn_at_none gate =
+      let there : drop (at + length read) file ≡ [] = ap (λ m. drop (at + m) file) (sym size) ∙ ap (drop (at + n)) (sym same) ∙ gate in
+      turn_end file at before last read f (inl there)
+
+  pub turn_at_other : (b : ℕ) → IsGateAt seen (at + n) (Some b) → (b ≡ 38 → ⊥) → (b ≡ 43 → ⊥) → IsTurn file at before (Done false)
+  turn_at_other b gate none_further none_opened =
+      turn_end file at before last read f (inr (b, drop (at + length read + 1) file, moved file seen at n (length read) b b gate size same refl, none_opened, none_further))
+
+  pub turn_at_further : (b : ℕ) → IsGateAt seen (at + n) (Some b) → b ≡ 38 → IsTurn file at before (Further (at + n + 1) last)
+  turn_at_further b gate is =
+      subst (λ m. IsTurn file at before (Further (at + m + 1) last)) (sym size)
+      (turn_further file at before last read f (moved file seen at n (length read) b 38 gate size same is))
+
+  pub turn_at_open : (b : ℕ) (on : Bool) → IsGateAt seen (at + n) (Some b) → b ≡ 43 → Begins on last (drop (at + n + 1) seen) → IsTurn file at before (Done on)
+  turn_at_open b on gate is begins =
+      let there : Begins on last (drop (at + length read + 1) file) =
+      subst (λ m. Begins on last (drop (at + m + 1) file)) size (subst (λ (l : List ℕ). Begins on last (drop (at + n + 1) l)) same begins) in
+      turn_open file at before last read f on (moved file seen at n (length read) b 43 gate size same is) there
+
+pub iff_trans : {A B C : Type 0} → (A ↔ B) → (B ↔ C) → (A ↔ C)
+iff_trans f g = (λ a. g.0 (f.0 a), λ c. f.1 (g.1 c))
+
+pub iff_sym_trans : {A B C : Type 0} → (A ↔ B) → (B ↔ C) → (C ↔ A)
+iff_sym_trans f g = (λ c. f.1 (g.1 c), λ a. g.0 (f.0 a))

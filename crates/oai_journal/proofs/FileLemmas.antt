@@ -82,3 +82,32 @@ ends_same file first first' entries entries' a b =
     same.behind ∙ ap (λ (e : Entry). spelled (next_digest 0 e) b.frames ++ b.gate ∷ b.behind) (sym same.entry) in
     let frames : a.frames ≡ b.frames = frames_same (next_digest 0 first) a.frames b.frames a.gate b.gate a.behind b.behind a.are b.are a.closed b.closed rest in
     record { begins = same.entry; are = sym a.says ∙ ap (map (λ f. f.entry)) frames ∙ b.says }
+
+-- two readings of one file as far as a closed gate are one
+pub record AreOne (first first' : Entry) (fs gs : List Gated) (back back' : List ℕ) : Type 0 where
+  pub behind : back ≡ back'
+  pub last : digest_after (next_digest 0 first) fs ≡ digest_after (next_digest 0 first') gs
+
+behind_same : (before : ℕ) (fs gs : List Gated) (gate gate' : ℕ) (behind behind' : List ℕ) → AreGated fs → AreGated gs → is_open gate ≡ false → is_open gate' ≡ false
+    → spelled before fs ++ gate ∷ behind ≡ spelled before gs ++ gate' ∷ behind' → behind ≡ behind'
+behind_same before [] [] gate gate' behind behind' a b c d is = tails_same _ _ _ _ is
+behind_same before [] (g ∷ gs) gate gate' behind behind' a b c d is = absurd (shut g.gate gate (sym (heads_same _ _ _ _ is)) b.0.opened c)
+behind_same before (f ∷ fs) [] gate gate' behind behind' a b c d is = absurd (shut f.gate gate' (heads_same _ _ _ _ is) a.0.opened d)
+behind_same before (f ∷ fs) (g ∷ gs) gate gate' behind behind' a b c d is =
+    let both = sym (step before f fs (gate ∷ behind)) ∙ is ∙ step before g gs (gate' ∷ behind') in
+    let same = frame_same before f.entry g.entry _ _ a.0.fit b.0.fit (tails_same _ _ _ _ both) in
+    behind_same (next_digest before f.entry) fs gs gate gate' behind behind' a.1 b.1 c d
+    (same.behind ∙ ap (λ (e : Entry). spelled (next_digest before e) gs ++ gate' ∷ behind') (sym same.entry))
+
+pub fronts_same : (first first' : Entry) (fs gs : List Gated) (gate gate' : ℕ) (behind behind' : List ℕ) → IsFit first → IsFit first' → AreGated fs → AreGated gs
+    → is_open gate ≡ false → is_open gate' ≡ false → front first fs ++ gate ∷ behind ≡ front first' gs ++ gate' ∷ behind' → AreOne first first' fs gs behind behind'
+fronts_same first first' fs gs gate gate' behind behind' fit fit' a b c d is =
+    let both = sym (front_step first fs (gate ∷ behind)) ∙ is ∙ front_step first' gs (gate' ∷ behind') in
+    let same = frame_same 0 first first' _ _ fit fit' (tails_same _ _ _ _ both) in
+    let rest : spelled (next_digest 0 first) fs ++ gate ∷ behind ≡ spelled (next_digest 0 first) gs ++ gate' ∷ behind' =
+    same.behind ∙ ap (λ (e : Entry). spelled (next_digest 0 e) gs ++ gate' ∷ behind') (sym same.entry) in
+    let frames : fs ≡ gs = frames_same (next_digest 0 first) fs gs gate gate' behind behind' a b c d rest in
+    record {
+      behind = behind_same (next_digest 0 first) fs gs gate gate' behind behind' a b c d rest;
+      last = ap (λ l. digest_after (next_digest 0 first) l) frames ∙ ap (λ (e : Entry). digest_after (next_digest 0 e) gs) same.entry;
+    }

@@ -7,7 +7,7 @@ use Rattle.std.proofs.lemmas.List.{append-nil, length-append, take-append-le, ta
 use Rattle.oai_journal.specs.Files.{Ends, IsFirst, front, is_open, spelled}
 use Rattle.oai_journal.specs.Frames.{frame, next_digest}
 use Rattle.oai_journal.specs.Groups.{AreRecords, EndsBeforeOrAfter, IsGroup, IsSettled, IsWritten, digest_of_all, further, inside, kept_group}
-use Rattle.oai_journal.specs.Kept.{HoldsRecords, IsAtEnd, IsWaiting, Keeps, Survives}
+use Rattle.oai_journal.specs.Kept.{HoldsRecords, IsAtEnd, DiskLeavesAllOrNone, IsWaiting, Keeps, LeavesAllOrNone, Survives}
 use Rattle.oai_journal.specs.Records.{Entry, IsFit, is_first_kind}
 use Rattle.oai_journal.specs.declared.file.FileJournal.{FileJournal}
 use Rattle.sqlite_disk.specs.Disk.{Only}
@@ -209,3 +209,26 @@ module _ {D : Type 0} (seen : D → List ℕ) (may_leave : D → List ℕ → Ty
       → HoldsRecords seen may_leave new entries (length entries)
   kept_settled journal new entries durable held settled none same =
       subst (λ l. HoldsRecords seen may_leave new l (length l)) (sym (held.1).are) (settled_holds new held.0 ((held.1).written ++ (held.1).later) settled none same)
+
+  -- ---- all of the group, or none
+
+  before_is : (journal : FileJournal D) (entries : List Entry) (durable : ℕ) (held : HoldsRecords seen may_leave journal entries durable) → (held.1).written ≡ take durable entries
+  before_is journal entries durable held =
+      let k = held.1 in
+      sym (ap (take durable) k.are ∙ take_at k.written k.later durable (sym k.count))
+
+  pub leaves_before : (journal : FileJournal D) (entries : List Entry) (durable : ℕ) → journal.stopped ≡ false → HoldsRecords seen may_leave journal entries durable
+      → LeavesAllOrNone may_leave journal entries durable
+  leaves_before journal entries durable going held found left =
+      let k = held.1 in
+      let ends = ends_settled journal.disk journal.end journal.digest held.0 k.written (k.settled going) left.file left.left in
+      inl ((ends_same left.file left.first held.0 found k.written left.ends ends).are ∙ before_is journal entries durable held)
+
+  pub leaves_group : (journal : FileJournal D) (new : D) (entries : List Entry) (durable : ℕ) (held : HoldsRecords seen may_leave journal entries durable)
+      → ((file : List ℕ) → may_leave new file → EndsBeforeOrAfter file held.0 (held.1).written (held.1).later) → DiskLeavesAllOrNone may_leave new entries durable
+  leaves_group journal new entries durable held crash found left =
+      let k = held.1 in
+      ⊎_elim
+      (λ ends. inl ((ends_same left.file left.first held.0 found k.written left.ends ends).are ∙ before_is journal entries durable held))
+      (λ ends. inr ((ends_same left.file left.first held.0 found (k.written ++ k.later) left.ends ends).are ∙ sym k.are))
+      (crash left.file left.left)

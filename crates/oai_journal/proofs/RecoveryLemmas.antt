@@ -1,25 +1,33 @@
 -- A journal that is read a frame further; where it ends, and where it is damaged.
-use Rattle.std.proofs.Common.{◌≡◌, ◌⊎◌, ◌∙◌, inl, inr, ⊎_elim, ℕ, ◌+◌, ◌-◌, ◌<◌, ◌≤◌, Bool, true, false, List, [], ◌∷◌, ◌++◌, length, map, take, drop, Option, Some, None, Result, Ok, Err, IfOk, refl, sym, ap, subst, arith, append_assoc}
+use Rattle.std.proofs.Common.{◌≡◌, ◌⊎◌, ◌↔◌, ◌∙◌, IsTrue, inl, inr, ⊎_elim, ℕ, ◌+◌, ◌-◌, ◌<◌, ◌≤◌, Bool, true, false, List, [], ◌∷◌, ◌++◌, length, map, take, drop, Option, Some, None, Result, Ok, Err, IfOk, refl, sym, ap, subst, arith, append_assoc}
 use Rattle.std.proofs.lemmas.Bool.{false≢true}
 use Rattle.std.proofs.lemmas.List.{append-nil, drop_at, length-append, map-append, take_all}
 use Rattle.sqlite_disk.specs.Disk.{Only}
+use Rattle.oai_journal.specs.Changes.{GoesOn, IsChangedAt, IsWhole}
 use Rattle.oai_journal.specs.Files.{AreGated, Ends, Gated, IsFirst, IsGated, digest_after, front, is_open, spelled}
 use Rattle.oai_journal.specs.Frames.{entry_in, frame, next_digest}
 use Rattle.oai_journal.specs.Groups.{IsSettled}
 use Rattle.oai_journal.specs.Kept.{HoldsRecords, IsAtEnd}
 use Rattle.oai_journal.specs.Records.{Entry, IsFit, is_first_kind}
-use Rattle.oai_journal.specs.Recoveries.{Continues, EndsHere, Finds, HasNoFirst, IsBroken, IsDamagedAt, IsOpenWithNone, ReadsTo, Starts, StartsAs}
+use Rattle.oai_journal.specs.Recoveries.{Continues, EndsHere, Finds, HasNoFirst, IsBroken, IsDamagedAt, IsOpenWithNone, IsStep, ReadsTo, Starts, StartsAs, WasOpen, step_of}
 use Rattle.oai_journal.specs.Recovered.{HasRead, current}
 use Rattle.oai_journal.specs.declared.file.FileJournal.{FileJournal}
 use Rattle.oai_journal.specs.declared.recovery.Recovery.{Recovery}
 use Rattle.oai_journal.specs.declared.recovery.RecoveryFault.{RecoveryFault}
 use Rattle.oai_journal.specs.declared.recovery.RecoveryFault.TheVariants.{Damaged, Stopped}
-use Rattle.oai_journal.proofs.FileLemmas.{digest_append, front_append, gated_append}
+use Rattle.oai_journal.proofs.FileLemmas.{digest_append, fronts_same, front_append, gated_append}
 use Rattle.oai_journal.proofs.FrameLemmas.{frame_read}
 use Rattle.oai_journal.proofs.KeptLemmas.{settled_holds}
 
 rest_at : (file : List ℕ) (at digest : ℕ) (first : Entry) (entries : List Entry) (reads : ReadsTo file at digest first entries) → drop at file ≡ reads.rest
 rest_at file at digest first entries reads = ap (drop at) reads.is ∙ drop_at (front first reads.frames) reads.rest at (sym reads.place)
+
+-- a closed gate, by whether what stands behind it goes on
+pub closed_step : (rest read : List ℕ) (before gate : ℕ) (behind : List ℕ) (on : Bool) → rest ≡ gate ∷ behind → is_open gate ≡ false → (IsTrue on ↔ GoesOn before behind)
+    → IsStep rest before read (step_of on)
+closed_step rest read before gate behind true is closed iff = record { gate = gate; behind = behind; is = is; closed = closed; goes = iff.0 refl }
+closed_step rest read before gate behind false is closed iff =
+    record { gate = gate; behind = behind; is = is; closed = closed; stops = λ g. false≢true (iff.1 g) }
 
 -- ---- the first record
 
@@ -60,6 +68,9 @@ abbrev damaged_byte : RecoveryFault → ℕ
 damaged_byte (Damaged at) = at
 damaged_byte (Stopped cause) = 0
 
+pub same_byte : {a b : ℕ} → Damaged a ≡ Damaged b → a ≡ b
+same_byte is = ap damaged_byte is
+
 pub damaged_first : (file : List ℕ) (at : ℕ) → Damaged 0 ≡ Damaged at → HasNoFirst file → IsDamagedAt file at
 damaged_first file at is none = inl (sym (ap damaged_byte is), none)
 
@@ -92,8 +103,23 @@ module _ (file : List ℕ) (at digest : ℕ) (first : Entry) (entries : List Ent
         last = s.digest_is ∙ ap (λ n. next_digest n s.entry) reads.last ∙ sym (digest_append (next_digest 0 first) fs (one ∷ []));
       }
 
-  ended_here : EndsHere (drop at file) → EndsHere reads.rest
-  ended_here e = subst EndsHere (rest_at file at digest first entries reads) e
+  ended_here : EndsHere digest (drop at file) → EndsHere digest reads.rest
+  ended_here e = subst (EndsHere digest) (rest_at file at digest first entries reads) e
+
+  pub changed_here : WasOpen digest (drop at file) → IsChangedAt file at
+  changed_here w =
+      record {
+        first = first;
+        frames = reads.frames;
+        gate = w.gate;
+        behind = w.behind;
+        is = reads.is ∙ ap (λ (l : List ℕ). so_far ++ l) (sym (rest_at file at digest first entries reads) ∙ w.is);
+        begins = reads.begins;
+        are = reads.are;
+        place = reads.place;
+        closed = w.closed;
+        goes = subst (λ n. GoesOn n w.behind) reads.last w.goes;
+      }
 
   pub damaged_here : (drop at file ≡ []) ⊎ IsOpenWithNone digest (drop at file) → IsDamagedAt file at
   damaged_here broken =
@@ -151,7 +177,7 @@ module _ {D : Type 0} (seen : D → List ℕ) (may_leave : D → List ℕ → Ty
   )
 
   pub has_ended : (old new : Recovery D) (first : Entry) (entries : List Entry) → Moves old new → HasRead seen may_leave old first entries
-      → EndsHere (drop old.at (seen old.disk)) → new.digest ≡ old.digest → new.at ≡ old.at → HasRead seen may_leave new first entries
+      → EndsHere old.digest (drop old.at (seen old.disk)) → new.digest ≡ old.digest → new.at ≡ old.at → HasRead seen may_leave new first entries
   has_ended old new first entries moves h ends digest_is at =
       let here = ended_here (seen old.disk) old.at old.digest first entries h.reads ends in
       let r = h.reads in
@@ -168,23 +194,31 @@ module _ {D : Type 0} (seen : D → List ℕ) (may_leave : D → List ℕ → Ty
         };
         size = moves.size ∙ h.size ∙ ap length (sym moves.same);
         durable = same_left old.disk new.disk moves.same moves.crash h.durable;
-        ends = λ ended. here;
+        ends = λ ended. subst (λ n. EndsHere n r.rest) (sym digest_is) here;
       }
 
   -- what was read to its end is what the file is
-  pub ends_read : (recovery : Recovery D) (first : Entry) (entries : List Entry) → recovery.ended ≡ true → HasRead seen may_leave recovery first entries → Ends (seen recovery.disk) first entries
-  ends_read recovery first entries ended h =
+  pub whole_read : (recovery : Recovery D) (first : Entry) (entries : List Entry) → recovery.ended ≡ true → HasRead seen may_leave recovery first entries → IsWhole (seen recovery.disk) first entries
+  whole_read recovery first entries ended h =
       let r = h.reads in
       let here = h.ends ended in
+      let file : List ℕ = seen recovery.disk in
+      let is : file ≡ front first r.frames ++ here.gate ∷ here.behind = r.is ∙ ap (λ (l : List ℕ). front first r.frames ++ l) here.is in
       record {
-        frames = r.frames;
-        gate = here.gate;
-        behind = here.behind;
-        is = r.is ∙ ap (λ (l : List ℕ). front first r.frames ++ l) here.is;
-        closed = here.closed;
-        begins = r.begins;
-        are = r.are;
-        says = r.says;
+        ends = record {
+          frames = r.frames;
+          gate = here.gate;
+          behind = here.behind;
+          is = is;
+          closed = here.closed;
+          begins = r.begins;
+          are = r.are;
+          says = r.says;
+        };
+        unchanged = λ at c.
+            let same = fronts_same first c.first r.frames c.frames here.gate c.gate here.behind c.behind r.begins.fit c.begins.fit r.are c.are here.closed c.closed (sym is ∙ c.is) in
+            here.stops (subst (λ (l : List ℕ). GoesOn recovery.digest l) (sym same.behind)
+            (subst (λ n. GoesOn n c.behind) (sym (r.last ∙ same.last)) c.goes));
       }
 
   pub holds_all : (recovery : Recovery D) (journal : FileJournal D) (first : Entry) (entries : List Entry) → recovery.ended ≡ true → HasRead seen may_leave recovery first entries

@@ -1,6 +1,6 @@
 -- An open gate that was changed: what stands behind it still goes on with the chain of digests. This repository's own.
 use Rattle.std.specs.Prelude.{◌≡◌, ℕ, ◌+◌, ◌<◌, ◌≤◌, ◌↔◌, false, List, [], ◌∷◌, ◌++◌, length, drop, IsTrue}
-use Rattle.oai_journal.specs.Files.{AreGated, Gated, IsFirst, digest_after, front, is_open}
+use Rattle.oai_journal.specs.Files.{AreGated, Ends, Gated, IsFirst, digest_after, front, is_open}
 use Rattle.oai_journal.specs.Frames.{frame, next_digest}
 use Rattle.oai_journal.specs.Groups.{AreRecords, digest_of_all, inside}
 use Rattle.oai_journal.specs.Records.{Entry, IsFit, is_first_kind}
@@ -36,6 +36,11 @@ pub record IsChangedAt (file : List ℕ) (at : ℕ) : Type 0 where
   pub place : at ≡ length (front first frames)
   pub closed : is_open gate ≡ false
   pub goes : GoesOn (digest_after (next_digest 0 first) frames) behind
+
+-- the file is a journal, and no gate of it was changed
+pub record IsWhole (file : List ℕ) (first : Entry) (entries : List Entry) : Type 0 where
+  pub ends : Ends file first entries
+  pub unchanged : (at : ℕ) → IsChangedAt file at → ⊥
 
 -- whether the bytes from a place on go on is whether those from a further one do, or the answer
 abbrev pub IsTurn : List ℕ → ℕ → ℕ → Turn → Type 0

@@ -1,5 +1,5 @@
 -- What a journal's file keeps: on the disk, and in what waits for the next commit. This repository's own.
-use Rattle.std.specs.Prelude.{◌≡◌, ℕ, ◌+◌, ◌≤◌, Bool, false, List, [], ◌++◌, length, take, vec_len, vec_capacity, Vec}
+use Rattle.std.specs.Prelude.{◌≡◌, ◌⊎◌, ℕ, ◌+◌, ◌≤◌, Bool, false, List, [], ◌++◌, length, take, vec_len, vec_capacity, Vec}
 use Rattle.std.proofs.Math.Nat.{add-le-add, le_refl, le_trans}
 use Rattle.std.specs.declared.alloc.Global.{Global}
 use Rattle.oai_journal.specs.Files.{Ends}
@@ -54,6 +54,18 @@ pub record MayLeaveRecords {D : Type 0} (may_leave : D → List ℕ → Type 0) 
   pub left : may_leave disk file
   pub first : Entry
   pub ends : Ends file first found
+
+-- the disk has not failed
+abbrev pub IsGoing : {D : Type 0} → FileJournal D → Type 0
+IsGoing journal = journal.stopped ≡ false
+
+-- a crash leaves the records that were durable, or all
+abbrev pub DiskLeavesAllOrNone : {D : Type 0} → (D → List ℕ → Type 0) → D → List Entry → ℕ → Type 0
+DiskLeavesAllOrNone may_leave disk entries durable =
+    (found : List Entry) → MayLeaveRecords may_leave disk found → (found ≡ take durable entries) ⊎ (found ≡ entries)
+
+abbrev pub LeavesAllOrNone : {D : Type 0} → (D → List ℕ → Type 0) → FileJournal D → List Entry → ℕ → Type 0
+LeavesAllOrNone may_leave journal entries durable = DiskLeavesAllOrNone may_leave journal.disk entries durable
 
 abbrev pub HasRoom : Vec ℕ Global → ℕ → Type 0
 HasRoom pending bytes = vec_len pending + bytes + FRAME_ROOM ≤ vec_capacity pending

@@ -18,4 +18,4 @@ pub record HasRead {D : Type 0} (seen : D → List ℕ) (may_leave : D → List 
   pub reads : ReadsTo (seen recovery.disk) recovery.at recovery.digest first entries
   pub size : recovery.len ≡ length (seen recovery.disk)
   pub durable : Only (seen recovery.disk) (may_leave recovery.disk)
-  pub ends : recovery.ended ≡ true → EndsHere reads.rest
+  pub ends : recovery.ended ≡ true → EndsHere recovery.digest reads.rest

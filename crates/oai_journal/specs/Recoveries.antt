@@ -1,11 +1,12 @@
 -- A journal's file as it is read from its first byte on. This repository's own.
-use Rattle.std.specs.Prelude.{◌≡◌, ◌⊎◌, ℕ, ◌+◌, ◌<◌, ◌≤◌, Bool, true, false, List, [], ◌∷◌, ◌++◌, length, map, take, drop, slice_index, Option, Some, None, MatchOption, IsTrue, IfOk, Result}
+use Rattle.std.specs.Prelude.{◌≡◌, ◌⊎◌, ℕ, ◌+◌, ◌<◌, ◌≤◌, Bool, true, false, if◌then◌else◌, List, [], ◌∷◌, ◌++◌, length, map, take, drop, slice_index, Option, Some, None, MatchOption, IsTrue, IfOk, Result}
 use Rattle.sqlite_disk.specs.Disk.{Only}
+use Rattle.oai_journal.specs.Changes.{GoesOn}
 use Rattle.oai_journal.specs.Files.{AreGated, Ends, Gated, IsFirst, digest_after, front, is_open}
 use Rattle.oai_journal.specs.Frames.{entry_in, frame, next_digest}
 use Rattle.oai_journal.specs.Records.{Entry, IsFit, is_first_kind}
 use Rattle.oai_journal.specs.declared.recovery.Step.{Step}
-use Rattle.oai_journal.specs.declared.recovery.Step.TheVariants.{End, Frame, Damage}
+use Rattle.oai_journal.specs.declared.recovery.Step.TheVariants.{Changed, End, Frame, Damage}
 
 -- the bytes are the frame of a record, the first of a journal or another one
 pub record IsFrame (first : Bool) (before : ℕ) (bytes : List ℕ) (e : Entry) : Type 0 where
@@ -104,12 +105,21 @@ pub record StartsAs (file read : List ℕ) (digest : ℕ) : Type 0 where
 abbrev pub Starts : List ℕ → List ℕ → Option ℕ → Type 0
 Starts file read found = MatchOption found (HasNoFirst file) (λ digest. StartsAs file read digest)
 
--- a closed gate
-pub record EndsHere (rest : List ℕ) : Type 0 where
+-- a closed gate, behind which nothing goes on
+pub record EndsHere (before : ℕ) (rest : List ℕ) : Type 0 where
   pub gate : ℕ
   pub behind : List ℕ
   pub is : rest ≡ gate ∷ behind
   pub closed : is_open gate ≡ false
+  pub stops : GoesOn before behind → ⊥
+
+-- a closed gate, which was open, since what stands behind it goes on
+pub record WasOpen (before : ℕ) (rest : List ℕ) : Type 0 where
+  pub gate : ℕ
+  pub behind : List ℕ
+  pub is : rest ≡ gate ∷ behind
+  pub closed : is_open gate ≡ false
+  pub goes : GoesOn before behind
 
 -- an open gate and a frame, which was read
 pub record Continues (rest : List ℕ) (before : ℕ) (read : List ℕ) (digest : ℕ) : Type 0 where
@@ -124,7 +134,8 @@ pub record Continues (rest : List ℕ) (before : ℕ) (read : List ℕ) (digest 
   pub digest_is : digest ≡ next_digest before entry
 
 abbrev pub IsStep : List ℕ → ℕ → List ℕ → Step → Type 0
-IsStep rest before read End = EndsHere rest
+IsStep rest before read End = EndsHere before rest
+IsStep rest before read Changed = WasOpen before rest
 IsStep rest before read (Frame digest) = Continues rest before read digest
 IsStep rest before read Damage = (rest ≡ []) ⊎ IsOpenWithNone before rest
 
@@ -132,3 +143,7 @@ IsStep rest before read Damage = (rest ≡ []) ⊎ IsOpenWithNone before rest
 abbrev pub StepsWithin : ℕ → List ℕ → ℕ → Step → Type 0
 StepsWithin at read len (Frame digest) = at + 1 + length read ≤ len
 StepsWithin at read len other = Unit {0}
+
+-- what a closed gate is, behind which the journal goes on or not
+abbrev pub step_of : Bool → Step
+step_of on = if on then Changed else End

@@ -18,6 +18,7 @@ pub(crate) enum Turn {
 
 /// Whether at that place, behind the digest, stand the frames of a group without the gate of the first, and behind
 /// them the gate that begins a further group, and its frame.
+#[tactic(auto, using(crate::proofs::ChangeLemmas::iff_trans, crate::proofs::ChangeLemmas::iff_sym_trans))]
 pub(crate) fn goes_on<D: Disk>(
     disk: &mut D,
     len: usize,

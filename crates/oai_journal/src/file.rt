@@ -30,7 +30,8 @@ pub struct FileJournal<D: Disk> {
 }
 
 impl<D: Disk + Drop> Journal for FileJournal<D> {
-    ghost use Rattle.oai_journal.specs.Kept.{HasRoom, HoldsRecords, MayLeaveRecords, records_left, room_for_less};
+    ghost use Rattle.oai_journal.specs.Kept.{HasRoom, HoldsRecords, IsGoing, LeavesAllOrNone, MayLeaveRecords};
+    ghost use Rattle.oai_journal.specs.Kept.{records_left, room_for_less};
 
     ghost holds = { λ journal entries durable. HoldsRecords D.Disk.seen D.Disk.may_leave journal entries durable };
 
@@ -40,7 +41,8 @@ impl<D: Disk + Drop> Journal for FileJournal<D> {
 
     ghost less_room = { λ journal bytes less low room. room_for_less journal.pending bytes less low room };
 
-    ghost left = { λ journal entries durable found held left. records_left D.Disk.seen D.Disk.may_leave journal entries durable found held left };
+    ghost left = { λ journal entries durable found held left.
+        records_left D.Disk.seen D.Disk.may_leave journal entries durable found held left };
 
     fn reserve(&mut self, bytes: usize) -> Result<(), JournalFault> {
         let Some(bytes) = bytes.checked_add(FRAME_ROOM) else {
@@ -56,7 +58,17 @@ impl<D: Disk + Drop> Journal for FileJournal<D> {
         put(b"&", &mut self.pending);
     }
 
-    fn commit(&mut self) -> Result<(), JournalFault> {
+    fn commit(&mut self) -> Result<(), JournalFault>
+        ensures ok { OnOk result ((entries : List Entry) (durable : ℕ)
+            → HoldsRecords D.Disk.seen D.Disk.may_leave self.old entries durable
+            → HoldsRecords D.Disk.seen D.Disk.may_leave self.new entries (length entries)) }
+        ensures err { OnErr result ((entries : List Entry) (durable : ℕ)
+            → HoldsRecords D.Disk.seen D.Disk.may_leave self.old entries durable
+            → HoldsRecords D.Disk.seen D.Disk.may_leave self.new entries durable) }
+        ensures group { IsGoing self.old → (entries : List Entry) (durable : ℕ)
+            → HoldsRecords D.Disk.seen D.Disk.may_leave self.old entries durable
+            → LeavesAllOrNone D.Disk.may_leave self.new entries durable }
+    {
         if self.stopped {
             return Err(JournalFault::Failed);
         }

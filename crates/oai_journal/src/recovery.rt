@@ -1,19 +1,20 @@
 //! A journal's file, read from its first byte on, a record at a time.
-ghost use Rattle.std.specs.Prelude.{◌≡◌, ◌<◌, ◌≤◌, ◌+◌, ◌++◌, [], ◌∷◌, ℕ, List, Some, true, false, length, drop, IsTrue, IfOk, IfErr, IfSome, OnOk};
-ghost use Rattle.oai_journal.specs.Files.{Ends};
-ghost use Rattle.oai_journal.specs.Kept.{HoldsRecords};
+ghost use Rattle.std.specs.Prelude.{◌≡◌, ◌⊎◌, ◌<◌, ◌≤◌, ◌+◌, ◌++◌, [], ◌∷◌, ℕ, List, Some, true, false, length, drop, IsTrue, IfOk, IfErr, IfSome, OnOk};
+ghost use Rattle.oai_journal.specs.Changes.{IsChangedAt, IsWhole};
+ghost use Rattle.oai_journal.specs.Kept.{HoldsRecords, Survives};
 ghost use Rattle.oai_journal.specs.Records.{Entry, entry_of};
-ghost use Rattle.oai_journal.specs.Recoveries.{IsDamagedAt, IsStep, Starts, StepsWithin};
+ghost use Rattle.oai_journal.specs.Recoveries.{IsDamagedAt, IsStep, Starts, StepsWithin, step_of};
 ghost use Rattle.std.specs.Option.{option_map};
 ghost use Rattle.oai_journal.specs.declared.recovery.RecoveryFault.TheVariants as fault;
 
+use crate::changes::goes_on;
 use crate::file::FileJournal;
 use crate::frames::{FRONT_ROOM, record_in};
 use crate::groups::{OPEN_GATE, is_open};
 use crate::journals::JournalFault;
 use crate::readings::{open_len, read_frame, read_gate};
 use crate::records::Record;
-use sqlite_disk::Disk;
+use sqlite_disk::{Crash, Disk};
 use std::alloc::Global;
 use thiserror::Error;
 
@@ -40,6 +41,8 @@ impl From<JournalFault> for RecoveryFault {
 pub(crate) enum Step {
     /// A closed gate, which ends the journal.
     End,
+    /// A closed gate that was open: behind it the journal goes on.
+    Changed,
     /// An open gate and a frame, with that digest.
     Frame(u64),
     /// No gate, or an open one and no frame.
@@ -85,8 +88,8 @@ impl<D: Disk + Drop> Recovery<D> {
     /// Syncs the file, so that what is read of it is durable, and reads the first record. Damaged at byte 0 where the
     /// file does not begin with an open gate and the frame of a first record.
     pub fn begin(&mut self) -> Result<(), RecoveryFault>
-        ensures begun { OnOk result (IsTrue (D.Disk.is_clean (disk_of self.new))
-            → (first : Entry) × HasRead D.Disk.seen D.Disk.may_leave self.new first [] × (current self.new ≡ Some first)) }
+        ensures begun { OnOk result (IsTrue (D.Disk.is_clean (disk_of self.new)) → (first : Entry)
+            × HasRead D.Disk.seen D.Disk.may_leave self.new first [] × (current self.new ≡ Some first)) }
         ensures damaged { IfErr result (λ cause. (at : ℕ) → cause ≡ fault.Damaged at
             → IsTrue (D.Disk.is_clean (disk_of self.new)) → IsDamagedAt (D.Disk.seen (disk_of self.new)) at) }
         ensures seen { D.Disk.seen (disk_of self.new) ≡ D.Disk.seen (disk_of self.old) }
@@ -104,17 +107,22 @@ impl<D: Disk + Drop> Recovery<D> {
     }
 
     /// Reads the next record; false where there is none, since the journal ends. Damaged at the byte of the gate where
-    /// none stands, or an open one with no frame behind it.
+    /// none stands, or an open one with no frame behind it, or a closed one behind which the journal goes on.
     pub fn advance(&mut self) -> Result<bool, RecoveryFault>
-        ensures next { IfOk result (λ more. IsTrue (D.Disk.is_clean (disk_of self.new)) → (first : Entry) (entries : List Entry)
+        ensures next { IfOk result (λ more. IsTrue (D.Disk.is_clean (disk_of self.new))
+            → (first : Entry) (entries : List Entry)
             → HasRead D.Disk.seen D.Disk.may_leave self.old first entries → IsTrue more
-            → (e : Entry) × HasRead D.Disk.seen D.Disk.may_leave self.new first (entries ++ e ∷ []) × (current self.new ≡ Some e)) }
-        ensures end { IfOk result (λ more. IsTrue (D.Disk.is_clean (disk_of self.new)) → (first : Entry) (entries : List Entry)
+            → (e : Entry) × HasRead D.Disk.seen D.Disk.may_leave self.new first (entries ++ e ∷ [])
+            × (current self.new ≡ Some e)) }
+        ensures end { IfOk result (λ more. IsTrue (D.Disk.is_clean (disk_of self.new))
+            → (first : Entry) (entries : List Entry)
             → HasRead D.Disk.seen D.Disk.may_leave self.old first entries → more ≡ false
-            → HasRead D.Disk.seen D.Disk.may_leave self.new first entries × Ends (D.Disk.seen (disk_of self.new)) first entries) }
+            → HasRead D.Disk.seen D.Disk.may_leave self.new first entries
+            × IsWhole (D.Disk.seen (disk_of self.new)) first entries) }
         ensures damaged { IfErr result (λ cause. (at : ℕ) → cause ≡ fault.Damaged at
             → IsTrue (D.Disk.is_clean (disk_of self.new)) → (first : Entry) (entries : List Entry)
-            → HasRead D.Disk.seen D.Disk.may_leave self.old first entries → IsDamagedAt (D.Disk.seen (disk_of self.new)) at) }
+            → HasRead D.Disk.seen D.Disk.may_leave self.old first entries
+            → IsDamagedAt (D.Disk.seen (disk_of self.new)) at ⊎ IsChangedAt (D.Disk.seen (disk_of self.new)) at) }
         ensures seen { D.Disk.seen (disk_of self.new) ≡ D.Disk.seen (disk_of self.old) }
         ensures crash { (c : List ℕ) → D.Disk.may_leave (disk_of self.new) c → D.Disk.may_leave (disk_of self.old) c }
     {
@@ -138,6 +146,7 @@ impl<D: Disk + Drop> Recovery<D> {
                 self.at += 1 + self.frame.len();
                 Ok(true)
             }
+            Step::Changed => Err(RecoveryFault::Damaged(self.at)),
             Step::Damage => Err(RecoveryFault::Damaged(self.at)),
         }
     }
@@ -195,6 +204,29 @@ fn read_first<D: Disk>(
     }
 }
 
+impl<D: Crash + Drop> FileJournal<D> {
+    ghost use Rattle.oai_journal.specs.Recovered.{disk_of};
+
+    /// The machine crashes and comes back: the recovery of what is left on the disk. For tests, and for theorems that
+    /// span a restart; a `FileJournal<Memory>` is a journal in memory that can crash.
+    pub fn crash(self, alloc: Global) -> Recovery<D>
+        ensures { (entries : List Entry) (durable : ℕ)
+            → HoldsRecords D.Disk.seen D.Disk.may_leave self entries durable
+            → (first : Entry) × Survives (D.Disk.seen (disk_of result)) first entries durable }
+    {
+        let mut disk = self.into_disk();
+        disk.crash();
+        Recovery::new(alloc, disk)
+    }
+}
+
+/// What a closed gate is, behind which the journal goes on or not.
+fn closed_step(on: bool) -> Step
+    ensures { result ≡ step_of on }
+{
+    if on { Step::Changed } else { Step::End }
+}
+
 /// Reads what stands at a place at which a gate has to stand.
 fn read_step<D: Disk>(
     alloc: Global,
@@ -214,10 +246,11 @@ fn read_step<D: Disk>(
     let Some(gate) = read_gate(disk, len, at, frame)? else {
         return Ok(Step::Damage);
     };
-    if !is_open(gate) {
-        return Ok(Step::End);
-    }
     let mut out = Vec::with_capacity(alloc, FRONT_ROOM)?;
+    if !is_open(gate) {
+        let on = goes_on(disk, len, at + 1, digest, frame, &mut out)?;
+        return Ok(closed_step(on));
+    }
     match read_frame(disk, len, at + 1, false, digest, frame, &mut out)? {
         Some(digest) => Ok(Step::Frame(digest)),
         None => Ok(Step::Damage),

@@ -15,6 +15,8 @@ use Rattle.oai_front.specs.declared.faults.PieceFault.TheVariants.{NoSuchConnect
 use Rattle.oai_front.specs.declared.stages.Stage.{Stage}
 use Rattle.oai_front.specs.declared.stages.Stage.TheVariants.{Reading}
 use Rattle.oai_serving.proofs.KnownBytes.{appends_kept, appends_none, appends_then, consumes_none, consumes_then, keeps_appends, keeps_consumes, keeps_same, keeps_then}
+use Rattle.oai_serving.specs.Inside.{with_gathered}
+use Rattle.std.proofs.Math.Seq.{drop-append_seam}
 use Rattle.oai_serving.specs.Links.{IsFollowed, IsHolding, IsRead, IsSent, IsTurn, Link}
 use Rattle.oai_serving.specs.Received.{IsReceived}
 
@@ -340,3 +342,59 @@ module _ {S : Type 0} (contents remaining : S → Option (List ℕ)) where
     others = others_of old.connection new.connection same;
     held = held;
   }
+
+-- ---- what was gathered
+
+not_none : (b : ℕ) (bytes : List ℕ) → b ∷ bytes ≡ [] → ⊥
+not_none b bytes e = cc
+
+module _ {S H : Type 0} (step : Steps H) (contents remaining : S → Option (List ℕ)) (moment : ℤ) where
+  -- a piece, where nothing waits
+  pub piece_gathered : (gathered piece tail : List ℕ) (result : Result Unit PieceFault) (stream : S) (x y : Connection) (held rest : List ℕ) (able still : Bool) (before after : H)
+      → gathered ++ x.output ≡ [] → IsTakenIn step moment piece x before result y after → (still ≡ true → (rest ≡ tail) × (result ≡ Ok tt)) → able ≡ true → is_closing x.stage ≡ false
+      → held ≡ piece ++ tail
+      → IsTurn step contents remaining moment (record { stream = stream; connection = with_gathered gathered x; held = held; able = able }) before
+      (record { stream = stream; connection = with_gathered gathered y; held = rest; able = still }) after
+  piece_gathered [] piece tail result stream x y held rest able still before after none taken keeps is_able open_ split =
+      piece_turn step contents remaining moment piece tail result (record { stream = stream; connection = x; held = held; able = able })
+      (record { stream = stream; connection = y; held = rest; able = still }) before after taken refl keeps is_able open_ split none
+  piece_gathered (b ∷ gathered) piece tail result stream x y held rest able still before after none taken keeps is_able open_ split = absurd (not_none b (gathered ++ x.output) none)
+
+module _ {S : Type 0} (contents remaining : S → Option (List ℕ)) where
+  -- an output is written, where nothing was gathered
+  pub written_output : (gathered bytes later : List ℕ) (count : ℕ) (stream after : S) (x y : Connection) (held : List ℕ) (able : Bool) → gathered ≡ [] → x.output ≡ bytes ++ later
+      → count ≤ length bytes → Appends (contents stream) (contents after) (take count bytes) → Keeps (remaining stream) (remaining after) → y ≡ record x { output = drop count x.output }
+      → IsSent contents remaining (record { stream = stream; connection = with_gathered gathered x; held = held; able = able })
+      (record { stream = after; connection = with_gathered gathered y; held = held; able = able })
+  written_output [] bytes later count stream after x y held able none front within appends unread taken =
+      written_sent contents remaining (record { stream = stream; connection = x; held = held; able = able }) (record { stream = after; connection = y; held = held; able = able })
+      bytes later count front within appends unread taken (λ a. (a, refl))
+  written_output (b ∷ gathered) bytes later count stream after x y held able none front within appends unread taken = absurd (not_none b gathered none)
+
+  -- what was gathered is written
+  pub written_gathered : (gathered : List ℕ) (count : ℕ) (stream after : S) (x : Connection) (held : List ℕ) (able : Bool) → count ≤ length gathered
+      → Appends (contents stream) (contents after) (take count gathered) → Keeps (remaining stream) (remaining after)
+      → IsSent contents remaining (record { stream = stream; connection = with_gathered gathered x; held = held; able = able })
+      (record { stream = after; connection = with_gathered (drop count gathered) x; held = held; able = able })
+  written_gathered gathered count stream after x held able within appends unread =
+      written_sent contents remaining (record { stream = stream; connection = with_gathered gathered x; held = held; able = able })
+      (record { stream = after; connection = with_gathered (drop count gathered) x; held = held; able = able })
+      gathered x.output count refl within appends unread (ap (λ (xs : List ℕ). record x { output = xs }) (sym (drop-append-le count gathered x.output within))) (λ a. (a, refl))
+
+  -- nothing was written
+  pub unwritten_sent : (stream after : S) (x : Connection) (held : List ℕ) (able : Bool) (new : Link S) → Keeps (contents stream) (contents after) → Keeps (remaining stream) (remaining after)
+      → IsHolding [] (record { stream = after; connection = x; held = held; able = able }) new
+      → IsSent contents remaining (record { stream = stream; connection = x; held = held; able = able }) new
+  unwritten_sent stream after x held able new unwritten unread h =
+      let old : Link S = record { stream = stream; connection = x; held = held; able = able } in
+      let mid : Link S = record { stream = after; connection = x; held = held; able = able } in
+      sent_then contents remaining old mid new (kept_sent contents remaining old mid unwritten unread refl (λ a. (a, refl))) (holding_sent contents remaining mid new h)
+
+-- what is gathered waits as before
+pub gathered_more : (gathered bytes later : List ℕ) (x y : Connection) → x.output ≡ bytes ++ later → y ≡ record x { output = drop (length bytes) x.output }
+    → with_gathered (gathered ++ bytes) y ≡ with_gathered gathered x
+gathered_more gathered bytes later x y front taken =
+    let out : y.output ≡ later = ap (λ (c : Connection). c.output) taken ∙ ap (drop (length bytes)) front ∙ drop-append_seam bytes later in
+    let all : (gathered ++ bytes) ++ y.output ≡ gathered ++ x.output =
+    ap (λ (xs : List ℕ). (gathered ++ bytes) ++ xs) out ∙ append_assoc gathered bytes later ∙ ap (λ (xs : List ℕ). gathered ++ xs) (sym front) in
+    ap (λ (c : Connection). record c { output = (gathered ++ bytes) ++ y.output }) taken ∙ ap (λ (xs : List ℕ). record x { output = xs }) all

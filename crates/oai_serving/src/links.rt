@@ -1,5 +1,5 @@
 //! A connection over a stream.
-ghost use Rattle.std.specs.Prelude.{◌≡◌, ◌≤◌, ◌<◌, [], true, false, length};
+ghost use Rattle.std.specs.Prelude.{◌≡◌, ◌≤◌, ◌<◌, [], true, false, drop, length};
 ghost use Rattle.oai_front.specs.Stages.{is_closing};
 ghost use Rattle.oai_serving.specs.Links.{IsHolding, IsRead, IsSent, IsTurn, is_able, opened};
 
@@ -18,6 +18,9 @@ pub const READ_BYTES: usize = 65_536;
 /// The most writes of a turn.
 const MAX_WRITES: usize = 64;
 
+/// So many bytes are gathered at most before they are written.
+const GATHERED_BYTES: usize = 16_384;
+
 /// The seconds in which no byte goes either way after which a connection is closed.
 const IDLE_SECONDS: u64 = 60;
 
@@ -31,7 +34,7 @@ const CLOSING_SECONDS: u64 = 2;
 const CLOSING_BYTES: usize = 1_048_576;
 
 /// A connection over a stream: the bytes that were read and did not yet come to the connection, those from
-/// `start` on in `held`; and when a byte went either way last, and the message that is not whole began, in
+/// `start` on in `held`; the bytes that were taken of its output to be written together; and when a byte went either way last, and the message that is not whole began, in
 /// seconds of a clock.
 #[derive(Drop)]
 pub struct Link<S> {
@@ -39,6 +42,7 @@ pub struct Link<S> {
     connection: Connection,
     held: Vec<u8>,
     start: usize,
+    gathered: Vec<u8>,
     line: Line,
     phase: Phase,
     readable: bool,
@@ -70,6 +74,7 @@ impl<S: Stream> Link<S> {
             connection: Connection::new(alloc, number),
             held: Vec::new(alloc),
             start: 0,
+            gathered: Vec::new(alloc),
             line: Line::Begun,
             phase: Phase::Open,
             readable: true,
@@ -84,6 +89,9 @@ impl<S: Stream> Link<S> {
     fn waits(&self) -> bool
         ensures { result ≡ false → self.now.connection.output ≡ [] }
     {
+        if !self.gathered.is_empty() {
+            return true;
+        }
         !self.connection.output().is_empty()
     }
 
@@ -229,6 +237,7 @@ impl<S: Stream> Link<S> {
     pub(crate) fn put(&mut self, alloc: Global, second: u64)
         ensures { IsSent S.contents S.remaining self.old self.new }
     {
+        self.note_begun(second);
         self.write_all(second);
         self.go_on(alloc, second);
     }
@@ -245,14 +254,63 @@ impl<S: Stream> Link<S> {
         }
     }
 
-    /// Writes once.
+    /// Writes once, short outputs together.
     fn write(&mut self, second: u64)
         ensures { IsSent S.contents S.remaining self.old self.new }
     {
-        match self.stream.write(self.connection.output()) {
+        self.gather();
+        self.write_next(second);
+    }
+
+    /// Gathers the outputs that are short, as far as memory is there.
+    fn gather(&mut self)
+        ensures { self.new ≡ self.old }
+    {
+        for _ in 0..MAX_WRITES {
+            if !self.is_short() {
+                return;
+            }
+            self.gather_next();
+        }
+    }
+
+    /// Whether there is an output that is short enough to be gathered.
+    fn is_short(&self) -> bool {
+        let count = self.connection.output().len();
+        count > 0 && count <= GATHERED_BYTES && self.gathered.len() <= GATHERED_BYTES - count
+    }
+
+    /// Gathers the next output, where memory is there.
+    fn gather_next(&mut self)
+        ensures { self.new ≡ self.old }
+    {
+        let next = self.connection.output();
+        let count = next.len();
+        match self.gathered.extend_from_slice(next) {
+            Ok(()) => self.connection.take(count),
+            Err(_) => {}
+        }
+    }
+
+    /// Writes what was gathered, or else the next output.
+    fn write_next(&mut self, second: u64)
+        ensures { IsSent S.contents S.remaining self.old self.new }
+    {
+        if is_vacant(&self.gathered) {
+            match self.stream.write(self.connection.output()) {
+                Ok(0) => self.phase = Phase::Over,
+                Ok(count) => {
+                    self.connection.take(count);
+                    self.heard = second;
+                }
+                Err(error) => self.unwritten(error),
+            }
+            return;
+        }
+        match self.stream.write(&self.gathered) {
             Ok(0) => self.phase = Phase::Over,
             Ok(count) => {
-                self.connection.take(count);
+                drop_front(&mut self.gathered, count);
                 self.heard = second;
             }
             Err(error) => self.unwritten(error),
@@ -284,7 +342,6 @@ impl<S: Stream> Link<S> {
     fn go_on(&mut self, alloc: Global, second: u64)
         ensures { IsSent S.contents S.remaining self.old self.new }
     {
-        self.note_begun(second);
         if self.is_late(second) {
             self.phase = Phase::Over;
             return;
@@ -316,7 +373,7 @@ impl<S: Stream> Link<S> {
         self.start = 0;
     }
 
-    /// Takes note of when the message began that is not whole.
+    /// Takes note of when the message began that is not whole: now, where something waits to be written.
     fn note_begun(&mut self, second: u64)
         ensures { self.new ≡ self.old }
     {
@@ -359,6 +416,9 @@ impl<S: Stream> Link<S> {
 
     /// Whether it has something to do without waiting.
     pub(crate) fn is_busy(&self) -> bool {
+        if self.is_over() {
+            return true;
+        }
         if self.waits() {
             return self.writable;
         }
@@ -372,8 +432,24 @@ impl<S: Stream> Link<S> {
 
     /// How many bytes it keeps, at most `usize::MAX`.
     pub(crate) fn size(&self) -> usize {
-        self.connection.size().saturating_add(self.held.len())
+        let held = self.held.len().saturating_add(self.gathered.len());
+        self.connection.size().saturating_add(held)
     }
+}
+
+/// Whether there are no bytes.
+fn is_vacant(bytes: &Vec<u8>) -> bool
+    ensures { result ≡ true → bytes.now.items ≡ [] }
+{
+    bytes.is_empty()
+}
+
+/// Drops the first bytes.
+fn drop_front(bytes: &mut Vec<u8>, count: usize)
+    requires { count ≤ length bytes.old.items }
+    ensures { bytes.new.items ≡ drop count bytes.old.items }
+{
+    bytes.drain(..count);
 }
 
 /// It was shut for writing in that second, and so many bytes were dropped since.

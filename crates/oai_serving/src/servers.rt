@@ -8,7 +8,7 @@ ghost use Rattle.oai_serving.specs.Rounds.{AreAccepted, HasOneMore, IsAdmitted, 
 use crate::faults::ServeFault;
 use crate::links::{Link, READ_BYTES};
 use crate::sockets::{Readiness, Sockets, Stream};
-use crate::tables::{MAX_LINKS, is_any_busy, note_at, put_all, read_all, shed_all};
+use crate::tables::{MAX_LINKS, end_all, is_any_busy, note_at, put_all, read_all, shed_all};
 use oai_http::Settled;
 use slab::Slab;
 use std::alloc::{AllocError, Global};
@@ -22,7 +22,7 @@ const WAIT_SECONDS: u64 = 1;
 /// The seconds after which a failed `accept` is tried again.
 const RETRY_SECONDS: u64 = 1;
 
-/// Connections, and the handler that performs their messages. It goes in rounds: what became ready is read and
+/// Connections, and the handler that performs their messages; `keys` is above each key that a link had. It goes in rounds: what became ready is read and
 /// performed, the handler settles, and then what was answered is written.
 #[derive(Drop)]
 pub struct Server<S, H> {
@@ -31,6 +31,7 @@ pub struct Server<S, H> {
     links: Slab<Link<S>>,
     last: u64,
     buffer: Vec<u8>,
+    keys: usize,
     first: usize,
     waiting: bool,
     retry: u64,
@@ -65,6 +66,7 @@ impl<S: Stream + Drop, H: Settled> Server<S, H> {
             links,
             last: 0,
             buffer,
+            keys: 0,
             first: 0,
             waiting: true,
             retry: 0,
@@ -111,6 +113,7 @@ impl<S: Stream + Drop, H: Settled> Server<S, H> {
             return Err(ServeFault::Clock);
         };
         self.note_all(sockets, count);
+        self.end_links();
         self.accept_all(sockets, second);
         self.perform(moment, second)
     }
@@ -135,6 +138,7 @@ impl<S: Stream + Drop, H: Settled> Server<S, H> {
         self.first = read_all(
             self.alloc,
             &mut self.links,
+            self.keys,
             self.first,
             &mut self.handler,
             moment,
@@ -154,7 +158,15 @@ impl<S: Stream + Drop, H: Settled> Server<S, H> {
     fn put(&mut self, second: u64)
         ensures { IsWritten S.contents S.remaining self.old self.new }
     {
-        put_all(self.alloc, &mut self.links, second);
+        put_all(self.alloc, &mut self.links, self.keys, second);
+    }
+
+    /// Takes away the links that are over, and others while all keep more than they may. It comes at the
+    /// beginning of a round, so that at the end of each the links are there that were written in it.
+    fn end_links(&mut self)
+        ensures { IsWritten S.contents S.remaining self.old self.new }
+    {
+        end_all(&mut self.links, self.keys);
         shed_all(&mut self.links);
     }
 
@@ -236,6 +248,7 @@ impl<S: Stream + Drop, H: Settled> Server<S, H> {
         let number = self.last + 1;
         self.last = number;
         let key = self.links.vacant_key();
+        self.keys = self.keys.max(key.saturating_add(1));
         if sockets.watch(&mut stream, key).is_err() {
             return;
         }

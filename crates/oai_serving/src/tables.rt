@@ -36,11 +36,12 @@ fn read_at<S: Stream, H: Handler>(
     }
 }
 
-/// Reads the links, from that key on, and performs what comes, until more is held back than a round may; the
-/// key at which the next round begins.
+/// Reads the links of the first `most` keys, from the key `first` on, and performs what comes, until more is
+/// held back than a round may; the key at which the next round begins.
 pub(crate) fn read_all<S: Stream, H: Handler>(
     alloc: Global,
     links: &mut Slab<Link<S>>,
+    most: usize,
     first: usize,
     handler: &mut H,
     moment: i64,
@@ -49,7 +50,6 @@ pub(crate) fn read_all<S: Stream, H: Handler>(
 ) -> usize
     ensures { AreTurned H.step S.contents S.remaining moment links.old handler.old links.new handler.new }
 {
-    let most = links.capacity();
     let mut key = first;
     let mut bytes: usize = 0;
     for _ in 0..most {
@@ -115,12 +115,20 @@ fn is_over_at<S: Stream>(links: &Slab<Link<S>>, key: usize) -> bool {
     }
 }
 
-/// Writes what waits on all links, and takes away those that are over.
-pub(crate) fn put_all<S: Stream + Drop>(alloc: Global, links: &mut Slab<Link<S>>, second: u64)
+/// Writes what waits on the links of the first `most` keys, as far as it goes.
+pub(crate) fn put_all<S: Stream>(alloc: Global, links: &mut Slab<Link<S>>, most: usize, second: u64)
     ensures { AreSent S.contents S.remaining links.old links.new }
 {
-    for key in 0..links.capacity() {
+    for key in 0..most {
         put_at(alloc, links, key, second);
+    }
+}
+
+/// Takes away those of the links of the first `most` keys that are over.
+pub(crate) fn end_all<S: Stream + Drop>(links: &mut Slab<Link<S>>, most: usize)
+    ensures { AreSent S.contents S.remaining links.old links.new }
+{
+    for key in 0..most {
         end_at(links, key);
     }
 }

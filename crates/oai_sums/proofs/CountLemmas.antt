@@ -1,6 +1,6 @@
 -- One item more, counted in each set that it is in once.
 use Rattle.std.specs.Prelude.{Option, OnSome}
-use Rattle.std.proofs.Common.{◌≡◌, ◌∙◌, ◌+◌, ◌<◌, ◌≤◌, ℕ, Bool, true, false, ◌&&◌, ◌||◌, not, if◌then◌else◌, List, [], ◌∷◌, ◌++◌, Some, None, length, take, drop, get_or, refl, sym, ap, arith, slice_set}
+use Rattle.std.proofs.Common.{◌≡◌, ◌∙◌, ◌+◌, ◌<◌, ℕ, Bool, true, false, ◌&&◌, ◌||◌, not, if◌then◌else◌, List, [], ◌∷◌, ◌++◌, Some, None, length, take, drop, get_or, refl, sym, ap, arith, slice_set}
 use Rattle.std.specs.List.{list_all, list_any}
 use Rattle.std.specs.Str.{bytes_eq}
 use Rattle.std.proofs.lemmas.Bool.{and_from, and_parts, false_from_ne_true, false≢true}
@@ -9,7 +9,7 @@ use Rattle.std.proofs.lemmas.Slice.Eq.{bytes_eq-Decides}
 use Rattle.oai_item.specs.Membership.{is_above, is_in}
 use Rattle.oai_item.proofs.Above.{is_above-parent, is_above-root}
 use Rattle.oai_names.specs.Sets.{covers, parent_of}
-use Rattle.oai_sums.specs.Sums.{CountsMore, SetTotal, counted_in, one_if}
+use Rattle.oai_sums.specs.Sums.{SetTotal, counted_in, one_if}
 
 -- the set is none of these
 unfoldable pub lacks : List ℕ → List SetTotal → Bool

@@ -109,6 +109,9 @@ impl SetCounts {
     pub fn add(&mut self, names: &mut SetNames, sets: SpelledSets<'_>) -> Option<()>
         ensures { OnSome result (CountsMore (λ set. is_in set sets.entry) self.old self.new) }
     {
+        if sets.len() > MAX_COUNTED_SETS {
+            return None;
+        }
         let mut rest = sets;
         while let Some(set) = rest.next() {
             self.add_path(names, set, &rest)?;

@@ -1,7 +1,7 @@
 //! Crashes, torn writes, and disks that fail.
 use crate::samples::{Found, add, deposit, disk_of, example, first, found_in, request, tick};
-use oai_journal::{FileJournal, Journal, JournalFault};
-use sqlite_disk::{Crash, Fuse, Memory, Rot};
+use oai_journal::{FileJournal, Journal, JournalFault, Recovery};
+use sqlite_disk::{Crash, Disk, Fuse, Memory, Rot};
 use std::alloc::Global;
 use std::panic::Expect;
 use std::process::Abort;
@@ -14,6 +14,43 @@ fn crash_before_a_commit(rt: HostRuntime) {
     let mut disk = journal.into_disk();
     disk.crash();
     assert!(&rt; found_in(rt.alloc(), disk) == Found::Whole(3));
+}
+
+/// After a crash the journal is read to its end, written on, and read again.
+#[test]
+fn written_on_after_a_crash(rt: HostRuntime) {
+    let alloc = rt.alloc();
+    let mut journal = example(&rt, alloc);
+    add(&rt, &mut journal, &request());
+    let mut recovery = journal.crash(alloc);
+    recovery.begin().expect(&rt, "begin");
+    assert_records(&rt, &mut recovery, 3);
+    let journal = recovery.into_journal().expect(&rt, "into_journal");
+    write_on(&rt, alloc, journal);
+}
+
+fn assert_records<D: Disk + Drop>(rt: &impl Abort, recovery: &mut Recovery<D>, records: u32) {
+    for _record in 0..records {
+        assert!(rt; recovery.advance() == Ok(true));
+    }
+    assert!(rt; recovery.advance() == Ok(false));
+    assert!(rt; recovery.file_len() == recovery.position() + 1);
+}
+
+fn write_on(rt: &impl Abort, alloc: Global, mut journal: FileJournal<Memory>) {
+    add(rt, &mut journal, &tick(7));
+    journal.commit().expect(rt, "commit");
+    assert!(rt; found_in(alloc, journal.into_disk()) == Found::Whole(4));
+}
+
+/// A journal that was not read to its end is not written on.
+#[test]
+fn half_read(rt: HostRuntime) {
+    let alloc = rt.alloc();
+    let mut recovery = example(&rt, alloc).crash(alloc);
+    recovery.begin().expect(&rt, "begin");
+    assert!(&rt; recovery.advance() == Ok(true));
+    assert!(&rt; recovery.into_journal().is_none());
 }
 
 /// The last group of the example, torn a thousand times behind its closed gate: the record before it is found.
@@ -33,15 +70,21 @@ fn assert_torn(rt: &impl Abort, alloc: Global, bytes: &[u8], mut seed: u64) -> u
         *gate = b'-';
     }
     for _byte in 0..seed % 40 {
-        seed = seed.wrapping_mul(6_364_136_223_846_793_005).wrapping_add(1_442_695_040_888_963_407);
+        seed = next_seed(seed);
         let at = 93 + (seed >> 33) as usize % 111;
         if let Some(byte) = torn.get_mut(at) {
-            *byte = (seed >> 20) as u8;
+            *byte = ((seed >> 20) % 256) as u8;
         }
     }
-    seed = seed.wrapping_mul(6_364_136_223_846_793_005).wrapping_add(1_442_695_040_888_963_407);
+    seed = next_seed(seed);
     assert!(rt; found_in(alloc, disk_of(rt, alloc, &torn)) == Found::Whole(1));
     seed >> 3
+}
+
+/// The next of a row of numbers that look random.
+fn next_seed(seed: u64) -> u64 {
+    seed.wrapping_mul(6_364_136_223_846_793_005)
+        .wrapping_add(1_442_695_040_888_963_407)
 }
 
 /// Whatever byte the gate of the last group becomes, all of the group is found or nothing of it.

@@ -11,7 +11,8 @@ pub const EXAMPLE: &[u8] = b"+1767225600 journal oaihostd 4 5eb653a2147061dd\n1\
 +1767225601 deposit a 16 b9fb649631398af5\n{\"a\":1}\n{\"b\":2}\n\n\
 &1767225602 oai b 13 303da76c45439886\nverb=Identify\n-";
 
-/// What was read of a journal: how many records behind the first, and whether it ended, was damaged, or was not read on.
+/// What was read of a journal: how many records behind the first, and whether it ended, was damaged, or was not
+/// read on.
 #[derive(Clone, Copy, Debug, PartialEq, Eq)]
 pub enum Found {
     Whole(u64),

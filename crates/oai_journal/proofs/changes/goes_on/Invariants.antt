@@ -2,3 +2,14 @@ use Rattle.std.proofs.Common.{◌≡◌, ◌-◌, ◌≤◌, ◌↔◌, ℕ, Lis
 use Rattle.oai_journal.specs.Changes.{GoesOn}
 use Rattle.oai_journal.specs.declared.frames.TheConstants.{FRONT_ROOM}
 use Rattle.oai_journal.proofs.changes.goes_on.Given as goal
+
+abbrev pub invariant-loop-next : goal.invariant-loop-next
+invariant-loop-next g l =
+    (g.D.Disk.seen l.disk ≡ g.D.Disk.seen l.fn.disk) × (FRONT_ROOM ≤ vec_capacity l.out)
+    × ((c : List ℕ) → g.D.Disk.may_leave l.disk c → g.D.Disk.may_leave l.fn.disk c)
+    × (IsTrue (g.D.Disk.is_clean l.disk) → IsTrue (g.D.Disk.is_clean l.fn.disk))
+    × (IsTrue (g.D.Disk.is_clean l.disk) → l.len ≡ length (g.D.Disk.seen l.fn.disk)
+    → GoesOn l.fn.digest (drop l.fn.at (g.D.Disk.seen l.fn.disk)) ↔ GoesOn l.last (drop l.place (g.D.Disk.seen l.fn.disk)))
+
+abbrev pub decreases-loop-next : goal.decreases-loop-next
+decreases-loop-next g l = l.len - l.place

@@ -1,4 +1,4 @@
--- Each link is written, and taken away where it is over.
+-- Each link by itself.
 use Rattle.oai_serving.proofs.TableLemmas.{sent_same, sent_on}
 use Rattle.oai_serving.proofs.tables.put_all.Goals as goal
 
@@ -6,6 +6,4 @@ pub loop-key-init : goal.loop-key-init
 loop-key-init g c = sent_same g.S.Stream.contents g.S.Stream.remaining c.args.links.now
 
 pub loop-key-preserved : goal.loop-key-preserved
-loop-key-preserved g c =
-    sent_on g.S.Stream.contents g.S.Stream.remaining c.args.links.now c.put_at.new.links c.end_at.new.links
-    (sent_on g.S.Stream.contents g.S.Stream.remaining c.args.links.now c.loop-key.links c.put_at.new.links c.loop-key.invariant c.put_at.ensures) c.end_at.ensures
+loop-key-preserved g c = sent_on g.S.Stream.contents g.S.Stream.remaining c.args.links.now c.loop-key.links c.put_at.new.links c.loop-key.invariant c.put_at.ensures

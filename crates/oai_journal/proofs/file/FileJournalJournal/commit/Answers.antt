@@ -5,7 +5,7 @@ use Rattle.oai_journal.specs.Records.{Entry}
 use Rattle.oai_journal.specs.Groups.{IsGroup, digest_of_all}
 use Rattle.oai_journal.specs.Kept.{HoldsRecords, Keeps}
 use Rattle.oai_journal.specs.declared.file.FileJournal.{FileJournal}
-use Rattle.oai_journal.proofs.KeptLemmas.{is_group, kept_settled, kept_still, kept_stopped, survives_group}
+use Rattle.oai_journal.proofs.KeptLemmas.{is_group, kept_settled, kept_still, kept_stopped, leaves_before, leaves_group, survives_group}
 use Rattle.oai_journal.proofs.file.FileJournalJournal.commit.Goals as goal
 
 on_err : {T E : Type 0} {P : Type 0} (r : Result T E) → P → OnErr r P
@@ -55,3 +55,31 @@ returns-clause-ok g c entries durable held =
     omega (arith, c.in-Some.ensures.1, c.len.ensures, c.args.self.now.pending.ok.0, c.close_group.ensures.len, ap length c.deref.ensures.value) in
     let last_is : c.args.self.now.last ≡ digest_of_all c.args.self.now.digest k.later = (k.waits c.if-self.false).last_is in
     kept_settled _ _ c.args.self.now _ entries durable held (rw (end_is, last_is) settled) c.clear.ensures.items refl
+
+pub returns-then-is_empty-clause-group : goal.returns-then-is_empty-clause-group
+returns-then-is_empty-clause-group g c going entries durable held =
+    leaves_before g.D.Disk.seen g.D.Disk.may_leave c.args.self.now entries durable going held
+
+pub returns-in_default-clause-group : goal.returns-in_default-clause-group
+returns-in_default-clause-group g c going entries durable held =
+    leaves_before g.D.Disk.seen g.D.Disk.may_leave c.args.self.now entries durable going held
+
+pub returns-in_err-write_group-clause-group : goal.returns-in_err-write_group-clause-group
+returns-in_err-write_group-clause-group g c going entries durable held =
+    let k = held.1 in
+    let some = some_left _ _ _ c.if-is_empty.false c.is_empty.ensures c.args.self.now.pending.ok.0 in
+    let group : IsGroup c.deref.result.now c.args.self.now.digest k.later =
+    is_group c.args.self.now.pending.items c.deref.result.now c.args.self.now.digest c.args.self.now.last k.later (k.waits going) some
+    (λ inner gate is. c.deref.ensures.value ∙ c.close_group.ensures.gate inner gate is) in
+    leaves_group g.D.Disk.seen g.D.Disk.may_leave c.args.self.now c.write_group.new.disk entries durable held
+    (λ file left. c.write_group.ensures.crash c.args.self.now.digest held.0 k.written k.later (k.settled going) group file left)
+
+pub returns-clause-group : goal.returns-clause-group
+returns-clause-group g c going entries durable held =
+    let k = held.1 in
+    let some = some_left _ _ _ c.if-is_empty.false c.is_empty.ensures c.args.self.now.pending.ok.0 in
+    let group : IsGroup c.deref.result.now c.args.self.now.digest k.later =
+    is_group c.args.self.now.pending.items c.deref.result.now c.args.self.now.digest c.args.self.now.last k.later (k.waits going) some
+    (λ inner gate is. c.deref.ensures.value ∙ c.close_group.ensures.gate inner gate is) in
+    leaves_group g.D.Disk.seen g.D.Disk.may_leave c.args.self.now c.write_group.new.disk entries durable held
+    (λ file left. c.write_group.ensures.crash c.args.self.now.digest held.0 k.written k.later (k.settled going) group file left)

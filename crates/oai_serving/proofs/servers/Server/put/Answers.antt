@@ -1,11 +1,6 @@
--- Links are written, and then some may be taken away.
+-- Links are written.
 use Rattle.std.proofs.Common.{refl}
-use Rattle.oai_serving.proofs.TableLemmas.{sent_on}
 use Rattle.oai_serving.proofs.servers.Server.put.Goals as goal
 
 pub returns : goal.returns
-returns g c = rw (← c.self.view_is) (record {
-  handler = refl;
-  last = refl;
-  links = sent_on g.S.Stream.contents g.S.Stream.remaining c.self.inside.links c.put_all.new.links c.shed_all.new.links c.put_all.ensures c.shed_all.ensures;
-})
+returns g c = rw (← c.self.view_is) (record { handler = refl; last = refl; links = c.put_all.ensures })

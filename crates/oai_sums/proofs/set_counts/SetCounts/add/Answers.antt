@@ -1,4 +1,4 @@
-use Rattle.std.proofs.Common.{◌≡◌, ◌∙◌, ap, arith, not, sym, rules}
+use Rattle.std.proofs.Common.{ap, arith}
 use Rattle.oai_item.specs.Membership.{is_in}
 use Rattle.oai_sums.specs.Sums.{one_if}
 use Rattle.oai_sums.proofs.CountLemmas.{in_none, in_parts}

@@ -1,5 +1,4 @@
-use Rattle.std.specs.Prelude.{Option, OnSome}
-use Rattle.std.proofs.Common.{◌≡◌, ◌∙◌, ◌<◌, ◌+◌, ◌++◌, ◌∷◌, [], List, ap, arith, get_or, length, sym, rules, take, true, slice_set}
+use Rattle.std.proofs.Common.{◌≡◌, ◌∙◌, ◌<◌, ◌+◌, ◌++◌, ◌∷◌, [], List, ap, arith, length, sym, take, slice_set}
 use Rattle.std.proofs.lemmas.List.{get_or_read, take_all}
 use Rattle.std.specs.Str.{bytes_eq}
 use Rattle.oai_sums.specs.Sums.{CountsMore, SetTotal, counted_in, one_if}

@@ -1,4 +1,4 @@
-use Rattle.std.proofs.Common.{◌≡◌, ◌∙◌, ap, arith, not, sym, rules}
+use Rattle.std.proofs.Common.{arith, not, sym, rules}
 use Rattle.oai_item.specs.Membership.{is_in}
 use Rattle.oai_item.proofs.Above.{parent_shorter}
 use Rattle.oai_sums.proofs.CountLemmas.{above_none, above_parts, path_parts}

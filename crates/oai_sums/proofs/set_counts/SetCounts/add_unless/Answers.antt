@@ -1,5 +1,5 @@
 use Rattle.std.specs.Prelude.{◌&&◌}
-use Rattle.std.proofs.Common.{◌≡◌, ◌∙◌, ap, arith, not, sym, rules}
+use Rattle.std.proofs.Common.{◌∙◌, ap, arith, not, sym}
 use Rattle.std.specs.Str.{bytes_eq}
 use Rattle.oai_item.specs.Membership.{is_in}
 use Rattle.oai_sums.specs.Sums.{CountsMore}

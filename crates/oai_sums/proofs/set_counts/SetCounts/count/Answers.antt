@@ -1,4 +1,4 @@
-use Rattle.std.proofs.Common.{◌≡◌, ◌∙◌, ◌<◌, ap, arith, get_or, length, sym, rules}
+use Rattle.std.proofs.Common.{◌∙◌, ◌<◌, ap, arith, length, sym}
 use Rattle.std.specs.Str.{bytes_eq}
 use Rattle.oai_sums.specs.Sums.{SetTotal}
 use Rattle.oai_sums.proofs.CountLemmas.{counted_at, counted_past}
