@@ -1,5 +1,5 @@
 -- What stands behind the gate goes on by the frame that was read, and by the gate behind it.
-use Rattle.std.proofs.Common.{◌≡◌, ◌∙◌, ℕ, ◌+◌, List, Option, Some, None, false, drop, length, subst, sym, ap, arith}
+use Rattle.std.proofs.Common.{◌≡◌, ◌∙◌, ℕ, ◌+◌, List, Some, None, false, drop, length, subst, sym, ap, arith}
 use Rattle.oai_journal.specs.Recoveries.{Finds, HasFrame, IsGateAt}
 use Rattle.oai_journal.proofs.ChangeLemmas.{Begins, turn_at_further, turn_at_none, turn_at_open, turn_at_other}
 use Rattle.oai_journal.proofs.changes.take_turn.Goals as goal

@@ -1,11 +1,9 @@
 -- A frame is what stands before the record's bytes, these, and a line end.
-use Rattle.std.proofs.Common.{◌≡◌, ◌++◌, ℕ, List, [], sym, ◌∙◌, ap, false, true, IsTrue}
+use Rattle.std.proofs.Common.{◌≡◌, ◌++◌, ℕ, List, [], sym, ◌∙◌, ap, IsTrue}
 use Rattle.std.proofs.lemmas.Bool.{false≢true}
 use Rattle.oai_journal.specs.Frames as spec
 use Rattle.oai_journal.specs.Heads.{plain}
 use Rattle.oai_journal.specs.Records.{entry_of}
-use Rattle.oai_journal.proofs.FileLemmas.{ends_same}
-use Rattle.oai_journal.proofs.CrashLemmas.{held}
 use Rattle.oai_journal.proofs.frames.frame_digest.Goals as goal
 
 front_is : (out front cleared deref : List ℕ) → cleared ≡ [] → out ≡ cleared ++ front → deref ≡ out → deref ≡ front

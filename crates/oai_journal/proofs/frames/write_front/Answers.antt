@@ -1,13 +1,11 @@
 -- The pieces in their order; the digest is over the head that was just written.
-use Rattle.std.proofs.Common.{◌≡◌, ◌≤◌, ℕ, List, ◌++◌, length, drop, sym, ◌∙◌, ap, append_assoc, arith}
+use Rattle.std.proofs.Common.{◌≡◌, ℕ, List, ◌++◌, length, drop, sym, ◌∙◌, ap, append_assoc, arith}
 use Rattle.std.proofs.lemmas.List.{drop_at}
 use Rattle.sqlite_disk.specs.Digest.{digest}
 use Rattle.oai_journal.specs.Frames as spec
-use Rattle.oai_journal.specs.Heads.{fields_of, front_of, plain}
+use Rattle.oai_journal.specs.Heads.{front_of, plain}
 use Rattle.oai_journal.specs.Records.{Entry, entry_of}
-use Rattle.oai_journal.specs.declared.records.TheConstants.{MAX_NAME}
 use Rattle.oai_journal.proofs.FitLemmas.{within_parts}
-use Rattle.oai_journal.proofs.HeadLemmas.{head_written}
 use Rattle.oai_journal.proofs.frames.write_front.Goals as goal
 
 -- a buffer gained a piece

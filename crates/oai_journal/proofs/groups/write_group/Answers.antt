@@ -1,7 +1,5 @@
 -- While the group is written, and while its gate is, each crash leaves the journal with all of it or none.
-use Rattle.std.proofs.Common.{◌≡◌, ◌⊎◌, ⊎_elim, inl, inr, ℕ, List, Result, Ok, Err, OnOk}
-use Rattle.oai_journal.specs.Groups.{EndsBeforeOrAfter, IsGroup, IsSettled, IsWritten, digest_of_all}
-use Rattle.oai_journal.specs.Records.{Entry}
+use Rattle.std.proofs.Common.{⊎_elim, inl, Result, Ok, Err, OnOk}
 use Rattle.oai_journal.proofs.GroupLemmas.{ends_now, ends_torn, stands, ends_staged, ends_opened, settled_opened}
 use Rattle.oai_journal.proofs.groups.write_group.Goals as goal
 

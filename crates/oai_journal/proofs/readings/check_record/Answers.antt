@@ -1,9 +1,9 @@
 -- The record that was read is the only one whose frame the bytes can be.
-use Rattle.std.proofs.Common.{◌≡◌, ◌∙◌, Bool, true, false, refl, sym, ap, rules}
+use Rattle.std.proofs.Common.{◌≡◌, ◌∙◌, Bool, true, false, refl, sym, rules}
 use mathlib.Core.Bool.{beq, not}
 use Rattle.std.proofs.lemmas.Bool.{false≢true}
 use Rattle.std.proofs.lemmas.Int.{to_z-of_z}
-use Rattle.oai_journal.specs.Records.{Entry, IsFit, entry_of}
+use Rattle.oai_journal.specs.Records.{IsFit, entry_of}
 use Rattle.oai_journal.proofs.ReadingLemmas.{checks_refused, checks_spelled}
 use Rattle.oai_journal.proofs.readings.check_record.Goals as goal
 

@@ -1,4 +1,4 @@
-use Rattle.std.proofs.Common.{◌≡◌, ◌∙◌, ℕ, List, Option, Some, None, take, drop, subst, sym, ap}
+use Rattle.std.proofs.Common.{◌≡◌, ◌∙◌, ℕ, List, Some, take, drop, subst, ap}
 use Rattle.oai_journal.specs.Recoveries.{Checks, IsLenAt}
 use Rattle.oai_journal.proofs.ReadingLemmas.{finds}
 use Rattle.oai_journal.proofs.readings.read_frame.Goals as goal

@@ -1,6 +1,5 @@
 -- The first bytes of a frame are enough to see how long it is.
-use Rattle.std.proofs.Common.{◌≡◌, ◌∙◌, ℕ, ◌≤◌, min, ◌-◌, List, Option, Some, None, take, drop, length, sym, ap, arith, rules}
-use Rattle.oai_journal.specs.declared.frames.TheConstants.{FRAME_ROOM}
+use Rattle.std.proofs.Common.{◌≡◌, ◌∙◌, Some, take, drop, length, sym, ap, arith, rules}
 use Rattle.oai_journal.specs.Frames.{frame}
 use Rattle.oai_journal.proofs.FrameLemmas.{some_same}
 use Rattle.oai_journal.proofs.ReadingLemmas.{len_end, len_read, len_within}

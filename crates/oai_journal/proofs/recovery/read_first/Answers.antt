@@ -1,4 +1,4 @@
-use Rattle.std.proofs.Common.{◌≡◌, ◌∙◌, ℕ, List, ◌∷◌, drop, length, true, subst, sym, ap}
+use Rattle.std.proofs.Common.{◌∙◌, ℕ, List, ◌∷◌, drop, length, true, subst, sym, ap}
 use Rattle.oai_journal.specs.Recoveries.{Finds, IsGateAt}
 use Rattle.oai_journal.proofs.RecoveryLemmas.{if_ok, starts}
 use Rattle.oai_journal.proofs.recovery.read_first.Goals as goal

@@ -1,5 +1,5 @@
 -- A closed gate ends the journal, but where what stands behind it goes on.
-use Rattle.std.proofs.Common.{◌≡◌, ◌∙◌, ◌↔◌, ℕ, ◌+◌, List, Some, IsTrue, drop, length, subst, sym, ap}
+use Rattle.std.proofs.Common.{◌∙◌, ◌↔◌, ℕ, ◌+◌, List, IsTrue, drop, length, subst, sym, ap}
 use Rattle.oai_journal.specs.Changes.{GoesOn}
 use Rattle.oai_journal.specs.Recoveries.{IsGateAt, IsStep}
 use Rattle.oai_journal.proofs.RecoveryLemmas.{closed_step}

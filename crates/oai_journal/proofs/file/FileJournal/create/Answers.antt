@@ -1,10 +1,10 @@
-use Rattle.std.proofs.Common.{◌≡◌, ◌∙◌, ℕ, ◌-◌, List, length, ap, arith, rules, subst, sym}
+use Rattle.std.proofs.Common.{◌≡◌, ◌∙◌, ℕ, ◌-◌, List, length, ap, arith, rules, subst}
 use Rattle.std.proofs.lemmas.Int.{to_z-of_z}
 use Rattle.oai_journal.specs.Files.{IsFirst}
 use Rattle.oai_journal.specs.Frames.{next_digest}
 use Rattle.oai_journal.specs.Groups.{IsWritten}
 use Rattle.oai_journal.specs.Kept.{IsAtEnd}
-use Rattle.oai_journal.specs.Records.{Entry, IsFit, entry_of}
+use Rattle.oai_journal.specs.Records.{Entry, entry_of}
 use Rattle.oai_journal.proofs.KeptLemmas.{created}
 use Rattle.oai_journal.proofs.file.FileJournal.create.Goals as goal
 

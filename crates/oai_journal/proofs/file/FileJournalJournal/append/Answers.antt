@@ -1,4 +1,4 @@
-use Rattle.std.proofs.Common.{◌≡◌, ◌∙◌, ℕ, List, [], ◌∷◌, ◌++◌, ap, append_assoc, sym, rules}
+use Rattle.std.proofs.Common.{◌∙◌, ℕ, List, [], ◌∷◌, ◌++◌, ap, append_assoc, rules}
 use Rattle.std.proofs.lemmas.Int.{to_z-of_z}
 use Rattle.oai_journal.specs.Frames as spec
 use Rattle.oai_journal.specs.Records.{Entry, IsFit, entry_of}

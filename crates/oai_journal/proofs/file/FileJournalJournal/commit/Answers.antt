@@ -1,10 +1,7 @@
 -- Nothing waits, or a group is written; where that fails the journal is stopped, and a crash leaves the records with all of the group or none.
-use Rattle.std.proofs.Common.{◌≡◌, ◌∙◌, ℕ, ◌+◌, ◌<◌, ◌==◌, Bool, true, false, List, [], Result, Ok, Err, OnErr, length, ap, sym, refl, arith, rules}
+use Rattle.std.proofs.Common.{◌≡◌, ◌∙◌, ℕ, ◌+◌, ◌<◌, ◌==◌, Bool, true, false, Result, Ok, Err, OnErr, length, ap, sym, refl, arith}
 use Rattle.std.proofs.lemmas.Bool.{eqb-true, false≢true, eq-eqb}
-use Rattle.oai_journal.specs.Records.{Entry}
 use Rattle.oai_journal.specs.Groups.{IsGroup, digest_of_all}
-use Rattle.oai_journal.specs.Kept.{HoldsRecords, Keeps}
-use Rattle.oai_journal.specs.declared.file.FileJournal.{FileJournal}
 use Rattle.oai_journal.proofs.KeptLemmas.{is_group, kept_settled, kept_still, kept_stopped, leaves_before, leaves_group, survives_group}
 use Rattle.oai_journal.proofs.file.FileJournalJournal.commit.Goals as goal
 

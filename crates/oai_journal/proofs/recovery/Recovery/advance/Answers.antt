@@ -1,8 +1,8 @@
 -- One frame more, or the end.
-use Rattle.std.proofs.Common.{◌≡◌, ◌∙◌, inl, inr, ℕ, ◌+◌, List, length, drop, subst, sym, ap, refl, arith}
+use Rattle.std.proofs.Common.{◌≡◌, inl, inr, ℕ, ◌+◌, List, length, drop, subst, sym, refl, arith}
 use Rattle.oai_journal.specs.Changes.{IsChangedAt}
 use Rattle.oai_journal.specs.Recoveries.{Continues, EndsHere, IsDamagedAt, IsStep, WasOpen}
-use Rattle.oai_journal.proofs.RecoveryLemmas.{Moves, changed_here, damaged_here, whole_read, has_continued, has_ended, same_byte}
+use Rattle.oai_journal.proofs.RecoveryLemmas.{changed_here, damaged_here, whole_read, has_continued, has_ended, same_byte}
 use Rattle.oai_journal.proofs.recovery.Recovery.advance.Goals as goal
 
 pub returns-in-End-clause-end : goal.returns-in-End-clause-end

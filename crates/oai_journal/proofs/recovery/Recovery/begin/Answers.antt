@@ -1,5 +1,5 @@
 -- The file is synced, so what is read of it is durable.
-use Rattle.std.proofs.Common.{◌≡◌, ◌∙◌, ℕ, ◌+◌, List, None, Some, length, subst, sym, ap, refl, arith}
+use Rattle.std.proofs.Common.{◌≡◌, ◌∙◌, ℕ, ◌+◌, List, length, subst, sym, ap, refl, arith}
 use Rattle.sqlite_disk.specs.Disk.{Only}
 use Rattle.oai_journal.specs.Recoveries.{HasNoFirst, Starts, StartsAs}
 use Rattle.oai_journal.proofs.RecoveryLemmas.{damaged_first, has_begun, same_left}
