@@ -61,8 +61,7 @@ fn run(
     };
     match server.serve(&mut listener, rt) {
         Ok(()) => Ok(()),
-        Err(ServeFault::Wait) => Err(Stop::SocketFault),
-        Err(ServeFault::Clock) => Err(Stop::ClockFault),
+        Err(ServeFault::Wait | ServeFault::Clock) => Err(Stop::SocketFault),
         Err(ServeFault::Unsettled) => Err(Stop::DeviceFault),
     }
 }
