@@ -55,11 +55,11 @@ use Rattle.oai_headline.proofs.TakenLemmas.{IsAsking, IsReachable, IsTaken, reac
 
 -- ---- the step of a visit
 
-taken_reachable : (config : Config) (visit : Visit) (step : Exchange) → IsTaken config visit step → IsReachable config step.found
+pub taken_reachable : (config : Config) (visit : Visit) (step : Exchange) → IsTaken config visit step → IsReachable config step.found
 taken_reachable config visit step h =
     subst (IsReachable config) (sym (taken_found config visit step h)) (reachable_moved config visit.call.moment visit.before h.reachable)
 
-taken_acted : (config : Config) (visit : Visit) (step : Exchange) → IsTaken config visit step → step.outcome ≡ (act config step.found step.command).0
+pub taken_acted : (config : Config) (visit : Visit) (step : Exchange) → IsTaken config visit step → step.outcome ≡ (act config step.found step.command).0
 taken_acted config visit step h = subst (λ (e : Exchange). e.outcome ≡ (act config e.found e.command).0) (sym h.is) refl
 
 -- a visit has one step
@@ -70,11 +70,11 @@ taken_once config visit a b this that =
     this.is ∙ ap (step_with config visit) same ∙ sym that.is
 
 -- what the client sees in the answer is what the step answered
-record IsMatched (config : Config) (visited : SeenVisit) (step : Exchange) : Type 0 where
+pub record IsMatched (config : Config) (visited : SeenVisit) (step : Exchange) : Type 0 where
   pub taken : IsTaken config visited.visit step
   pub sees : IsSeenOf config step visited.seen
 
-abbrev visit_in : SeenVisit → Visit
+abbrev pub visit_in : SeenVisit → Visit
 visit_in visited = visited.visit
 
 matched : (config : Config) (some : List SeenVisit) (steps : List Exchange) → AreRepositoryFormats config.formats → AllZip (IsTaken config) (map visit_in some) steps
@@ -122,12 +122,12 @@ links config before (visited ∷ others) b (a ∷ steps) rules is each next =
 -- ---- pages
 
 -- the step answered a page of records in that format, and with datestamps of the repository's granularity
-record IsPaged (config : Config) (format : Format) (step : Exchange) : Type 0 where
+pub record IsPaged (config : Config) (format : Format) (step : Exchange) : Type 0 where
   pub page : Page
   pub told : answer_in step.outcome ≡ Some (lists_records format page)
   pub dated : page.granularity ≡ config.granularity
 
-all_paged : (config : Config) (format : Format) (size before : ℕ) (steps : List Exchange) (pages : List Page)
+pub all_paged : (config : Config) (format : Format) (size before : ℕ) (steps : List Exchange) (pages : List Page)
     → map (λ (exchange : Exchange). answer_in exchange.outcome) steps ≡ map (λ (page : Page). Some (answer_by_verb list.Records format page)) pages → ArePagesAt config size before pages
     → AllByRecursion (IsPaged config format) steps
 all_paged config format size before [] pages told placed = tt
@@ -137,7 +137,7 @@ all_paged config format size before (step ∷ steps) (page ∷ pages) told place
     let rest : map (λ (exchange : Exchange). answer_in exchange.outcome) steps ≡ map (λ (page : Page). Some (answer_by_verb list.Records format page)) pages = cc in
     (record { page = page; told = here; dated = placed.0.dated }, all_paged config format size (before + length page.items) steps pages rest placed.1)
 
-paged_answer : (config : Config) (format : Format) (step : Exchange) (seen : SeenDocument) (sees : IsSeenOf config step seen) (paged : IsPaged config format step)
+pub paged_answer : (config : Config) (format : Format) (step : Exchange) (seen : SeenDocument) (sees : IsSeenOf config step seen) (paged : IsPaged config format step)
     → sees.its.answer ≡ lists_records format paged.page
 paged_answer config format step seen sees paged =
     let both : Some sees.its.answer ≡ Some (lists_records format paged.page) = sym (ap answer_in sees.told) ∙ paged.told in
@@ -166,7 +166,7 @@ all_records config format (visited ∷ some) (step ∷ steps) each paged =
     ∙ sym (map-append f (items_told (page_shown step.outcome)) items)
 
 -- the list ends with it where that is seen
-end_paged : (config : Config) (format : Format) (step : Exchange) (seen : SeenDocument) → IsSeenOf config step seen → IsPaged config format step
+pub end_paged : (config : Config) (format : Format) (step : Exchange) (seen : SeenDocument) → IsSeenOf config step seen → IsPaged config format step
     → is_harvest_end seen.answer ≡ is_last_page (page_shown step.outcome)
 end_paged config format step seen sees paged =
     ap (λ (s : SeenDocument). is_harvest_end s.answer) (sym sees.shown)
@@ -193,7 +193,7 @@ record IsWholeAnswer (config : Config) (prefix : List ℕ) (step : Exchange) : T
   pub paged : IsPaged config format step
   pub tokenless : paged.page.continuation ≡ whole
 
-none_or_some : (items : List ItemState) → (items ≡ []) ⊎ (items ≢ [])
+pub none_or_some : (items : List ItemState) → (items ≡ []) ⊎ (items ≢ [])
 none_or_some [] = inl refl
 none_or_some (item ∷ items) = inr (λ e. cc)
 
@@ -230,7 +230,7 @@ none_known config state prefix from h = by (format_named prefix config.formats) 
   where
     by : (found : Option Format) → format_named prefix config.formats ≡ found
         → answer_in (outcome_of config state.clock (arguments_of_request (asks (ask.List list.Records prefix from None None)))
-          (format_response config state.clock state.open_lists list.Records found (selected (filter_of prefix from None None) state.holdings.items)).0)
+        (format_response config state.clock state.open_lists list.Records found (selected (filter_of prefix from None None) state.holdings.items)).0)
         ≡ Some (fails NoRecordsMatch) → (format : Format) × (format_named prefix config.formats ≡ Some format)
     by (Some format) is told = (format, is)
     by None is told = cc

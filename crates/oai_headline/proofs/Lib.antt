@@ -11,6 +11,7 @@ pub mod PartLemmas
 pub mod ThroughoutLemmas
 pub mod ClientHarvestLemmas
 pub mod MetLemmas
+pub mod ClientMetLemmas
 pub mod FoundLemmas
 pub mod WorkedCalls
 pub mod WorkedLemmas

@@ -44,7 +44,7 @@ part_reached config some (visit ∷ all) (inr here) h =
 
 -- ---- the token that is printed
 
-offer_end : (end : ℤ) (continuation : Continuation) (offer : TokenOffer) → offer_in continuation ≡ Some offer → EndsAt end continuation → offer.expires ≡ end
+pub offer_end : (end : ℤ) (continuation : Continuation) (offer : TokenOffer) → offer_in continuation ≡ Some offer → EndsAt end continuation → offer.expires ≡ end
 offer_end end whole offer offered ends = cc
 offer_end end (completes extent) offer offered ends = cc
 offer_end end (remains expires extent token) offer offered ends =

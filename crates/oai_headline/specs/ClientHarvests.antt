@@ -125,6 +125,11 @@ pub record IsClientHarvest (config : Config) (all : List Visit) (prefix : List �
   pub next : AreNextSeen config harvest.first harvest.others
   pub ended : is_harvest_end (last_visit harvest.first harvest.others).seen.answer ≡ true
 
+-- a client can see the visits as such a harvest
+abbrev pub IsSomeClientHarvest : Config → List Visit → List ℕ → Option (List ℕ) → List Visit → Type 0
+IsSomeClientHarvest config all prefix from some =
+    (harvest : ClientHarvest) × (map (λ (visited : SeenVisit). visited.visit) (visits_of harvest) ≡ some) × IsClientHarvest config all prefix from harvest
+
 -- ---- harvests, one after the other
 
 -- the date as the repository writes datestamps (section 3.3): its first ten bytes, which are the day, or all of it

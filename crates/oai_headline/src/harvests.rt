@@ -1,26 +1,33 @@
 //! Harvests in a client's words.
-ghost use Rattle.std.specs.Prelude.{◌≡◌, ◌∷◌, ℕ, List};
+ghost use Rattle.std.specs.Prelude.{◌≡◌, ◌∷◌, ℕ, List, Option};
+ghost use Rattle.std.specs.List.{AllZip};
+ghost use Rattle.oai_item.specs.Formats.{AreRepositoryFormats};
 ghost use Rattle.oai_item.specs.declared.deleted_record.DeletedRecord.TheVariants.{Persistent};
 ghost use Rattle.oai_answers.specs.Seen.{SeenDocument};
-ghost use Rattle.oai_repo.specs.State.{RepoState};
+ghost use Rattle.oai_settings.specs.Config.{Config, IsConfig};
+ghost use Rattle.oai_repo.specs.State.{RepoState, empty_state};
+ghost use Rattle.oai_laws.specs.Harvests.{Harvest, IsHarvest, records_since, requests_of};
+ghost use Rattle.oai_laws.specs.Runs.{IsPart, run};
 ghost use Rattle.oai_config.specs.Configs.{NamedConfig};
 ghost use Rattle.oai_http.specs.declared.exchanges.Answer.{Answer};
 ghost use Rattle.oai_http.specs.declared.exchanges.Call.{Call};
-ghost use Rattle.oai_headline.specs.ClientHarvests.{AreSuccessiveByClient, ClientHarvest, IsSeen, IsWholeClientCopy, client_copy, last_client_harvest};
+ghost use Rattle.oai_headline.specs.Chains.{IsStepOf};
+ghost use Rattle.oai_headline.specs.ClientHarvests.{AreSuccessiveByClient, ClientHarvest, IsSeen, IsSomeClientHarvest, IsWholeClientCopy, client_copy, last_client_harvest};
 ghost use Rattle.oai_headline.specs.Headline.{HasRules};
 ghost use Rattle.oai_headline.specs.Throughout.{IsThroughoutAt, own_given, whole_visits};
-ghost use Rattle.oai_headline.specs.Visits.{found_by};
+ghost use Rattle.oai_headline.specs.Visits.{Visit, commands_in, found_by, visits};
 
 /// Harvests miss nothing, in a client's words (OAI-PMH 2.0, sections 2.5.1, 2.7.1 and 3.5). At a repository of which
 /// the theorem ([`throughout_law`](crate::throughout_law)) holds and which keeps its deleted records, a client asks for
 /// all records in a metadataPrefix, follows the list by the tokens that it sees in the answers, each before its
 /// expirationDate, and does so again any number of times, each time from the day or the second of the responseDate on
 /// that it saw in the first answer of the time before. Whatever else is asked and deposited between and amid its
-/// requests, and whatever failed, let it keep, of all records that it saw, the last of each identifier. Then it has just
-/// the records, live and deleted, of the items that had one in that metadataPrefix when the last harvest began.
+/// requests, and whatever failed, let it keep, of all records that it saw, the last of each identifier. Then it has
+/// just the records, live and deleted, of the items that had one in that metadataPrefix when the last harvest began.
 ///
 /// What it sees is determined by the bytes of the answer: of two documents that could be seen in it, both show the
-/// same. It does nothing.
+/// same. And visits whose steps are a harvest of the machine are such a harvest of a client: what is asked of the
+/// answers is true of each that the machine gives. It does nothing.
 pub fn client_harvests_law()
     ensures copied { (calls : List Call) (answers : List Answer) (entry : NamedConfig) (left : RepoState)
         (prefix : List ℕ) (first : ClientHarvest) (others : List ClientHarvest) → HasRules entry
@@ -30,4 +37,11 @@ pub fn client_harvests_law()
         (client_copy (first ∷ others)) }
     ensures seen { (answer : Answer) (one other : SeenDocument) → IsSeen answer one → IsSeen answer other
         → one ≡ other }
+    ensures met { (config : Config) (calls : List Call) (prefix : List ℕ) (from : Option (List ℕ))
+        (some : List Visit) (harvest : Harvest) → IsConfig config → AreRepositoryFormats config.formats
+        → IsPart some (visits config (empty_state config) calls)
+        → AllZip (IsStepOf config) some (requests_of harvest)
+        → IsHarvest config (run config (empty_state config) (commands_in config.granularity calls))
+        (records_since prefix from) harvest
+        → IsSomeClientHarvest config (visits config (empty_state config) calls) prefix from some }
 {}
