@@ -1,9 +1,9 @@
 -- A file that is damaged is no journal: its frames are those of the journal as far as the damage, and there stands no gate, or an open one and no frame.
 use Rattle.std.proofs.Common.{◌≡◌, ◌⊎◌, ◌∙◌, inl, inr, ⊎_elim, ℕ, Bool, true, false, List, [], ◌∷◌, ◌++◌, refl, sym, ap, subst, append_assoc}
-use Rattle.oai_journal.specs.Files.{AreGated, Ends, Gated, digest_after, front, is_open, spelled}
+use Rattle.oai_journal.specs.Files.{AreGated, IsJournalFile, Gated, digest_after, front, is_open, spelled}
 use Rattle.oai_journal.specs.Frames.{frame, next_digest}
 use Rattle.oai_journal.specs.Records.{Entry}
-use Rattle.oai_journal.specs.Recoveries.{IsBroken, IsDamagedAt, IsOpenWithNone}
+use Rattle.oai_journal.specs.Recoveries.{IsBrokenAt, IsDamagedAt, IsOpenWithNone}
 use Rattle.oai_journal.proofs.FileLemmas.{front_step, heads_same, shut, step, tails_same}
 use Rattle.oai_journal.proofs.FrameLemmas.{frame_same}
 
@@ -37,7 +37,7 @@ not_ended before (f ∷ fs) (g ∷ gs) rest gate behind a b closed is end =
     same.behind ∙ ap (λ (e : Entry). spelled (next_digest before e) gs ++ gate ∷ behind) (sym same.entry) in
     not_ended (next_digest before f.entry) fs gs rest gate behind a.1 b.1 closed others end
 
-pub damaged_not_ended : (file : List ℕ) (at : ℕ) (first : Entry) (entries : List Entry) → IsDamagedAt file at → Ends file first entries → ⊥
+pub damaged_not_ended : (file : List ℕ) (at : ℕ) (first : Entry) (entries : List Entry) → IsDamagedAt file at → IsJournalFile file first entries → ⊥
 damaged_not_ended file at first entries (inl none) e =
     none.1 (frame 0 first ++ (spelled (next_digest 0 first) e.frames ++ e.gate ∷ e.behind)) (e.is ∙ front_step first e.frames (e.gate ∷ e.behind))
     first (spelled (next_digest 0 first) e.frames ++ e.gate ∷ e.behind) e.begins.fit e.begins.kind refl

@@ -2,7 +2,7 @@
 use Rattle.std.proofs.Common.{◌≡◌, ◌≢◌, ◌∙◌, ℕ, ◌+◌, ◌<◌, ◌≤◌, Bool, true, false, List, [], ◌∷◌, ◌++◌, length, map, Option, Some, None, refl, sym, ap, arith, append_assoc, subst}
 use Rattle.std.proofs.lemmas.Bool.{false≢true}
 use Rattle.std.proofs.lemmas.List.{length-append}
-use Rattle.oai_journal.specs.Files.{AreGated, Ends, Gated, IsFirst, IsGated, digest_after, front, is_open, spelled}
+use Rattle.oai_journal.specs.Files.{AreGated, IsJournalFile, Gated, IsFirstRecord, IsGated, digest_after, front, is_open, spelled}
 use Rattle.oai_journal.specs.Frames.{frame, next_digest}
 use Rattle.oai_journal.specs.Records.{Entry, IsFit}
 use Rattle.oai_journal.proofs.FrameLemmas.{IsSame, frame_same}
@@ -74,7 +74,7 @@ pub record IsOne (first first' : Entry) (entries entries' : List Entry) : Type 0
 pub front_step : (first : Entry) (fs : List Gated) (tail : List ℕ) → front first fs ++ tail ≡ 43 ∷ (frame 0 first ++ (spelled (next_digest 0 first) fs ++ tail))
 front_step first fs tail = ap (λ (l : List ℕ). 43 ∷ l) (append_assoc (frame 0 first) (spelled (next_digest 0 first) fs) tail)
 
-pub ends_same : (file : List ℕ) (first first' : Entry) (entries entries' : List Entry) → Ends file first entries → Ends file first' entries' → IsOne first first' entries entries'
+pub ends_same : (file : List ℕ) (first first' : Entry) (entries entries' : List Entry) → IsJournalFile file first entries → IsJournalFile file first' entries' → IsOne first first' entries entries'
 ends_same file first first' entries entries' a b =
     let both = sym (front_step first a.frames (a.gate ∷ a.behind)) ∙ sym a.is ∙ b.is ∙ front_step first' b.frames (b.gate ∷ b.behind) in
     let same = frame_same 0 first first' _ _ a.begins.fit b.begins.fit (tails_same _ _ _ _ both) in

@@ -7,7 +7,7 @@ use Rattle.std.proofs.Math.Seq.{take-append-add}
 use Rattle.hex.proofs.HexLemmas.{length-encode_with}
 use Rattle.hex.specs.Hex.{lower_digits}
 use Rattle.oai_journal.specs.Frames.{body_in, digest_text, entry_in, frame, frame_front, head_of, len_in, line_end, next_digest}
-use Rattle.oai_journal.specs.Heads.{HeadFields, front_of, head_in, plain}
+use Rattle.oai_journal.specs.Heads.{HeadFields, head_front, head_in, plain}
 use Rattle.oai_journal.specs.Records.{Entry, IsFit, is_within}
 use Rattle.oai_journal.specs.declared.heads.TheConstants.{MAX_HEAD}
 use Rattle.oai_journal.proofs.FitLemmas.{spellable}
@@ -21,18 +21,18 @@ length_digest d = length-encode_with lower_digits (to_be_bytes w64 d)
 abbrev middle : ℕ → Entry → List ℕ
 middle before e = digest_text (next_digest before e) ++ line_end
 
-frame_is : (before : ℕ) (e : Entry) (rest : List ℕ) → frame before e ++ rest ≡ front_of (head_of e) ++ (middle before e ++ ((e.body ++ line_end) ++ rest))
+frame_is : (before : ℕ) (e : Entry) (rest : List ℕ) → frame before e ++ rest ≡ head_front (head_of e) ++ (middle before e ++ ((e.body ++ line_end) ++ rest))
 unfolding frame frame_front
 frame_is before e rest =
-    let a : List ℕ = front_of (head_of e) in
+    let a : List ℕ = head_front (head_of e) in
     let b : List ℕ = digest_text (next_digest before e) in
     append_assoc (a ++ b ++ line_end) (e.body ++ line_end) rest ∙ ap (λ (l : List ℕ). l ++ ((e.body ++ line_end) ++ rest)) (append_assoc a b line_end)
     ∙ append_assoc a (b ++ line_end) ((e.body ++ line_end) ++ rest)
 
-pub length_frame : (before : ℕ) (e : Entry) → length (frame before e) ≡ length (front_of (head_of e)) + 16 + length e.body + 2
+pub length_frame : (before : ℕ) (e : Entry) → length (frame before e) ≡ length (head_front (head_of e)) + 16 + length e.body + 2
 unfolding frame frame_front plain
 length_frame before e =
-    let a : List ℕ = front_of (head_of e) in
+    let a : List ℕ = head_front (head_of e) in
     let b : List ℕ = digest_text (next_digest before e) in
     omega (arith, length-append (a ++ b ++ line_end) (e.body ++ line_end), length-append (a ++ b) line_end, length-append a b, length-append e.body line_end, length_digest (next_digest before e))
 
@@ -41,7 +41,7 @@ take_past n front tail short =
     let sum : n ≡ length front + (n - length front) = omega (arith, short) in
     ap (λ m. take m (front ++ tail)) sum ∙ take-append-add front tail (n - length front)
 
-read_len : (bytes : List ℕ) (h : HeadFields) → head_in bytes ≡ Some h → is_within h.kind h.name h.size ≡ true → len_in bytes ≡ Some (length (front_of h) + 16 + h.size + 2)
+read_len : (bytes : List ℕ) (h : HeadFields) → head_in bytes ≡ Some h → is_within h.kind h.name h.size ≡ true → len_in bytes ≡ Some (length (head_front h) + 16 + h.size + 2)
 unfolding len_in
 read_len bytes h is within = rw (is, within) refl
 
@@ -49,7 +49,7 @@ read_len bytes h is within = rw (is, within) refl
 pub frame_len : (n before : ℕ) (e : Entry) (rest : List ℕ) → MAX_HEAD ≤ n → IsFit e → len_in (take n (frame before e ++ rest)) ≡ Some (length (frame before e))
 frame_len n before e rest enough is =
     let h : HeadFields = head_of e in
-    let front : List ℕ = front_of h in
+    let front : List ℕ = head_front h in
     let tail : List ℕ = middle before e ++ ((e.body ++ line_end) ++ rest) in
     let short : length front ≤ n = omega (arith, length_front h (spellable e is)) in
     let begins : take n (frame before e ++ rest) ≡ front ++ take (n - length front) tail = ap (take n) (frame_is before e rest) ∙ take_past n front tail short in
@@ -71,9 +71,9 @@ read_entry : (bytes : List ℕ) (h : HeadFields) (body : List ℕ) → head_in b
 unfolding entry_in
 read_entry bytes h body is body_is = rw (is, body_is) refl
 
-whole_frame : (before : ℕ) (e : Entry) → frame before e ≡ front_of (head_of e) ++ (middle before e ++ (e.body ++ line_end))
+whole_frame : (before : ℕ) (e : Entry) → frame before e ≡ head_front (head_of e) ++ (middle before e ++ (e.body ++ line_end))
 whole_frame before e =
-    sym (append-nil (frame before e)) ∙ frame_is before e [] ∙ ap (λ (l : List ℕ). front_of (head_of e) ++ (middle before e ++ l)) (append-nil (e.body ++ line_end))
+    sym (append-nil (frame before e)) ∙ frame_is before e [] ∙ ap (λ (l : List ℕ). head_front (head_of e) ++ (middle before e ++ l)) (append-nil (e.body ++ line_end))
 
 body_of : (before : ℕ) (e : Entry) → body_in (length e.body) (frame before e) ≡ Some e.body
 unfolding frame

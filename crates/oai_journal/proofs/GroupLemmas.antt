@@ -4,9 +4,9 @@ use Rattle.std.proofs.Math.Seq.{get_or-append_seam}
 use Rattle.std.proofs.lemmas.Bool.{cases_Bool}
 use Rattle.std.proofs.lemmas.List.{length-append, map-append}
 use Rattle.sqlite_disk.specs.Disk.{Holds, Only, Torn}
-use Rattle.oai_journal.specs.Files.{AreGated, Ends, Gated, IsFirst, IsGated, digest_after, front, is_open, spelled}
+use Rattle.oai_journal.specs.Files.{AreGated, IsJournalFile, Gated, IsFirstRecord, IsGated, digest_after, front, is_open, spelled}
 use Rattle.oai_journal.specs.Frames.{frame, next_digest}
-use Rattle.oai_journal.specs.Groups.{AreRecords, EndsBeforeOrAfter, IsGroup, IsSettled, IsWritten, digest_of_all, further, inside}
+use Rattle.oai_journal.specs.Groups.{AreGrouped, EndsBeforeOrAfter, IsGroup, IsOnDisk, IsMadeDurable, digest_of_all, further, inside}
 use Rattle.oai_journal.specs.Records.{Entry, IsFit, is_first_kind}
 use Rattle.oai_journal.proofs.CrashLemmas.{held, torn_behind, torn_byte}
 use Rattle.oai_journal.proofs.FileLemmas.{digest_append, front_append, gated_append}
@@ -26,11 +26,11 @@ entries_opened : (gate : ℕ) (es : List Entry) → map (λ f. f.entry) (opened 
 entries_opened gate [] = refl
 entries_opened gate (e ∷ es) = ap (λ l. e ∷ l) (entries_further es)
 
-gated_further : (es : List Entry) → AreRecords es → AreGated (further es)
+gated_further : (es : List Entry) → AreGrouped es → AreGated (further es)
 gated_further [] are = tt
 gated_further (e ∷ es) are = (record { opened = refl; fit = are.0.0; kind = are.0.1 }, gated_further es are.1)
 
-gated_opened : (gate : ℕ) (es : List Entry) → is_open gate ≡ true → AreRecords es → AreGated (opened gate es)
+gated_opened : (gate : ℕ) (es : List Entry) → is_open gate ≡ true → AreGrouped es → AreGated (opened gate es)
 gated_opened gate [] open_is are = tt
 gated_opened gate (e ∷ es) open_is are = (record { opened = open_is; fit = are.0.0; kind = are.0.1 }, gated_further es are.1)
 
@@ -61,7 +61,7 @@ file_opened first frames gate later group rest is =
 -- ---- the two writes
 
 module _ {D : Type 0} (seen : D → List ℕ) (may_leave : D → List ℕ → Type 0) (old : D) (end digest : ℕ) (first : Entry) (entries later : List Entry) (group : List ℕ)
-    (settled : IsSettled seen may_leave old end digest first entries) (grouped : IsGroup group digest later) where
+    (settled : IsOnDisk seen may_leave old end digest first entries) (grouped : IsGroup group digest later) where
   abbrev before : List ℕ
   before = front first settled.frames
 
@@ -74,18 +74,18 @@ module _ {D : Type 0} (seen : D → List ℕ) (may_leave : D → List ℕ → Ty
   group_is : IsGroup group (digest_after (next_digest 0 first) settled.frames) later
   group_is = subst (λ d. IsGroup group d later) settled.last grouped
 
-  ends_shut : (file : List ℕ) (gate : ℕ) (rest : List ℕ) → is_open gate ≡ false → file ≡ before ++ gate ∷ rest → Ends file first entries
+  ends_shut : (file : List ℕ) (gate : ℕ) (rest : List ℕ) → is_open gate ≡ false → file ≡ before ++ gate ∷ rest → IsJournalFile file first entries
   ends_shut file gate rest closed file_is =
       record { frames = settled.frames; gate = gate; behind = rest; is = file_is; closed = closed; begins = settled.begins; are = settled.are; says = settled.says }
 
-  pub ends_now : (file : List ℕ) → file ≡ seen old → Ends file first entries
+  pub ends_now : (file : List ℕ) → file ≡ seen old → IsJournalFile file first entries
   ends_now file same = ends_shut file settled.gate settled.behind settled.closed (same ∙ settled.is)
 
   old_is : seen old ≡ with_gate ++ settled.behind
   old_is = settled.is ∙ sym (append_assoc before (settled.gate ∷ []) settled.behind)
 
   -- while the group is written its gate is closed
-  pub ends_torn : (file : List ℕ) → Torn (end + 1) (length group) (seen old) file → Ends file first entries
+  pub ends_torn : (file : List ℕ) → Torn (end + 1) (length group) (seen old) file → IsJournalFile file first entries
   ends_torn file torn =
       let here : Torn (length with_gate) (length group) (with_gate ++ settled.behind) file = rw (length_gate, ← old_is) torn in
       let cut = torn_behind with_gate settled.behind file (length group) here in
@@ -97,7 +97,7 @@ module _ {D : Type 0} (seen : D → List ℕ) (may_leave : D → List ℕ → Ty
     pub there : seen mid ≡ before ++ settled.gate ∷ (group ++ rest)
     pub durable : Only (seen mid) (may_leave mid)
 
-  pub stands : (mid : D) → IsWritten seen may_leave (end + 1) group old mid → Stands mid
+  pub stands : (mid : D) → IsMadeDurable seen may_leave (end + 1) group old mid → Stands mid
   stands mid written =
       let torn : Torn (length with_gate) (length group) (with_gate ++ settled.behind) (seen mid) = rw (length_gate, ← old_is) written.torn in
       let holds : Holds (seen mid) (length with_gate) group = rw length_gate written.holds in
@@ -105,7 +105,7 @@ module _ {D : Type 0} (seen : D → List ℕ) (may_leave : D → List ℕ → Ty
       record { rest = put.0; there = put.1 ∙ append_assoc before (settled.gate ∷ []) (group ++ put.0); durable = written.durable }
 
   module _ (mid : D) (staged : Stands mid) where
-    pub ends_staged : (file : List ℕ) → file ≡ seen mid → Ends file first entries
+    pub ends_staged : (file : List ℕ) → file ≡ seen mid → IsJournalFile file first entries
     ends_staged file same = ends_shut file settled.gate (group ++ staged.rest) settled.closed (same ∙ staged.there)
 
     gate_torn : (file : List ℕ) → Torn end 1 (seen mid) file → (gate : ℕ) × (file ≡ before ++ gate ∷ (group ++ staged.rest))
@@ -143,7 +143,7 @@ module _ {D : Type 0} (seen : D → List ℕ) (may_leave : D → List ℕ → Ty
         ∙ ap (λ n. get_or (seen new) n 0) at ∙ holds.each 0 (lit< tt)
 
     -- once the gate is open and synced the journal has the group
-    pub settled_opened : (new : D) → IsWritten seen may_leave end (43 ∷ []) mid new → IsSettled seen may_leave new (end + length group) (digest_of_all digest later) first (entries ++ later)
+    pub settled_opened : (new : D) → IsMadeDurable seen may_leave end (43 ∷ []) mid new → IsOnDisk seen may_leave new (end + length group) (digest_of_all digest later) first (entries ++ later)
     settled_opened new written =
         let cut = gate_torn (seen new) written.torn in
         let gate : cut.0 ≡ 43 = gate_open new cut.0 written.holds cut.1 in

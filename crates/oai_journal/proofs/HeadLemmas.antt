@@ -9,9 +9,9 @@ use Rattle.std.proofs.lemmas.Fmt.{length-decimal-le, length_signed_le}
 use Rattle.std.proofs.lemmas.List.{get_or_append_left, length-append}
 use Rattle.std.proofs.lemmas.List.Elements.{All-append, All-cons, All-nil}
 use Rattle.std.proofs.lemmas.List.Sums.{position_or_len_is}
-use Rattle.oai_journal.specs.Heads.{HeadFields, IsSpellable, front_of, head_in, is_separator, kind_in, part, plain, rest}
+use Rattle.oai_journal.specs.Heads.{HeadFields, CanBeSpelled, head_front, head_in, is_separator, kind_in, part, plain, rest}
 use Rattle.oai_journal.specs.Numbers.{moment_of, number_in}
-use Rattle.oai_journal.specs.Records.{is_name_byte, word_of}
+use Rattle.oai_journal.specs.Records.{is_visible_ascii, word_of}
 use Rattle.oai_journal.specs.declared.heads.TheConstants.{MAX_HEAD}
 use Rattle.oai_journal.specs.declared.records.Kind.{Kind}
 use Rattle.oai_journal.specs.declared.records.Kind.TheVariants.{Journal, Oai, Deposit, Tick, Begin, Set, Item}
@@ -36,17 +36,17 @@ rest_of front back none = ap (λ n. drop (n + 1) (front ++ 32 ∷ back)) (first_
 digit_no_space : (b : ℕ) → IsInRange 48 57 b → is_separator b ≡ false
 digit_no_space b within = false_from_ne_true (b == 32) (λ e. omega (arith, eqb-true b 32 e, within.0))
 
-name_no_space : (name : List ℕ) → list_all is_name_byte name ≡ true → HasNo name
+name_no_space : (name : List ℕ) → list_all is_visible_ascii name ≡ true → HasNo name
 name_no_space [] h = All-nil (λ b. is_separator b ≡ false)
 name_no_space (b ∷ bs) h =
-    let q = and_parts (is_name_byte b) (list_all is_name_byte bs) h in
+    let q = and_parts (is_visible_ascii b) (list_all is_visible_ascii bs) h in
     All-cons (λ x. is_separator x ≡ false) b bs
     (false_from_ne_true (b == 32) (λ e. omega (arith, eqb-true b 32 e, leb-true 33 b (and_parts (nat_le 33 b) (nat_le b 126) q.0).0))) (name_no_space bs q.1)
 
 word_no_space : (kind : Kind) → HasNo (word_of kind)
 word_no_space kind = name_no_space (word_of kind) (seen kind)
   where
-    seen : (kind : Kind) → list_all is_name_byte (word_of kind) ≡ true
+    seen : (kind : Kind) → list_all is_visible_ascii (word_of kind) ≡ true
     seen Journal = refl
     seen Oai = refl
     seen Deposit = refl
@@ -69,8 +69,8 @@ kind_written Item = refl
 
 -- a head, as one field before a space and then the next
 front_is : (h : HeadFields) (tail : List ℕ)
-    → front_of h ++ tail ≡ signed_decimal h.moment ++ 32 ∷ (word_of h.kind ++ 32 ∷ (h.name ++ 32 ∷ (decimal h.size ++ 32 ∷ tail)))
-unfolding front_of plain
+    → head_front h ++ tail ≡ signed_decimal h.moment ++ 32 ∷ (word_of h.kind ++ 32 ∷ (h.name ++ 32 ∷ (decimal h.size ++ 32 ∷ tail)))
+unfolding head_front plain
 front_is h tail =
     let a : List ℕ = signed_decimal h.moment in
     let b : List ℕ = word_of h.kind in
@@ -91,7 +91,7 @@ read_all : (bytes : List ℕ) (moment : ℤ) (kind : Kind) (size : ℕ) → mome
 unfolding head_in
 read_all bytes moment kind size a b c = rw (a, b, c) refl
 
-pub head_written : (h : HeadFields) (tail : List ℕ) → IsSpellable h → head_in (front_of h ++ tail) ≡ Some h
+pub head_written : (h : HeadFields) (tail : List ℕ) → CanBeSpelled h → head_in (head_front h ++ tail) ≡ Some h
 head_written h tail is =
     let first : List ℕ = signed_decimal h.moment in
     let fourth : List ℕ = decimal h.size ++ 32 ∷ tail in
@@ -129,8 +129,8 @@ length_moment (negsuc n) fits =
     let size : length (decimal (suc n)) ≤ 19 = length-decimal-le 19 (suc n) (lit< tt) (omega (arith, below)) (omega (arith, below)) in
     omega (arith, size)
 
-pub length_front : (h : HeadFields) → IsSpellable h → length (front_of h) ≤ MAX_HEAD
-unfolding front_of plain
+pub length_front : (h : HeadFields) → CanBeSpelled h → length (head_front h) ≤ MAX_HEAD
+unfolding head_front plain
 length_front h is =
     let a : List ℕ = signed_decimal h.moment in
     let b : List ℕ = word_of h.kind in

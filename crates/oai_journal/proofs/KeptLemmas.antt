@@ -4,10 +4,10 @@ use Rattle.std.specs.Prelude.{Vec}
 use Rattle.std.specs.declared.alloc.Global.{Global}
 use Rattle.std.proofs.lemmas.Bool.{false≢true}
 use Rattle.std.proofs.lemmas.List.{append-nil, length-append, take-append-le, take_all, take_at}
-use Rattle.oai_journal.specs.Files.{Ends, IsFirst, front, is_open, spelled}
+use Rattle.oai_journal.specs.Files.{IsJournalFile, IsFirstRecord, front, is_open, spelled}
 use Rattle.oai_journal.specs.Frames.{frame, next_digest}
-use Rattle.oai_journal.specs.Groups.{AreRecords, EndsBeforeOrAfter, IsGroup, IsSettled, IsWritten, digest_of_all, further, inside, kept_group}
-use Rattle.oai_journal.specs.Kept.{HoldsRecords, IsAtEnd, DiskLeavesAllOrNone, IsWaiting, Keeps, LeavesAllOrNone, Survives}
+use Rattle.oai_journal.specs.Groups.{AreGrouped, EndsBeforeOrAfter, IsGroup, IsOnDisk, IsMadeDurable, digest_of_all, further, inside, kept_group}
+use Rattle.oai_journal.specs.Kept.{HoldsRecords, IsAtEnd, DiskLeavesAllOrNone, IsWaiting, KeepsRecords, LeavesAllOrNone, Survives}
 use Rattle.oai_journal.specs.Records.{Entry, IsFit, is_first_kind}
 use Rattle.oai_journal.specs.declared.file.FileJournal.{FileJournal}
 use Rattle.sqlite_disk.specs.Disk.{Only}
@@ -28,7 +28,7 @@ digest_all_append : (d : ℕ) (es : List Entry) (e : Entry) → digest_of_all d 
 digest_all_append d [] e = refl
 digest_all_append d (x ∷ es) e = digest_all_append (next_digest d x) es e
 
-records_append : (es : List Entry) (e : Entry) → AreRecords es → IsFit e → is_first_kind e.kind ≡ false → AreRecords (es ++ e ∷ [])
+records_append : (es : List Entry) (e : Entry) → AreGrouped es → IsFit e → is_first_kind e.kind ≡ false → AreGrouped (es ++ e ∷ [])
 records_append [] e are fit kind = ((fit, kind), tt)
 records_append (x ∷ es) e are fit kind = (are.0, records_append es e are.1 fit kind)
 
@@ -63,18 +63,18 @@ survives_more file first entries durable e s =
       count = s.count;
       enough = s.enough;
       within = omega (arith, s.within, length-append entries (e ∷ []));
-      ends = subst (λ l. Ends file first l) (sym same) s.ends;
+      ends = subst (λ l. IsJournalFile file first l) (sym same) s.ends;
       only = λ other found ends. s.only other found ends ∙ sym same;
     }
 
 survives_at : (file : List ℕ) (first : Entry) (entries found : List Entry) (durable count : ℕ) → take count entries ≡ found → durable ≤ count → count ≤ length entries
-    → Ends file first found → Survives file first entries durable
+    → IsJournalFile file first found → Survives file first entries durable
 survives_at file first entries found durable count same enough within ends =
     record {
       count = count;
       enough = enough;
       within = within;
-      ends = subst (λ l. Ends file first l) (sym same) ends;
+      ends = subst (λ l. IsJournalFile file first l) (sym same) ends;
       only = λ other more is. (ends_same file other first more found is ends).are ∙ sym same;
     }
 
@@ -147,7 +147,7 @@ module _ {D : Type 0} (seen : D → List ℕ) (may_leave : D → List ℕ → Ty
       ends
 
   -- what a crash leaves of a journal of which nothing waits
-  ends_settled : (disk : D) (end digest : ℕ) (first : Entry) (entries : List Entry) → IsSettled seen may_leave disk end digest first entries → (file : List ℕ) → may_leave disk file → Ends file first entries
+  ends_settled : (disk : D) (end digest : ℕ) (first : Entry) (entries : List Entry) → IsOnDisk seen may_leave disk end digest first entries → (file : List ℕ) → may_leave disk file → IsJournalFile file first entries
   ends_settled disk end digest first entries settled file left =
       record {
         frames = settled.frames;
@@ -160,8 +160,8 @@ module _ {D : Type 0} (seen : D → List ℕ) (may_leave : D → List ℕ → Ty
         says = settled.says;
       }
 
-  pub settled_keeps : (journal : FileJournal D) (first : Entry) (entries : List Entry) → IsSettled seen may_leave journal.disk journal.end journal.digest first entries
-      → journal.pending.items ≡ [] → journal.last ≡ journal.digest → Keeps seen may_leave journal first entries (length entries)
+  pub settled_keeps : (journal : FileJournal D) (first : Entry) (entries : List Entry) → IsOnDisk seen may_leave journal.disk journal.end journal.digest first entries
+      → journal.pending.items ≡ [] → journal.last ≡ journal.digest → KeepsRecords seen may_leave journal first entries (length entries)
   settled_keeps journal first entries settled none same =
       record {
         written = entries;
@@ -175,13 +175,13 @@ module _ {D : Type 0} (seen : D → List ℕ) (may_leave : D → List ℕ → Ty
             (ends_settled journal.disk journal.end journal.digest first entries settled file left);
       }
 
-  pub settled_holds : (journal : FileJournal D) (first : Entry) (entries : List Entry) → IsSettled seen may_leave journal.disk journal.end journal.digest first entries
+  pub settled_holds : (journal : FileJournal D) (first : Entry) (entries : List Entry) → IsOnDisk seen may_leave journal.disk journal.end journal.digest first entries
       → journal.pending.items ≡ [] → journal.last ≡ journal.digest → HoldsRecords seen may_leave journal entries (length entries)
   settled_holds journal first entries settled none same = (first, settled_keeps journal first entries settled none same)
 
   -- a journal that was begun
-  pub created : (old new : D) (journal : FileJournal D) (first : Entry) (bytes : List ℕ) → IsFirst first → bytes ≡ 43 ∷ (frame 0 first ++ 45 ∷ [])
-      → IsWritten seen may_leave 0 bytes old new → IsAtEnd journal new (length bytes - 1) (next_digest 0 first) → Keeps seen may_leave journal first [] 0
+  pub created : (old new : D) (journal : FileJournal D) (first : Entry) (bytes : List ℕ) → IsFirstRecord first → bytes ≡ 43 ∷ (frame 0 first ++ 45 ∷ [])
+      → IsMadeDurable seen may_leave 0 bytes old new → IsAtEnd journal new (length bytes - 1) (next_digest 0 first) → KeepsRecords seen may_leave journal first [] 0
   created old new journal first bytes begins is written at_end =
       let f : List ℕ = frame 0 first in
       let put = held [] (seen old) (seen new) bytes written.torn written.holds in
@@ -205,7 +205,7 @@ module _ {D : Type 0} (seen : D → List ℕ) (may_leave : D → List ℕ → Ty
 
   -- once the group is on the disk
   pub kept_settled : (journal new : FileJournal D) (entries : List Entry) (durable : ℕ) (held : HoldsRecords seen may_leave journal entries durable)
-      → IsSettled seen may_leave new.disk new.end new.digest held.0 ((held.1).written ++ (held.1).later) → new.pending.items ≡ [] → new.last ≡ new.digest
+      → IsOnDisk seen may_leave new.disk new.end new.digest held.0 ((held.1).written ++ (held.1).later) → new.pending.items ≡ [] → new.last ≡ new.digest
       → HoldsRecords seen may_leave new entries (length entries)
   kept_settled journal new entries durable held settled none same =
       subst (λ l. HoldsRecords seen may_leave new l (length l)) (sym (held.1).are) (settled_holds new held.0 ((held.1).written ++ (held.1).later) settled none same)

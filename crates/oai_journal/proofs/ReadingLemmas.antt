@@ -6,7 +6,7 @@ use Rattle.std.proofs.Common.{ext_get_or, get_or-drop, get_or-take, inl, inr}
 use Rattle.sqlite_disk.specs.Disk.{Holds}
 use Rattle.oai_journal.specs.Frames.{entry_in, frame, len_in, next_digest}
 use Rattle.oai_journal.specs.Records.{Entry, IsFit, is_first_kind}
-use Rattle.oai_journal.specs.Recoveries.{Checks, Finds, HasFrame, HasNoFrame, IsChecked, IsFrame, IsLenAt}
+use Rattle.oai_journal.specs.Recoveries.{Checks, FindsFrame, HasFrame, HasNoFrame, IsFrameChecked, IsFrame, IsLenAt}
 use Rattle.oai_journal.specs.declared.frames.TheConstants.{FRAME_ROOM}
 use Rattle.oai_journal.proofs.FrameLemmas.{frame_len, frame_read, length_frame, some_same}
 
@@ -48,10 +48,10 @@ module _ (file : List ℕ) (len at : ℕ) (size_is : len ≡ length file) where
 
 -- ---- one frame
 
-pub finds_none : (first : Bool) (before : ℕ) (read rest : List ℕ) → IsLenAt rest None → Finds first before rest read None
+pub finds_none : (first : Bool) (before : ℕ) (read rest : List ℕ) → IsLenAt rest None → FindsFrame first before rest read None
 finds_none first before read rest at = λ e after fit kind is. let nothing : None ≡ Some (length (frame before e)) = at before e after fit is in cc
 
-pub finds : (first : Bool) (before size : ℕ) (rest read : List ℕ) (found : Option ℕ) → IsLenAt rest (Some size) → read ≡ take size rest → Checks first before read found → Finds first before rest read found
+pub finds : (first : Bool) (before size : ℕ) (rest read : List ℕ) (found : Option ℕ) → IsLenAt rest (Some size) → read ≡ take size rest → Checks first before read found → FindsFrame first before rest read found
 finds first before size rest read None at is none = λ e after fit kind there.
     let len : size ≡ length (frame before e) = some_same _ _ (at before e after fit there) in
     none e (record { fit = fit; kind = kind; is = is ∙ ap (take size) there ∙ take_at (frame before e) after size (sym len) })

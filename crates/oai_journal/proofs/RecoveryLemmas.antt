@@ -3,14 +3,14 @@ use Rattle.std.proofs.Common.{◌≡◌, ◌⊎◌, ◌↔◌, ◌∙◌, IsTrue
 use Rattle.std.proofs.lemmas.Bool.{false≢true}
 use Rattle.std.proofs.lemmas.List.{append-nil, drop_at, length-append, map-append, take_all}
 use Rattle.sqlite_disk.specs.Disk.{Only}
-use Rattle.oai_journal.specs.Changes.{GoesOn, IsChangedAt, IsWhole}
-use Rattle.oai_journal.specs.Files.{AreGated, Ends, Gated, IsFirst, IsGated, digest_after, front, is_open, spelled}
+use Rattle.oai_journal.specs.Changes.{GoesOn, IsChangedAt, IsUndamaged}
+use Rattle.oai_journal.specs.Files.{AreGated, IsJournalFile, Gated, IsFirstRecord, IsGated, digest_after, front, is_open, spelled}
 use Rattle.oai_journal.specs.Frames.{entry_in, frame, next_digest}
-use Rattle.oai_journal.specs.Groups.{IsSettled}
+use Rattle.oai_journal.specs.Groups.{IsOnDisk}
 use Rattle.oai_journal.specs.Kept.{HoldsRecords, IsAtEnd}
 use Rattle.oai_journal.specs.Records.{Entry, IsFit, is_first_kind}
-use Rattle.oai_journal.specs.Recoveries.{Continues, EndsHere, Finds, HasNoFirst, IsBroken, IsDamagedAt, IsOpenWithNone, IsStep, ReadsTo, Starts, StartsAs, WasOpen, step_of}
-use Rattle.oai_journal.specs.Recovered.{HasRead, current}
+use Rattle.oai_journal.specs.Recoveries.{Continues, EndsHere, FindsFrame, HasNoFirst, IsBrokenAt, IsDamagedAt, IsOpenWithNone, IsReadStep, ReadsTo, Starts, StartsAs, WasOpen, step_of}
+use Rattle.oai_journal.specs.Recovered.{HasRecovered, current}
 use Rattle.oai_journal.specs.declared.file.FileJournal.{FileJournal}
 use Rattle.oai_journal.specs.declared.recovery.Recovery.{Recovery}
 use Rattle.oai_journal.specs.declared.recovery.RecoveryFault.{RecoveryFault}
@@ -24,7 +24,7 @@ rest_at file at digest first entries reads = ap (drop at) reads.is ∙ drop_at (
 
 -- a closed gate, by whether what stands behind it goes on
 pub closed_step : (rest read : List ℕ) (before gate : ℕ) (behind : List ℕ) (on : Bool) → rest ≡ gate ∷ behind → is_open gate ≡ false → (IsTrue on ↔ GoesOn before behind)
-    → IsStep rest before read (step_of on)
+    → IsReadStep rest before read (step_of on)
 closed_step rest read before gate behind true is closed iff = record { gate = gate; behind = behind; is = is; closed = closed; goes = iff.0 refl }
 closed_step rest read before gate behind false is closed iff =
     record { gate = gate; behind = behind; is = is; closed = closed; stops = λ g. false≢true (iff.1 g) }
@@ -48,7 +48,7 @@ started file read digest s =
     one_more l = omega arith
 
 -- a file that begins with an open gate, and what stands behind it
-pub starts : (file read : List ℕ) (found : Option ℕ) → drop 0 file ≡ 43 ∷ drop 1 file → Finds true 0 (drop 1 file) read found → Starts file read found
+pub starts : (file read : List ℕ) (found : Option ℕ) → drop 0 file ≡ 43 ∷ drop 1 file → FindsFrame true 0 (drop 1 file) read found → Starts file read found
 starts file read None gate none = λ behind is e after fit kind there. none e after fit kind (ap (drop 1) is ∙ there)
 starts file read (Some digest) gate f =
     record {
@@ -150,7 +150,7 @@ module _ {D : Type 0} (seen : D → List ℕ) (may_leave : D → List ℕ → Ty
 
   pub has_begun : (recovery : Recovery D) (digest : ℕ) → recovery.len ≡ length (seen recovery.disk) → Only (seen recovery.disk) (may_leave recovery.disk)
       → recovery.digest ≡ digest → recovery.at ≡ 1 + length recovery.frame.items → recovery.ended ≡ false
-      → StartsAs (seen recovery.disk) recovery.frame.items digest → (first : Entry) × HasRead seen may_leave recovery first [] × (current recovery ≡ Some first)
+      → StartsAs (seen recovery.disk) recovery.frame.items digest → (first : Entry) × HasRecovered seen may_leave recovery first [] × (current recovery ≡ Some first)
   has_begun recovery digest size only digest_is at going s = (
     s.first,
     record {
@@ -162,9 +162,9 @@ module _ {D : Type 0} (seen : D → List ℕ) (may_leave : D → List ℕ → Ty
     ap entry_in s.read_is ∙ frame_read 0 s.first s.begins.fit,
   )
 
-  pub has_continued : (old new : Recovery D) (first : Entry) (entries : List Entry) (digest : ℕ) → Moves old new → HasRead seen may_leave old first entries
+  pub has_continued : (old new : Recovery D) (first : Entry) (entries : List Entry) (digest : ℕ) → Moves old new → HasRecovered seen may_leave old first entries
       → Continues (drop old.at (seen old.disk)) old.digest new.frame.items digest → new.digest ≡ digest → new.at ≡ old.at + (1 + length new.frame.items) → new.ended ≡ false
-      → (e : Entry) × HasRead seen may_leave new first (entries ++ e ∷ []) × (current new ≡ Some e)
+      → (e : Entry) × HasRecovered seen may_leave new first (entries ++ e ∷ []) × (current new ≡ Some e)
   has_continued old new first entries digest moves h s digest_is at going = (
     s.entry,
     record {
@@ -176,8 +176,8 @@ module _ {D : Type 0} (seen : D → List ℕ) (may_leave : D → List ℕ → Ty
     ap entry_in s.read_is ∙ frame_read old.digest s.entry s.fit,
   )
 
-  pub has_ended : (old new : Recovery D) (first : Entry) (entries : List Entry) → Moves old new → HasRead seen may_leave old first entries
-      → EndsHere old.digest (drop old.at (seen old.disk)) → new.digest ≡ old.digest → new.at ≡ old.at → HasRead seen may_leave new first entries
+  pub has_ended : (old new : Recovery D) (first : Entry) (entries : List Entry) → Moves old new → HasRecovered seen may_leave old first entries
+      → EndsHere old.digest (drop old.at (seen old.disk)) → new.digest ≡ old.digest → new.at ≡ old.at → HasRecovered seen may_leave new first entries
   has_ended old new first entries moves h ends digest_is at =
       let here = ended_here (seen old.disk) old.at old.digest first entries h.reads ends in
       let r = h.reads in
@@ -198,7 +198,7 @@ module _ {D : Type 0} (seen : D → List ℕ) (may_leave : D → List ℕ → Ty
       }
 
   -- what was read to its end is what the file is
-  pub whole_read : (recovery : Recovery D) (first : Entry) (entries : List Entry) → recovery.ended ≡ true → HasRead seen may_leave recovery first entries → IsWhole (seen recovery.disk) first entries
+  pub whole_read : (recovery : Recovery D) (first : Entry) (entries : List Entry) → recovery.ended ≡ true → HasRecovered seen may_leave recovery first entries → IsUndamaged (seen recovery.disk) first entries
   whole_read recovery first entries ended h =
       let r = h.reads in
       let here = h.ends ended in
@@ -221,7 +221,7 @@ module _ {D : Type 0} (seen : D → List ℕ) (may_leave : D → List ℕ → Ty
             (subst (λ n. GoesOn n c.behind) (sym (r.last ∙ same.last)) c.goes));
       }
 
-  pub holds_all : (recovery : Recovery D) (journal : FileJournal D) (first : Entry) (entries : List Entry) → recovery.ended ≡ true → HasRead seen may_leave recovery first entries
+  pub holds_all : (recovery : Recovery D) (journal : FileJournal D) (first : Entry) (entries : List Entry) → recovery.ended ≡ true → HasRecovered seen may_leave recovery first entries
       → IsAtEnd journal recovery.disk recovery.at recovery.digest → HoldsRecords seen may_leave journal entries (length entries)
   holds_all recovery journal first entries ended h is =
       let r = h.reads in

@@ -33,7 +33,7 @@ AreGated [] = Unit {0}
 AreGated (f ∷ fs) = IsGated f × AreGated fs
 
 -- a record with which a journal begins
-pub record IsFirst (e : Entry) : Type 0 where
+pub record IsFirstRecord (e : Entry) : Type 0 where
   pub fit : IsFit e
   pub kind : is_first_kind e.kind ≡ true
 
@@ -42,12 +42,12 @@ abbrev pub front : Entry → List Gated → List ℕ
 front first frames = 43 ∷ (frame 0 first ++ spelled (next_digest 0 first) frames)
 
 -- the file is a journal that begins with the first record, and these are the others
-pub record Ends (file : List ℕ) (first : Entry) (entries : List Entry) : Type 0 where
+pub record IsJournalFile (file : List ℕ) (first : Entry) (entries : List Entry) : Type 0 where
   pub frames : List Gated
   pub gate : ℕ
   pub behind : List ℕ
   pub is : file ≡ front first frames ++ gate ∷ behind
   pub closed : is_open gate ≡ false
-  pub begins : IsFirst first
+  pub begins : IsFirstRecord first
   pub are : AreGated frames
   pub says : map (λ f. f.entry) frames ≡ entries

@@ -4,14 +4,14 @@ use Rattle.std.specs.Int.{w64, to_be_bytes}
 use Rattle.hex.specs.Hex.{encode_lower}
 use Rattle.sqlite_disk.specs.Digest.{digest}
 use Rattle.oai_journal.specs.Records.{Entry, is_within}
-use Rattle.oai_journal.specs.Heads.{HeadFields, front_of, plain, head_in, ◌>>=◌, tested}
+use Rattle.oai_journal.specs.Heads.{HeadFields, head_front, plain, head_in, ◌>>=◌, tested}
 
 abbrev pub head_of : Entry → HeadFields
 head_of e = record { moment = e.moment; kind = e.kind; name = e.name; size = length e.body }
 
 -- the digest of a frame: over the digest before it, its head and its bytes
 unfoldable pub next_digest : ℕ → Entry → ℕ
-next_digest before e = digest before (front_of (head_of e) ++ e.body)
+next_digest before e = digest before (head_front (head_of e) ++ e.body)
 
 -- a digest as 16 hexadecimal digits
 unfoldable pub digest_text : ℕ → List ℕ
@@ -23,7 +23,7 @@ line_end = plain (10 ∷ [])
 
 -- what stands before the bytes of a record: its head with the digest, and a line end
 unfoldable pub frame_front : ℕ → Entry → List ℕ
-frame_front before e = front_of (head_of e) ++ digest_text (next_digest before e) ++ line_end
+frame_front before e = head_front (head_of e) ++ digest_text (next_digest before e) ++ line_end
 
 -- a frame, without its gate: that, the bytes of the record, and a line end
 unfoldable pub frame : ℕ → Entry → List ℕ
@@ -40,7 +40,7 @@ unfoldable pub len_in : List ℕ → Option ℕ
 len_in bytes = do
   h ← head_in bytes
   h ← tested (λ h. is_within h.kind h.name h.size) h
-  Some (length (front_of h) + 16 + h.size + 2)
+  Some (length (head_front h) + 16 + h.size + 2)
 
 -- the record in the bytes of a frame; that these spell it is not looked at
 unfoldable pub entry_in : List ℕ → Option Entry

@@ -1,7 +1,7 @@
 -- Groups of frames: how they are written behind the gate that ends a journal, and what stands on the disk. This repository's own.
 use Rattle.std.specs.Prelude.{◌≡◌, ◌⊎◌, ℕ, ◌+◌, ◌<◌, ◌≤◌, Bool, true, false, List, [], ◌∷◌, ◌++◌, length, map, take, IsTrue}
 use Rattle.sqlite_disk.specs.Disk.{Holds, Only, Torn}
-use Rattle.oai_journal.specs.Files.{AreGated, Ends, Gated, IsFirst, digest_after, front, is_open, spelled}
+use Rattle.oai_journal.specs.Files.{AreGated, IsJournalFile, Gated, IsFirstRecord, digest_after, front, is_open, spelled}
 use Rattle.oai_journal.specs.Frames.{frame, next_digest}
 use Rattle.oai_journal.specs.Records.{Entry, IsFit, is_first_kind}
 
@@ -11,9 +11,9 @@ digest_of_all before [] = before
 digest_of_all before (e ∷ es) = digest_of_all (next_digest before e) es
 
 -- the records of a group: each of them fits, and none begins a journal
-abbrev pub AreRecords : List Entry → Type 0
-AreRecords [] = Unit {0}
-AreRecords (e ∷ es) = (IsFit e × (is_first_kind e.kind ≡ false)) × AreRecords es
+abbrev pub AreGrouped : List Entry → Type 0
+AreGrouped [] = Unit {0}
+AreGrouped (e ∷ es) = (IsFit e × (is_first_kind e.kind ≡ false)) × AreGrouped es
 
 -- the frames of a group as they are kept, each with the gate of a further one behind it
 abbrev pub kept_group : ℕ → List Entry → List ℕ
@@ -30,13 +30,13 @@ inside before [] = []
 inside before (e ∷ es) = frame before e ++ spelled (next_digest before e) (further es)
 
 -- the disk holds a journal that ends at `end`: the first record, and these, the last of them with that digest
-pub record IsSettled {D : Type 0} (seen : D → List ℕ) (may_leave : D → List ℕ → Type 0) (disk : D) (end digest : ℕ) (first : Entry) (entries : List Entry) : Type 0 where
+pub record IsOnDisk {D : Type 0} (seen : D → List ℕ) (may_leave : D → List ℕ → Type 0) (disk : D) (end digest : ℕ) (first : Entry) (entries : List Entry) : Type 0 where
   pub frames : List Gated
   pub gate : ℕ
   pub behind : List ℕ
   pub is : seen disk ≡ front first frames ++ gate ∷ behind
   pub closed : is_open gate ≡ false
-  pub begins : IsFirst first
+  pub begins : IsFirstRecord first
   pub are : AreGated frames
   pub says : map (λ f. f.entry) frames ≡ entries
   pub place : end ≡ length (front first frames)
@@ -44,7 +44,7 @@ pub record IsSettled {D : Type 0} (seen : D → List ℕ) (may_leave : D → Lis
   pub durable : Only (seen disk) (may_leave disk)
 
 -- the bytes were written there, and are durable
-pub record IsWritten {D : Type 0} (seen : D → List ℕ) (may_leave : D → List ℕ → Type 0) (at : ℕ) (bytes : List ℕ) (old new : D) : Type 0 where
+pub record IsMadeDurable {D : Type 0} (seen : D → List ℕ) (may_leave : D → List ℕ → Type 0) (at : ℕ) (bytes : List ℕ) (old new : D) : Type 0 where
   pub torn : Torn at (length bytes) (seen old) (seen new)
   pub holds : Holds (seen new) at bytes
   pub durable : Only (seen new) (may_leave new)
@@ -52,9 +52,9 @@ pub record IsWritten {D : Type 0} (seen : D → List ℕ) (may_leave : D → Lis
 -- the bytes behind the gate are those of a group of these records
 pub record IsGroup (bytes : List ℕ) (digest : ℕ) (later : List Entry) : Type 0 where
   pub is : bytes ≡ inside digest later ++ 45 ∷ []
-  pub are : AreRecords later
+  pub are : AreGrouped later
   pub some : later ≡ [] → ⊥
 
 -- a journal of all of these, or without the last ones
 abbrev pub EndsBeforeOrAfter : List ℕ → Entry → List Entry → List Entry → Type 0
-EndsBeforeOrAfter file first entries later = Ends file first entries ⊎ Ends file first (entries ++ later)
+EndsBeforeOrAfter file first entries later = IsJournalFile file first entries ⊎ IsJournalFile file first (entries ++ later)

@@ -5,7 +5,7 @@ use Rattle.std.specs.Int.{w64}
 use Rattle.std.specs.List.{before_first, after_first, list_all}
 use Rattle.std.specs.Str.{bytes_eq}
 use Rattle.oai_journal.specs.Numbers.{moment_of, number_in}
-use Rattle.oai_journal.specs.Records.{word_of, is_name_byte}
+use Rattle.oai_journal.specs.Records.{word_of, is_visible_ascii}
 use Rattle.oai_journal.specs.declared.heads.Head.{Head}
 use Rattle.oai_journal.specs.declared.records.Kind.{Kind}
 use Rattle.oai_journal.specs.declared.records.Kind.TheVariants.{Journal, Oai, Deposit, Tick, Begin, Set, Item}
@@ -22,19 +22,19 @@ pub record HeadFields : Type 0 where
   pub name : List ℕ
   pub size : ℕ
 
-abbrev pub fields_of : Head → HeadFields
-fields_of h = record { moment = h.moment; kind = h.kind; name = h.name.now; size = h.size }
+abbrev pub fields_of_head : Head → HeadFields
+fields_of_head h = record { moment = h.moment; kind = h.kind; name = h.name.now; size = h.size }
 
 -- a head: its four fields, each with a space behind it
-unfoldable pub front_of : HeadFields → List ℕ
-front_of h =
+unfoldable pub head_front : HeadFields → List ℕ
+head_front h =
     signed_decimal h.moment ++ plain (codes " ") ++ plain (word_of h.kind) ++ plain (codes " ") ++ h.name ++ plain (codes " ")
     ++ decimal h.size ++ plain (codes " ")
 
 -- fields that a head can spell
-pub record IsSpellable (h : HeadFields) : Type 0 where
+pub record CanBeSpelled (h : HeadFields) : Type 0 where
   pub moment : FitsSigned w64 h.moment
-  pub name : list_all is_name_byte h.name ≡ true
+  pub name : list_all is_visible_ascii h.name ≡ true
   pub short : length h.name ≤ MAX_NAME
   pub size : h.size < 2 ^ 64
 

@@ -2,8 +2,8 @@
 use Rattle.std.specs.Prelude.{◌≡◌, ◌⊎◌, ℕ, ◌+◌, ◌≤◌, Bool, false, List, [], ◌++◌, length, take, vec_len, vec_capacity, Vec}
 use Rattle.std.proofs.Math.Nat.{add-le-add, le_refl, le_trans}
 use Rattle.std.specs.declared.alloc.Global.{Global}
-use Rattle.oai_journal.specs.Files.{Ends}
-use Rattle.oai_journal.specs.Groups.{AreRecords, IsSettled, digest_of_all, kept_group}
+use Rattle.oai_journal.specs.Files.{IsJournalFile}
+use Rattle.oai_journal.specs.Groups.{AreGrouped, IsOnDisk, digest_of_all, kept_group}
 use Rattle.oai_journal.specs.Journals.{IsLeft}
 use Rattle.oai_journal.specs.Records.{Entry}
 use Rattle.oai_journal.specs.declared.file.FileJournal.{FileJournal}
@@ -13,28 +13,28 @@ use Rattle.oai_journal.specs.declared.frames.TheConstants.{FRAME_ROOM}
 pub record IsWaiting (bytes : List ℕ) (digest last : ℕ) (later : List Entry) : Type 0 where
   pub is : bytes ≡ kept_group digest later
   pub last_is : last ≡ digest_of_all digest later
-  pub are : AreRecords later
+  pub are : AreGrouped later
 
 -- the file is a journal, and its records are the first so many of these, all durable ones among them
 pub record Survives (file : List ℕ) (first : Entry) (entries : List Entry) (durable : ℕ) : Type 0 where
   pub count : ℕ
   pub enough : durable ≤ count
   pub within : count ≤ length entries
-  pub ends : Ends file first (take count entries)
-  pub only : (other : Entry) (found : List Entry) → Ends file other found → found ≡ take count entries
+  pub ends : IsJournalFile file first (take count entries)
+  pub only : (other : Entry) (found : List Entry) → IsJournalFile file other found → found ≡ take count entries
 
 -- the records of a journal that begins with the first one: those on the disk, which are durable, and those that wait
-pub record Keeps {D : Type 0} (seen : D → List ℕ) (may_leave : D → List ℕ → Type 0) (journal : FileJournal D) (first : Entry) (entries : List Entry) (durable : ℕ) : Type 0 where
+pub record KeepsRecords {D : Type 0} (seen : D → List ℕ) (may_leave : D → List ℕ → Type 0) (journal : FileJournal D) (first : Entry) (entries : List Entry) (durable : ℕ) : Type 0 where
   pub written : List Entry
   pub later : List Entry
   pub are : entries ≡ written ++ later
   pub count : durable ≡ length written
-  pub settled : journal.stopped ≡ false → IsSettled seen may_leave journal.disk journal.end journal.digest first written
+  pub settled : journal.stopped ≡ false → IsOnDisk seen may_leave journal.disk journal.end journal.digest first written
   pub waits : journal.stopped ≡ false → IsWaiting journal.pending.items journal.digest journal.last later
   pub survives : (file : List ℕ) → may_leave journal.disk file → Survives file first entries durable
 
 abbrev pub HoldsRecords : {D : Type 0} → (D → List ℕ) → (D → List ℕ → Type 0) → FileJournal D → List Entry → ℕ → Type 0
-HoldsRecords seen may_leave journal entries durable = (first : Entry) × Keeps seen may_leave journal first entries durable
+HoldsRecords seen may_leave journal entries durable = (first : Entry) × KeepsRecords seen may_leave journal first entries durable
 
 -- nothing waits, and the disk has not failed
 pub record IsAtEnd {D : Type 0} (journal : FileJournal D) (disk : D) (end digest : ℕ) : Type 0 where
@@ -46,18 +46,18 @@ pub record IsAtEnd {D : Type 0} (journal : FileJournal D) (disk : D) (end digest
 
 -- a journal of no records but the first one
 abbrev pub HoldsFirst : {D : Type 0} → (D → List ℕ) → (D → List ℕ → Type 0) → FileJournal D → Entry → Type 0
-HoldsFirst seen may_leave journal first = Keeps seen may_leave journal first [] 0
+HoldsFirst seen may_leave journal first = KeepsRecords seen may_leave journal first [] 0
 
 -- a crash may leave a file that is a journal of these records
 pub record MayLeaveRecords {D : Type 0} (may_leave : D → List ℕ → Type 0) (disk : D) (found : List Entry) : Type 0 where
   pub file : List ℕ
   pub left : may_leave disk file
   pub first : Entry
-  pub ends : Ends file first found
+  pub ends : IsJournalFile file first found
 
 -- the disk has not failed
-abbrev pub IsGoing : {D : Type 0} → FileJournal D → Type 0
-IsGoing journal = journal.stopped ≡ false
+abbrev pub HasNotStopped : {D : Type 0} → FileJournal D → Type 0
+HasNotStopped journal = journal.stopped ≡ false
 
 -- a crash leaves the records that were durable, or all
 abbrev pub DiskLeavesAllOrNone : {D : Type 0} → (D → List ℕ → Type 0) → D → List Entry → ℕ → Type 0
@@ -76,8 +76,8 @@ room_for_less pending bytes less low room =
     le_trans (add-le-add (add-le-add (le_refl (vec_len pending)) low) (le_refl FRAME_ROOM)) room
 
 -- what a crash leaves is the first so many
-pub records_left : {D : Type 0} (seen : D → List ℕ) (may_leave : D → List ℕ → Type 0) (journal : FileJournal D) (entries : List Entry) (durable : ℕ) (found : List Entry)
+pub journal_left : {D : Type 0} (seen : D → List ℕ) (may_leave : D → List ℕ → Type 0) (journal : FileJournal D) (entries : List Entry) (durable : ℕ) (found : List Entry)
     → HoldsRecords seen may_leave journal entries durable → MayLeaveRecords may_leave journal.disk found → IsLeft durable entries found
-records_left seen may_leave journal entries durable found held left =
+journal_left seen may_leave journal entries durable found held left =
     let survives = (held.1).survives left.file left.left in
     record { count = survives.count; enough = survives.enough; is = survives.only left.first found left.ends }

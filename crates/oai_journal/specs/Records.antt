@@ -14,8 +14,8 @@ pub record Entry : Type 0 where
   pub name : List ℕ
   pub body : List ℕ
 
-abbrev pub entry_of : Record → Entry
-entry_of record' = record { moment = record'.moment; kind = record'.kind; name = record'.name.now; body = record'.body.now }
+abbrev pub as_entry : Record → Entry
+as_entry record' = record { moment = record'.moment; kind = record'.kind; name = record'.name.now; body = record'.body.now }
 
 -- the word of each kind
 abbrev pub word_of : Kind → List ℕ
@@ -28,21 +28,21 @@ word_of Set = codes "set"
 word_of Item = codes "item"
 
 -- how many bytes a record of each kind may have
-abbrev pub most_of : Kind → ℕ
-most_of Journal = MAX_FIRST_BODY
-most_of other = MAX_BODY
+abbrev pub most_bytes : Kind → ℕ
+most_bytes Journal = MAX_FIRST_BODY
+most_bytes other = MAX_BODY
 
 abbrev pub is_first_kind : Kind → Bool
 is_first_kind Journal = true
 is_first_kind other = false
 
 -- a byte of a name: an ASCII character that can be seen
-abbrev pub is_name_byte : ℕ → Bool
-is_name_byte b = nat_le 33 b && nat_le b 126
+abbrev pub is_visible_ascii : ℕ → Bool
+is_visible_ascii b = nat_le 33 b && nat_le b 126
 
 -- a name and a number of bytes that a record of the kind may have
 unfoldable pub is_within : Kind → List ℕ → ℕ → Bool
-is_within kind name size = list_all is_name_byte name && nat_le (length name) MAX_NAME && nat_le size (most_of kind)
+is_within kind name size = list_all is_visible_ascii name && nat_le (length name) MAX_NAME && nat_le size (most_bytes kind)
 
 -- a record that a frame can hold
 abbrev pub is_fit : Entry → Bool

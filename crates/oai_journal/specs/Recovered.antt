@@ -14,7 +14,7 @@ abbrev pub current : {D : Type 0} → Recovery D → Option Entry
 current recovery = entry_in recovery.frame.items
 
 -- the first record was read, and these, all of them durable
-pub record HasRead {D : Type 0} (seen : D → List ℕ) (may_leave : D → List ℕ → Type 0) (recovery : Recovery D) (first : Entry) (entries : List Entry) : Type 0 where
+pub record HasRecovered {D : Type 0} (seen : D → List ℕ) (may_leave : D → List ℕ → Type 0) (recovery : Recovery D) (first : Entry) (entries : List Entry) : Type 0 where
   pub reads : ReadsTo (seen recovery.disk) recovery.at recovery.digest first entries
   pub size : recovery.len ≡ length (seen recovery.disk)
   pub durable : Only (seen recovery.disk) (may_leave recovery.disk)

@@ -2,7 +2,7 @@
 use Rattle.std.specs.Prelude.{◌≡◌, ◌⊎◌, ℕ, ◌+◌, ◌<◌, ◌≤◌, Bool, true, false, if◌then◌else◌, List, [], ◌∷◌, ◌++◌, length, map, take, drop, slice_index, Option, Some, None, MatchOption, IsTrue, IfOk, Result}
 use Rattle.sqlite_disk.specs.Disk.{Only}
 use Rattle.oai_journal.specs.Changes.{GoesOn}
-use Rattle.oai_journal.specs.Files.{AreGated, Ends, Gated, IsFirst, digest_after, front, is_open}
+use Rattle.oai_journal.specs.Files.{AreGated, IsJournalFile, Gated, IsFirstRecord, digest_after, front, is_open}
 use Rattle.oai_journal.specs.Frames.{entry_in, frame, next_digest}
 use Rattle.oai_journal.specs.Records.{Entry, IsFit, is_first_kind}
 use Rattle.oai_journal.specs.declared.recovery.Step.{Step}
@@ -15,14 +15,14 @@ pub record IsFrame (first : Bool) (before : ℕ) (bytes : List ℕ) (e : Entry) 
   pub is : bytes ≡ frame before e
 
 -- they are one, whose digest is the answer, or none
-pub record IsChecked (first : Bool) (before : ℕ) (bytes : List ℕ) (digest : ℕ) : Type 0 where
+pub record IsFrameChecked (first : Bool) (before : ℕ) (bytes : List ℕ) (digest : ℕ) : Type 0 where
   pub entry : Entry
   pub frame : IsFrame first before bytes entry
   pub digest_is : digest ≡ next_digest before entry
   pub read : entry_in bytes ≡ Some entry
 
 abbrev pub Checks : Bool → ℕ → List ℕ → Option ℕ → Type 0
-Checks first before bytes result = MatchOption result ((e : Entry) → IsFrame first before bytes e → ⊥) (λ digest. IsChecked first before bytes digest)
+Checks first before bytes result = MatchOption result ((e : Entry) → IsFrame first before bytes e → ⊥) (λ digest. IsFrameChecked first before bytes digest)
 
 -- a frame that stands in front of these bytes has so many of them; where there is no number none does
 abbrev pub IsLenAt : List ℕ → Option ℕ → Type 0
@@ -42,8 +42,8 @@ pub record HasFrame (first : Bool) (before : ℕ) (bytes read : List ℕ) (diges
   pub read_is : read ≡ frame before entry
   pub digest_is : digest ≡ next_digest before entry
 
-abbrev pub Finds : Bool → ℕ → List ℕ → List ℕ → Option ℕ → Type 0
-Finds first before bytes read result = MatchOption result (HasNoFrame first before bytes) (λ digest. HasFrame first before bytes read digest)
+abbrev pub FindsFrame : Bool → ℕ → List ℕ → List ℕ → Option ℕ → Type 0
+FindsFrame first before bytes read result = MatchOption result (HasNoFrame first before bytes) (λ digest. HasFrame first before bytes read digest)
 
 -- ---- damage
 
@@ -56,12 +56,12 @@ pub record IsOpenWithNone (before : ℕ) (bytes : List ℕ) : Type 0 where
   pub none : HasNoFrame false before behind
 
 -- a journal as far as that byte, where no gate stands or an open one with no frame behind it
-pub record IsBroken (file : List ℕ) (at : ℕ) : Type 0 where
+pub record IsBrokenAt (file : List ℕ) (at : ℕ) : Type 0 where
   pub first : Entry
   pub frames : List Gated
   pub rest : List ℕ
   pub is : file ≡ front first frames ++ rest
-  pub begins : IsFirst first
+  pub begins : IsFirstRecord first
   pub are : AreGated frames
   pub place : at ≡ length (front first frames)
   pub broken : (rest ≡ []) ⊎ IsOpenWithNone (digest_after (next_digest 0 first) frames) rest
@@ -72,7 +72,7 @@ HasNoFirst file = (behind : List ℕ) → file ≡ 43 ∷ behind → HasNoFrame 
 
 -- the file is no journal, by what stands at that byte
 abbrev pub IsDamagedAt : List ℕ → ℕ → Type 0
-IsDamagedAt file at = ((at ≡ 0) × HasNoFirst file) ⊎ IsBroken file at
+IsDamagedAt file at = ((at ≡ 0) × HasNoFirst file) ⊎ IsBrokenAt file at
 
 -- ---- how far it was read
 
@@ -81,7 +81,7 @@ pub record ReadsTo (file : List ℕ) (at digest : ℕ) (first : Entry) (entries 
   pub frames : List Gated
   pub rest : List ℕ
   pub is : file ≡ front first frames ++ rest
-  pub begins : IsFirst first
+  pub begins : IsFirstRecord first
   pub are : AreGated frames
   pub says : map (λ f. f.entry) frames ≡ entries
   pub place : at ≡ length (front first frames)
@@ -96,7 +96,7 @@ IsGateAt file at gate = MatchOption gate (drop at file ≡ []) (λ g. drop at fi
 -- a file that begins with an open gate and the frame of a first record, which was read
 pub record StartsAs (file read : List ℕ) (digest : ℕ) : Type 0 where
   pub first : Entry
-  pub begins : IsFirst first
+  pub begins : IsFirstRecord first
   pub after : List ℕ
   pub is : file ≡ 43 ∷ (frame 0 first ++ after)
   pub read_is : read ≡ frame 0 first
@@ -133,11 +133,11 @@ pub record Continues (rest : List ℕ) (before : ℕ) (read : List ℕ) (digest 
   pub read_is : read ≡ frame before entry
   pub digest_is : digest ≡ next_digest before entry
 
-abbrev pub IsStep : List ℕ → ℕ → List ℕ → Step → Type 0
-IsStep rest before read End = EndsHere before rest
-IsStep rest before read Changed = WasOpen before rest
-IsStep rest before read (Frame digest) = Continues rest before read digest
-IsStep rest before read Damage = (rest ≡ []) ⊎ IsOpenWithNone before rest
+abbrev pub IsReadStep : List ℕ → ℕ → List ℕ → Step → Type 0
+IsReadStep rest before read End = EndsHere before rest
+IsReadStep rest before read Changed = WasOpen before rest
+IsReadStep rest before read (Frame digest) = Continues rest before read digest
+IsReadStep rest before read Damage = (rest ≡ []) ⊎ IsOpenWithNone before rest
 
 -- a frame that was read is within the file
 abbrev pub StepsWithin : ℕ → List ℕ → ℕ → Step → Type 0

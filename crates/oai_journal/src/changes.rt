@@ -1,6 +1,6 @@
 //! Whether the gate that ends a journal was once open: what stands behind it then goes on with the chain of digests.
 ghost use Rattle.std.specs.Prelude.{◌≡◌, ◌≤◌, ◌↔◌, ℕ, List, length, drop, vec_capacity, IsTrue, IfOk};
-ghost use Rattle.oai_journal.specs.Changes.{BeginsWithFrame, GoesOn, IsTurn, TurnsOn};
+ghost use Rattle.oai_journal.specs.Changes.{BeginsWithFrame, GoesOn, IsSearchTurn, TurnsOn};
 ghost use Rattle.oai_journal.specs.declared.frames.TheConstants.{FRONT_ROOM};
 
 use crate::groups::{FURTHER_GATE, OPEN_GATE};
@@ -58,7 +58,7 @@ fn take_turn<D: Disk>(
 ) -> Result<Turn, JournalFault>
     requires room { FRONT_ROOM ≤ vec_capacity out.old }
     ensures found { IfOk result (λ turn. IsTrue (D.Disk.is_clean disk.new) → len ≡ length (D.Disk.seen disk.old)
-        → IsTurn (D.Disk.seen disk.old) at digest turn) }
+        → IsSearchTurn (D.Disk.seen disk.old) at digest turn) }
     ensures on { IfOk result (λ turn. TurnsOn at len turn) }
     ensures room { vec_capacity out.old ≤ vec_capacity out.new }
     ensures seen { D.Disk.seen disk.new ≡ D.Disk.seen disk.old }

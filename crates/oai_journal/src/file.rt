@@ -1,7 +1,7 @@
 //! A journal in a file.
 ghost use Rattle.std.specs.Prelude.{◌≡◌, ◌<◌, ◌≤◌, ◌+◌, ◌++◌, [], ◌∷◌, ℕ, List, true, false, length, IsTrue, IfOk, OnOk, OnErr};
 ghost use Rattle.oai_journal.specs.Frames.{frame, next_digest};
-ghost use Rattle.oai_journal.specs.Records.{Entry, entry_of, is_first_kind, is_fit};
+ghost use Rattle.oai_journal.specs.Records.{Entry, as_entry, is_first_kind, is_fit};
 
 use crate::frames::{FRAME_ROOM, write_frame};
 use crate::groups::{write_group, write_synced};
@@ -30,8 +30,8 @@ pub struct FileJournal<D: Disk> {
 }
 
 impl<D: Disk + Drop> Journal for FileJournal<D> {
-    ghost use Rattle.oai_journal.specs.Kept.{HasRoom, HoldsRecords, IsGoing, LeavesAllOrNone, MayLeaveRecords};
-    ghost use Rattle.oai_journal.specs.Kept.{records_left, room_for_less};
+    ghost use Rattle.oai_journal.specs.Kept.{HasRoom, HoldsRecords, HasNotStopped, LeavesAllOrNone, MayLeaveRecords};
+    ghost use Rattle.oai_journal.specs.Kept.{journal_left, room_for_less};
 
     ghost holds = { λ journal entries durable. HoldsRecords D.Disk.seen D.Disk.may_leave journal entries durable };
 
@@ -42,7 +42,7 @@ impl<D: Disk + Drop> Journal for FileJournal<D> {
     ghost less_room = { λ journal bytes less low room. room_for_less journal.pending bytes less low room };
 
     ghost left = { λ journal entries durable found held left.
-        records_left D.Disk.seen D.Disk.may_leave journal entries durable found held left };
+        journal_left D.Disk.seen D.Disk.may_leave journal entries durable found held left };
 
     fn reserve(&mut self, bytes: usize) -> Result<(), JournalFault> {
         let Some(bytes) = bytes.checked_add(FRAME_ROOM) else {
@@ -65,7 +65,7 @@ impl<D: Disk + Drop> Journal for FileJournal<D> {
         ensures err { OnErr result ((entries : List Entry) (durable : ℕ)
             → HoldsRecords D.Disk.seen D.Disk.may_leave self.old entries durable
             → HoldsRecords D.Disk.seen D.Disk.may_leave self.new entries durable) }
-        ensures group { IsGoing self.old → (entries : List Entry) (durable : ℕ)
+        ensures group { HasNotStopped self.old → (entries : List Entry) (durable : ℕ)
             → HoldsRecords D.Disk.seen D.Disk.may_leave self.old entries durable
             → LeavesAllOrNone D.Disk.may_leave self.new entries durable }
     {
@@ -99,9 +99,9 @@ impl<D: Disk + Drop> FileJournal<D> {
         mut disk: D,
         first: &Record<'_>,
     ) -> Result<FileJournal<D>, JournalFault>
-        requires fit { IsTrue (is_fit (entry_of first.now)) }
+        requires fit { IsTrue (is_fit (as_entry first.now)) }
         requires kind { is_first_kind first.now.kind ≡ true }
-        ensures { IfOk result (λ journal. HoldsFirst D.Disk.seen D.Disk.may_leave journal (entry_of first.now)) }
+        ensures { IfOk result (λ journal. HoldsFirst D.Disk.seen D.Disk.may_leave journal (as_entry first.now)) }
     {
         let _moment = first.moment;
         if open_len(&mut disk)? != 0 {
@@ -136,9 +136,9 @@ impl<D: Disk + Drop> FileJournal<D> {
 
 /// The bytes of a journal of one record, and the digest of its frame.
 fn first_frame(alloc: Global, first: &Record<'_>) -> Result<(Vec<u8>, u64), JournalFault>
-    requires { IsTrue (is_fit (entry_of first.now)) }
-    ensures bytes { IfOk result (λ made. made.0.items ≡ 43 ∷ (frame 0 (entry_of first.now) ++ 45 ∷ [])) }
-    ensures digest { IfOk result (λ made. made.1 ≡ next_digest 0 (entry_of first.now)) }
+    requires { IsTrue (is_fit (as_entry first.now)) }
+    ensures bytes { IfOk result (λ made. made.0.items ≡ 43 ∷ (frame 0 (as_entry first.now) ++ 45 ∷ [])) }
+    ensures digest { IfOk result (λ made. made.1 ≡ next_digest 0 (as_entry first.now)) }
 {
     let room = first
         .body

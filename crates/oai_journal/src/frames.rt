@@ -4,8 +4,8 @@ ghost use Rattle.std.specs.Prelude.{◌≡◌, ◌≢◌, ◌↔◌, ◌<◌, �
 ghost use Rattle.std.specs.Option.{option_copied, option_map};
 ghost use Rattle.sqlite_disk.specs.Digest.{digest};
 ghost use Rattle.oai_journal.specs.Frames as spec;
-ghost use Rattle.oai_journal.specs.Heads.{fields_of, front_of};
-ghost use Rattle.oai_journal.specs.Records.{Entry, IsFit, entry_of, is_fit};
+ghost use Rattle.oai_journal.specs.Heads.{fields_of_head, head_front};
+ghost use Rattle.oai_journal.specs.Records.{Entry, IsFit, as_entry, is_fit};
 ghost use Rattle.oai_journal.specs.declared.records.TheConstants.{MAX_FIRST_BODY};
 
 use crate::heads::{Head, MAX_HEAD, parse_head, put, write_head};
@@ -24,10 +24,10 @@ pub(crate) const FRONT_ROOM: usize = 100;
 /// Writes a frame into room that is there; answers its digest.
 #[tactic(auto, unfolding(crate::specs::Frames::frame, crate::specs::Heads::plain))]
 pub(crate) fn write_frame(before: u64, entry: &Record<'_>, out: &mut Vec<u8>) -> u64
-    requires fit { IsTrue (is_fit (entry_of entry.now)) }
+    requires fit { IsTrue (is_fit (as_entry entry.now)) }
     requires room { vec_len out.old + length entry.now.body.now + FRAME_ROOM ≤ vec_capacity out.old }
-    ensures items { out.new.items ≡ out.old.items ++ spec.frame before (entry_of entry.now) }
-    ensures digest { result ≡ spec.next_digest before (entry_of entry.now) }
+    ensures items { out.new.items ≡ out.old.items ++ spec.frame before (as_entry entry.now) }
+    ensures digest { result ≡ spec.next_digest before (as_entry entry.now) }
     ensures len { vec_len out.new + 1 ≤ vec_len out.old + length entry.now.body.now + FRAME_ROOM }
     ensures room { vec_capacity out.old ≤ vec_capacity out.new }
 {
@@ -39,7 +39,7 @@ pub(crate) fn write_frame(before: u64, entry: &Record<'_>, out: &mut Vec<u8>) ->
 
 /// The head of a record.
 fn head_of<'a>(entry: &Record<'a>) -> Head<'a>
-    ensures { fields_of result ≡ spec.head_of (entry_of entry.now) }
+    ensures { fields_of_head result ≡ spec.head_of (as_entry entry.now) }
 {
     Head {
         moment: entry.moment,
@@ -91,7 +91,7 @@ pub(crate) fn frame_len(bytes: &[u8], out: &mut Vec<u8>) -> Option<usize>
 /// The record in the bytes of a frame; that these spell it is not looked at.
 #[tactic(auto, unfolding(crate::specs::Frames::entry_in))]
 pub(crate) fn record_in(bytes: &[u8]) -> Option<Record<'_>>
-    ensures { option_map entry_of result ≡ spec.entry_in bytes.now }
+    ensures { option_map as_entry result ≡ spec.entry_in bytes.now }
 {
     let head = parse_head(bytes)?;
     let body = body_in(head.size, bytes)?;
@@ -123,11 +123,11 @@ pub(crate) fn frame_digest(
     bytes: &[u8],
     out: &mut Vec<u8>,
 ) -> Option<u64>
-    requires fit { IsTrue (is_fit (entry_of entry.now)) }
+    requires fit { IsTrue (is_fit (as_entry entry.now)) }
     requires room { FRONT_ROOM ≤ vec_capacity out.old }
-    ensures spelled { MatchOption result (bytes.now ≢ spec.frame before (entry_of entry.now))
-        (λ d. (bytes.now ≡ spec.frame before (entry_of entry.now))
-        × (d ≡ spec.next_digest before (entry_of entry.now))) }
+    ensures spelled { MatchOption result (bytes.now ≢ spec.frame before (as_entry entry.now))
+        (λ d. (bytes.now ≡ spec.frame before (as_entry entry.now))
+        × (d ≡ spec.next_digest before (as_entry entry.now))) }
     ensures room { vec_capacity out.old ≤ vec_capacity out.new }
 {
     out.clear();
@@ -141,10 +141,10 @@ pub(crate) fn frame_digest(
 
 /// Writes what stands before the bytes of a record; answers the digest of the frame.
 fn write_front(before: u64, entry: &Record<'_>, out: &mut Vec<u8>) -> u64
-    requires fit { IsTrue (is_fit (entry_of entry.now)) }
+    requires fit { IsTrue (is_fit (as_entry entry.now)) }
     requires room { vec_len out.old + FRONT_ROOM ≤ vec_capacity out.old }
-    ensures items { out.new.items ≡ out.old.items ++ spec.frame_front before (entry_of entry.now) }
-    ensures digest { result ≡ spec.next_digest before (entry_of entry.now) }
+    ensures items { out.new.items ≡ out.old.items ++ spec.frame_front before (as_entry entry.now) }
+    ensures digest { result ≡ spec.next_digest before (as_entry entry.now) }
     ensures len { vec_len out.new ≤ vec_len out.old + FRONT_ROOM }
     ensures room { vec_capacity out.old ≤ vec_capacity out.new }
 {

@@ -2,7 +2,7 @@
 ghost use Rattle.std.specs.Prelude.{◌≡◌, ◌⊎◌, ◌+◌, ◌++◌, ◌<◌, ◌^◌, ℕ, List, length, OnOk, IfErr};
 ghost use Rattle.sqlite_disk.specs.Disk.{Only, Torn};
 ghost use Rattle.oai_journal.specs.Files as spec;
-ghost use Rattle.oai_journal.specs.Groups.{EndsBeforeOrAfter, IsGroup, IsSettled, IsWritten, digest_of_all};
+ghost use Rattle.oai_journal.specs.Groups.{EndsBeforeOrAfter, IsGroup, IsOnDisk, IsMadeDurable, digest_of_all};
 ghost use Rattle.oai_journal.specs.Records.{Entry};
 ghost use Rattle.oai_journal.specs.declared.journals.JournalFault.TheVariants as fault;
 
@@ -32,11 +32,11 @@ pub(crate) fn write_group<D: Disk>(
     requires some { 0 < length group.now }
     requires within { end + length group.now < 2 ^ 64 }
     ensures settled { OnOk result ((digest : ℕ) (first : Entry) (entries later : List Entry)
-        → IsSettled D.Disk.seen D.Disk.may_leave disk.old end digest first entries → IsGroup group.now digest later
-        → IsSettled D.Disk.seen D.Disk.may_leave disk.new (end + length group.now) (digest_of_all digest later) first
+        → IsOnDisk D.Disk.seen D.Disk.may_leave disk.old end digest first entries → IsGroup group.now digest later
+        → IsOnDisk D.Disk.seen D.Disk.may_leave disk.new (end + length group.now) (digest_of_all digest later) first
         (entries ++ later)) }
     ensures crash { (digest : ℕ) (first : Entry) (entries later : List Entry)
-        → IsSettled D.Disk.seen D.Disk.may_leave disk.old end digest first entries → IsGroup group.now digest later
+        → IsOnDisk D.Disk.seen D.Disk.may_leave disk.old end digest first entries → IsGroup group.now digest later
         → (file : List ℕ) → D.Disk.may_leave disk.new file → EndsBeforeOrAfter file first entries later }
 {
     write_synced(disk, end + 1, group)?;
@@ -50,7 +50,7 @@ pub(crate) fn write_synced<D: Disk>(
     bytes: &[u8],
 ) -> Result<(), JournalFault>
     requires { 0 < length bytes.now }
-    ensures written { OnOk result (IsWritten D.Disk.seen D.Disk.may_leave at bytes.now disk.old disk.new) }
+    ensures written { OnOk result (IsMadeDurable D.Disk.seen D.Disk.may_leave at bytes.now disk.old disk.new) }
     ensures crash { Only (D.Disk.seen disk.old) (D.Disk.may_leave disk.old)
         → (file : List ℕ) → D.Disk.may_leave disk.new file
         → (file ≡ D.Disk.seen disk.old) ⊎ Torn at (length bytes.now) (D.Disk.seen disk.old) file }

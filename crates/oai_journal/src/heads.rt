@@ -25,11 +25,11 @@ pub(crate) struct Head<'a> {
 }
 
 /// Writes a head into room that is there.
-#[tactic(auto, unfolding(crate::specs::Heads::front_of, crate::specs::Heads::plain))]
+#[tactic(auto, unfolding(crate::specs::Heads::head_front, crate::specs::Heads::plain))]
 pub(crate) fn write_head(head: &Head<'_>, out: &mut Vec<u8>)
     requires name { length head.now.name.now ≤ MAX_NAME }
     requires room { vec_len out.old + MAX_HEAD ≤ vec_capacity out.old }
-    ensures items { out.new.items ≡ out.old.items ++ spec.front_of (spec.fields_of head.now) }
+    ensures items { out.new.items ≡ out.old.items ++ spec.head_front (spec.fields_of_head head.now) }
     ensures len { vec_len out.new ≤ vec_len out.old + MAX_HEAD }
     ensures room { vec_capacity out.old ≤ vec_capacity out.new }
 {
@@ -57,7 +57,7 @@ pub(crate) fn put(bytes: &[u8], out: &mut Vec<u8>)
 /// Reads the fields of the head in front of bytes; that these spell them is not looked at.
 #[tactic(auto, unfolding(crate::specs::Heads::head_in))]
 pub(crate) fn parse_head(bytes: &[u8]) -> Option<Head<'_>>
-    ensures { option_map spec.fields_of result ≡ spec.head_in bytes.now }
+    ensures { option_map spec.fields_of_head result ≡ spec.head_in bytes.now }
 {
     let (moment, rest) = cut(bytes);
     let (kind, rest) = cut(rest);

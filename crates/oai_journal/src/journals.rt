@@ -1,6 +1,6 @@
 ghost use Rattle.std.specs.Prelude.{◌≡◌, ◌≤◌, ◌++◌, [], ◌∷◌, ℕ, List, false, length, IsTrue, OnOk, OnErr};
 ghost use Rattle.oai_journal.specs.Journals.{IsLeft};
-ghost use Rattle.oai_journal.specs.Records.{Entry, entry_of, is_first_kind, is_fit};
+ghost use Rattle.oai_journal.specs.Records.{Entry, as_entry, is_first_kind, is_fit};
 ghost use Rattle.oai_journal.specs.declared.journals.JournalFault.TheVariants as fault;
 
 use crate::records::Record;
@@ -54,11 +54,11 @@ pub trait Journal: Drop {
 
     /// Adds a record behind the others, into room that is there. It takes no memory and does not fail.
     fn append(&mut self, entry: &Record<'_>)
-        requires fit { IsTrue (is_fit (entry_of entry.now)) }
+        requires fit { IsTrue (is_fit (as_entry entry.now)) }
         requires kind { is_first_kind entry.now.kind ≡ false }
         requires room { has_room self.old (length entry.now.body.now) }
         ensures { (entries : List Entry) (durable : ℕ) → holds self.old entries durable
-            → holds self.new (entries ++ entry_of entry.now ∷ []) durable };
+            → holds self.new (entries ++ as_entry entry.now ∷ []) durable };
 
     /// Makes all records durable. Failed where the disk fails, and then for ever; as many are durable then as
     /// before, or all.

@@ -2,8 +2,8 @@
 ghost use Rattle.std.specs.Prelude.{◌≡◌, ◌+◌, ◌<◌, ◌≤◌, ℕ, List, Option, Some, length, take, drop, vec_capacity, IsTrue, OnOk, IfOk, IfSome};
 ghost use Rattle.sqlite_disk.specs.Disk.{Only};
 ghost use Rattle.oai_journal.specs.Frames.{entry_in};
-ghost use Rattle.oai_journal.specs.Records.{entry_of};
-ghost use Rattle.oai_journal.specs.Recoveries.{Checks, Finds, IsGateAt, IsLenAt};
+ghost use Rattle.oai_journal.specs.Records.{as_entry};
+ghost use Rattle.oai_journal.specs.Recoveries.{Checks, FindsFrame, IsGateAt, IsLenAt};
 
 use crate::frames::{FRAME_ROOM, FRONT_ROOM, frame_digest, frame_len, record_in};
 use crate::journals::JournalFault;
@@ -46,7 +46,7 @@ pub(crate) fn read_frame<D: Disk>(
 ) -> Result<Option<u64>, JournalFault>
     requires room { FRONT_ROOM ≤ vec_capacity out.old }
     ensures found { IfOk result (λ found. IsTrue (D.Disk.is_clean disk.new) → len ≡ length (D.Disk.seen disk.old)
-        → Finds first before (drop at (D.Disk.seen disk.old)) frame.new.items found) }
+        → FindsFrame first before (drop at (D.Disk.seen disk.old)) frame.new.items found) }
     ensures within { IfOk result (λ found. IfSome found (λ digest. at + length frame.new.items ≤ len)) }
     ensures room { vec_capacity out.old ≤ vec_capacity out.new }
     ensures seen { D.Disk.seen disk.new ≡ D.Disk.seen disk.old }
@@ -137,7 +137,7 @@ fn check_record(
     bytes: &[u8],
     out: &mut Vec<u8>,
 ) -> Option<u64>
-    requires read { entry_in bytes.now ≡ Some (entry_of entry.now) }
+    requires read { entry_in bytes.now ≡ Some (as_entry entry.now) }
     requires room { FRONT_ROOM ≤ vec_capacity out.old }
     ensures checked { Checks first before bytes.now result }
     ensures room { vec_capacity out.old ≤ vec_capacity out.new }

@@ -71,7 +71,7 @@ impl Kind {
 
     /// How many bytes a record of the kind may have.
     pub fn max_body(self) -> usize
-        ensures { result ≡ spec.most_of self }
+        ensures { result ≡ spec.most_bytes self }
     {
         match self {
             Kind::Journal => MAX_FIRST_BODY,
@@ -83,7 +83,7 @@ impl Kind {
 impl Record<'_> {
     /// Whether a frame can hold it: its name and its length are within bounds.
     pub fn is_fit(&self) -> bool
-        ensures { result ≡ spec.is_fit (spec.entry_of self.now) }
+        ensures { result ≡ spec.is_fit (spec.as_entry self.now) }
     {
         is_within(self.kind, self.name, self.body.len())
     }
@@ -99,7 +99,7 @@ pub(crate) fn is_within(kind: Kind, name: &[u8], size: usize) -> bool
 
 /// Whether each byte is an ASCII character that can be seen.
 fn has_name_bytes(name: &[u8]) -> bool
-    ensures { result ≡ list_all spec.is_name_byte name.now }
+    ensures { result ≡ list_all spec.is_visible_ascii name.now }
 {
     name.iter().all(|b| 33 <= *b && *b <= 126)
 }

@@ -1,9 +1,9 @@
 //! A journal's file, read from its first byte on, a record at a time.
 ghost use Rattle.std.specs.Prelude.{◌≡◌, ◌⊎◌, ◌<◌, ◌≤◌, ◌+◌, ◌++◌, [], ◌∷◌, ℕ, List, Some, true, false, length, drop, IsTrue, IfOk, IfErr, IfSome, OnOk};
-ghost use Rattle.oai_journal.specs.Changes.{IsChangedAt, IsWhole};
+ghost use Rattle.oai_journal.specs.Changes.{IsChangedAt, IsUndamaged};
 ghost use Rattle.oai_journal.specs.Kept.{HoldsRecords, Survives};
-ghost use Rattle.oai_journal.specs.Records.{Entry, entry_of};
-ghost use Rattle.oai_journal.specs.Recoveries.{IsDamagedAt, IsStep, Starts, StepsWithin, step_of};
+ghost use Rattle.oai_journal.specs.Records.{Entry, as_entry};
+ghost use Rattle.oai_journal.specs.Recoveries.{IsDamagedAt, IsReadStep, Starts, StepsWithin, step_of};
 ghost use Rattle.std.specs.Option.{option_map};
 ghost use Rattle.oai_journal.specs.declared.recovery.RecoveryFault.TheVariants as fault;
 
@@ -68,7 +68,7 @@ pub struct Recovery<D: Disk> {
 }
 
 impl<D: Disk + Drop> Recovery<D> {
-    ghost use Rattle.oai_journal.specs.Recovered.{HasRead, current, disk_of};
+    ghost use Rattle.oai_journal.specs.Recovered.{HasRecovered, current, disk_of};
 
     /// The recovery of the journal on that disk. Nothing is read yet.
     pub fn new(alloc: Global, disk: D) -> Recovery<D>
@@ -89,7 +89,7 @@ impl<D: Disk + Drop> Recovery<D> {
     /// file does not begin with an open gate and the frame of a first record.
     pub fn begin(&mut self) -> Result<(), RecoveryFault>
         ensures begun { OnOk result (IsTrue (D.Disk.is_clean (disk_of self.new)) → (first : Entry)
-            × HasRead D.Disk.seen D.Disk.may_leave self.new first [] × (current self.new ≡ Some first)) }
+            × HasRecovered D.Disk.seen D.Disk.may_leave self.new first [] × (current self.new ≡ Some first)) }
         ensures damaged { IfErr result (λ cause. (at : ℕ) → cause ≡ fault.Damaged at
             → IsTrue (D.Disk.is_clean (disk_of self.new)) → IsDamagedAt (D.Disk.seen (disk_of self.new)) at) }
         ensures seen { D.Disk.seen (disk_of self.new) ≡ D.Disk.seen (disk_of self.old) }
@@ -111,17 +111,17 @@ impl<D: Disk + Drop> Recovery<D> {
     pub fn advance(&mut self) -> Result<bool, RecoveryFault>
         ensures next { IfOk result (λ more. IsTrue (D.Disk.is_clean (disk_of self.new))
             → (first : Entry) (entries : List Entry)
-            → HasRead D.Disk.seen D.Disk.may_leave self.old first entries → IsTrue more
-            → (e : Entry) × HasRead D.Disk.seen D.Disk.may_leave self.new first (entries ++ e ∷ [])
+            → HasRecovered D.Disk.seen D.Disk.may_leave self.old first entries → IsTrue more
+            → (e : Entry) × HasRecovered D.Disk.seen D.Disk.may_leave self.new first (entries ++ e ∷ [])
             × (current self.new ≡ Some e)) }
         ensures end { IfOk result (λ more. IsTrue (D.Disk.is_clean (disk_of self.new))
             → (first : Entry) (entries : List Entry)
-            → HasRead D.Disk.seen D.Disk.may_leave self.old first entries → more ≡ false
-            → HasRead D.Disk.seen D.Disk.may_leave self.new first entries
-            × IsWhole (D.Disk.seen (disk_of self.new)) first entries) }
+            → HasRecovered D.Disk.seen D.Disk.may_leave self.old first entries → more ≡ false
+            → HasRecovered D.Disk.seen D.Disk.may_leave self.new first entries
+            × IsUndamaged (D.Disk.seen (disk_of self.new)) first entries) }
         ensures damaged { IfErr result (λ cause. (at : ℕ) → cause ≡ fault.Damaged at
             → IsTrue (D.Disk.is_clean (disk_of self.new)) → (first : Entry) (entries : List Entry)
-            → HasRead D.Disk.seen D.Disk.may_leave self.old first entries
+            → HasRecovered D.Disk.seen D.Disk.may_leave self.old first entries
             → IsDamagedAt (D.Disk.seen (disk_of self.new)) at ⊎ IsChangedAt (D.Disk.seen (disk_of self.new)) at) }
         ensures seen { D.Disk.seen (disk_of self.new) ≡ D.Disk.seen (disk_of self.old) }
         ensures crash { (c : List ℕ) → D.Disk.may_leave (disk_of self.new) c → D.Disk.may_leave (disk_of self.old) c }
@@ -153,7 +153,7 @@ impl<D: Disk + Drop> Recovery<D> {
 
     /// The record that was read last; None where none was.
     pub fn record(&self) -> Option<Record<'_>>
-        ensures { option_map entry_of result ≡ current self.now }
+        ensures { option_map as_entry result ≡ current self.now }
     {
         record_in(&self.frame)
     }
@@ -171,7 +171,7 @@ impl<D: Disk + Drop> Recovery<D> {
     /// The journal, once its end was read, and None before that. All its records are durable.
     pub fn into_journal(self) -> Option<FileJournal<D>>
         ensures { IfSome result (λ journal. (first : Entry) (entries : List Entry)
-            → HasRead D.Disk.seen D.Disk.may_leave self first entries
+            → HasRecovered D.Disk.seen D.Disk.may_leave self first entries
             → HoldsRecords D.Disk.seen D.Disk.may_leave journal entries (length entries)) }
     {
         if !self.ended {
@@ -237,7 +237,7 @@ fn read_step<D: Disk>(
     frame: &mut Vec<u8>,
 ) -> Result<Step, JournalFault>
     ensures found { IfOk result (λ step. IsTrue (D.Disk.is_clean disk.new) → len ≡ length (D.Disk.seen disk.old)
-        → IsStep (drop at (D.Disk.seen disk.old)) digest frame.new.items step) }
+        → IsReadStep (drop at (D.Disk.seen disk.old)) digest frame.new.items step) }
     ensures within { IfOk result (λ step. StepsWithin at frame.new.items len step) }
     ensures seen { D.Disk.seen disk.new ≡ D.Disk.seen disk.old }
     ensures crash { (c : List ℕ) → D.Disk.may_leave disk.new c → D.Disk.may_leave disk.old c }

@@ -14,9 +14,9 @@ use Rattle.oai_front.specs.Runs.{Served, Serves, done_on}
 use Rattle.oai_serving.proofs.KnownBytes.{appends_kept, consumes_kept}
 use Rattle.oai_serving.proofs.TableLemmas.{kept_answered, none_there, same_value, sent_kept, sent_on, sent_same, turned_answered}
 use Rattle.oai_serving.specs.Accepted.{Accepts}
-use Rattle.oai_serving.specs.Links.{IsFollowed, Link, opened}
-use Rattle.oai_serving.specs.Rounds.{AreAccepted, AreRounds, AreSettled, HasOneMore, IsAdmitted, IsPerformance, IsRound, IsService, IsSettled, IsWritten, Outcome, Settles, World, served_in}
-use Rattle.oai_serving.specs.Tables.{AreAnswered, AreKept, AreTurned, IsKept, IsNumbered}
+use Rattle.oai_serving.specs.Links.{IsLinkFollowed, Link, opened}
+use Rattle.oai_serving.specs.Rounds.{AreAccepted, AreRounds, AreSettled, HasOneMore, IsAdmitted, IsPerformance, IsRound, IsService, IsRoundSettled, AreLinksWritten, RoundOutcome, Settles, World, served_in}
+use Rattle.oai_serving.specs.Tables.{AreLinksAnswered, AreLinksKept, AreTurned, IsLinkKept, IsNumbered}
 use Rattle.oai_serving.specs.declared.faults.ServeFault.{ServeFault}
 use Rattle.oai_serving.specs.declared.faults.ServeFault.TheVariants.{Unsettled}
 
@@ -53,7 +53,7 @@ numbered_last accepted stream = record { front = accepted; later = []; stands = 
 
 module _ {S : Type 0} (contents remaining : S → Option (List ℕ)) where
   fresh_follows : (number : ℕ) (stream watched : S) → Keeps (contents stream) (contents watched) → Keeps (remaining stream) (remaining watched)
-      → IsFollowed contents remaining stream [] (opened number watched)
+      → IsLinkFollowed contents remaining stream [] (opened number watched)
   unfolding answers_of
   fresh_follows number stream watched unwritten unread = record {
     received = record {
@@ -74,8 +74,8 @@ module _ {S : Type 0} (contents remaining : S → Option (List ℕ)) where
     held = λ able. refl;
   }
 
-  kept_grown : (accepted more : List S) (served : List Served) (links : Slab (Link S)) → AreKept contents remaining accepted served links
-      → AreKept contents remaining (accepted ++ more) served links
+  kept_grown : (accepted more : List S) (served : List Served) (links : Slab (Link S)) → AreLinksKept contents remaining accepted served links
+      → AreLinksKept contents remaining (accepted ++ more) served links
   kept_grown accepted more served links k = record {
     each = λ key link is.
         let kept = k.each key link is in
@@ -84,8 +84,8 @@ module _ {S : Type 0} (contents remaining : S → Option (List ℕ)) where
     later = λ number above. k.later number (omega (arith, above, length-append accepted more));
   }
 
-  kept_alike : (accepted : List S) (served : List Served) (old new : Slab (Link S)) → SameValues old new → AreKept contents remaining accepted served old
-      → AreKept contents remaining accepted served new
+  kept_alike : (accepted : List S) (served : List Served) (old new : Slab (Link S)) → SameValues old new → AreLinksKept contents remaining accepted served old
+      → AreLinksKept contents remaining accepted served new
   kept_alike accepted served old new same k = record {
     each = λ key link is. k.each key link (sym (same key) ∙ is);
     one = λ key other a b is js. k.one key other a b (sym (same key) ∙ is) (sym (same other) ∙ js);
@@ -103,8 +103,8 @@ module _ {S : Type 0} (contents remaining : S → Option (List ℕ)) where
   ]
 
   kept_more : (accepted : List S) (stream watched : S) (served : List Served) (old new : Slab (Link S)) (key : ℕ) → Keeps (contents stream) (contents watched)
-      → Keeps (remaining stream) (remaining watched) → Updates old new key (Some (opened (length accepted + 1) watched)) → AreKept contents remaining accepted served old
-      → AreKept contents remaining (accepted ++ stream ∷ []) served new
+      → Keeps (remaining stream) (remaining watched) → Updates old new key (Some (opened (length accepted + 1) watched)) → AreLinksKept contents remaining accepted served old
+      → AreLinksKept contents remaining (accepted ++ stream ∷ []) served new
   kept_more accepted stream watched served old new key unwritten unread u k =
       let number : ℕ = length accepted + 1 in
       let link : Link S = opened number watched in
@@ -112,13 +112,13 @@ module _ {S : Type 0} (contents remaining : S → Option (List ℕ)) where
       let grown = kept_grown accepted (stream ∷ []) served old k in
       let above : (other : ℕ) (value : Link S) → get old other ≡ Some value → value.connection.number < number = λ other value is.
       let kept = k.each other value is in let near = number_within accepted value.connection.number kept.first kept.numbered in omega (arith, near) in
-      let own : IsKept contents remaining all served link = record {
+      let own : IsLinkKept contents remaining all served link = record {
         first = stream;
         numbered = numbered_last accepted stream;
-        follows = subst (λ (ds : List Done). IsFollowed contents remaining stream ds link) (sym (k.later number (omega arith))) (fresh_follows number stream watched unwritten unread);
+        follows = subst (λ (ds : List Done). IsLinkFollowed contents remaining stream ds link) (sym (k.later number (omega arith))) (fresh_follows number stream watched unwritten unread);
       } in
       record {
-        each = more_each (λ (j : ℕ) (value : Link S). IsKept contents remaining all served value) old new key link u own (λ other value differs is. grown.each other value is);
+        each = more_each (λ (j : ℕ) (value : Link S). IsLinkKept contents remaining all served value) old new key link u own (λ other value differs is. grown.each other value is);
         one = λ j l a b is js same.
             more_each (λ (j : ℕ) (value : Link S). value.connection.number ≡ b.connection.number → j ≡ l) old new key link u
             (λ mine. more_each (λ (l : ℕ) (value : Link S). number ≡ value.connection.number → key ≡ l) old new key link u (λ e. refl)
@@ -133,15 +133,15 @@ module _ {S : Type 0} (contents remaining : S → Option (List ℕ)) where
 
   pub kept_admitted : (accepted : List S) (stream watched : S) (served : List Served) (old new : Slab (Link S)) (last : ℕ) → last ≡ length accepted
       → Keeps (contents stream) (contents watched) → Keeps (remaining stream) (remaining watched) → HasOneMore (opened (last + 1) watched) old new
-      → AreKept contents remaining accepted served old → AreKept contents remaining (accepted ++ stream ∷ []) served new
+      → AreLinksKept contents remaining accepted served old → AreLinksKept contents remaining (accepted ++ stream ∷ []) served new
   kept_admitted accepted stream watched served old new last count unwritten unread (inl more) k =
       kept_more accepted stream watched served old new more.0 unwritten unread
       (subst (λ (n : ℕ). Updates old new more.0 (Some (opened (n + 1) watched))) count more.2) k
   kept_admitted accepted stream watched served old new last count unwritten unread (inr same) k =
       kept_alike (accepted ++ stream ∷ []) served old new same (kept_grown accepted (stream ∷ []) served old k)
 
-  pub kept_let_go : (accepted : List S) (stream : S) (served : List Served) (links : Slab (Link S)) → AreKept contents remaining accepted served links
-      → AreKept contents remaining (accepted ++ stream ∷ []) served links
+  pub kept_let_go : (accepted : List S) (stream : S) (served : List Served) (links : Slab (Link S)) → AreLinksKept contents remaining accepted served links
+      → AreLinksKept contents remaining (accepted ++ stream ∷ []) served links
   kept_let_go accepted stream served links k = kept_grown accepted (stream ∷ []) served links k
 
 count_none : (n : ℕ) → n ≡ n + 0
@@ -150,10 +150,10 @@ count_none n = omega arith
 module _ {S H : Type 0} (contents remaining : S → Option (List ℕ)) where
   -- ---- steps of a round
 
-  pub written_none : (world : World S H) → IsWritten contents remaining world world
+  pub written_none : (world : World S H) → AreLinksWritten contents remaining world world
   written_none world = record { handler = refl; last = refl; links = sent_same contents remaining world.links }
 
-  pub written_then : (a b c : World S H) → IsWritten contents remaining a b → IsWritten contents remaining b c → IsWritten contents remaining a c
+  pub written_then : (a b c : World S H) → AreLinksWritten contents remaining a b → AreLinksWritten contents remaining b c → AreLinksWritten contents remaining a c
   written_then a b c s t = record {
     handler = t.handler ∙ s.handler;
     last = t.last ∙ s.last;
@@ -166,7 +166,7 @@ module _ {S H : Type 0} (contents remaining : S → Option (List ℕ)) where
     accepts = a;
     handler = refl;
     last = count_none world.last;
-    kept = λ accepted served count k. subst (λ (xs : List S). AreKept contents remaining xs served world.links) (sym (append-nil accepted)) k;
+    kept = λ accepted served count k. subst (λ (xs : List S). AreLinksKept contents remaining xs served world.links) (sym (append-nil accepted)) k;
   }
 
   pub accepted_one : (known mid later : Option (List S)) (stream : S) (old new : World S H) → Accepts known mid (stream ∷ []) → IsAdmitted contents remaining stream old new
@@ -187,7 +187,7 @@ module _ {S H : Type 0} (contents remaining : S → Option (List ℕ)) where
     handler = t.handler ∙ s.handler;
     last = omega (arith, s.last, t.last, length-append s.streams t.streams);
     kept = λ accepted served count k.
-        subst (λ (xs : List S). AreKept contents remaining xs served c.links) (append_assoc accepted s.streams t.streams)
+        subst (λ (xs : List S). AreLinksKept contents remaining xs served c.links) (append_assoc accepted s.streams t.streams)
         (t.kept (accepted ++ s.streams) served (omega (arith, count, s.last, length-append accepted s.streams)) (s.kept accepted served count k));
   }
 
@@ -195,7 +195,7 @@ module _ {S H : Type 0} (step : Steps H) (settled : Settles H) (contents remaini
   -- ---- a round
 
   pub performed_ok : (moment : ℤ) (old new : World S H) (links : Slab (Link S)) (mid after : H) → AreTurned step contents remaining moment old.links old.handler links mid
-      → settled mid (Ok tt) after → IsWritten contents remaining (record { handler = after; links = links; last = old.last }) new
+      → settled mid (Ok tt) after → AreLinksWritten contents remaining (record { handler = after; links = links; last = old.last }) new
       → IsPerformance step settled contents remaining old (Ok tt) new
   performed_ok moment old new links mid after t s w = record {
     served = t.served;
@@ -219,10 +219,10 @@ module _ {S H : Type 0} (step : Steps H) (settled : Settles H) (contents remaini
   }
 
   outcome_at : (accepted earlier_accepted : List S) (earlier served : List Served) (result : Result Unit ServeFault) (links : Slab (Link S)) → accepted ≡ earlier_accepted
-      → Outcome contents remaining accepted earlier served result links → Outcome contents remaining earlier_accepted earlier served result links
-  outcome_at accepted others earlier served result links e o = subst (λ (xs : List S). Outcome contents remaining xs earlier served result links) e o
+      → RoundOutcome contents remaining accepted earlier served result links → RoundOutcome contents remaining earlier_accepted earlier served result links
+  outcome_at accepted others earlier served result links e o = subst (λ (xs : List S). RoundOutcome contents remaining xs earlier served result links) e o
 
-  pub round_of : (known mid later : Option (List S)) (a b c d : World S H) (result : Result Unit ServeFault) → Accepts known mid [] → IsWritten contents remaining a b
+  pub round_of : (known mid later : Option (List S)) (a b c d : World S H) (result : Result Unit ServeFault) → Accepts known mid [] → AreLinksWritten contents remaining a b
       → AreAccepted contents remaining mid later b c → IsPerformance step settled contents remaining c result d → IsRound step settled contents remaining known later a result d
   round_of known mid later a b c d result w written accepted performed = record {
     served = performed.served;
@@ -238,7 +238,7 @@ module _ {S H : Type 0} (step : Steps H) (settled : Settles H) (contents remaini
   }
 
   -- one that came to nothing
-  pub round_none : (known later : Option (List S)) (world : World S H) (fault : ServeFault) → Accepts known later [] → IsSettled settled world.handler (Err fault) world.handler
+  pub round_none : (known later : Option (List S)) (world : World S H) (fault : ServeFault) → Accepts known later [] → IsRoundSettled settled world.handler (Err fault) world.handler
       → IsRound step settled contents remaining known later world (Err fault) world
   round_none known later world fault a s = record {
     served = [];
@@ -249,7 +249,7 @@ module _ {S H : Type 0} (step : Steps H) (settled : Settles H) (contents remaini
     accepts = a;
     last = omega arith;
     outcome = λ streams earlier count k.
-        subst (λ (xs : List S). AreAnswered contents remaining xs earlier world.links) (sym (append-nil streams)) (kept_answered contents remaining streams earlier world.links k);
+        subst (λ (xs : List S). AreLinksAnswered contents remaining xs earlier world.links) (sym (append-nil streams)) (kept_answered contents remaining streams earlier world.links k);
   }
 
   -- ---- rounds
@@ -272,8 +272,8 @@ module _ {S H : Type 0} (step : Steps H) (settled : Settles H) (contents remaini
     accepts = accepts_none known;
     last = omega arith;
     kept = λ accepted earlier count k.
-        subst (λ (xs : List S). AreKept contents remaining xs (earlier ++ []) world.links) (sym (append-nil accepted))
-        (subst (λ (served : List Served). AreKept contents remaining accepted served world.links) (sym (append-nil earlier)) k);
+        subst (λ (xs : List S). AreLinksKept contents remaining xs (earlier ++ []) world.links) (sym (append-nil accepted))
+        (subst (λ (served : List Served). AreLinksKept contents remaining accepted served world.links) (sym (append-nil earlier)) k);
   }
 
   pub rounds_more : (known mid later : Option (List S)) (a b c : World S H) → AreRounds step settled contents remaining known mid a b
@@ -285,8 +285,8 @@ module _ {S H : Type 0} (step : Steps H) (settled : Settles H) (contents remaini
     accepts = accepts_then known mid later s.streams r.streams s.accepts r.accepts;
     last = omega (arith, s.last, r.last, length-append s.streams r.streams);
     kept = λ accepted earlier count k.
-        subst (λ (xs : List S). AreKept contents remaining xs (earlier ++ served_in (s.rounds ++ r.served ∷ [])) c.links) (append_assoc accepted s.streams r.streams)
-        (subst (λ (served : List Served). AreKept contents remaining ((accepted ++ s.streams) ++ r.streams) served c.links)
+        subst (λ (xs : List S). AreLinksKept contents remaining xs (earlier ++ served_in (s.rounds ++ r.served ∷ [])) c.links) (append_assoc accepted s.streams r.streams)
+        (subst (λ (served : List Served). AreLinksKept contents remaining ((accepted ++ s.streams) ++ r.streams) served c.links)
         (append_assoc earlier (served_in s.rounds) r.served ∙ ap (λ (xs : List Served). earlier ++ xs) (sym (served_more s.rounds r.served)))
         (r.outcome (accepted ++ s.streams) (earlier ++ served_in s.rounds) (omega (arith, count, s.last, length-append accepted s.streams)) (s.kept accepted earlier count k)));
   }
@@ -301,7 +301,7 @@ module _ {S H : Type 0} (step : Steps H) (settled : Settles H) (contents remaini
     streams = s.streams ++ r.streams;
     accepts = accepts_then known mid later s.streams r.streams s.accepts r.accepts;
     answered = λ accepted earlier count k.
-        subst (λ (xs : List S). AreAnswered contents remaining xs (earlier ++ served_in s.rounds) c.links) (append_assoc accepted s.streams r.streams)
+        subst (λ (xs : List S). AreLinksAnswered contents remaining xs (earlier ++ served_in s.rounds) c.links) (append_assoc accepted s.streams r.streams)
         (r.outcome (accepted ++ s.streams) (earlier ++ served_in s.rounds) (omega (arith, count, s.last, length-append accepted s.streams)) (s.kept accepted earlier count k));
   }
 
@@ -331,7 +331,7 @@ no_link : {S : Type 0} (slots : List (Option (Link S))) (key : ℕ) (link : Link
 no_link [] key link e is = none_there link is
 no_link (x ∷ slots) key link e is = cc
 
-pub kept_none : {S : Type 0} (contents remaining : S → Option (List ℕ)) (links : Slab (Link S)) → links.slots ≡ [] → AreKept contents remaining [] [] links
+pub kept_none : {S : Type 0} (contents remaining : S → Option (List ℕ)) (links : Slab (Link S)) → links.slots ≡ [] → AreLinksKept contents remaining [] [] links
 unfolding done_on
 kept_none contents remaining links none = record {
   each = λ key link is. absurd (no_link links.slots key link none is);

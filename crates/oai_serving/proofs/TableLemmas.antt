@@ -12,9 +12,9 @@ use Rattle.oai_front.specs.Performing.{Done, Steps}
 use Rattle.oai_front.specs.Runs.{Piece, Served, done_on, served_with}
 use Rattle.oai_serving.proofs.KnownBytes.{consumes_none, consumes_then, keeps_same, keeps_then}
 use Rattle.oai_serving.proofs.TurnLemmas.{received_still, sent_follows, sent_none, sent_then}
-use Rattle.oai_serving.specs.Links.{IsFollowed, IsSent, IsTurn, Link}
+use Rattle.oai_serving.specs.Links.{IsLinkFollowed, IsSent, IsTurn, Link}
 use Rattle.oai_serving.specs.Received.{IsReceived}
-use Rattle.oai_serving.specs.Tables.{AreAnswered, AreAt, AreKept, AreSent, AreTurned, IsKept, IsNumbered, IsUnwritten}
+use Rattle.oai_serving.specs.Tables.{AreLinksAnswered, AreAt, AreLinksKept, AreSent, AreTurned, IsLinkKept, IsNumbered, IsUnwritten}
 
 pub none_there : {A : Type 0} (a : A) → None ≡ Some a → ⊥
 none_there a e = cc
@@ -90,8 +90,8 @@ module _ {S : Type 0} (contents remaining : S → Option (List ℕ)) where
   number_sent : (a b : Link S) → IsSent contents remaining a b → b.connection.number ≡ a.connection.number
   number_sent a b s = ap (λ (c : Connection). c.number) s.others
 
-  pub sent_kept : (accepted : List S) (served : List Served) (old new : Slab (Link S)) → AreSent contents remaining old new → AreKept contents remaining accepted served old
-      → AreKept contents remaining accepted served new
+  pub sent_kept : (accepted : List S) (served : List Served) (old new : Slab (Link S)) → AreSent contents remaining old new → AreLinksKept contents remaining accepted served old
+      → AreLinksKept contents remaining accepted served new
   sent_kept accepted served old new s k = record {
     each = λ key link is.
         let b = s.each key link is in
@@ -100,7 +100,7 @@ module _ {S : Type 0} (contents remaining : S → Option (List ℕ)) where
         record {
           first = kept.first;
           numbered = subst (λ (n : ℕ). IsNumbered accepted n kept.first) (sym same) kept.numbered;
-          follows = subst (λ (n : ℕ). IsFollowed contents remaining kept.first (done_on n served) link) (sym same)
+          follows = subst (λ (n : ℕ). IsLinkFollowed contents remaining kept.first (done_on n served) link) (sym same)
               (sent_follows contents remaining kept.first (done_on b.0.connection.number served) b.0 link b.2 kept.follows);
         };
     one = λ key other a b is js same.
@@ -110,7 +110,7 @@ module _ {S : Type 0} (contents remaining : S → Option (List ℕ)) where
     later = k.later;
   }
 
-  pub kept_answered : (accepted : List S) (served : List Served) (links : Slab (Link S)) → AreKept contents remaining accepted served links → AreAnswered contents remaining accepted served links
+  pub kept_answered : (accepted : List S) (served : List Served) (links : Slab (Link S)) → AreLinksKept contents remaining accepted served links → AreLinksAnswered contents remaining accepted served links
   kept_answered accepted served links k key link is =
       let kept = k.each key link is in
       record { first = kept.first; numbered = kept.numbered; received = kept.follows.received }
@@ -146,7 +146,7 @@ module _ {S H : Type 0} (step : Steps H) (contents remaining : S → Option (Lis
     run = refl;
     at = tt;
     unwritten = unwritten_none links;
-    follows = λ accepted earlier k. subst (λ (served : List Served). AreKept contents remaining accepted served links) (sym (append-nil earlier)) k;
+    follows = λ accepted earlier k. subst (λ (served : List Served). AreLinksKept contents remaining accepted served links) (sym (append-nil earlier)) k;
     count = refl;
   }
 
@@ -168,7 +168,7 @@ module _ {S H : Type 0} (step : Steps H) (contents remaining : S → Option (Lis
           consumed = consumes_then (remaining first.before.stream) (remaining second.before.stream) (remaining link.stream) first.read second.read first.consumed second.consumed;
         };
     follows = λ accepted earlier kept.
-        subst (λ (served : List Served). AreKept contents remaining accepted served c) (append_assoc earlier s.served t.served)
+        subst (λ (served : List Served). AreLinksKept contents remaining accepted served c) (append_assoc earlier s.served t.served)
         (t.follows accepted (earlier ++ s.served) (s.follows accepted earlier kept));
     count = t.count ∙ s.count;
   }
@@ -201,19 +201,19 @@ module _ {S H : Type 0} (step : Steps H) (contents remaining : S → Option (Lis
   ]
 
   turn_kept : (accepted : List S) (earlier : List Served) (links : Slab (Link S)) (key : ℕ) (before after : Link S) (h k : H) → get links key ≡ Some before
-      → (t : IsTurn step contents remaining moment before h after k) → AreKept contents remaining accepted earlier links
-      → AreKept contents remaining accepted (earlier ++ map (served_with (piece_at before.connection.number moment)) t.done) (with_value links key after)
+      → (t : IsTurn step contents remaining moment before h after k) → AreLinksKept contents remaining accepted earlier links
+      → AreLinksKept contents remaining accepted (earlier ++ map (served_with (piece_at before.connection.number moment)) t.done) (with_value links key after)
   turn_kept accepted earlier links key before after h k found t kept =
       let number : ℕ = before.connection.number in
       let served : List Served = earlier ++ map (served_with (piece_at number moment)) t.done in
       let own = kept.each key before found in
       record {
-        each = at_each (λ (k : ℕ) (link : Link S). IsKept contents remaining accepted served link) links key before after found
+        each = at_each (λ (k : ℕ) (link : Link S). IsLinkKept contents remaining accepted served link) links key before after found
             (record {
               first = own.first;
               numbered = subst (λ (n : ℕ). IsNumbered accepted n own.first) (sym t.same) own.numbered;
-              follows = subst (λ (n : ℕ). IsFollowed contents remaining own.first (done_on n served) after) (sym t.same)
-                  (subst (λ (ds : List Done). IsFollowed contents remaining own.first ds after) (sym (served_own number earlier t.done))
+              follows = subst (λ (n : ℕ). IsLinkFollowed contents remaining own.first (done_on n served) after) (sym t.same)
+                  (subst (λ (ds : List Done). IsLinkFollowed contents remaining own.first ds after) (sym (served_own number earlier t.done))
                   (t.follows own.first (done_on number earlier) own.follows));
             })
             (λ other link differs is.
@@ -222,7 +222,7 @@ module _ {S H : Type 0} (step : Steps H) (contents remaining : S → Option (Lis
             record {
               first = mine.first;
               numbered = mine.numbered;
-              follows = subst (λ (ds : List Done). IsFollowed contents remaining mine.first ds link) (sym (served_other number link.connection.number earlier t.done away)) mine.follows;
+              follows = subst (λ (ds : List Done). IsLinkFollowed contents remaining mine.first ds link) (sym (served_other number link.connection.number earlier t.done away)) mine.follows;
             });
         one = λ key_a key_b a b is js same.
             let p = numbers_stay links key before after found t.same key_a a is in
@@ -253,7 +253,7 @@ module _ {S H : Type 0} (step : Steps H) (contents remaining : S → Option (Lis
 
   -- what was received stays
   pub turned_answered : (accepted : List S) (served : List Served) (old new : Slab (Link S)) (h k : H) → AreTurned step contents remaining moment old h new k
-      → AreAnswered contents remaining accepted served old → AreAnswered contents remaining accepted served new
+      → AreLinksAnswered contents remaining accepted served old → AreLinksAnswered contents remaining accepted served new
   turned_answered accepted served old new h k t a key link is =
       let u = t.unwritten key link is in
       let b = a key u.before u.stood in

@@ -17,7 +17,7 @@ use Rattle.oai_front.specs.declared.stages.Stage.TheVariants.{Reading}
 use Rattle.oai_serving.proofs.KnownBytes.{appends_kept, appends_none, appends_then, consumes_none, consumes_then, keeps_appends, keeps_consumes, keeps_same, keeps_then}
 use Rattle.oai_serving.specs.Inside.{with_gathered}
 use Rattle.std.proofs.Math.Seq.{drop-append_seam}
-use Rattle.oai_serving.specs.Links.{IsFollowed, IsHolding, IsRead, IsSent, IsTurn, Link}
+use Rattle.oai_serving.specs.Links.{IsLinkFollowed, IsHolding, IsLinkRead, IsSent, IsTurn, Link}
 use Rattle.oai_serving.specs.Received.{IsReceived}
 
 -- ---- runs behind each other
@@ -43,7 +43,7 @@ module _ {S H : Type 0} (step : Steps H) (contents remaining : S → Option (Lis
     read = [];
     consumed = consumes_none (remaining link.stream);
     idle = inr refl;
-    follows = λ first earlier f. subst (λ (ds : List Done). IsFollowed contents remaining first ds link) (sym (append-nil earlier)) f;
+    follows = λ first earlier f. subst (λ (ds : List Done). IsLinkFollowed contents remaining first ds link) (sym (append-nil earlier)) f;
   }
 
   -- two turns, one behind the other
@@ -58,7 +58,7 @@ module _ {S H : Type 0} (step : Steps H) (contents remaining : S → Option (Lis
     consumed = consumes_then (remaining a.stream) (remaining b.stream) (remaining c.stream) s.read t.read s.consumed t.consumed;
     idle = idle_then a b c s.idle t.idle;
     follows = λ first earlier f.
-        subst (λ (ds : List Done). IsFollowed contents remaining first ds c) (append_assoc earlier s.done t.done)
+        subst (λ (ds : List Done). IsLinkFollowed contents remaining first ds c) (append_assoc earlier s.done t.done)
         (t.follows first (earlier ++ s.done) (s.follows first earlier f));
   }
 
@@ -82,7 +82,7 @@ module _ {S H : Type 0} (step : Steps H) (contents remaining : S → Option (Lis
   -- the same connection, of which bytes may have been read
   pub read_follows : (first : S) (done : List Done) (old new : Link S) (read : List ℕ) → new.connection ≡ old.connection → Keeps (contents old.stream) (contents new.stream)
       → Consumes (remaining old.stream) (remaining new.stream) read → (new.able ≡ true → (old.able ≡ true) × (new.held ≡ old.held ++ read))
-      → IsFollowed contents remaining first done old → IsFollowed contents remaining first done new
+      → IsLinkFollowed contents remaining first done old → IsLinkFollowed contents remaining first done new
   unfolding received_still
   read_follows first done old new read same unwritten consumes held f =
       record {
@@ -105,7 +105,7 @@ module _ {S H : Type 0} (step : Steps H) (contents remaining : S → Option (Lis
     consumed = consumes;
     idle = inl none;
     follows = λ first earlier f.
-        subst (λ (ds : List Done). IsFollowed contents remaining first ds new) (sym (append-nil earlier)) (read_follows first earlier old new read same unwritten consumes held f);
+        subst (λ (ds : List Done). IsLinkFollowed contents remaining first ds new) (sym (append-nil earlier)) (read_follows first earlier old new read same unwritten consumes held f);
   }
 
 -- ---- a piece
@@ -176,12 +176,12 @@ module _ {S H : Type 0} (step : Steps H) (contents remaining : S → Option (Lis
       → Consumes (remaining first) (remaining old.stream) (came ++ others) → ArePerformed whole came (messages_of earlier) end
       → answers_of earlier ++ end_bytes end ≡ sent ++ waiting → Appends (contents first) (contents old.stream) sent → waiting ≡ old.connection.output
       → old.connection.rest ≡ rest_at end → old.connection.stage ≡ stage_at Reading end → is_closing old.connection.stage ≡ false → others ≡ piece ++ tail
-      → IsFollowed contents remaining first (earlier ++ g.done) new
+      → IsLinkFollowed contents remaining first (earlier ++ g.done) new
   came_at first earlier piece tail old new before after g stream held came others sent waiting whole (waits rest) read performed answers written out left stage open_ split =
       let received = came_received first old.stream came others piece tail sent waiting whole g.whole rest g.end earlier g.done read split performed answers written
       (subst (λ (xs : List ℕ). ArePerformed g.whole (xs ++ piece) (messages_of g.done) g.end) left g.performed) in
       let more = answers_of g.done ++ end_bytes g.end in
-      subst (λ (s : S). IsFollowed contents remaining first (earlier ++ g.done) (record { stream = s; connection = new.connection; held = new.held; able = new.able })) (sym stream)
+      subst (λ (s : S). IsLinkFollowed contents remaining first (earlier ++ g.done) (record { stream = s; connection = new.connection; held = new.held; able = new.able })) (sym stream)
       (record {
         received = received;
         waiting = ap (λ (xs : List ℕ). xs ++ more) out ∙ sym (ap (λ (c : Connection). c.output) g.is);
@@ -243,8 +243,8 @@ others_of c d same = same ∙ sym (ap (λ (e : Connection). record c { output = 
 
 module _ {S : Type 0} (contents remaining : S → Option (List ℕ)) where
   -- what is written is the front of what waits
-  pub sent_follows : (first : S) (done : List Done) (old new : Link S) → IsSent contents remaining old new → IsFollowed contents remaining first done old
-      → IsFollowed contents remaining first done new
+  pub sent_follows : (first : S) (done : List Done) (old new : Link S) → IsSent contents remaining old new → IsLinkFollowed contents remaining first done old
+      → IsLinkFollowed contents remaining first done new
   sent_follows first done old new s f =
       let r = f.received in record {
         received = record {
@@ -268,7 +268,7 @@ module _ {S : Type 0} (contents remaining : S → Option (List ℕ)) where
 -- ---- what is read, and turns in which nothing is written
 
 module _ {S H : Type 0} (step : Steps H) (contents remaining : S → Option (List ℕ)) (moment : ℤ) where
-  pub input_turn : (old new : Link S) (handler : H) → IsRead contents remaining old new → old.connection.output ≡ [] → IsTurn step contents remaining moment old handler new handler
+  pub input_turn : (old new : Link S) (handler : H) → IsLinkRead contents remaining old new → old.connection.output ≡ [] → IsTurn step contents remaining moment old handler new handler
   input_turn old new handler r none = read_turn step contents remaining moment old new handler r.read r.connection r.unwritten r.consumed r.held none
 
 module _ {S : Type 0} (contents remaining : S → Option (List ℕ)) where

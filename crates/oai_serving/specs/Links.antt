@@ -29,7 +29,7 @@ opened number stream = record { stream = stream; connection = fresh number; held
 -- the stream was that one when it was accepted, these messages of it were performed, and the link is what comes of that: what waits to be
 -- written is the rest of their answers, what the connection keeps is the rest of the bytes that came to it, and while the link is able what is
 -- held is all that was read and has not come
-pub record IsFollowed {S : Type 0} (contents remaining : S → Option (List ℕ)) (first : S) (done : List Done) (link : Link S) : Type 0 where
+pub record IsLinkFollowed {S : Type 0} (contents remaining : S → Option (List ℕ)) (first : S) (done : List Done) (link : Link S) : Type 0 where
   pub received : IsReceived contents remaining first link.stream done
   pub waiting : received.waiting ≡ link.connection.output
   pub rest : link.connection.rest ≡ rest_at received.end
@@ -43,7 +43,7 @@ pub record IsHolding {S : Type 0} (read : List ℕ) (old new : Link S) : Type 0 
   pub held : new.able ≡ true → (old.able ≡ true) × (new.held ≡ old.held ++ read)
 
 -- the stream of the link was read, and what came is held, or nothing more is performed
-pub record IsRead {S : Type 0} (contents remaining : S → Option (List ℕ)) (old new : Link S) : Type 0 where
+pub record IsLinkRead {S : Type 0} (contents remaining : S → Option (List ℕ)) (old new : Link S) : Type 0 where
   pub read : List ℕ
   pub consumed : Consumes (remaining old.stream) (remaining new.stream) read
   pub unwritten : Keeps (contents old.stream) (contents new.stream)
@@ -60,7 +60,7 @@ pub record IsTurn {S H : Type 0} (step : Steps H) (contents remaining : S → Op
   pub read : List ℕ
   pub consumed : Consumes (remaining old.stream) (remaining new.stream) read
   pub idle : (old.connection.output ≡ []) ⊎ (new ≡ old)
-  pub follows : (first : S) (earlier : List Done) → IsFollowed contents remaining first earlier old → IsFollowed contents remaining first (earlier ++ done) new
+  pub follows : (first : S) (earlier : List Done) → IsLinkFollowed contents remaining first earlier old → IsLinkFollowed contents remaining first (earlier ++ done) new
 
 -- a turn in which a link is written: the front of what waits goes to the stream, once and in order; nothing is read, and nothing performed
 pub record IsSent {S : Type 0} (contents remaining : S → Option (List ℕ)) (old new : Link S) : Type 0 where

@@ -7,7 +7,7 @@ use Rattle.oai_front.specs.Performing.{Chain, Steps}
 use Rattle.oai_front.specs.Runs.{Served, Serves}
 use Rattle.oai_serving.specs.Accepted.{Accepts}
 use Rattle.oai_serving.specs.Links.{Link}
-use Rattle.oai_serving.specs.Tables.{AreAnswered, AreKept, AreSent}
+use Rattle.oai_serving.specs.Tables.{AreLinksAnswered, AreLinksKept, AreSent}
 use Rattle.oai_serving.specs.declared.faults.ServeFault.{ServeFault}
 use Rattle.oai_serving.specs.declared.faults.ServeFault.TheVariants.{Wait, Clock, Unsettled}
 
@@ -20,7 +20,7 @@ pub record World (S H : Type 0) : Type 0 where
 -- ---- steps of a round
 
 -- links were written, or taken away
-pub record IsWritten {S H : Type 0} (contents remaining : S → Option (List ℕ)) (old new : World S H) : Type 0 where
+pub record AreLinksWritten {S H : Type 0} (contents remaining : S → Option (List ℕ)) (old new : World S H) : Type 0 where
   pub handler : new.handler ≡ old.handler
   pub last : new.last ≡ old.last
   pub links : AreSent contents remaining old.links new.links
@@ -31,8 +31,8 @@ pub record AreAccepted {S H : Type 0} (contents remaining : S → Option (List �
   pub accepts : Accepts known later streams
   pub handler : new.handler ≡ old.handler
   pub last : new.last ≡ old.last + length streams
-  pub kept : (accepted : List S) (served : List Served) → old.last ≡ length accepted → AreKept contents remaining accepted served old.links
-      → AreKept contents remaining (accepted ++ streams) served new.links
+  pub kept : (accepted : List S) (served : List Served) → old.last ≡ length accepted → AreLinksKept contents remaining accepted served old.links
+      → AreLinksKept contents remaining (accepted ++ streams) served new.links
 
 -- that link was put under a key that had none, or was let go; no other changes
 abbrev pub HasOneMore : {S : Type 0} → Link S → Slab (Link S) → Slab (Link S) → Type 0
@@ -42,8 +42,8 @@ HasOneMore link old new = ((key : ℕ) × (get old key ≡ None) × Updates old 
 pub record IsAdmitted {S H : Type 0} (contents remaining : S → Option (List ℕ)) (stream : S) (old new : World S H) : Type 0 where
   pub handler : new.handler ≡ old.handler
   pub last : new.last ≡ old.last + 1
-  pub kept : (accepted : List S) (served : List Served) → old.last ≡ length accepted → AreKept contents remaining accepted served old.links
-      → AreKept contents remaining (accepted ++ stream ∷ []) served new.links
+  pub kept : (accepted : List S) (served : List Served) → old.last ≡ length accepted → AreLinksKept contents remaining accepted served old.links
+      → AreLinksKept contents remaining (accepted ++ stream ∷ []) served new.links
 
 -- ---- a round
 
@@ -52,26 +52,26 @@ abbrev pub Settles : Type 0 → Type 1
 Settles H = H → Result Unit SettleFault → H → Type 0
 
 -- how a round ends: the handler settled, or did not, or came to nothing
-abbrev pub IsSettled : {H : Type 0} → Settles H → H → Result Unit ServeFault → H → Type 0
-IsSettled settled mid (Ok done) new = settled mid (Ok tt) new
-IsSettled settled mid (Err Unsettled) new = (cause : SettleFault) × settled mid (Err cause) new
-IsSettled settled mid (Err Wait) new = new ≡ mid
-IsSettled settled mid (Err Clock) new = new ≡ mid
+abbrev pub IsRoundSettled : {H : Type 0} → Settles H → H → Result Unit ServeFault → H → Type 0
+IsRoundSettled settled mid (Ok done) new = settled mid (Ok tt) new
+IsRoundSettled settled mid (Err Unsettled) new = (cause : SettleFault) × settled mid (Err cause) new
+IsRoundSettled settled mid (Err Wait) new = new ≡ mid
+IsRoundSettled settled mid (Err Clock) new = new ≡ mid
 
 -- after a round that was Ok the links are what came of all that was served; after another no client has more than the answers to what was
 -- served before the round
-abbrev pub Outcome : {S : Type 0} → (S → Option (List ℕ)) → (S → Option (List ℕ)) → List S → List Served → List Served → Result Unit ServeFault → Slab (Link S) → Type 0
-Outcome contents remaining accepted earlier served (Ok done) links = AreKept contents remaining accepted (earlier ++ served) links
-Outcome contents remaining accepted earlier served (Err fault) links = AreAnswered contents remaining accepted earlier links
+abbrev pub RoundOutcome : {S : Type 0} → (S → Option (List ℕ)) → (S → Option (List ℕ)) → List S → List Served → List Served → Result Unit ServeFault → Slab (Link S) → Type 0
+RoundOutcome contents remaining accepted earlier served (Ok done) links = AreLinksKept contents remaining accepted (earlier ++ served) links
+RoundOutcome contents remaining accepted earlier served (Err fault) links = AreLinksAnswered contents remaining accepted earlier links
 
 -- links are read, what comes is served, the handler settles, and only then links are written
 pub record IsPerformance {S H : Type 0} (step : Steps H) (settled : Settles H) (contents remaining : S → Option (List ℕ)) (old : World S H) (result : Result Unit ServeFault) (new : World S H) : Type 0 where
   pub served : List Served
   pub mid : H
   pub run : Serves step old.handler served mid
-  pub settles : IsSettled settled mid result new.handler
+  pub settles : IsRoundSettled settled mid result new.handler
   pub last : new.last ≡ old.last
-  pub outcome : (accepted : List S) (earlier : List Served) → AreKept contents remaining accepted earlier old.links → Outcome contents remaining accepted earlier served result new.links
+  pub outcome : (accepted : List S) (earlier : List Served) → AreLinksKept contents remaining accepted earlier old.links → RoundOutcome contents remaining accepted earlier served result new.links
 
 -- a round: streams are accepted, links are read, what comes is served, the handler settles, and only then links are written
 pub record IsRound {S H : Type 0} (step : Steps H) (settled : Settles H) (contents remaining : S → Option (List ℕ)) (known later : Option (List S))
@@ -79,12 +79,12 @@ pub record IsRound {S H : Type 0} (step : Steps H) (settled : Settles H) (conten
   pub served : List Served
   pub mid : H
   pub run : Serves step old.handler served mid
-  pub settles : IsSettled settled mid result new.handler
+  pub settles : IsRoundSettled settled mid result new.handler
   pub streams : List S
   pub accepts : Accepts known later streams
   pub last : new.last ≡ old.last + length streams
-  pub outcome : (accepted : List S) (earlier : List Served) → old.last ≡ length accepted → AreKept contents remaining accepted earlier old.links
-      → Outcome contents remaining (accepted ++ streams) earlier served result new.links
+  pub outcome : (accepted : List S) (earlier : List Served) → old.last ≡ length accepted → AreLinksKept contents remaining accepted earlier old.links
+      → RoundOutcome contents remaining (accepted ++ streams) earlier served result new.links
 
 -- ---- rounds
 
@@ -103,19 +103,19 @@ pub record AreRounds {S H : Type 0} (step : Steps H) (settled : Settles H) (cont
   pub streams : List S
   pub accepts : Accepts known later streams
   pub last : new.last ≡ old.last + length streams
-  pub kept : (accepted : List S) (earlier : List Served) → old.last ≡ length accepted → AreKept contents remaining accepted earlier old.links
-      → AreKept contents remaining (accepted ++ streams) (earlier ++ served_in rounds) new.links
+  pub kept : (accepted : List S) (earlier : List Served) → old.last ≡ length accepted → AreLinksKept contents remaining accepted earlier old.links
+      → AreLinksKept contents remaining (accepted ++ streams) (earlier ++ served_in rounds) new.links
 
 -- how it ended: what the last round performed, and whether the handler settled behind it
 pub record IsEnd {H : Type 0} (step : Steps H) (settled : Settles H) (mid : H) (fault : ServeFault) (new : H) : Type 0 where
   pub served : List Served
   pub performed : H
   pub run : Serves step mid served performed
-  pub settles : IsSettled settled performed (Err fault) new
+  pub settles : IsRoundSettled settled performed (Err fault) new
 
-abbrev pub Ends : {H : Type 0} → Steps H → Settles H → H → Result Unit ServeFault → H → Type 0
-Ends step settled mid (Ok done) new = new ≡ mid
-Ends step settled mid (Err fault) new = IsEnd step settled mid fault new
+abbrev pub EndsService : {H : Type 0} → Steps H → Settles H → H → Result Unit ServeFault → H → Type 0
+EndsService step settled mid (Ok done) new = new ≡ mid
+EndsService step settled mid (Err fault) new = IsEnd step settled mid fault new
 
 -- a service: rounds in which the handler settled, and one that ended it, in which further messages may have been performed. No client has more
 -- than the front of the answers to those of its messages that were served in the rounds that settled
@@ -123,8 +123,8 @@ pub record IsService {S H : Type 0} (step : Steps H) (settled : Settles H) (cont
   pub rounds : List (List Served)
   pub mid : H
   pub settles : AreSettled step settled rounds old.handler mid
-  pub ends : Ends step settled mid result new.handler
+  pub ends : EndsService step settled mid result new.handler
   pub streams : List S
   pub accepts : Accepts known later streams
-  pub answered : (accepted : List S) (earlier : List Served) → old.last ≡ length accepted → AreKept contents remaining accepted earlier old.links
-      → AreAnswered contents remaining (accepted ++ streams) (earlier ++ served_in rounds) new.links
+  pub answered : (accepted : List S) (earlier : List Served) → old.last ≡ length accepted → AreLinksKept contents remaining accepted earlier old.links
+      → AreLinksAnswered contents remaining (accepted ++ streams) (earlier ++ served_in rounds) new.links

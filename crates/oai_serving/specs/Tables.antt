@@ -4,7 +4,7 @@ use Rattle.std.specs.Io.KnownBytes.{Consumes, Keeps}
 use Rattle.slab.specs.Slab.{Slab, get, slab_len}
 use Rattle.oai_front.specs.Performing.{Steps}
 use Rattle.oai_front.specs.Runs.{Served, Serves, done_on}
-use Rattle.oai_serving.specs.Links.{IsFollowed, IsSent, Link}
+use Rattle.oai_serving.specs.Links.{IsLinkFollowed, IsSent, Link}
 use Rattle.oai_serving.specs.Received.{IsReceived}
 
 -- the stream is the one of that number among those that were accepted
@@ -15,14 +15,14 @@ pub record IsNumbered {S : Type 0} (accepted : List S) (number : ℕ) (stream : 
   pub at : number ≡ length front + 1
 
 -- the link is what came of the stream that was accepted under its number, where these messages were served
-pub record IsKept {S : Type 0} (contents remaining : S → Option (List ℕ)) (accepted : List S) (served : List Served) (link : Link S) : Type 0 where
+pub record IsLinkKept {S : Type 0} (contents remaining : S → Option (List ℕ)) (accepted : List S) (served : List Served) (link : Link S) : Type 0 where
   pub first : S
   pub numbered : IsNumbered accepted link.connection.number first
-  pub follows : IsFollowed contents remaining first (done_on link.connection.number served) link
+  pub follows : IsLinkFollowed contents remaining first (done_on link.connection.number served) link
 
 -- each of the links is what came of its stream, no two are of one, and nothing was served of one that is not yet accepted
-pub record AreKept {S : Type 0} (contents remaining : S → Option (List ℕ)) (accepted : List S) (served : List Served) (links : Slab (Link S)) : Type 0 where
-  pub each : (key : ℕ) (link : Link S) → get links key ≡ Some link → IsKept contents remaining accepted served link
+pub record AreLinksKept {S : Type 0} (contents remaining : S → Option (List ℕ)) (accepted : List S) (served : List Served) (links : Slab (Link S)) : Type 0 where
+  pub each : (key : ℕ) (link : Link S) → get links key ≡ Some link → IsLinkKept contents remaining accepted served link
   pub one : (key other : ℕ) (a b : Link S) → get links key ≡ Some a → get links other ≡ Some b → a.connection.number ≡ b.connection.number → key ≡ other
   pub later : (number : ℕ) → length accepted < number → done_on number served ≡ []
 
@@ -32,8 +32,8 @@ pub record IsAnswered {S : Type 0} (contents remaining : S → Option (List ℕ)
   pub numbered : IsNumbered accepted link.connection.number first
   pub received : IsReceived contents remaining first link.stream (done_on link.connection.number served)
 
-abbrev pub AreAnswered : {S : Type 0} → (S → Option (List ℕ)) → (S → Option (List ℕ)) → List S → List Served → Slab (Link S) → Type 0
-AreAnswered {S} contents remaining accepted served links = (key : ℕ) (link : Link S) → get links key ≡ Some link → IsAnswered contents remaining accepted served link
+abbrev pub AreLinksAnswered : {S : Type 0} → (S → Option (List ℕ)) → (S → Option (List ℕ)) → List S → List Served → Slab (Link S) → Type 0
+AreLinksAnswered {S} contents remaining accepted served links = (key : ℕ) (link : Link S) → get links key ≡ Some link → IsAnswered contents remaining accepted served link
 
 -- all was served at that moment
 abbrev pub AreAt : ℤ → List Served → Type 0
@@ -55,7 +55,7 @@ pub record AreTurned {S H : Type 0} (step : Steps H) (contents remaining : S →
   pub run : Serves step before served after
   pub at : AreAt moment served
   pub unwritten : (key : ℕ) (link : Link S) → get new key ≡ Some link → IsUnwritten contents remaining old key link
-  pub follows : (accepted : List S) (earlier : List Served) → AreKept contents remaining accepted earlier old → AreKept contents remaining accepted (earlier ++ served) new
+  pub follows : (accepted : List S) (earlier : List Served) → AreLinksKept contents remaining accepted earlier old → AreLinksKept contents remaining accepted (earlier ++ served) new
   pub count : slab_len new ≡ slab_len old
 
 -- links were written, each of what waits on it, and some were taken away

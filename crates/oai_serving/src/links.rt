@@ -1,7 +1,7 @@
 //! A connection over a stream.
 ghost use Rattle.std.specs.Prelude.{◌≡◌, ◌≤◌, ◌<◌, [], true, false, drop, length};
 ghost use Rattle.oai_front.specs.Stages.{is_closing};
-ghost use Rattle.oai_serving.specs.Links.{IsHolding, IsRead, IsSent, IsTurn, is_able, opened};
+ghost use Rattle.oai_serving.specs.Links.{IsHolding, IsLinkRead, IsSent, IsTurn, is_able, opened};
 
 use crate::phases::Phase;
 use crate::pieces::{Line, next_piece};
@@ -170,7 +170,7 @@ impl<S: Stream> Link<S> {
 
     /// Reads once where it may: what comes is held.
     fn take_input(&mut self, alloc: Global, second: u64, buffer: &mut [u8])
-        ensures { IsRead S.contents S.remaining self.old self.new }
+        ensures { IsLinkRead S.contents S.remaining self.old self.new }
     {
         if !self.may_read() {
             return;

@@ -3,7 +3,7 @@ ghost use Rattle.std.specs.Prelude.{◌≡◌, ◌<◌, ◌+◌, ◌^◌, [], If
 ghost use Rattle.oai_serving.specs.declared.tables.TheConstants.{MAX_LINKS};
 ghost use Rattle.slab.specs.Slab.{slab_len};
 ghost use Rattle.oai_serving.specs.Accepted.{Accepts};
-ghost use Rattle.oai_serving.specs.Rounds.{AreAccepted, HasOneMore, IsAdmitted, IsPerformance, IsRound, IsService, IsWritten};
+ghost use Rattle.oai_serving.specs.Rounds.{AreAccepted, HasOneMore, IsAdmitted, IsPerformance, IsRound, IsService, AreLinksWritten};
 
 use crate::faults::ServeFault;
 use crate::links::{Link, READ_BYTES};
@@ -156,7 +156,7 @@ impl<S: Stream + Drop, H: Settled> Server<S, H> {
 
     /// Writes what waits on all links.
     fn put(&mut self, second: u64)
-        ensures { IsWritten S.contents S.remaining self.old self.new }
+        ensures { AreLinksWritten S.contents S.remaining self.old self.new }
     {
         put_all(self.alloc, &mut self.links, self.keys, second);
     }
@@ -164,7 +164,7 @@ impl<S: Stream + Drop, H: Settled> Server<S, H> {
     /// Takes away the links that are over, and others while all keep more than they may. It comes at the
     /// beginning of a round, so that at the end of each the links are there that were written in it.
     fn end_links(&mut self)
-        ensures { IsWritten S.contents S.remaining self.old self.new }
+        ensures { AreLinksWritten S.contents S.remaining self.old self.new }
     {
         end_all(&mut self.links, self.keys);
         shed_all(&mut self.links);
@@ -172,7 +172,7 @@ impl<S: Stream + Drop, H: Settled> Server<S, H> {
 
     /// Takes note of what became ready.
     fn note_all<K: Sockets<S>>(&mut self, sockets: &K, count: usize)
-        ensures { IsWritten S.contents S.remaining self.old self.new }
+        ensures { AreLinksWritten S.contents S.remaining self.old self.new }
     {
         for at in 0..count {
             self.note(sockets.ready(at));
@@ -181,7 +181,7 @@ impl<S: Stream + Drop, H: Settled> Server<S, H> {
 
     /// Takes note of one readiness.
     fn note(&mut self, readiness: Option<Readiness>)
-        ensures { IsWritten S.contents S.remaining self.old self.new }
+        ensures { AreLinksWritten S.contents S.remaining self.old self.new }
     {
         match readiness {
             Some(

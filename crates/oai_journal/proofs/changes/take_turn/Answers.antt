@@ -1,6 +1,6 @@
 -- What stands behind the gate goes on by the frame that was read, and by the gate behind it.
 use Rattle.std.proofs.Common.{◌≡◌, ◌∙◌, ℕ, ◌+◌, List, Some, None, false, drop, length, subst, sym, ap, arith}
-use Rattle.oai_journal.specs.Recoveries.{Finds, HasFrame, IsGateAt}
+use Rattle.oai_journal.specs.Recoveries.{FindsFrame, HasFrame, IsGateAt}
 use Rattle.oai_journal.proofs.ChangeLemmas.{Begins, turn_at_further, turn_at_none, turn_at_open, turn_at_other}
 use Rattle.oai_journal.proofs.changes.take_turn.Goals as goal
 
@@ -9,7 +9,7 @@ returns-in_default-2-clause-found g c clean size =
     let file : List ℕ = g.D.Disk.seen c.args.disk.now in
     let r = c.in_ok-last.ensures in
     let f : HasFrame false c.args.digest (drop c.args.at file) c.read_frame.new.frame.items c.in-Some.last =
-    subst (Finds false c.args.digest (drop c.args.at file) c.read_frame.new.frame.items) c.in-Some.is (r.found (c.in_ok-byte.ensures.clean clean) size) in
+    subst (FindsFrame false c.args.digest (drop c.args.at file) c.read_frame.new.frame.items) c.in-Some.is (r.found (c.in_ok-byte.ensures.clean clean) size) in
     let len : c.len.result ≡ length c.read_frame.new.frame.items = omega (arith, c.len.ensures, c.read_frame.new.frame.ok.0) in
     let gate : IsGateAt (g.D.Disk.seen c.read_frame.new.disk) (c.args.at + c.len.result) None =
     subst (IsGateAt (g.D.Disk.seen c.read_frame.new.disk) (c.args.at + c.len.result)) c.in_default-2.is (c.in_ok-byte.ensures.found clean (size ∙ ap length (sym r.seen))) in
@@ -20,7 +20,7 @@ returns-then-byte-eq-FURTHER_GATE-clause-found g c clean size =
     let file : List ℕ = g.D.Disk.seen c.args.disk.now in
     let r = c.in_ok-last.ensures in
     let f : HasFrame false c.args.digest (drop c.args.at file) c.read_frame.new.frame.items c.in-Some.last =
-    subst (Finds false c.args.digest (drop c.args.at file) c.read_frame.new.frame.items) c.in-Some.is (r.found (c.in_ok-byte.ensures.clean clean) size) in
+    subst (FindsFrame false c.args.digest (drop c.args.at file) c.read_frame.new.frame.items) c.in-Some.is (r.found (c.in_ok-byte.ensures.clean clean) size) in
     let len : c.len.result ≡ length c.read_frame.new.frame.items = omega (arith, c.len.ensures, c.read_frame.new.frame.ok.0) in
     let gate : IsGateAt (g.D.Disk.seen c.read_frame.new.disk) (c.args.at + c.len.result) (Some c.in-Some-2.byte) =
     subst (IsGateAt (g.D.Disk.seen c.read_frame.new.disk) (c.args.at + c.len.result)) c.in-Some-2.is (c.in_ok-byte.ensures.found clean (size ∙ ap length (sym r.seen))) in
@@ -32,7 +32,7 @@ returns-then-byte-ne-OPEN_GATE-clause-found g c clean size =
     let file : List ℕ = g.D.Disk.seen c.args.disk.now in
     let r = c.in_ok-last.ensures in
     let f : HasFrame false c.args.digest (drop c.args.at file) c.read_frame.new.frame.items c.in-Some.last =
-    subst (Finds false c.args.digest (drop c.args.at file) c.read_frame.new.frame.items) c.in-Some.is (r.found (c.in_ok-byte.ensures.clean clean) size) in
+    subst (FindsFrame false c.args.digest (drop c.args.at file) c.read_frame.new.frame.items) c.in-Some.is (r.found (c.in_ok-byte.ensures.clean clean) size) in
     let len : c.len.result ≡ length c.read_frame.new.frame.items = omega (arith, c.len.ensures, c.read_frame.new.frame.ok.0) in
     let gate : IsGateAt (g.D.Disk.seen c.read_frame.new.disk) (c.args.at + c.len.result) (Some c.in-Some-2.byte) =
     subst (IsGateAt (g.D.Disk.seen c.read_frame.new.disk) (c.args.at + c.len.result)) c.in-Some-2.is (c.in_ok-byte.ensures.found clean (size ∙ ap length (sym r.seen))) in
@@ -46,7 +46,7 @@ returns-clause-found g c clean size =
     let b = c.in_ok-on.ensures in
     let before = b.clean clean in
     let f : HasFrame false c.args.digest (drop c.args.at file) c.read_frame.new.frame.items c.in-Some.last =
-    subst (Finds false c.args.digest (drop c.args.at file) c.read_frame.new.frame.items) c.in-Some.is (r.found (c.in_ok-byte.ensures.clean before) size) in
+    subst (FindsFrame false c.args.digest (drop c.args.at file) c.read_frame.new.frame.items) c.in-Some.is (r.found (c.in_ok-byte.ensures.clean before) size) in
     let len : c.len.result ≡ length c.read_frame.new.frame.items = omega (arith, c.len.ensures, c.read_frame.new.frame.ok.0) in
     let gate : IsGateAt (g.D.Disk.seen c.read_frame.new.disk) (c.args.at + c.len.result) (Some c.in-Some-2.byte) =
     subst (IsGateAt (g.D.Disk.seen c.read_frame.new.disk) (c.args.at + c.len.result)) c.in-Some-2.is (c.in_ok-byte.ensures.found before (size ∙ ap length (sym r.seen))) in

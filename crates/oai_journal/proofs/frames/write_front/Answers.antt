@@ -3,8 +3,8 @@ use Rattle.std.proofs.Common.{◌≡◌, ℕ, List, ◌++◌, length, drop, sym,
 use Rattle.std.proofs.lemmas.List.{drop_at}
 use Rattle.sqlite_disk.specs.Digest.{digest}
 use Rattle.oai_journal.specs.Frames as spec
-use Rattle.oai_journal.specs.Heads.{front_of, plain}
-use Rattle.oai_journal.specs.Records.{Entry, entry_of}
+use Rattle.oai_journal.specs.Heads.{head_front, plain}
+use Rattle.oai_journal.specs.Records.{Entry, as_entry}
 use Rattle.oai_journal.proofs.FitLemmas.{within_parts}
 use Rattle.oai_journal.proofs.frames.write_front.Goals as goal
 
@@ -28,17 +28,17 @@ behind old new piece at is place = ap (drop at) is ∙ drop_at old piece at (sym
 pub returns-clause-digest : goal.returns-clause-digest
 unfolding spec.next_digest
 returns-clause-digest c =
-    let e : Entry = entry_of c.args.entry.now in
-    let head : c.write_head.new.out.items ≡ c.args.out.now.items ++ front_of (spec.head_of e) = c.write_head.ensures.items ∙ ap (λ h. c.args.out.now.items ++ front_of h) c.head_of.ensures in
+    let e : Entry = as_entry c.args.entry.now in
+    let head : c.write_head.new.out.items ≡ c.args.out.now.items ++ head_front (spec.head_of e) = c.write_head.ensures.items ∙ ap (λ h. c.args.out.now.items ++ head_front h) c.head_of.ensures in
     let place : c.len-start.result ≡ length c.args.out.now.items = omega (arith, c.len-start.ensures, c.args.out.now.ok.0) in
-    let same = behind c.args.out.now.items c.write_head.new.out.items (front_of (spec.head_of e)) c.len-start.result head place in
+    let same = behind c.args.out.now.items c.write_head.new.out.items (head_front (spec.head_of e)) c.len-start.result head place in
     c.digest_of-digest.ensures ∙ ap (λ (l : List ℕ). digest c.args.before (l ++ e.body)) (c.behind.ensures ∙ ap (drop c.len-start.result) c.deref.ensures.value ∙ same)
 
 pub returns-clause-items : goal.returns-clause-items
 unfolding spec.frame_front plain
 returns-clause-items c =
-    let e : Entry = entry_of c.args.entry.now in
-    let head : c.write_head.new.out.items ≡ c.args.out.now.items ++ front_of (spec.head_of e) = c.write_head.ensures.items ∙ ap (λ h. c.args.out.now.items ++ front_of h) c.head_of.ensures in
+    let e : Entry = as_entry c.args.entry.now in
+    let head : c.write_head.new.out.items ≡ c.args.out.now.items ++ head_front (spec.head_of e) = c.write_head.ensures.items ∙ ap (λ h. c.args.out.now.items ++ head_front h) c.head_of.ensures in
     let text : c.digest_text.result ≡ spec.digest_text (spec.next_digest c.args.before e) = c.digest_text.ensures ∙ ap spec.digest_text (returns-clause-digest c) in
     let second : c.put.new.out.items ≡ c.write_head.new.out.items ++ spec.digest_text (spec.next_digest c.args.before e) = c.put.ensures.items ∙ ap (λ (t : List ℕ). c.write_head.new.out.items ++ t) text in
     (record { is = head } ⨾ record { is = second } ⨾ record { is = c.put-2.ensures.items }).is

@@ -3,7 +3,7 @@ use Rattle.std.proofs.Common.{◌≡◌, ◌∙◌, Bool, true, false, refl, sym
 use mathlib.Core.Bool.{beq, not}
 use Rattle.std.proofs.lemmas.Bool.{false≢true}
 use Rattle.std.proofs.lemmas.Int.{to_z-of_z}
-use Rattle.oai_journal.specs.Records.{IsFit, entry_of}
+use Rattle.oai_journal.specs.Records.{IsFit, as_entry}
 use Rattle.oai_journal.proofs.ReadingLemmas.{checks_refused, checks_spelled}
 use Rattle.oai_journal.proofs.readings.check_record.Goals as goal
 
@@ -21,16 +21,16 @@ other_bool false false h is = false≢true h
 
 pub returns-then-not-is_fit-clause-checked : goal.returns-then-not-is_fit-clause-checked
 returns-then-not-is_fit-clause-checked c =
-    checks_refused c.args.first c.args.before c.args.bytes.now (entry_of c.args.entry.now) c.requires.read
+    checks_refused c.args.first c.args.before c.args.bytes.now (as_entry c.args.entry.now) c.requires.read
     (λ fit kind. false≢true (sym c.if-not-is_fit.true ∙ c.is_fit.ensures ∙ fit.fit))
 
 pub returns-then-is_first-first-clause-checked : goal.returns-then-is_first-first-clause-checked
 returns-then-is_first-first-clause-checked c =
-    checks_refused c.args.first c.args.before c.args.bytes.now (entry_of c.args.entry.now) c.requires.read
+    checks_refused c.args.first c.args.before c.args.bytes.now (as_entry c.args.entry.now) c.requires.read
     (λ fit kind. other_bool c.is_first.result c.args.first c.if-is_first-first.true (c.is_first.ensures ∙ kind))
 
 pub returns-clause-checked : goal.returns-clause-checked
 returns-clause-checked c =
-    let fit : IsFit (entry_of c.args.entry.now) = record { moment = search (rules, to_z-of_z); fit = sym c.is_fit.ensures ∙ c.if-not-is_fit.false } in
-    checks_spelled c.args.first c.args.before c.args.bytes.now (entry_of c.args.entry.now) c.frame_digest.result c.requires.read fit
+    let fit : IsFit (as_entry c.args.entry.now) = record { moment = search (rules, to_z-of_z); fit = sym c.is_fit.ensures ∙ c.if-not-is_fit.false } in
+    checks_spelled c.args.first c.args.before c.args.bytes.now (as_entry c.args.entry.now) c.frame_digest.result c.requires.read fit
     (sym c.is_first.ensures ∙ same_bool c.is_first.result c.args.first c.if-is_first-first.false) c.frame_digest.ensures.spelled

@@ -1,5 +1,5 @@
 use Rattle.std.proofs.Common.{◌∙◌, ℕ, List, ◌∷◌, drop, length, true, subst, sym, ap}
-use Rattle.oai_journal.specs.Recoveries.{Finds, IsGateAt}
+use Rattle.oai_journal.specs.Recoveries.{FindsFrame, IsGateAt}
 use Rattle.oai_journal.proofs.RecoveryLemmas.{if_ok, starts}
 use Rattle.oai_journal.proofs.recovery.read_first.Goals as goal
 
@@ -9,5 +9,5 @@ returns-in_ok-out-in-Some-clause-found g c =
     if_ok c.read_frame.result c.read_frame.ensures.found (λ found reads clean size.
     let seen = c.in_ok-gate.ensures.seen in
     let gate = subst (IsGateAt file 0) c.in-Some.is (c.in_ok-gate.ensures.found (c.read_frame.ensures.clean clean) size) in
-    let there = subst (λ (l : List ℕ). Finds true 0 (drop 1 l) c.read_frame.new.frame.items found) seen (reads clean (size ∙ ap length (sym seen))) in
+    let there = subst (λ (l : List ℕ). FindsFrame true 0 (drop 1 l) c.read_frame.new.frame.items found) seen (reads clean (size ∙ ap length (sym seen))) in
     starts file c.read_frame.new.frame.items found (gate ∙ ap (λ n. n ∷ drop 1 file) c.if-gate-eq-OPEN_GATE.true) there)
