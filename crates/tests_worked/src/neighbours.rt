@@ -42,6 +42,35 @@ const COMMANDS: u64 = 6;
 /// How many records are deposited at the other repository between two of them: 200 in all.
 const BETWEEN: u64 = 40;
 
+/// A list whose last record is deposited again, with a title, before its last part is asked for, and an item that is
+/// deposited at the other repository meanwhile: the part is as it was.
+fn redeposit_asked() -> &'static str {
+    r#"> 1704067200 POST /deposit/a {"deposit":"oai:a:1","sets":[],"records":{"oai_dc":[]}}
+200
+ok 2024-01-01T00:00:00Z
+> 1704067200 POST /deposit/a {"deposit":"oai:a:2","sets":[],"records":{"oai_dc":[]}}
+200
+ok 2024-01-01T00:00:00Z
+> 1704067200 GET /oai/a?verb=ListIdentifiers&metadataPrefix=oai_dc
+200
+DOC <responseDate>2024-01-01T00:00:00Z</responseDate><request verb="ListIdentifiers" metadataPrefix="oai_dc">http://host.example/oai/a</request><ListIdentifiers><header><identifier>oai:a:1</identifier><datestamp>2024-01-01T00:00:00Z</datestamp></header><header><identifier>oai:a:2</identifier><datestamp>2024-01-01T00:00:00Z</datestamp></header></ListIdentifiers></OAI-PMH>
+> 1704067201 POST /deposit/a {"deposit":"oai:a:3","sets":[],"records":{"oai_dc":[]}}
+200
+ok 2024-01-01T00:00:01Z
+> 1704067201 GET /oai/a?verb=ListIdentifiers&metadataPrefix=oai_dc
+200
+DOC <responseDate>2024-01-01T00:00:01Z</responseDate><request verb="ListIdentifiers" metadataPrefix="oai_dc">http://host.example/oai/a</request><ListIdentifiers><header><identifier>oai:a:1</identifier><datestamp>2024-01-01T00:00:00Z</datestamp></header><header><identifier>oai:a:2</identifier><datestamp>2024-01-01T00:00:00Z</datestamp></header><resumptionToken expirationDate="2024-01-01T00:01:01Z" completeListSize="3" cursor="0">1.2</resumptionToken></ListIdentifiers></OAI-PMH>
+> 1704067202 POST /deposit/a {"deposit":"oai:a:3","sets":[],"records":{"oai_dc":[["title","T"]]}}
+200
+ok 2024-01-01T00:00:02Z
+> 1704067202 POST /deposit/b {"deposit":"oai:b:1","sets":[],"records":{"oai_dc":[]}}
+200
+ok 2024-01-01
+> 1704067203 GET /oai/a?verb=ListIdentifiers&resumptionToken=1.2
+200
+DOC <responseDate>2024-01-01T00:00:03Z</responseDate><request verb="ListIdentifiers" resumptionToken="1.2">http://host.example/oai/a</request><ListIdentifiers><header><identifier>oai:a:3</identifier><datestamp>2024-01-01T00:00:01Z</datestamp></header><resumptionToken completeListSize="3" cursor="2"></resumptionToken></ListIdentifiers></OAI-PMH>"#
+}
+
 /// The worked configuration, with a cache of so many pages.
 fn configuration(rt: &impl Abort, alloc: Global, cache: u64) -> String {
     let told = format!(in alloc; "\"cache\":{cache},").expect(rt, "memory");
@@ -125,6 +154,24 @@ fn lists_beside_deposits(rt: HostRuntime) {
     let wanted = wanted_in(rt.alloc(), lists_asked()).expect(&rt, "wanted_in");
     for cache in [1, 2, 64] {
         let output = answered_between(&rt, rt.alloc(), cache);
+        assert_same_at(&rt, output.as_slice(), wanted.as_bytes(), cache);
+    }
+}
+
+/// What is answered to the lines of the transcript, with a cache of so many pages.
+fn answered(rt: &impl Abort, alloc: Global, transcript: &str, cache: u64) -> Vec<u8> {
+    let mut host = host(rt, alloc, cache);
+    let lines = asked_in(alloc, transcript).expect(rt, "asked_in");
+    let mut output = Vec::new(alloc);
+    ask(rt, alloc, &mut host, lines.as_str(), &mut output);
+    output
+}
+
+#[test]
+fn redeposit_amid_a_list(rt: HostRuntime) {
+    let wanted = wanted_in(rt.alloc(), redeposit_asked()).expect(&rt, "wanted_in");
+    for cache in [1, 2, 64] {
+        let output = answered(&rt, rt.alloc(), redeposit_asked(), cache);
         assert_same_at(&rt, output.as_slice(), wanted.as_bytes(), cache);
     }
 }
