@@ -1,9 +1,8 @@
 -- What a torn write may leave of a file that is cut at its place.
-use Rattle.std.proofs.Common.{◌≡◌, ◌∙◌, ℕ, ◌+◌, ◌-◌, ◌<◌, ◌≤◌, max, List, [], ◌∷◌, ◌++◌, length, take, drop, slice_index, get_or, ext_get_or, refl, sym, ap, arith, append_assoc}
-use Rattle.std.proofs.lemmas.Bool.{cases_lt, cases_order}
-use Rattle.std.proofs.lemmas.List.{drop_more, get_or_append_left, get_or-append_right, length-append, length-drop, length-take-le, take-append-drop, take_at}
+use Rattle.std.proofs.Common.{◌≡◌, ◌∙◌, ℕ, ◌+◌, ◌<◌, ◌≤◌, List, ◌∷◌, ◌++◌, length, take, drop, get_or, ext_get_or, refl, sym, ap, arith}
+use Rattle.std.proofs.lemmas.List.{drop_more, get_or_append_left, length-append, length-drop, length-take-le, take-append-drop, take_at}
 use Rattle.std.proofs.Math.Seq.{drop-append-add}
-use Rattle.std.proofs.Common.{get_or-take, get_or-drop, inl, inr}
+use Rattle.std.proofs.Common.{get_or-take, get_or-drop}
 use Rattle.sqlite_disk.specs.Disk.{Holds, Torn}
 
 -- a write leaves what stands before it

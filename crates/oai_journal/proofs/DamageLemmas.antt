@@ -1,9 +1,9 @@
 -- A file that is damaged is no journal: its frames are those of the journal as far as the damage, and there stands no gate, or an open one and no frame.
-use Rattle.std.proofs.Common.{◌≡◌, ◌⊎◌, ◌∙◌, inl, inr, ⊎_elim, ℕ, Bool, true, false, List, [], ◌∷◌, ◌++◌, refl, sym, ap, subst, append_assoc}
-use Rattle.oai_journal.specs.Files.{AreGated, IsJournalFile, Gated, digest_after, front, is_open, spelled}
+use Rattle.std.proofs.Common.{◌≡◌, ◌⊎◌, ◌∙◌, inl, inr, ⊎_elim, ℕ, false, List, [], ◌∷◌, ◌++◌, refl, sym, ap}
+use Rattle.oai_journal.specs.Files.{AreGated, IsJournalFile, Gated, digest_after, is_open, spelled}
 use Rattle.oai_journal.specs.Frames.{frame, next_digest}
 use Rattle.oai_journal.specs.Records.{Entry}
-use Rattle.oai_journal.specs.Recoveries.{IsBrokenAt, IsDamagedAt, IsOpenWithNone}
+use Rattle.oai_journal.specs.Recoveries.{IsDamagedAt, IsOpenWithNone}
 use Rattle.oai_journal.proofs.FileLemmas.{front_step, heads_same, shut, step, tails_same}
 use Rattle.oai_journal.proofs.FrameLemmas.{frame_same}
 

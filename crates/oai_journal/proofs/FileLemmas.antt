@@ -1,11 +1,10 @@
 -- Frames one behind the other; and that a file is one journal at most.
-use Rattle.std.proofs.Common.{◌≡◌, ◌≢◌, ◌∙◌, ℕ, ◌+◌, ◌<◌, ◌≤◌, Bool, true, false, List, [], ◌∷◌, ◌++◌, length, map, Option, Some, None, refl, sym, ap, arith, append_assoc, subst}
+use Rattle.std.proofs.Common.{◌≡◌, ◌∙◌, ℕ, true, false, List, [], ◌∷◌, ◌++◌, map, refl, sym, ap, append_assoc}
 use Rattle.std.proofs.lemmas.Bool.{false≢true}
-use Rattle.std.proofs.lemmas.List.{length-append}
-use Rattle.oai_journal.specs.Files.{AreGated, IsJournalFile, Gated, IsFirstRecord, IsGated, digest_after, front, is_open, spelled}
+use Rattle.oai_journal.specs.Files.{AreGated, IsJournalFile, Gated, digest_after, front, is_open, spelled}
 use Rattle.oai_journal.specs.Frames.{frame, next_digest}
 use Rattle.oai_journal.specs.Records.{Entry, IsFit}
-use Rattle.oai_journal.proofs.FrameLemmas.{IsSame, frame_same}
+use Rattle.oai_journal.proofs.FrameLemmas.{frame_same}
 
 pub spelled_append : (before : ℕ) (fs gs : List Gated) → spelled before (fs ++ gs) ≡ spelled before fs ++ spelled (digest_after before fs) gs
 spelled_append before [] gs = refl

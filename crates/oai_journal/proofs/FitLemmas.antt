@@ -1,5 +1,5 @@
 -- What a frame can hold.
-use Rattle.std.proofs.Common.{◌≡◌, ◌≤◌, ◌<◌, ◌^◌, ℕ, List, ◌&&◌, nat_le, true, length, arith, sym, ◌∙◌, ap, IsTrue}
+use Rattle.std.proofs.Common.{◌≡◌, ◌≤◌, ℕ, List, ◌&&◌, nat_le, true, length, arith}
 use Rattle.std.specs.List.{list_all}
 use Rattle.std.proofs.lemmas.Bool.{and_parts, leb-true}
 use Rattle.oai_journal.specs.Heads.{CanBeSpelled}
@@ -7,7 +7,7 @@ use Rattle.oai_journal.specs.Frames.{head_of}
 use Rattle.oai_journal.specs.Records.{Entry, IsFit, is_within, is_visible_ascii, most_bytes}
 use Rattle.oai_journal.specs.declared.records.Kind.{Kind}
 use Rattle.oai_journal.specs.declared.records.Kind.TheVariants.{Journal, Oai, Deposit, Tick, Begin, Set, Item}
-use Rattle.oai_journal.specs.declared.records.TheConstants.{MAX_NAME, MAX_BODY, MAX_FIRST_BODY}
+use Rattle.oai_journal.specs.declared.records.TheConstants.{MAX_NAME, MAX_FIRST_BODY}
 
 pub record FitParts (kind : Kind) (name : List ℕ) (size : ℕ) : Type 0 where
   pub seen : list_all is_visible_ascii name ≡ true

@@ -1,13 +1,13 @@
 -- What stands on the disk while a group is written: the journal before it, and then with all of the group or none.
-use Rattle.std.proofs.Common.{◌≡◌, ◌⊎◌, ◌∙◌, inl, inr, ℕ, ◌+◌, ◌<◌, ◌≤◌, Bool, true, false, List, [], ◌∷◌, ◌++◌, length, map, slice_index, get_or, refl, sym, ap, subst, arith, lit<, append_assoc}
+use Rattle.std.proofs.Common.{◌≡◌, ◌∙◌, inl, inr, ℕ, ◌+◌, true, false, List, [], ◌∷◌, ◌++◌, length, map, get_or, refl, sym, ap, subst, arith, lit<, append_assoc}
 use Rattle.std.proofs.Math.Seq.{get_or-append_seam}
 use Rattle.std.proofs.lemmas.Bool.{cases_Bool}
 use Rattle.std.proofs.lemmas.List.{length-append, map-append}
 use Rattle.sqlite_disk.specs.Disk.{Holds, Only, Torn}
-use Rattle.oai_journal.specs.Files.{AreGated, IsJournalFile, Gated, IsFirstRecord, IsGated, digest_after, front, is_open, spelled}
-use Rattle.oai_journal.specs.Frames.{frame, next_digest}
+use Rattle.oai_journal.specs.Files.{AreGated, IsJournalFile, Gated, digest_after, front, is_open, spelled}
+use Rattle.oai_journal.specs.Frames.{next_digest}
 use Rattle.oai_journal.specs.Groups.{AreGrouped, EndsBeforeOrAfter, IsGroup, IsOnDisk, IsMadeDurable, digest_of_all, further, inside}
-use Rattle.oai_journal.specs.Records.{Entry, IsFit, is_first_kind}
+use Rattle.oai_journal.specs.Records.{Entry}
 use Rattle.oai_journal.proofs.CrashLemmas.{held, torn_behind, torn_byte}
 use Rattle.oai_journal.proofs.FileLemmas.{digest_append, front_append, gated_append}
 

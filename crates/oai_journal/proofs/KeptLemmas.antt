@@ -1,12 +1,12 @@
 -- What a journal's file keeps after an append and after a commit.
-use Rattle.std.proofs.Common.{◌≡◌, ◌⊎◌, ◌∙◌, inl, inr, ⊎_elim, ℕ, ◌+◌, ◌-◌, ◌<◌, ◌≤◌, Bool, true, false, List, [], ◌∷◌, ◌++◌, length, map, take, refl, sym, ap, subst, arith, append_assoc, vec_len}
+use Rattle.std.proofs.Common.{◌≡◌, ◌∙◌, inl, inr, ⊎_elim, ℕ, ◌+◌, ◌-◌, ◌<◌, ◌≤◌, true, false, List, [], ◌∷◌, ◌++◌, length, take, refl, sym, ap, subst, arith, append_assoc}
 use Rattle.std.specs.Prelude.{Vec}
 use Rattle.std.specs.declared.alloc.Global.{Global}
 use Rattle.std.proofs.lemmas.Bool.{false≢true}
 use Rattle.std.proofs.lemmas.List.{append-nil, length-append, take-append-le, take_all, take_at}
-use Rattle.oai_journal.specs.Files.{IsJournalFile, IsFirstRecord, front, is_open, spelled}
+use Rattle.oai_journal.specs.Files.{IsJournalFile, IsFirstRecord, front}
 use Rattle.oai_journal.specs.Frames.{frame, next_digest}
-use Rattle.oai_journal.specs.Groups.{AreGrouped, EndsBeforeOrAfter, IsGroup, IsOnDisk, IsMadeDurable, digest_of_all, further, inside, kept_group}
+use Rattle.oai_journal.specs.Groups.{AreGrouped, EndsBeforeOrAfter, IsGroup, IsOnDisk, IsMadeDurable, digest_of_all, inside, kept_group}
 use Rattle.oai_journal.specs.Kept.{HoldsRecords, IsAtEnd, DiskLeavesAllOrNone, IsWaiting, KeepsRecords, LeavesAllOrNone, Survives}
 use Rattle.oai_journal.specs.Records.{Entry, IsFit, is_first_kind}
 use Rattle.oai_journal.specs.declared.file.FileJournal.{FileJournal}

@@ -1,12 +1,12 @@
 -- What is known of a frame that is read by its length first.
-use Rattle.std.proofs.Common.{◌≡◌, ◌≢◌, ◌∙◌, ℕ, ◌+◌, ◌-◌, ◌<◌, ◌≤◌, min, Bool, true, false, List, [], ◌∷◌, ◌++◌, length, take, drop, Option, Some, None, MatchOption, refl, sym, ap, subst, arith}
+use Rattle.std.proofs.Common.{◌≡◌, ◌≢◌, ◌∙◌, ℕ, ◌-◌, ◌<◌, ◌≤◌, min, Bool, List, ◌++◌, length, take, drop, Option, Some, None, MatchOption, sym, ap, subst, arith}
 use Rattle.std.proofs.lemmas.Bool.{cases_lt}
-use Rattle.std.proofs.lemmas.List.{drop_all, length-append, length-drop, length-take-le, take-append-drop, take_all, take_at}
+use Rattle.std.proofs.lemmas.List.{length-append, length-drop, length-take-le, take-append-drop, take_all, take_at}
 use Rattle.std.proofs.Common.{ext_get_or, get_or-drop, get_or-take, inl, inr}
 use Rattle.sqlite_disk.specs.Disk.{Holds}
 use Rattle.oai_journal.specs.Frames.{entry_in, frame, len_in, next_digest}
 use Rattle.oai_journal.specs.Records.{Entry, IsFit, is_first_kind}
-use Rattle.oai_journal.specs.Recoveries.{Checks, FindsFrame, HasFrame, HasNoFrame, IsFrameChecked, IsFrame, IsLenAt}
+use Rattle.oai_journal.specs.Recoveries.{Checks, FindsFrame, IsLenAt}
 use Rattle.oai_journal.specs.declared.frames.TheConstants.{FRAME_ROOM}
 use Rattle.oai_journal.proofs.FrameLemmas.{frame_len, frame_read, length_frame, some_same}
 

@@ -1,15 +1,14 @@
 -- A journal that is read a frame further; where it ends, and where it is damaged.
-use Rattle.std.proofs.Common.{◌≡◌, ◌⊎◌, ◌↔◌, ◌∙◌, IsTrue, inl, inr, ⊎_elim, ℕ, ◌+◌, ◌-◌, ◌<◌, ◌≤◌, Bool, true, false, List, [], ◌∷◌, ◌++◌, length, map, take, drop, Option, Some, None, Result, Ok, Err, IfOk, refl, sym, ap, subst, arith, append_assoc}
+use Rattle.std.proofs.Common.{◌≡◌, ◌⊎◌, ◌↔◌, ◌∙◌, IsTrue, inl, inr, ℕ, ◌+◌, Bool, true, false, List, [], ◌∷◌, ◌++◌, length, drop, Option, Some, None, Result, Ok, Err, IfOk, refl, sym, ap, subst, arith, append_assoc}
 use Rattle.std.proofs.lemmas.Bool.{false≢true}
-use Rattle.std.proofs.lemmas.List.{append-nil, drop_at, length-append, map-append, take_all}
+use Rattle.std.proofs.lemmas.List.{append-nil, drop_at, length-append, map-append}
 use Rattle.sqlite_disk.specs.Disk.{Only}
 use Rattle.oai_journal.specs.Changes.{GoesOn, IsChangedAt, IsUndamaged}
-use Rattle.oai_journal.specs.Files.{AreGated, IsJournalFile, Gated, IsFirstRecord, IsGated, digest_after, front, is_open, spelled}
+use Rattle.oai_journal.specs.Files.{Gated, digest_after, front, is_open}
 use Rattle.oai_journal.specs.Frames.{entry_in, frame, next_digest}
-use Rattle.oai_journal.specs.Groups.{IsOnDisk}
 use Rattle.oai_journal.specs.Kept.{HoldsRecords, IsAtEnd}
-use Rattle.oai_journal.specs.Records.{Entry, IsFit, is_first_kind}
-use Rattle.oai_journal.specs.Recoveries.{Continues, EndsHere, FindsFrame, HasNoFirst, IsBrokenAt, IsDamagedAt, IsOpenWithNone, IsReadStep, ReadsTo, Starts, StartsAs, WasOpen, step_of}
+use Rattle.oai_journal.specs.Records.{Entry}
+use Rattle.oai_journal.specs.Recoveries.{Continues, EndsHere, FindsFrame, HasNoFirst, IsDamagedAt, IsOpenWithNone, IsReadStep, ReadsTo, Starts, StartsAs, WasOpen, step_of}
 use Rattle.oai_journal.specs.Recovered.{HasRecovered, current}
 use Rattle.oai_journal.specs.declared.file.FileJournal.{FileJournal}
 use Rattle.oai_journal.specs.declared.recovery.Recovery.{Recovery}

@@ -1,5 +1,5 @@
 -- An open gate that was changed: what stands behind it still goes on with the chain of digests. This repository's own.
-use Rattle.std.specs.Prelude.{◌≡◌, ℕ, ◌+◌, ◌<◌, ◌≤◌, ◌↔◌, false, List, [], ◌∷◌, ◌++◌, length, drop, IsTrue}
+use Rattle.std.specs.Prelude.{◌≡◌, ℕ, ◌<◌, ◌≤◌, ◌↔◌, false, List, [], ◌∷◌, ◌++◌, length, drop, IsTrue}
 use Rattle.oai_journal.specs.Files.{AreGated, IsJournalFile, Gated, IsFirstRecord, digest_after, front, is_open}
 use Rattle.oai_journal.specs.Frames.{frame, next_digest}
 use Rattle.oai_journal.specs.Groups.{AreGrouped, digest_of_all, inside}

@@ -1,5 +1,5 @@
 -- The file of a journal: frames, each behind a gate, and then a gate that is closed. This repository's own.
-use Rattle.std.specs.Prelude.{◌≡◌, ◌⊎◌, ℕ, ◌==◌, ◌<◌, Bool, true, false, ◌||◌, List, [], ◌∷◌, ◌++◌, length, map}
+use Rattle.std.specs.Prelude.{◌≡◌, ℕ, ◌==◌, Bool, true, false, ◌||◌, List, [], ◌∷◌, ◌++◌, map}
 use Rattle.oai_journal.specs.Frames.{frame, next_digest}
 use Rattle.oai_journal.specs.Records.{Entry, IsFit, is_first_kind}
 

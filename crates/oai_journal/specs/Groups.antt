@@ -1,5 +1,5 @@
 -- Groups of frames: how they are written behind the gate that ends a journal, and what stands on the disk. This repository's own.
-use Rattle.std.specs.Prelude.{◌≡◌, ◌⊎◌, ℕ, ◌+◌, ◌<◌, ◌≤◌, Bool, true, false, List, [], ◌∷◌, ◌++◌, length, map, take, IsTrue}
+use Rattle.std.specs.Prelude.{◌≡◌, ◌⊎◌, ℕ, false, List, [], ◌∷◌, ◌++◌, length, map}
 use Rattle.sqlite_disk.specs.Disk.{Holds, Only, Torn}
 use Rattle.oai_journal.specs.Files.{AreGated, IsJournalFile, Gated, IsFirstRecord, digest_after, front, is_open, spelled}
 use Rattle.oai_journal.specs.Frames.{frame, next_digest}

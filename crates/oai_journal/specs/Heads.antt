@@ -1,5 +1,5 @@
 -- The head of a frame, up to its digest: `<moment> <kind> <name> <length> `. This repository's own.
-use Rattle.std.specs.Prelude.{◌≡◌, ℕ, ◌==◌, ℤ, Bool, true, false, List, [], ◌++◌, length, codes, decimal, Option, Some, None, if◌then◌else◌, FitsSigned, IsTrue, ◌<◌, ◌≤◌, ◌^◌}
+use Rattle.std.specs.Prelude.{◌≡◌, ℕ, ◌==◌, ℤ, Bool, true, List, ◌++◌, length, codes, decimal, Option, Some, None, if◌then◌else◌, FitsSigned, ◌<◌, ◌≤◌, ◌^◌}
 use Rattle.std.specs.Fmt.{signed_decimal}
 use Rattle.std.specs.Int.{w64}
 use Rattle.std.specs.List.{before_first, after_first, list_all}

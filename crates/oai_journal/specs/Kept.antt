@@ -1,5 +1,5 @@
 -- What a journal's file keeps: on the disk, and in what waits for the next commit. This repository's own.
-use Rattle.std.specs.Prelude.{◌≡◌, ◌⊎◌, ℕ, ◌+◌, ◌≤◌, Bool, false, List, [], ◌++◌, length, take, vec_len, vec_capacity, Vec}
+use Rattle.std.specs.Prelude.{◌≡◌, ◌⊎◌, ℕ, ◌+◌, ◌≤◌, false, List, [], ◌++◌, length, take, vec_len, vec_capacity, Vec}
 use Rattle.std.proofs.Math.Nat.{add-le-add, le_refl, le_trans}
 use Rattle.std.specs.declared.alloc.Global.{Global}
 use Rattle.oai_journal.specs.Files.{IsJournalFile}

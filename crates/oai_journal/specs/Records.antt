@@ -1,5 +1,5 @@
 -- What a frame of a journal says. This repository's own.
-use Rattle.std.specs.Prelude.{ℕ, ◌==◌, ℤ, Bool, true, false, ◌&&◌, nat_le, List, length, codes, FitsSigned, IsTrue}
+use Rattle.std.specs.Prelude.{ℕ, ℤ, Bool, true, false, ◌&&◌, nat_le, List, length, codes, FitsSigned, IsTrue}
 use Rattle.std.specs.Int.{w64}
 use Rattle.std.specs.List.{list_all}
 use Rattle.oai_journal.specs.declared.records.Kind.{Kind}

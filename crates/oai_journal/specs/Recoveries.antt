@@ -1,8 +1,7 @@
 -- A journal's file as it is read from its first byte on. This repository's own.
-use Rattle.std.specs.Prelude.{◌≡◌, ◌⊎◌, ℕ, ◌+◌, ◌<◌, ◌≤◌, Bool, true, false, if◌then◌else◌, List, [], ◌∷◌, ◌++◌, length, map, take, drop, slice_index, Option, Some, None, MatchOption, IsTrue, IfOk, Result}
-use Rattle.sqlite_disk.specs.Disk.{Only}
+use Rattle.std.specs.Prelude.{◌≡◌, ◌⊎◌, ℕ, ◌+◌, ◌≤◌, Bool, true, false, if◌then◌else◌, List, [], ◌∷◌, ◌++◌, length, map, drop, Option, Some, MatchOption}
 use Rattle.oai_journal.specs.Changes.{GoesOn}
-use Rattle.oai_journal.specs.Files.{AreGated, IsJournalFile, Gated, IsFirstRecord, digest_after, front, is_open}
+use Rattle.oai_journal.specs.Files.{AreGated, Gated, IsFirstRecord, digest_after, front, is_open}
 use Rattle.oai_journal.specs.Frames.{entry_in, frame, next_digest}
 use Rattle.oai_journal.specs.Records.{Entry, IsFit, is_first_kind}
 use Rattle.oai_journal.specs.declared.recovery.Step.{Step}
