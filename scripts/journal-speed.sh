@@ -28,7 +28,7 @@ cat >"$program/src/main.rt" <<'RATTLE'
 
 use oai_journal::{FileJournal, Journal, Kind, Record, Recovery};
 use sqlite_disk::{Disk, Files};
-use sqlite_std_file::{Start, Wary, open};
+use sqlite_std_file::{Wary, open};
 use std::alloc::Global;
 use std::panic::Expect;
 use std::process::Abort;
@@ -107,15 +107,11 @@ fn measure<D: Disk + Drop>(rt: &(impl Print + Clock + Abort), alloc: Global, dis
     tell(rt, "read of a record", records, start);
 }
 
-fn run<S: Start>(rt: &HostRuntime, start: S) {
-    let Files { log, db } = open(rt, "journal", start).expect(rt, "open");
-    measure(rt, rt.alloc(), db);
-    drop(log);
-}
-
 fn main(rt: HostRuntime) {
     println!(&rt; "{:<44} {:>10} {:>12}", "call", "calls", "us in all").expect(&rt, "println");
-    run(&rt, Wary);
+    let Files { log, db } = open(&rt, "journal", Wary).expect(&rt, "open");
+    measure(&rt, rt.alloc(), db);
+    drop(log);
 }
 RATTLE
 cd "$program"
