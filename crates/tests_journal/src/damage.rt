@@ -43,7 +43,7 @@ fn found_of_cut(cut: usize) -> Found {
     }
     let mut gate = 53;
     for moment in 0..100 {
-        let next = gate + tick_len(moment);
+        let next = tick_len(moment).wrapping_add(gate);
         if cut < next {
             return Found::Damaged(moment, gate);
         }

@@ -36,7 +36,7 @@ pub fn found_in<D: Disk + Drop>(alloc: Global, disk: D) -> Found {
     let mut records = 0;
     for _turn in 0..1_000_000 {
         match recovery.advance() {
-            Ok(true) => records += 1,
+            Ok(true) => records = 1u64.wrapping_add(records),
             Ok(false) => return Found::Whole(records),
             Err(cause) => return failed(records, cause),
         }
