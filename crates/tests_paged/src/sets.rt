@@ -20,7 +20,7 @@ type CountedLists = TwoLists<PagedVersions<CountingDevice<MemoryDevice>>>;
 fn item_in(rt: &impl Abort, alloc: Global, letter: &str, later: i64, sets: &[&str]) -> Item {
     let mut bytes = Vec::new(alloc);
     push(rt, &mut bytes, &[1]);
-    push(rt, &mut bytes, &(STAMP + later).to_be_bytes());
+    push(rt, &mut bytes, &later.wrapping_add(STAMP).to_be_bytes());
     let identifier = format!(in alloc; "oai:a:{}", letter).expect(rt, "memory");
     push_text(rt, &mut bytes, identifier.as_bytes());
     push_count(rt, &mut bytes, sets.len());
