@@ -37,8 +37,6 @@ mod random;
 #[cfg(test)]
 mod samples;
 #[cfg(test)]
-mod sets;
-#[cfg(test)]
 mod side_by_side;
 #[cfg(test)]
 mod sizes;

@@ -50,16 +50,16 @@ pub(crate) fn sized(number: u32, later: u32, bytes: usize) -> Sample {
     }
 }
 
-pub(crate) fn push(rt: &impl Abort, bytes: &mut Vec<u8>, more: &[u8]) {
+fn push(rt: &impl Abort, bytes: &mut Vec<u8>, more: &[u8]) {
     bytes.extend_from_slice(more).expect(rt, "memory");
 }
 
-pub(crate) fn push_count(rt: &impl Abort, bytes: &mut Vec<u8>, count: usize) {
+fn push_count(rt: &impl Abort, bytes: &mut Vec<u8>, count: usize) {
     let count = u32::try_from(count).expect(rt, "u32::try_from");
     push(rt, bytes, &count.to_be_bytes());
 }
 
-pub(crate) fn push_text(rt: &impl Abort, bytes: &mut Vec<u8>, text: &[u8]) {
+fn push_text(rt: &impl Abort, bytes: &mut Vec<u8>, text: &[u8]) {
     push_count(rt, bytes, text.len());
     push(rt, bytes, text);
 }
