@@ -1,5 +1,6 @@
 -- Exchanges that are performed again, by what a handler keeps: this repository's own.
-use Rattle.std.specs.Prelude.{ℕ, ℤ, List, [], ◌∷◌, ◌++◌, codes, take, Option, None, Some}
+use Rattle.std.specs.Prelude.{ℕ, ℤ, Bool, ◌&&◌, nat_le, List, [], ◌∷◌, ◌++◌, codes, length, take, Option, None, Some}
+use Rattle.std.specs.List.{list_all}
 use Rattle.oai_http.specs.Targets.{front_of}
 use Rattle.oai_http.specs.declared.exchanges.Call.{Call}
 use Rattle.oai_http.specs.declared.handlers.Performed.{Performed}
@@ -9,6 +10,10 @@ use Rattle.oai_http.specs.declared.targets.Endpoint.TheVariants.{Deposits, Reque
 -- the call with the first bytes of its body, so many
 abbrev pub call_front : Call → ℕ → Call
 call_front call size = record call { body = take size call.body }
+
+-- a name of at most 32 ASCII characters that can be seen
+abbrev pub is_short_name : List ℕ → Bool
+is_short_name name = list_all (λ (b : ℕ). nat_le 33 b && nat_le b 126) name && nat_le (length name) 32
 
 -- the call of a repository that makes a request with these arguments, or deposits these lines
 abbrev pub own_call : ℤ → Endpoint → List ℕ → List ℕ → Call

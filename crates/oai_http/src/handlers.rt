@@ -1,6 +1,6 @@
-ghost use Rattle.std.specs.Prelude.{◌≡◌, ℤ, Bool, IsTrue, OnOk, Result};
+ghost use Rattle.std.specs.Prelude.{◌≡◌, ◌≤◌, ℤ, Bool, IfSome, IsTrue, None, OnOk, Result, length, max};
 ghost use Rattle.oai_http.specs.Exchanges.{Asked, asked_by, call_at};
-ghost use Rattle.oai_http.specs.Redone.{left_again};
+ghost use Rattle.oai_http.specs.Redone.{call_again, is_short_name, left_again};
 ghost use Rattle.oai_http.specs.declared.exchanges.Answer.{Answer as Given};
 ghost use Rattle.oai_http.specs.declared.exchanges.Call.{Call as Calls};
 ghost use Rattle.oai_http.specs.declared.handlers.SettleFault.{SettleFault as Unsettled};
@@ -34,8 +34,18 @@ pub struct Performed<'a> {
     pub endpoint: Endpoint,
     /// The name of the repository.
     pub name: &'a [u8],
-    /// The arguments of the request, still encoded; or the lines of the deposit.
+    /// The arguments of the request, still encoded; or the lines of the deposit. A request without arguments moves
+    /// the clock of the repository and does nothing else.
     pub bytes: &'a [u8],
+}
+
+/// An answer, and what was performed for it; `None` where nothing was that leaves a trace.
+#[derive(Debug, Drop)]
+pub struct Done<'a> {
+    /// The answer.
+    pub answer: Answer,
+    /// What is to be performed again, so that the handler is what it is now.
+    pub performed: Option<Performed<'a>>,
 }
 
 /// A handler whose exchanges can be performed again, so that it is what it was.
@@ -52,19 +62,30 @@ pub trait Replayed: Handler {
     /// What a call leaves.
     ghost redone: { Kept → Calls → Kept };
 
-    /// What of an exchange that was answered so was performed: a request, or a deposit of its first lines, as many
-    /// as were done; `None` where nothing was, which is all that a request leaves that failed. What the exchange
-    /// left is what that leaves.
-    fn performed<'a>(exchange: &Exchange<'a>, answer: &Answer) -> Option<Performed<'a>>
-        ensures left { (before : Self) (moment : ℤ) (after : Self) → IsTrue (is_honest before)
-            → Self.step before moment (asked_by exchange.now) answer.now after
-            → kept after ≡ left_again redone (kept before) moment result };
+    /// What a call is answered.
+    ghost reply: { Kept → Calls → Given };
 
-    /// Performs an exchange again, at the moment, in seconds from 1970 on, and makes no answer. The error is the
-    /// fault that ended it.
-    fn redo(&mut self, moment: i64, exchange: &Exchange<'_>) -> Result<(), Fault>
+    /// Performs a message as `exchange` does, and gives what of it is to be performed again: a request, or a deposit
+    /// of its first lines, as many as were done; nothing where nothing was done, which is all that a request leaves
+    /// that failed. What the message left is what that leaves.
+    fn perform<'a>(&mut self, moment: i64, exchange: &Exchange<'a>) -> Done<'a>
+        ensures step { Self.step self.old moment (asked_by exchange.now) result.answer self.new }
+        ensures left { IsTrue (is_honest self.old)
+            → kept self.new ≡ left_again redone (kept self.old) moment result.performed }
+        ensures whole { IsTrue (is_honest self.old) → result.answer.fault ≡ None
+            → kept self.new ≡ redone (kept self.old) (call_at moment (asked_by exchange.now)) }
+        ensures reply { IsTrue (is_honest self.old) → result.answer.fault ≡ None
+            → result.answer ≡ reply (kept self.old) (call_at moment (asked_by exchange.now)) }
+        ensures name { IfSome result.performed (λ p. IsTrue (is_short_name p.name.now)) }
+        ensures size { IfSome result.performed (λ p. length p.bytes.now
+            ≤ max (length exchange.now.target.now) (length exchange.now.body.now)) }
+        ensures honesty { is_honest self.new ≡ is_honest self.old };
+
+    /// Performs again, at the moment, in seconds from 1970 on, what was performed, and makes no answer. The error is
+    /// the fault that ended it.
+    fn redo(&mut self, moment: i64, performed: &Performed<'_>) -> Result<(), Fault>
         ensures redone { OnOk result (IsTrue (is_honest self.old)
-            → kept self.new ≡ redone (kept self.old) (call_at moment (asked_by exchange.now))) }
+            → kept self.new ≡ redone (kept self.old) (call_again moment performed.now)) }
         ensures honesty { is_honest self.new ≡ is_honest self.old };
 }
 
