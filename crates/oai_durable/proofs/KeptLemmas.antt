@@ -1,0 +1,65 @@
+-- What an exchange keeps.
+use Rattle.std.proofs.Common.{◌≡◌, ◌∙◌, ◌≤◌, inl, inr, ℕ, ℤ, ◌++◌, IsTrue, List, [], ◌∷◌, length, Option, None, Some, refl, sym, ap, subst, arith}
+use Rattle.std.proofs.lemmas.List.{append-nil}
+use Rattle.oai_item.specs.declared.faults.Fault.TheVariants.{NoMemory}
+use Rattle.oai_http.specs.Answers.{failed}
+use Rattle.oai_http.specs.Exchanges.{Asked, call_at}
+use Rattle.oai_http.specs.Redone.{left_again}
+use Rattle.oai_http.specs.declared.exchanges.Answer.{Answer}
+use Rattle.oai_http.specs.declared.handlers.Performed.{Performed}
+use Rattle.oai_journal.specs.Records.{Entry}
+use Rattle.oai_journal.specs.declared.journals.Journal as journal
+use Rattle.oai_durable.specs.Journaled.{IsExchange, IsHeld, IsKept, Parts, Replaying}
+use Rattle.oai_durable.specs.Records.{entries_of, redone_all}
+use Rattle.oai_durable.proofs.RecordLemmas.{left_redone, redone_append}
+
+none_is_some : {P : Type 0} {A : Type 0} (x : A) → Some x ≡ None → P
+none_is_some x is = cc
+
+-- a message that was refused before it was performed
+pub refused_kept : {H J : Type 0} (h : Replaying H) (j : journal.Ghosts J) (before : Parts H J) (moment : ℤ) (asked : Asked) (answer : Answer) (after : J)
+    → answer ≡ failed NoMemory None
+    → ((entries : List Entry) (durable : ℕ) → j.holds before.journal entries durable → j.holds after entries durable)
+    → IsExchange h j before moment asked answer (record { handler = before.handler; journal = after })
+refused_kept h j before moment asked answer after told same =
+    let fault : answer.fault ≡ Some NoMemory = ap (λ (a : Answer). a.fault) told in
+    record {
+      tried = inr (refl, told);
+      honesty = refl;
+      kept = λ begun entries durable held. record {
+        own = [];
+        one = grind (arith);
+        held = rw (append-nil entries) (record { records = same entries durable held.records; kept = held.kept });
+        told = λ honest whole. none_is_some NoMemory (sym fault ∙ whole);
+        left = λ honest whole. none_is_some NoMemory (sym fault ∙ whole);
+      };
+    }
+
+-- the handler performed a message, and its record was added, if there is one
+pub performed_kept : {H J : Type 0} (h : Replaying H) (j : journal.Ghosts J) (before : Parts H J) (moment : ℤ) (asked : Asked) (answer : Answer) (performed : Option Performed) (after : Parts H J)
+    → h.step before.handler moment asked answer after.handler
+    → (IsTrue (h.is_honest before.handler) → h.kept after.handler ≡ left_again h.redone (h.kept before.handler) moment performed)
+    → (IsTrue (h.is_honest before.handler) → answer.fault ≡ None → h.kept after.handler ≡ h.redone (h.kept before.handler) (call_at moment asked))
+    → (IsTrue (h.is_honest before.handler) → answer.fault ≡ None → answer ≡ h.reply (h.kept before.handler) (call_at moment asked))
+    → h.is_honest after.handler ≡ h.is_honest before.handler
+    → ((entries : List Entry) (durable : ℕ) → j.holds before.journal entries durable → j.holds after.journal (entries ++ entries_of moment performed) durable)
+    → IsExchange h j before moment asked answer after
+performed_kept h j before moment asked answer performed after step left whole reply honesty holds = record {
+  tried = inl step;
+  honesty = honesty;
+  kept = λ begun entries durable held.
+      let own : List Entry = entries_of moment performed in
+      let is : IsTrue (h.is_honest before.handler) → h.kept after.handler ≡ redone_all h.redone begun (entries ++ own) = λ honest.
+          left honest ∙ left_redone h.redone (h.kept before.handler) moment performed
+          ∙ ap (λ (k : h.Kept). redone_all h.redone k own) (held.kept honest) ∙ sym (redone_append h.redone begun entries own) in
+      record {
+        own = own;
+        one = few moment performed;
+        held = record { records = holds entries durable held.records; kept = λ honest. is (sym honesty ∙ honest) };
+        told = λ honest none. reply honest none ∙ ap (λ (k : h.Kept). h.reply k (call_at moment asked)) (held.kept honest);
+        left = λ honest none. sym (is honest) ∙ whole honest none ∙ ap (λ (k : h.Kept). h.redone k (call_at moment asked)) (held.kept honest);
+      };
+} where
+  few : (moment : ℤ) (p : Option Performed) → length (entries_of moment p) ≤ 1
+  few moment None = grind (arith)
+  few moment (Some p) = grind (arith)

@@ -1,0 +1,19 @@
+-- A message is performed and recorded, or refused.
+use Rattle.std.proofs.Common.{rules, ◌≡◌, ◌≤◌, ℕ, List, Some, None, Ok, refl, ap, sym, ◌∙◌, w64, FitsSigned, to_z-of_z, ◌++◌}
+use Rattle.oai_http.specs.Exchanges.{asked_by}
+use Rattle.oai_journal.specs.Records.{Entry}
+use Rattle.oai_durable.proofs.KeptLemmas.{performed_kept, refused_kept}
+use Rattle.oai_durable.proofs.journaled.JournaledHandler.exchange.Goals as goal
+
+pub returns-in-Some : goal.returns-in-Some
+returns-in-Some g c =
+    let fits : FitsSigned w64 c.args.moment = c.ranges.moment in
+    let is = c.perform-done.ensures in
+    let step = simp to_z-of_z at is.step in
+    let left = simp to_z-of_z at is.left in
+    let whole = simp to_z-of_z at is.whole in
+    let reply = simp to_z-of_z at is.reply in
+    let added = simp to_z-of_z at c.add.ensures in
+    rw (← c.self.view_is) (performed_kept _ g.J.Journal _ c.args.moment (asked_by c.args.exchange.now) c.perform-done.result.answer c.perform-done.result.performed _
+    step left whole reply is.honesty
+    (λ entries durable held. rw c.in-Some.is (added entries durable (c.make_room.ensures.same entries durable held))))

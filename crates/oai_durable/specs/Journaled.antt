@@ -1,0 +1,60 @@
+-- A handler whose exchanges stand in a journal before their answers leave. This repository's own.
+use Rattle.std.specs.Prelude.{◌≡◌, ◌⊎◌, ℕ, ℤ, ◌≤◌, Bool, IsTrue, List, ◌++◌, length, None, Result, OnErr, OnOk}
+use Rattle.oai_item.specs.declared.faults.Fault.TheVariants.{NoMemory}
+use Rattle.oai_http.specs.Answers.{failed}
+use Rattle.oai_http.specs.Exchanges.{Asked, call_at}
+use Rattle.oai_http.specs.declared.exchanges.Answer.{Answer}
+use Rattle.oai_http.specs.declared.exchanges.Call.{Call}
+use Rattle.oai_http.specs.declared.handlers.SettleFault.{SettleFault}
+use Rattle.oai_journal.specs.Records.{Entry}
+use Rattle.oai_journal.specs.declared.journals.Journal as journal
+use Rattle.oai_durable.specs.Records.{redone_all}
+
+-- what is said of a handler whose exchanges can be performed again: what may be answered, what it keeps, whether its device gives back what was
+-- written to it, what a call leaves, and what it is answered
+pub record Replaying (H : Type 0) : Type 1 where
+  pub step : H → ℤ → Asked → Answer → H → Type 0
+  pub Kept : Type 0
+  pub kept : H → Kept
+  pub is_honest : H → Bool
+  pub redone : Kept → Call → Kept
+  pub reply : Kept → Call → Answer
+
+-- the handler, and the journal
+pub record Parts (H J : Type 0) : Type 0 where
+  pub handler : H
+  pub journal : J
+
+-- these are the records of the journal, so many of them are durable, and to perform them again from that beginning gives what the handler keeps
+pub record IsHeld {H J : Type 0} (h : Replaying H) (j : journal.Ghosts J) (begun : h.Kept) (parts : Parts H J) (entries : List Entry) (durable : ℕ) : Type 0 where
+  pub records : j.holds parts.journal entries durable
+  pub kept : IsTrue (h.is_honest parts.handler) → h.kept parts.handler ≡ redone_all h.redone begun entries
+
+-- the handler performed the message; or it was refused for want of memory before it was
+abbrev pub IsTried : {H J : Type 0} → Replaying H → Parts H J → ℤ → Asked → Answer → Parts H J → Type 0
+IsTried h before moment asked answer after =
+    h.step before.handler moment asked answer after.handler
+    ⊎ ((after.handler ≡ before.handler) × (answer ≡ failed NoMemory None))
+
+-- an exchange behind these records: what was performed stands behind them, at most one record, and nothing more is durable. An answer without a
+-- fault is what the records before it make of the exchange, and with its own record they leave what the exchange leaves
+pub record IsKept {H J : Type 0} (h : Replaying H) (j : journal.Ghosts J) (begun : h.Kept) (entries : List Entry) (durable : ℕ)
+    (before : Parts H J) (moment : ℤ) (asked : Asked) (answer : Answer) (after : Parts H J) : Type 0 where
+  pub own : List Entry
+  pub one : length own ≤ 1
+  pub held : IsHeld h j begun after (entries ++ own) durable
+  pub told : IsTrue (h.is_honest before.handler) → answer.fault ≡ None → answer ≡ h.reply (redone_all h.redone begun entries) (call_at moment asked)
+  pub left : IsTrue (h.is_honest before.handler) → answer.fault ≡ None
+      → redone_all h.redone begun (entries ++ own) ≡ h.redone (redone_all h.redone begun entries) (call_at moment asked)
+
+-- what an exchange does, from whatever records it begins
+pub record IsExchange {H J : Type 0} (h : Replaying H) (j : journal.Ghosts J) (before : Parts H J) (moment : ℤ) (asked : Asked) (answer : Answer) (after : Parts H J) : Type 0 where
+  pub tried : IsTried h before moment asked answer after
+  pub honesty : h.is_honest after.handler ≡ h.is_honest before.handler
+  pub kept : (begun : h.Kept) (entries : List Entry) (durable : ℕ) → IsHeld h j begun before entries durable → IsKept h j begun entries durable before moment asked answer after
+
+-- to settle makes all records durable, or fails and leaves them as they were; the handler is as it was
+pub record IsSettled {H J : Type 0} (j : journal.Ghosts J) (before : Parts H J) (result : Result (Unit {0}) SettleFault) (after : Parts H J) : Type 0 where
+  pub handler : after.handler ≡ before.handler
+  pub ok : OnOk result ((entries : List Entry) (durable : ℕ) → j.holds before.journal entries durable → j.holds after.journal entries (length entries))
+  pub err : OnErr result ((entries : List Entry) (durable : ℕ) → j.holds before.journal entries durable → j.holds after.journal entries durable)

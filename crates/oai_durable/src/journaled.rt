@@ -1,0 +1,94 @@
+//! A handler, and the journal of what it performed.
+ghost use Rattle.oai_durable.specs.Records.{most_in};
+ghost use Rattle.oai_journal.specs.Records.{Entry};
+ghost use Rattle.oai_journal.specs.declared.records.TheConstants.{MAX_BODY};
+ghost use Rattle.std.specs.Prelude.{◌≡◌, ◌≤◌, ℕ, List, OnOk};
+
+use crate::records::add;
+use oai_http::{Answer, Exchange, Handler, Replayed, SettleFault, Settled};
+use oai_item::Fault;
+use oai_journal::{Journal, JournalFault, MAX_BODY};
+use std::alloc::Global;
+use std::marker::Model;
+
+/// A handler whose exchanges stand in a journal: what it performs is added behind what it performed before, and answers may
+/// leave once it has settled.
+#[derive(Drop)]
+pub struct Journaled<H, J> {
+    alloc: Global,
+    handler: H,
+    journal: J,
+}
+
+impl<H, J> Model for Journaled<H, J> {
+    ghost use Rattle.oai_durable.specs.Journaled.{Parts};
+
+    ghost Value = { Parts H J };
+
+    ghost view = { λ j. record { handler = j.handler; journal = j.journal } };
+}
+
+impl<H: Replayed, J: Journal> Journaled<H, J> {
+    /// The handler, of which the journal has what it performed.
+    pub fn new(alloc: Global, handler: H, journal: J) -> Journaled<H, J>
+        ensures handler { result.handler ≡ handler }
+        ensures journal { result.journal ≡ journal }
+    {
+        Journaled {
+            alloc,
+            handler,
+            journal,
+        }
+    }
+}
+
+impl<H: Replayed, J: Journal> Handler for Journaled<H, J> {
+    ghost use Rattle.oai_durable.specs.Journaled.{IsExchange};
+
+    ghost step = { IsExchange (record { step = H.step; Kept = H.Kept; kept = H.kept; is_honest = H.is_honest;
+        redone = H.redone; reply = H.reply }) J.Journal };
+
+    fn exchange(&mut self, moment: i64, exchange: &Exchange<'_>) -> Answer {
+        match make_room(&mut self.journal, exchange) {
+            Ok(()) => {
+                let done = self.handler.perform(moment, exchange);
+                if let Some(performed) = done.performed {
+                    add(&mut self.journal, moment, &performed);
+                }
+                done.answer
+            }
+            Err(_) => Answer::of_fault(self.alloc, Fault::NoMemory, None),
+        }
+    }
+}
+
+/// Makes room for a record of what the message may ask for. NoRoom where memory is refused, or a record cannot be so
+/// long.
+fn make_room<J: Journal>(journal: &mut J, exchange: &Exchange<'_>) -> Result<(), JournalFault>
+    ensures room { OnOk result (J.has_room journal.new (most_in exchange.now)) }
+    ensures size { OnOk result (most_in exchange.now ≤ MAX_BODY) }
+    ensures same { (entries : List Entry) (durable : ℕ) → J.holds journal.old entries durable
+        → J.holds journal.new entries durable }
+{
+    let most = exchange.target.len().max(exchange.body.len());
+    if most > MAX_BODY {
+        return Err(JournalFault::NoRoom);
+    }
+    match journal.reserve(most) {
+        Ok(()) => Ok(()),
+        Err(fault) => Err(fault),
+    }
+}
+
+impl<H: Replayed, J: Journal> Settled for Journaled<H, J> {
+    ghost use Rattle.oai_durable.specs.Journaled.{IsSettled};
+
+    ghost settled = { IsSettled J.Journal };
+
+    fn settle(&mut self) -> Result<(), SettleFault> {
+        match self.journal.commit() {
+            Ok(()) => Ok(()),
+            Err(_) => Err(SettleFault),
+        }
+    }
+}

@@ -1,0 +1,70 @@
+//! What was performed, as records of a journal.
+ghost use Rattle.oai_durable.specs.Records as spec;
+ghost use Rattle.oai_journal.specs.Records.{as_entry};
+ghost use Rattle.oai_http.specs.Redone.{call_again, is_short_name};
+ghost use Rattle.oai_journal.specs.Records.{Entry};
+ghost use Rattle.oai_journal.specs.declared.records.TheConstants.{MAX_BODY};
+ghost use Rattle.std.specs.Prelude.{◌≡◌, ◌≤◌, ◌++◌, ◌∷◌, [], ℕ, IfSome, IsTrue, List, length};
+
+use oai_http::{Endpoint, Performed};
+use oai_journal::{Journal, Kind, Record};
+
+/// What was performed at the moment, as a record: a deposit or a request, and a request without arguments as a tick.
+pub(crate) fn record_of<'a>(moment: i64, performed: &Performed<'a>) -> Record<'a>
+    ensures { as_entry result ≡ spec.entry_of moment performed.now }
+{
+    Record {
+        moment,
+        kind: kind_of(performed.endpoint, performed.bytes),
+        name: performed.name,
+        body: performed.bytes,
+    }
+}
+
+/// Adds what was performed at the moment behind the other records, into room that is there.
+#[tactic(auto, unfolding(oai_journal::specs::Records::is_within))]
+pub(crate) fn add<J: Journal>(journal: &mut J, moment: i64, performed: &Performed<'_>)
+    requires name { IsTrue (is_short_name performed.now.name.now) }
+    requires size { length performed.now.bytes.now ≤ MAX_BODY }
+    requires room { J.has_room journal.old (length performed.now.bytes.now) }
+    ensures { (entries : List Entry) (durable : ℕ) → J.holds journal.old entries durable
+        → J.holds journal.new (entries ++ spec.entry_of moment performed.now ∷ []) durable }
+{
+    journal.append(&record_of(moment, performed));
+}
+
+/// The kind of the record.
+fn kind_of(endpoint: Endpoint, bytes: &[u8]) -> Kind
+    ensures { result ≡ spec.kind_of endpoint bytes.now }
+{
+    match endpoint {
+        Endpoint::Deposits => Kind::Deposit,
+        Endpoint::Requests => {
+            if bytes.is_empty() {
+                Kind::Tick
+            } else {
+                Kind::Oai
+            }
+        }
+    }
+}
+
+/// What is to be performed again for a record; `None` for a kind that is no exchange.
+pub(crate) fn performed_in<'a>(entry: &Record<'a>) -> Option<Performed<'a>>
+    ensures { IfSome result (λ p. call_again entry.now.moment p ≡ spec.call_in (as_entry entry.now)) }
+{
+    let endpoint = match entry.kind {
+        Kind::Deposit => Endpoint::Deposits,
+        Kind::Oai => Endpoint::Requests,
+        Kind::Tick => Endpoint::Requests,
+        Kind::Journal => return None,
+        Kind::Begin => return None,
+        Kind::Set => return None,
+        Kind::Item => return None,
+    };
+    Some(Performed {
+        endpoint,
+        name: entry.name,
+        bytes: entry.body,
+    })
+}
