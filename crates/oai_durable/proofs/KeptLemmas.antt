@@ -1,5 +1,5 @@
 -- What an exchange keeps.
-use Rattle.std.proofs.Common.{◌≡◌, ◌∙◌, ◌≤◌, inl, inr, ℕ, ℤ, ◌++◌, IsTrue, List, [], ◌∷◌, length, Option, None, Some, refl, sym, ap, subst, arith}
+use Rattle.std.proofs.Common.{◌≡◌, ◌∙◌, ◌≤◌, inl, inr, ℕ, ℤ, ◌++◌, IsTrue, List, [], length, Option, None, Some, refl, sym, ap, arith}
 use Rattle.std.proofs.lemmas.List.{append-nil}
 use Rattle.oai_item.specs.declared.faults.Fault.TheVariants.{NoMemory}
 use Rattle.oai_http.specs.Answers.{failed}
@@ -9,7 +9,7 @@ use Rattle.oai_http.specs.declared.exchanges.Answer.{Answer}
 use Rattle.oai_http.specs.declared.handlers.Performed.{Performed}
 use Rattle.oai_journal.specs.Records.{Entry}
 use Rattle.oai_journal.specs.declared.journals.Journal as journal
-use Rattle.oai_durable.specs.Journaled.{IsExchange, IsHeld, IsKept, Parts, Replaying}
+use Rattle.oai_durable.specs.Journaled.{IsExchange, Parts, Replaying}
 use Rattle.oai_durable.specs.Records.{entries_of, redone_all}
 use Rattle.oai_durable.proofs.RecordLemmas.{left_redone, redone_append}
 
@@ -50,8 +50,8 @@ performed_kept h j before moment asked answer performed after step left whole re
   kept = λ begun entries durable held.
       let own : List Entry = entries_of moment performed in
       let is : IsTrue (h.is_honest before.handler) → h.kept after.handler ≡ redone_all h.redone begun (entries ++ own) = λ honest.
-          left honest ∙ left_redone h.redone (h.kept before.handler) moment performed
-          ∙ ap (λ (k : h.Kept). redone_all h.redone k own) (held.kept honest) ∙ sym (redone_append h.redone begun entries own) in
+      left honest ∙ left_redone h.redone (h.kept before.handler) moment performed
+      ∙ ap (λ (k : h.Kept). redone_all h.redone k own) (held.kept honest) ∙ sym (redone_append h.redone begun entries own) in
       record {
         own = own;
         one = few moment performed;

@@ -1,2 +1,3 @@
 pub mod RecordLemmas
 pub mod KeptLemmas
+pub mod RedoneLemmas

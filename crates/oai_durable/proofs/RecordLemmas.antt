@@ -1,6 +1,5 @@
 -- Records that are performed again.
-use Rattle.std.proofs.Common.{◌≡◌, ◌∙◌, ℕ, ℤ, ◌++◌, List, [], ◌∷◌, Option, None, Some, refl, sym, ap}
-use Rattle.std.proofs.lemmas.List.{append-nil}
+use Rattle.std.proofs.Common.{◌≡◌, ℕ, ℤ, ◌++◌, List, [], ◌∷◌, Option, None, Some, refl, sym, ap}
 use Rattle.oai_http.specs.Redone.{call_again, left_again, own_call}
 use Rattle.oai_http.specs.declared.exchanges.Call.{Call}
 use Rattle.oai_http.specs.declared.handlers.Performed.{Performed}

@@ -45,8 +45,14 @@ impl<H: Replayed, J: Journal> Journaled<H, J> {
 impl<H: Replayed, J: Journal> Handler for Journaled<H, J> {
     ghost use Rattle.oai_durable.specs.Journaled.{IsExchange};
 
-    ghost step = { IsExchange (record { step = H.step; Kept = H.Kept; kept = H.kept; is_honest = H.is_honest;
-        redone = H.redone; reply = H.reply }) J.Journal };
+    ghost step = { IsExchange (record {
+      step = H.step;
+      Kept = H.Kept;
+      kept = H.kept;
+      is_honest = H.is_honest;
+      redone = H.redone;
+      reply = H.reply;
+    }) J.Journal };
 
     fn exchange(&mut self, moment: i64, exchange: &Exchange<'_>) -> Answer {
         match make_room(&mut self.journal, exchange) {

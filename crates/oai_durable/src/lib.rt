@@ -4,5 +4,7 @@
 
 mod journaled;
 mod records;
+mod recovery;
 
 pub use journaled::Journaled;
+pub use recovery::{Progress, RecoverFault, recover};

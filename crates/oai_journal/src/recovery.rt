@@ -125,6 +125,7 @@ impl<D: Disk + Drop> Recovery<D> {
             → IsDamagedAt (D.Disk.seen (disk_of self.new)) at ⊎ IsChangedAt (D.Disk.seen (disk_of self.new)) at) }
         ensures seen { D.Disk.seen (disk_of self.new) ≡ D.Disk.seen (disk_of self.old) }
         ensures crash { (c : List ℕ) → D.Disk.may_leave (disk_of self.new) c → D.Disk.may_leave (disk_of self.old) c }
+        ensures clean { IsTrue (D.Disk.is_clean (disk_of self.new)) → IsTrue (D.Disk.is_clean (disk_of self.old)) }
     {
         if self.ended {
             return Ok(false);

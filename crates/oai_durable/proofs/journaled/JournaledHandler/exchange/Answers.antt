@@ -1,8 +1,7 @@
 -- A message is performed and recorded, or refused.
-use Rattle.std.proofs.Common.{rules, ◌≡◌, ◌≤◌, ℕ, List, Some, None, Ok, refl, ap, sym, ◌∙◌, w64, FitsSigned, to_z-of_z, ◌++◌}
+use Rattle.std.proofs.Common.{w64, FitsSigned, to_z-of_z}
 use Rattle.oai_http.specs.Exchanges.{asked_by}
-use Rattle.oai_journal.specs.Records.{Entry}
-use Rattle.oai_durable.proofs.KeptLemmas.{performed_kept, refused_kept}
+use Rattle.oai_durable.proofs.KeptLemmas.{performed_kept}
 use Rattle.oai_durable.proofs.journaled.JournaledHandler.exchange.Goals as goal
 
 pub returns-in-Some : goal.returns-in-Some

@@ -1,0 +1,127 @@
+//! The records of a journal, performed again.
+ghost use Rattle.oai_durable.specs.Records.{call_in};
+ghost use Rattle.oai_durable.specs.Recovered.{HasRedone, IsRecovered};
+ghost use Rattle.oai_journal.specs.Changes.{IsUndamaged};
+ghost use Rattle.oai_journal.specs.Records.{Entry, as_entry};
+ghost use Rattle.oai_journal.specs.Recovered.{HasRecovered, current, disk_of};
+ghost use Rattle.std.specs.Prelude.{◌≡◌, ◌++◌, ◌∷◌, [], ℕ, Some, false, IfOk, IsTrue, List, OnOk};
+
+use crate::records::performed_in;
+use oai_http::Replayed;
+use oai_item::Fault;
+use oai_journal::{Record, Recovery, RecoveryFault};
+use sqlite_disk::Disk;
+use thiserror::Error;
+
+/// Why the records of a journal were not all performed again. A number is that of a record: 1 is the one behind the first.
+#[derive(Clone, Copy, Debug, PartialEq, Eq, Error)]
+pub enum RecoverFault {
+    /// The journal could not be read on.
+    #[error("{0}")]
+    Journal(RecoveryFault),
+    /// The record is of a kind that is no exchange.
+    #[error("record {0}: it is no exchange")]
+    Kind(u64),
+    /// A fault ended it.
+    #[error("record {0}: performing it fails: {1}")]
+    Performing(u64, Fault),
+}
+
+/// What is told how far a recovery is.
+pub trait Progress {
+    /// So many bytes of `len` were read, and so many records were performed.
+    fn note(&mut self, position: usize, len: usize, records: u64);
+}
+
+/// Performs the records of the journal behind its first one again, one by one, and answers how many they were. The
+/// recovery has begun. The journal is as it was, also after an error: one of the journal's own, or with the number of the record
+/// that could not be performed.
+pub fn recover<H: Replayed, D: Disk + Drop, P: Progress>(
+    handler: &mut H,
+    recovery: &mut Recovery<D>,
+    progress: &mut P,
+) -> Result<u64, RecoverFault>
+    ensures recovered { IfOk result (λ count. IsTrue (D.Disk.is_clean (disk_of recovery.new)) → (first : Entry)
+        → HasRecovered D.Disk.seen D.Disk.may_leave recovery.old first []
+        → IsRecovered H.kept H.is_honest H.redone D.Disk.seen D.Disk.may_leave (H.kept handler.old) handler.new
+        recovery.new first count) }
+    ensures honesty { H.is_honest handler.new ≡ H.is_honest handler.old }
+    ensures seen { D.Disk.seen (disk_of recovery.new) ≡ D.Disk.seen (disk_of recovery.old) }
+    ensures crash { (c : List ℕ) → D.Disk.may_leave (disk_of recovery.new) c
+        → D.Disk.may_leave (disk_of recovery.old) c }
+{
+    for count in 0..u64::MAX {
+        if !redo_next(handler, recovery, count + 1)? {
+            return Ok(count);
+        }
+        progress.note(recovery.position(), recovery.file_len(), count + 1);
+    }
+    Err(RecoverFault::Kind(u64::MAX))
+}
+
+/// Reads the next record and performs it; false where there is none.
+fn redo_next<H: Replayed, D: Disk + Drop>(
+    handler: &mut H,
+    recovery: &mut Recovery<D>,
+    number: u64,
+) -> Result<bool, RecoverFault>
+    ensures next { IfOk result (λ more. IsTrue more → IsTrue (D.Disk.is_clean (disk_of recovery.new))
+        → (begun : H.Kept) (first : Entry) (entries : List Entry)
+        → HasRedone H.kept H.is_honest H.redone D.Disk.seen D.Disk.may_leave begun handler.old recovery.old first entries
+        → (e : Entry) × HasRedone H.kept H.is_honest H.redone D.Disk.seen D.Disk.may_leave begun handler.new
+        recovery.new first (entries ++ e ∷ [])) }
+    ensures end { IfOk result (λ more. more ≡ false → IsTrue (D.Disk.is_clean (disk_of recovery.new))
+        → (begun : H.Kept) (first : Entry) (entries : List Entry)
+        → HasRedone H.kept H.is_honest H.redone D.Disk.seen D.Disk.may_leave begun handler.old recovery.old first entries
+        → HasRedone H.kept H.is_honest H.redone D.Disk.seen D.Disk.may_leave begun handler.new recovery.new first entries
+        × IsUndamaged (D.Disk.seen (disk_of recovery.new)) first entries) }
+    ensures honesty { H.is_honest handler.new ≡ H.is_honest handler.old }
+    ensures seen { D.Disk.seen (disk_of recovery.new) ≡ D.Disk.seen (disk_of recovery.old) }
+    ensures crash { (c : List ℕ) → D.Disk.may_leave (disk_of recovery.new) c
+        → D.Disk.may_leave (disk_of recovery.old) c }
+    ensures clean { IsTrue (D.Disk.is_clean (disk_of recovery.new)) → IsTrue (D.Disk.is_clean (disk_of recovery.old)) }
+{
+    match recovery.advance() {
+        Ok(true) => match redo_last(handler, recovery, number) {
+            Ok(()) => Ok(true),
+            Err(fault) => Err(fault),
+        },
+        Ok(false) => Ok(false),
+        Err(fault) => Err(RecoverFault::Journal(fault)),
+    }
+}
+
+/// Performs the record that was read last.
+fn redo_last<H: Replayed, D: Disk + Drop>(
+    handler: &mut H,
+    recovery: &Recovery<D>,
+    number: u64,
+) -> Result<(), RecoverFault>
+    ensures redone { OnOk result ((e : Entry) → current recovery.now ≡ Some e → IsTrue (H.is_honest handler.old)
+        → H.kept handler.new ≡ H.redone (H.kept handler.old) (call_in e)) }
+    ensures honesty { H.is_honest handler.new ≡ H.is_honest handler.old }
+{
+    match recovery.record() {
+        Some(entry) => redo_entry(handler, &entry, number),
+        None => Err(RecoverFault::Kind(number)),
+    }
+}
+
+/// Performs a record.
+fn redo_entry<H: Replayed>(
+    handler: &mut H,
+    entry: &Record<'_>,
+    number: u64,
+) -> Result<(), RecoverFault>
+    ensures redone { OnOk result (IsTrue (H.is_honest handler.old)
+        → H.kept handler.new ≡ H.redone (H.kept handler.old) (call_in (as_entry entry.now))) }
+    ensures honesty { H.is_honest handler.new ≡ H.is_honest handler.old }
+{
+    match performed_in(entry) {
+        Some(performed) => match handler.redo(entry.moment, &performed) {
+            Ok(()) => Ok(()),
+            Err(fault) => Err(RecoverFault::Performing(number, fault)),
+        },
+        None => Err(RecoverFault::Kind(number)),
+    }
+}
