@@ -1,3 +1,4 @@
 pub mod RecordLemmas
 pub mod KeptLemmas
 pub mod RedoneLemmas
+pub mod LifeLemmas

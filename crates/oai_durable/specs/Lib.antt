@@ -1,3 +1,4 @@
 pub mod Records
 pub mod Journaled
 pub mod Recovered
+pub mod Lives

@@ -3,8 +3,10 @@
 #![tactic(auto)]
 
 mod journaled;
+mod laws;
 mod records;
 mod recovery;
 
 pub use journaled::Journaled;
+pub use laws::restart_law;
 pub use recovery::{Progress, RecoverFault, recover};
