@@ -2,3 +2,4 @@ pub mod RecordLemmas
 pub mod KeptLemmas
 pub mod RedoneLemmas
 pub mod LifeLemmas
+pub mod ServedLemmas

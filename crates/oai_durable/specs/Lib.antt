@@ -2,3 +2,4 @@ pub mod Records
 pub mod Journaled
 pub mod Recovered
 pub mod Lives
+pub mod Served

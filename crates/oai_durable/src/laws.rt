@@ -1,9 +1,14 @@
 //! What is so of every list of lives: theorems, each on a function with an empty body.
 ghost use Rattle.oai_durable.specs.Lives.{AreAmong, AreLives, Life, answered_in};
+ghost use Rattle.oai_durable.specs.Journaled.{Parts};
+ghost use Rattle.oai_durable.specs.Served.{IsLived, LivesAs};
+ghost use Rattle.oai_front.specs.Runs.{Served};
 ghost use Rattle.oai_journal.specs.Records.{Entry};
+ghost use Rattle.oai_serving.specs.Rounds.{served_in};
 ghost use Rattle.std.specs.Prelude.{[], List};
 
 use oai_http::Replayed;
+use oai_journal::Journal;
 
 /// What the last of any number of lives of a handler left is one list of records, in which every answer that left has its place,
 /// in order over all lives: without a fault it is what the records before it make of what was asked, and its own record
@@ -12,4 +17,15 @@ pub fn restart_law<H: Replayed>()
     ensures { (begun : H.Kept) (lives : List Life) (left : List Entry)
         → AreLives H.redone H.reply begun [] lives left
         → AreAmong H.redone H.reply begun [] (answered_in lives) left }
+{}
+
+/// A server's life is such a life: rounds in which messages were served and the handler settled, whose answers left; and then
+/// messages whose answers were held back, since it ended. What a crash leaves of its journal is what that life leaves, wherever
+/// it comes, within a call of the journal too.
+pub fn life_law<H: Replayed, J: Journal>()
+    ensures { (begun : H.Kept) (found : List Entry) (first : Parts H J) (rounds : List (List Served)) (held : List Served)
+        (left : List Entry)
+        → IsLived (record { step = H.step; Kept = H.Kept; kept = H.kept; is_honest = H.is_honest; redone = H.redone;
+            reply = H.reply }) J.Journal begun found first rounds held left
+        → LivesAs H.redone H.reply begun found (served_in rounds) held left }
 {}

@@ -1,0 +1,53 @@
+-- A life of a handler as a server lives it: rounds in which messages are served and the handler settles, and then others whose answers are held
+-- back. This repository's own.
+use Rattle.std.specs.Prelude.{◌≡◌, ◌⊎◌, ℕ, ℤ, IsTrue, List, ◌++◌, length, map, Result}
+use Rattle.oai_http.specs.Exchanges.{Asked}
+use Rattle.oai_http.specs.declared.exchanges.Answer.{Answer}
+use Rattle.oai_http.specs.declared.exchanges.Call.{Call}
+use Rattle.oai_http.specs.declared.handlers.SettleFault.{SettleFault}
+use Rattle.oai_front.specs.Runs.{Served, Serves}
+use Rattle.oai_journal.specs.Records.{Entry}
+use Rattle.oai_journal.specs.declared.journals.Journal as journal
+use Rattle.oai_serving.specs.Rounds.{AreSettled, served_in}
+use Rattle.oai_durable.specs.Journaled.{IsExchange, IsHeld, IsSettled, Parts, Replaying}
+use Rattle.oai_durable.specs.Lives.{Exchanged, IsLife, Life}
+
+-- what was asked at which moment, and what it was answered
+pub record Told : Type 0 where
+  pub moment : ℤ
+  pub asked : Asked
+  pub answer : Answer
+
+abbrev pub told_by : Exchanged → Told
+told_by e = record { moment = e.moment; asked = e.asked; answer = e.answer }
+
+abbrev pub told_to : Served → Told
+told_to s = record { moment = s.moment; asked = s.done.message.asked; answer = s.done.answer }
+
+-- the exchanges are those that were served, in order
+abbrev pub AreThose : List Exchanged → List Served → Type 0
+AreThose exchanges served = map told_by exchanges ≡ map told_to served
+
+-- how a life ends: at once, or after it settled or did not, before an answer left
+abbrev pub EndsAs : {H J : Type 0} → journal.Ghosts J → Parts H J → Parts H J → Type 0
+EndsAs j performed last = (last ≡ performed) ⊎ ((result : Result (Unit {0}) SettleFault) × IsSettled j performed result last)
+
+-- a life that begins in what those records give, all of them durable: rounds that settled, messages behind them, and what a crash then leaves
+pub record IsLived {H J : Type 0} (h : Replaying H) (j : journal.Ghosts J) (begun : h.Kept) (found : List Entry) (first : Parts H J)
+    (rounds : List (List Served)) (held : List Served) (left : List Entry) : Type 0 where
+  pub begins : IsHeld h j begun first found (length found)
+  pub honest : IsTrue (h.is_honest first.handler)
+  pub settled : Parts H J
+  pub settles : AreSettled (IsExchange h j) (IsSettled j) rounds first settled
+  pub performed : Parts H J
+  pub serves : Serves (IsExchange h j) settled held performed
+  pub last : Parts H J
+  pub ends : EndsAs j performed last
+  pub leaves : j.may_leave last.journal left
+
+-- the life whose answers left are those of the rounds that settled
+pub record LivesAs {K : Type 0} (redone : K → Call → K) (reply : K → Call → Answer) (begun : K) (found : List Entry) (answered held : List Served) (left : List Entry) : Type 0 where
+  pub life : Life
+  pub answers : AreThose life.answered answered
+  pub others : AreThose life.held held
+  pub is : IsLife redone reply begun found life left
