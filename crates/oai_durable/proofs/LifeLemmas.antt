@@ -32,9 +32,11 @@ pub among_life : {K : Type 0} (redone : K → Call → K) (reply : K → Call �
     → AreAmong redone reply begun (before ++ records_in answered) others records
     → AreAmong redone reply begun before (answered ++ others) records
 among_life redone reply begun before [] held others records places is = rw (append-nil before) at is
-among_life redone reply begun before (e ∷ es) held others records places is =
-    ([], rw (append-nil before) places.0,
-    rw (append-nil before) (among_life redone reply begun (before ++ e.own) es held others records places.1 (rw (append_assoc before e.own (records_in es)) is)))
+among_life redone reply begun before (e ∷ es) held others records places is = (
+  [],
+  rw (append-nil before) places.0,
+  rw (append-nil before) (among_life redone reply begun (before ++ e.own) es held others records places.1 (rw (append_assoc before e.own (records_in es)) is)),
+)
 
 -- what a life left begins with what it found and the records of what was answered
 pub life_left : (found left : List Entry) (life : Life) → IsLeft (length (found ++ records_in life.answered)) (found ++ records_in (life.answered ++ life.held)) left
@@ -43,7 +45,7 @@ life_left found left life leaves =
     let front : List Entry = found ++ records_in life.answered in
     let cut = take_behind front (records_in life.held) leaves.count leaves.enough in
     let joined : found ++ records_in (life.answered ++ life.held) ≡ front ++ records_in life.held =
-        ap (λ (rs : List Entry). found ++ rs) (flat_map-append (λ (e : Exchanged). e.own) life.answered life.held) ∙ sym (append_assoc found (records_in life.answered) (records_in life.held)) in
+    ap (λ (rs : List Entry). found ++ rs) (flat_map-append (λ (e : Exchanged). e.own) life.answered life.held) ∙ sym (append_assoc found (records_in life.answered) (records_in life.held)) in
     (cut.0, leaves.is ∙ ap (λ (rs : List Entry). take leaves.count rs) joined ∙ cut.1)
 
 pub lives_among : {K : Type 0} (redone : K → Call → K) (reply : K → Call → Answer) (begun : K) (found : List Entry) (lives : List Life) (left : List Entry)

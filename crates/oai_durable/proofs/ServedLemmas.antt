@@ -40,7 +40,7 @@ pub goes_then : {H J : Type 0} (h : Replaying H) (j : journal.Ghosts J) (begun :
 goes_then h j begun before durable then served others mid new first more =
     let es : List Exchanged = first.exchanges in
     let joined : before ++ records_in (es ++ more.exchanges) ≡ (before ++ records_in es) ++ records_in more.exchanges =
-        ap (λ (rs : List Entry). before ++ rs) (flat_map-append (λ (e : Exchanged). e.own) es more.exchanges) ∙ sym (append_assoc before (records_in es) (records_in more.exchanges)) in
+    ap (λ (rs : List Entry). before ++ rs) (flat_map-append (λ (e : Exchanged). e.own) es more.exchanges) ∙ sym (append_assoc before (records_in es) (records_in more.exchanges)) in
     record {
       exchanges = es ++ more.exchanges;
       those = map-append told_by es more.exchanges ∙ ap (λ xs. xs ++ map told_by more.exchanges) first.those ∙ ap (λ xs. map told_to served ++ xs) more.those ∙ sym (map-append told_to served others);
@@ -114,8 +114,8 @@ goes_rounds {H} {J} h j begun before (served ∷ rounds) old new held honest set
     let first = goes_settled h j begun before (length before) served round.0 mid (goes_all h j begun before (length before) served old round.0 held honest round.1) round.2 in
     let more = goes_rounds h j begun (before ++ records_in first.exchanges) rounds mid new first.held first.honest settles.2 in
     let joined : (before ++ records_in first.exchanges) ++ records_in more.goes.exchanges ≡ before ++ records_in (first.exchanges ++ more.goes.exchanges) =
-        append_assoc before (records_in first.exchanges) (records_in more.goes.exchanges)
-        ∙ sym (ap (λ (rs : List Entry). before ++ rs) (flat_map-append (λ (e : Exchanged). e.own) first.exchanges more.goes.exchanges)) in
+    append_assoc before (records_in first.exchanges) (records_in more.goes.exchanges)
+    ∙ sym (ap (λ (rs : List Entry). before ++ rs) (flat_map-append (λ (e : Exchanged). e.own) first.exchanges more.goes.exchanges)) in
     record {
       durable = more.durable;
       goes = goes_then h j begun before (length (before ++ records_in first.exchanges)) more.durable served (served_in rounds) mid new first more.goes;
@@ -145,8 +145,8 @@ lives_as h j law begun found first rounds held left lived =
     let few : before.durable ≤ length entries = few_of before.durable (found ++ records_in es) (records_in behind.exchanges) before.all in
     let ended = ends_held j entries before.durable lived.performed lived.last few behind.held.records lived.ends in
     let joined : entries ≡ found ++ records_in (es ++ behind.exchanges) =
-        append_assoc found (records_in es) (records_in behind.exchanges)
-        ∙ sym (ap (λ (rs : List Entry). found ++ rs) (flat_map-append (λ (e : Exchanged). e.own) es behind.exchanges)) in
+    append_assoc found (records_in es) (records_in behind.exchanges)
+    ∙ sym (ap (λ (rs : List Entry). found ++ rs) (flat_map-append (λ (e : Exchanged). e.own) es behind.exchanges)) in
     let is = left_less before.durable ended.0 entries left ended.1 (law lived.last.journal entries ended.0 left ended.2 lived.leaves) in
     record {
       life = record { answered = es; held = behind.exchanges };

@@ -25,7 +25,13 @@ pub fn restart_law<H: Replayed>()
 pub fn life_law<H: Replayed, J: Journal>()
     ensures { (begun : H.Kept) (found : List Entry) (first : Parts H J) (rounds : List (List Served)) (held : List Served)
         (left : List Entry)
-        → IsLived (record { step = H.step; Kept = H.Kept; kept = H.kept; is_honest = H.is_honest; redone = H.redone;
-            reply = H.reply }) J.Journal begun found first rounds held left
+        → IsLived (record {
+          step = H.step;
+          Kept = H.Kept;
+          kept = H.kept;
+          is_honest = H.is_honest;
+          redone = H.redone;
+          reply = H.reply;
+        }) J.Journal begun found first rounds held left
         → LivesAs H.redone H.reply begun found (served_in rounds) held left }
 {}

@@ -9,4 +9,4 @@ mod recovery;
 
 pub use journaled::Journaled;
 pub use laws::{life_law, restart_law};
-pub use recovery::{Progress, RecoverFault, recover};
+pub use recovery::{Progress, RecoverFault, recover, resume};

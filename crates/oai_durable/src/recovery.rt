@@ -1,16 +1,19 @@
 //! The records of a journal, performed again.
+ghost use Rattle.oai_durable.specs.Journaled.{IsHeld};
 ghost use Rattle.oai_durable.specs.Records.{call_in};
 ghost use Rattle.oai_durable.specs.Recovered.{HasRedone, IsRecovered};
 ghost use Rattle.oai_journal.specs.Changes.{IsUndamaged};
 ghost use Rattle.oai_journal.specs.Records.{Entry, as_entry};
 ghost use Rattle.oai_journal.specs.Recovered.{HasRecovered, current, disk_of};
-ghost use Rattle.std.specs.Prelude.{◌≡◌, ◌++◌, ◌∷◌, [], ℕ, Some, false, IfOk, IsTrue, List, OnOk};
+ghost use Rattle.std.specs.Prelude.{◌≡◌, ◌++◌, ◌∷◌, [], ℕ, Some, false, IfOk, IfSome, IsTrue, List, OnOk, length};
 
+use crate::journaled::Journaled;
 use crate::records::performed_in;
 use oai_http::Replayed;
 use oai_item::Fault;
-use oai_journal::{Record, Recovery, RecoveryFault};
+use oai_journal::{FileJournal, Journal, Record, Recovery, RecoveryFault};
 use sqlite_disk::Disk;
+use std::alloc::Global;
 use thiserror::Error;
 
 /// Why the records of a journal were not all performed again. A number is that of a record: 1 is the one behind the first.
@@ -57,6 +60,29 @@ pub fn recover<H: Replayed, D: Disk + Drop, P: Progress>(
         progress.note(recovery.position(), recovery.file_len(), count + 1);
     }
     Err(RecoverFault::Kind(u64::MAX))
+}
+
+/// The handler with the journal whose records it performed again; `None` before all of them were read.
+pub fn resume<H: Replayed + Drop, D: Disk + Drop>(
+    alloc: Global,
+    handler: H,
+    recovery: Recovery<D>,
+) -> Option<Journaled<H, FileJournal<D>>>
+    ensures { IfSome result (λ journaled. (begun : H.Kept) (first : Entry) (entries : List Entry)
+        → HasRedone H.kept H.is_honest H.redone D.Disk.seen D.Disk.may_leave begun handler recovery first entries
+        → IsHeld (record {
+          step = H.step;
+          Kept = H.Kept;
+          kept = H.kept;
+          is_honest = H.is_honest;
+          redone = H.redone;
+          reply = H.reply;
+        }) ⟦<FileJournal<D> as Journal>⟧ begun journaled entries (length entries)) }
+{
+    match recovery.into_journal() {
+        Some(journal) => Some(Journaled::new(alloc, handler, journal)),
+        None => None,
+    }
 }
 
 /// Reads the next record and performs it; false where there is none.
