@@ -40,6 +40,15 @@ impl<H: Replayed, J: Journal> Journaled<H, J> {
             journal,
         }
     }
+
+    /// The journal; the handler is dropped.
+    pub fn into_journal(self) -> J
+    where
+        H: Drop,
+        ensures { result ≡ self.journal }
+    {
+        self.journal
+    }
 }
 
 impl<H: Replayed, J: Journal> Handler for Journaled<H, J> {

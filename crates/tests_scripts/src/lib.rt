@@ -11,8 +11,6 @@ mod runs;
 #[cfg(test)]
 mod sample_host;
 #[cfg(test)]
-mod script;
-#[cfg(test)]
 mod script_failures;
 #[cfg(test)]
 mod script_lies;

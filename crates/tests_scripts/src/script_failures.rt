@@ -2,7 +2,7 @@
 //! where nothing failed; nor does a failure leave a page that nobody needs.
 use crate::assertions::assert_same_at;
 use crate::sample_host::{host, paged};
-use crate::script::{Form, long, script, short};
+use tests_fixtures::{Form, long, script, short};
 use oai_catalogue::{PlainVersions, Versions};
 use oai_device::{FaultyDevice, MemoryDevice, PageDevice};
 use oai_host::{Answer, Host};
@@ -189,7 +189,7 @@ fn failures_at(
 
 /// Each call fails in turn, and one exchange of the script with it, up to the first run in which none does.
 fn assert_each_fails(rt: &impl Abort, alloc: Global, trouble: Trouble, form: Form) {
-    let script = script(rt, alloc, form);
+    let script = script(alloc, form).expect(rt, "memory");
     for k in 1..1_000u64 {
         let failures = failures_at(rt, alloc, trouble, script.as_str(), form.pages, k);
         if failures == 0 {

@@ -1,7 +1,7 @@
 //! The script over a device that lies once. The exchange that meets the lie fails, and the other repositories answer as where there is none.
 use crate::assertions::assert_same_at;
 use crate::sample_host::{host, paged};
-use crate::script::{Form, long, script, short};
+use tests_fixtures::{Form, long, script, short};
 use crate::script_failures::{answer_of, assert_written, failed, step_in};
 use oai_device::{FlippingDevice, MemoryDevice};
 use oai_host::Host;
@@ -9,6 +9,7 @@ use oai_item::Fault;
 use oai_paged::PagedVersions;
 use oai_pool::PagePool;
 use std::alloc::Global;
+use std::panic::Expect;
 use std::process::Abort;
 use tests_devices::CountingDevice;
 
@@ -75,7 +76,7 @@ fn lies_met(rt: &impl Abort, alloc: Global, script: &str, k: u64) -> u64 {
 
 /// Each read is a lie in turn, and one exchange of the script fails for it, up to the first run in which none does.
 fn assert_each_lie(rt: &impl Abort, alloc: Global, form: Form) {
-    let script = script(rt, alloc, form);
+    let script = script(alloc, form).expect(rt, "memory");
     for k in 1..1_000u64 {
         let lies = lies_met(rt, alloc, script.as_str(), k);
         if lies == 0 {

@@ -2,18 +2,19 @@
 use crate::assertions::assert_same;
 use crate::runs::{answers_to, assert_runs, calls_in};
 use crate::sample_host::paged;
-use crate::script::{Form, long, script, short};
+use tests_fixtures::{Form, long, script, short};
 use crate::script_failures::{assert_written, failed, step_in};
 use oai_device::MemoryDevice;
 use oai_host::Answer;
 use oai_item::Fault;
 use std::alloc::Global;
+use std::panic::Expect;
 use std::process::Abort;
 use tests_devices::RefusingDevice;
 
 /// Where no call fails, the script in that form is answered as one run.
 fn assert_undisturbed(rt: &impl Abort, alloc: Global, form: Form) {
-    let script = script(rt, alloc, form);
+    let script = script(alloc, form).expect(rt, "memory");
     assert_runs(rt, alloc, script.as_str());
 }
 
@@ -57,7 +58,7 @@ fn refused_at(rt: &impl Abort, alloc: Global, script: &str, k: u64) -> bool {
 
 /// Each call of the device is refused memory in turn, up to the first run in which none is.
 fn assert_each_refused(rt: &impl Abort, alloc: Global, form: Form) {
-    let script = script(rt, alloc, form);
+    let script = script(alloc, form).expect(rt, "memory");
     for k in 1..1_000u64 {
         if !refused_at(rt, alloc, script.as_str(), k) {
             assert!(rt; k > 1);

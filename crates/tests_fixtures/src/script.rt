@@ -1,21 +1,19 @@
 //! A script of all that three repositories are asked for: each verb, each change, a list that is followed while its records
 //! change, a table of open lists that is full, and an empty one. It is made over stores and devices of which a call fails.
-use std::alloc::Global;
-use std::panic::Expect;
-use std::process::Abort;
+use std::alloc::{AllocError, Global};
 
 /// A form of the script.
 #[derive(Clone, Copy)]
-pub(crate) struct Form {
+pub struct Form {
     /// How many letters the title of the first item has.
-    pub(crate) letters: usize,
+    pub letters: usize,
     /// On how many pages the items stand at the end: those of the first repository, which its open list names too; the others
     /// have none.
-    pub(crate) pages: usize,
+    pub pages: usize,
 }
 
 /// The script with a short title: the three items stand on one page.
-pub(crate) fn short() -> Form {
+pub fn short() -> Form {
     Form {
         letters: 1,
         pages: 1,
@@ -24,23 +22,25 @@ pub(crate) fn short() -> Form {
 
 /// The script with a title of 20,000 letters: its item has a page and two overflow pages, and the two others stand on one page
 /// behind it.
-pub(crate) fn long() -> Form {
+pub fn long() -> Form {
     Form {
         letters: 20_000,
         pages: 4,
     }
 }
 
-/// The script in that form.
-pub(crate) fn script(rt: &impl Abort, alloc: Global, form: Form) -> String {
-    let title = vec![in alloc; b'T'; form.letters].expect(rt, "memory");
-    let title = std::str::from_utf8(&title).expect(rt, "from_utf8");
+/// The script in that form. The error is out of memory.
+pub fn script(alloc: Global, form: Form) -> Result<String, AllocError> {
+    let mut title = String::new(alloc);
+    for _ in 0..form.letters {
+        title.push('T')?;
+    }
     let mut whole = String::new(alloc);
     for part in [deposits(), requests(), changes(), lists()] {
-        let part = part.replace(alloc, "{t}", title).expect(rt, "memory");
-        whole.push_str(part.as_str()).expect(rt, "memory");
+        let part = part.replace(alloc, "{t}", title.as_str())?;
+        whole.push_str(part.as_str())?;
     }
-    whole
+    Ok(whole)
 }
 
 /// A set and four items.

@@ -1,0 +1,122 @@
+//! Archives of the worked configuration, over a journal that can crash.
+use oai_device::{MemoryDevice, PageDevice};
+use oai_durable::{Journaled, Progress, recover, resume};
+use oai_host::{Config, Host};
+use oai_http::{Answer, Handler, Settled};
+use oai_journal::{FileJournal, Kind, Record, Recovery};
+use oai_paged::{PagedVersions, VersionsOver};
+use oai_pool::Pool;
+use sqlite_disk::Memory;
+use std::alloc::Global;
+use std::panic::Expect;
+use std::process::Abort;
+use tests_fixtures::{answer_to, body_of, exchange_in, worked_configuration, write_exchanged};
+
+/// A host of the worked configuration over pages of a device.
+pub(crate) type Pages<D> = Host<PagedVersions<D>>;
+
+/// The host and its journal.
+pub(crate) type Archive<D> = Journaled<Pages<D>, FileJournal<Memory>>;
+
+/// Nobody who is told how far a recovery is.
+#[derive(Drop)]
+struct Quiet;
+
+impl Progress for Quiet {
+    fn note(&mut self, _position: usize, _len: usize, _records: u64) {}
+}
+
+/// The first record of a journal.
+fn first() -> Record<'static> {
+    Record {
+        moment: 1_704_067_200,
+        kind: Kind::Journal,
+        name: b"oaihostd",
+        body: worked_configuration().as_bytes(),
+    }
+}
+
+/// A new host over the device, with a cache of so many pages.
+pub(crate) fn host_on<D: PageDevice + Drop>(
+    rt: &impl Abort,
+    alloc: Global,
+    device: D,
+    cache: usize,
+) -> Pages<D> {
+    let config = Config::read(alloc, worked_configuration().as_bytes()).expect(rt, "Config::read");
+    let pool = Pool::new(alloc, device, cache).expect(rt, "Pool::new");
+    Host::new(alloc, config, VersionsOver::new(alloc, pool)).expect(rt, "Host::new")
+}
+
+/// A journal of no records.
+fn empty_journal(rt: &impl Abort, alloc: Global) -> FileJournal<Memory> {
+    let first = first();
+    assert!(rt; first.is_fit());
+    assert!(rt; first.kind.is_first());
+    FileJournal::create(alloc, Memory::new(alloc), &first).expect(rt, "create")
+}
+
+/// An archive that begins over the device.
+pub(crate) fn begun_on<D: PageDevice + Drop>(
+    rt: &impl Abort,
+    alloc: Global,
+    device: D,
+    cache: usize,
+) -> Archive<D> {
+    let host = host_on(rt, alloc, device, cache);
+    Journaled::new(alloc, host, empty_journal(rt, alloc))
+}
+
+/// An archive that begins over pages in memory.
+pub(crate) fn begun(rt: &impl Abort, alloc: Global, cache: usize) -> Archive<MemoryDevice> {
+    begun_on(rt, alloc, MemoryDevice::new(alloc), cache)
+}
+
+/// Performs all records again.
+fn redo_all(
+    rt: &impl Abort,
+    alloc: Global,
+    mut host: Pages<MemoryDevice>,
+    mut recovery: Recovery<Memory>,
+) -> Archive<MemoryDevice> {
+    recovery.begin().expect(rt, "begin");
+    recover(&mut host, &mut recovery, &mut Quiet).expect(rt, "recover");
+    resume(alloc, host, recovery).expect(rt, "resume")
+}
+
+/// The archive that is found after a crash of the other.
+pub(crate) fn found_after<D: PageDevice + Drop>(
+    rt: &impl Abort,
+    alloc: Global,
+    archive: Archive<D>,
+    cache: usize,
+) -> Archive<MemoryDevice> {
+    let recovery = archive.into_journal().crash(alloc);
+    let host = host_on(rt, alloc, MemoryDevice::new(alloc), cache);
+    redo_all(rt, alloc, host, recovery)
+}
+
+/// What the handler answers to the exchange of the line.
+pub(crate) fn answer_of<H: Handler>(
+    rt: &impl Abort,
+    alloc: Global,
+    handler: &mut H,
+    line: &str,
+) -> Answer {
+    let line = exchange_in(line).expect(rt, "exchange_in");
+    let body = body_of(alloc, line).expect(rt, "body_of");
+    answer_to(handler, line, body.as_str())
+}
+
+/// Performs the exchange of the line, settles, and writes the answer.
+pub(crate) fn tell<H: Settled>(
+    rt: &impl Abort,
+    alloc: Global,
+    handler: &mut H,
+    line: &str,
+    output: &mut Vec<u8>,
+) {
+    let answer = answer_of(rt, alloc, handler, line);
+    handler.settle().expect(rt, "settle");
+    write_exchanged(&answer, output).expect(rt, "write_exchanged");
+}

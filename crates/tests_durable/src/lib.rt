@@ -1,0 +1,9 @@
+//! Tests of archives that outlive their process (`oai_durable`), over pages and journals in memory. It holds nothing else.
+#![tactic(auto)]
+
+#[cfg(test)]
+mod archives;
+#[cfg(test)]
+mod ends;
+#[cfg(test)]
+mod faults;
