@@ -1,5 +1,5 @@
 #!/usr/bin/env bash
-# Refuses each request for memory in turn. A program is made in a copy of the crates, with the script of crates/tests_scripts/src/script.rt, on a host
+# Refuses each request for memory in turn. A program is made in a copy of the crates, with the script of crates/tests_fixtures/src/scripts.rt, on a host
 # over pages in memory, and is run, compiled with checks and without a proof, once for each request for memory that it makes:
 #   exchange   the script by Host::exchange: an exchange that is answered 503 for memory is made once more
 #   run        the script by Host::run: a run that is refused is made once more; in one that answers 503, the answers before it are compared

@@ -45,7 +45,7 @@ def write_steps(letters: int) -> None:
     texts = CRATES / "tests_fixtures/src/transcripts.rt"
     head = plain_text(texts, "document_head")
     core = plain_text(texts, "dublin_core")
-    script = raw_texts(CRATES / "tests_scripts/src/script.rt")
+    script = raw_texts(CRATES / "tests_fixtures/src/scripts.rt")
     transcript = "".join(script[name] for name in ("deposits", "requests", "changes", "lists"))
     transcript = transcript.replace("{t}", "T" * letters)
     rows = []

@@ -2,14 +2,13 @@
 use Rattle.std.proofs.Common.{◌≡◌, ◌∙◌, ◌≤◌, inl, inr, ℕ, ℤ, ◌++◌, IsTrue, List, [], length, Option, None, Some, refl, sym, ap, arith}
 use Rattle.std.proofs.lemmas.List.{append-nil}
 use Rattle.oai_item.specs.declared.faults.Fault.TheVariants.{NoMemory}
-use Rattle.oai_http.specs.Answers.{failed}
 use Rattle.oai_http.specs.Exchanges.{Asked, call_at}
 use Rattle.oai_http.specs.Redone.{left_again}
 use Rattle.oai_http.specs.declared.exchanges.Answer.{Answer}
 use Rattle.oai_http.specs.declared.handlers.Performed.{Performed}
 use Rattle.oai_journal.specs.Records.{Entry}
 use Rattle.oai_journal.specs.declared.journals.Journal as journal
-use Rattle.oai_durable.specs.Journaled.{IsExchange, Parts, Replaying}
+use Rattle.oai_durable.specs.Journaled.{IsExchange, IsHeld, IsKept, Parts, Replaying, refused}
 use Rattle.oai_durable.specs.Records.{entries_of, redone_all}
 use Rattle.oai_durable.proofs.RecordLemmas.{left_redone, redone_append}
 
@@ -18,7 +17,7 @@ none_is_some x is = cc
 
 -- a message that was refused before it was performed
 pub refused_kept : {H J : Type 0} (h : Replaying H) (j : journal.Ghosts J) (before : Parts H J) (moment : ℤ) (asked : Asked) (answer : Answer) (after : J)
-    → answer ≡ failed NoMemory None
+    → answer ≡ refused asked.target
     → ((entries : List Entry) (durable : ℕ) → j.holds before.journal entries durable → j.holds after entries durable)
     → IsExchange h j before moment asked answer (record { handler = before.handler; journal = after })
 refused_kept h j before moment asked answer after told same =

@@ -1,11 +1,14 @@
 -- A handler whose exchanges stand in a journal before their answers leave. This repository's own.
-use Rattle.std.specs.Prelude.{◌≡◌, ◌⊎◌, ℕ, ℤ, ◌≤◌, Bool, IsTrue, List, ◌++◌, length, None, Result, OnErr, OnOk}
+use Rattle.std.specs.Prelude.{◌≡◌, ◌⊎◌, ℕ, ℤ, ◌≤◌, Bool, IsTrue, List, ◌++◌, length, Option, None, Some, Result, OnErr, OnOk}
 use Rattle.oai_item.specs.declared.faults.Fault.TheVariants.{NoMemory}
 use Rattle.oai_http.specs.Answers.{failed}
 use Rattle.oai_http.specs.Exchanges.{Asked, call_at}
+use Rattle.oai_http.specs.Targets.{endpoint_of}
 use Rattle.oai_http.specs.declared.exchanges.Answer.{Answer}
 use Rattle.oai_http.specs.declared.exchanges.Call.{Call}
 use Rattle.oai_http.specs.declared.handlers.SettleFault.{SettleFault}
+use Rattle.oai_http.specs.declared.targets.Endpoint.{Endpoint}
+use Rattle.oai_http.specs.declared.targets.Endpoint.TheVariants.{Deposits, Requests}
 use Rattle.oai_journal.specs.Records.{Entry}
 use Rattle.oai_journal.specs.declared.journals.Journal as journal
 use Rattle.oai_durable.specs.Records.{redone_all}
@@ -30,11 +33,21 @@ pub record IsHeld {H J : Type 0} (h : Replaying H) (j : journal.Ghosts J) (begun
   pub records : j.holds parts.journal entries durable
   pub kept : IsTrue (h.is_honest parts.handler) → h.kept parts.handler ≡ redone_all h.redone begun entries
 
--- the handler performed the message; or it was refused for want of memory before it was
+-- of a deposit that was not begun no line was done
+abbrev pub none_done : Option Endpoint → Option ℕ
+none_done (Some Deposits) = Some 0
+none_done (Some Requests) = None
+none_done None = None
+
+-- the answer to a message that was refused before it was performed, since there was no room for its record
+abbrev pub refused : List ℕ → Answer
+refused target = failed NoMemory (none_done (endpoint_of target))
+
+-- the handler performed the message; or it was refused before it was
 abbrev pub IsTried : {H J : Type 0} → Replaying H → Parts H J → ℤ → Asked → Answer → Parts H J → Type 0
 IsTried h before moment asked answer after =
     h.step before.handler moment asked answer after.handler
-    ⊎ ((after.handler ≡ before.handler) × (answer ≡ failed NoMemory None))
+    ⊎ ((after.handler ≡ before.handler) × (answer ≡ refused asked.target))
 
 -- an exchange behind these records: what was performed stands behind them, at most one record, and nothing more is durable. An answer without a
 -- fault is what the records before it make of the exchange, and with its own record they leave what the exchange leaves

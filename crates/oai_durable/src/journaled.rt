@@ -1,11 +1,12 @@
 //! A handler, and the journal of what it performed.
+ghost use Rattle.oai_durable.specs.Journaled as spec;
 ghost use Rattle.oai_durable.specs.Records.{most_in};
 ghost use Rattle.oai_journal.specs.Records.{Entry};
 ghost use Rattle.oai_journal.specs.declared.records.TheConstants.{MAX_BODY};
 ghost use Rattle.std.specs.Prelude.{◌≡◌, ◌≤◌, ℕ, List, OnOk};
 
 use crate::records::add;
-use oai_http::{Answer, Exchange, Handler, Replayed, SettleFault, Settled};
+use oai_http::{Answer, Endpoint, Exchange, Handler, Replayed, SettleFault, Settled, endpoint_of};
 use oai_item::Fault;
 use oai_journal::{Journal, JournalFault, MAX_BODY};
 use std::alloc::Global;
@@ -72,9 +73,21 @@ impl<H: Replayed, J: Journal> Handler for Journaled<H, J> {
                 }
                 done.answer
             }
-            Err(_) => Answer::of_fault(self.alloc, Fault::NoMemory, None),
+            Err(_) => refused(self.alloc, exchange.target),
         }
     }
+}
+
+/// The answer to a message that was not performed, since there was no room for its record; of a deposit, with no line done.
+fn refused(alloc: Global, target: &[u8]) -> Answer
+    ensures { result ≡ spec.refused target.now }
+{
+    let done = match endpoint_of(target) {
+        Some(Endpoint::Deposits) => Some(0),
+        Some(Endpoint::Requests) => None,
+        None => None,
+    };
+    Answer::of_fault(alloc, Fault::NoMemory, done)
 }
 
 /// Makes room for a record of what the message may ask for. NoRoom where memory is refused, or a record cannot be so

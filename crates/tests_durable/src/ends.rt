@@ -105,7 +105,11 @@ fn answer_that_was_held_back(rt: HostRuntime) {
 }
 
 /// Of the two items the first one is there, with its datestamp, and the other is not. The clock is that of the first.
-pub(crate) fn assert_only_first(rt: &impl Abort, alloc: Global, archive: &mut Archive<MemoryDevice>) {
+pub(crate) fn assert_only_first(
+    rt: &impl Abort,
+    alloc: Global,
+    archive: &mut Archive<MemoryDevice>,
+) {
     let transcript = only_first();
     let mut output = Vec::new(alloc);
     for line in transcript.lines() {

@@ -5,7 +5,7 @@
 
 mod archives;
 mod exchanges;
-mod script;
+mod scripts;
 mod shared;
 mod stocked;
 mod transcripts;
@@ -13,7 +13,7 @@ mod worked;
 
 pub use archives::{Told, archive_a, archive_b, archive_c, settings_of};
 pub use exchanges::{ExchangeLine, answer_to, body_of, exchange_in, write_exchanged};
-pub use script::{Form, long, script, short};
+pub use scripts::{Form, long, script, short};
 pub use shared::{Shared, Which};
 pub use stocked::Stocked;
 pub use transcripts::{asked_in, document_head, push_wanted, wanted_in, worked_configuration};

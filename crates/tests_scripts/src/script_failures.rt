@@ -2,7 +2,6 @@
 //! where nothing failed; nor does a failure leave a page that nobody needs.
 use crate::assertions::assert_same_at;
 use crate::sample_host::{host, paged};
-use tests_fixtures::{Form, long, script, short};
 use oai_catalogue::{PlainVersions, Versions};
 use oai_device::{FaultyDevice, MemoryDevice, PageDevice};
 use oai_host::{Answer, Host};
@@ -12,7 +11,10 @@ use std::alloc::Global;
 use std::panic::Expect;
 use std::process::Abort;
 use tests_devices::RefusingDevice;
-use tests_fixtures::{ExchangeLine, answer_to, body_of, exchange_in, wanted_in, write_exchanged};
+use tests_fixtures::{
+    ExchangeLine, Form, answer_to, body_of, exchange_in, long, script, short, wanted_in,
+    write_exchanged,
+};
 use tests_stores::{failing, refusing};
 
 // ---- exchanges of a script

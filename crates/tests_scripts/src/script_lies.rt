@@ -1,7 +1,6 @@
 //! The script over a device that lies once. The exchange that meets the lie fails, and the other repositories answer as where there is none.
 use crate::assertions::assert_same_at;
 use crate::sample_host::{host, paged};
-use tests_fixtures::{Form, long, script, short};
 use crate::script_failures::{answer_of, assert_written, failed, step_in};
 use oai_device::{FlippingDevice, MemoryDevice};
 use oai_host::Host;
@@ -12,6 +11,7 @@ use std::alloc::Global;
 use std::panic::Expect;
 use std::process::Abort;
 use tests_devices::CountingDevice;
+use tests_fixtures::{Form, long, script, short};
 
 /// A host over a device that lies once, whose reads are counted.
 type LiedTo = Host<PagedVersions<CountingDevice<FlippingDevice<MemoryDevice>>>>;

@@ -2,7 +2,6 @@
 use crate::assertions::assert_same;
 use crate::runs::{answers_to, assert_runs, calls_in};
 use crate::sample_host::paged;
-use tests_fixtures::{Form, long, script, short};
 use crate::script_failures::{assert_written, failed, step_in};
 use oai_device::MemoryDevice;
 use oai_host::Answer;
@@ -11,6 +10,7 @@ use std::alloc::Global;
 use std::panic::Expect;
 use std::process::Abort;
 use tests_devices::RefusingDevice;
+use tests_fixtures::{Form, long, script, short};
 
 /// Where no call fails, the script in that form is answered as one run.
 fn assert_undisturbed(rt: &impl Abort, alloc: Global, form: Form) {
