@@ -161,10 +161,11 @@ impl Repo {
     {
         let mut clock = self.clock;
         clock.tick(moment);
+        let moved = clock.now();
         let view = RepoView {
             alloc: self.alloc,
             config: &self.config,
-            clock: clock.now(),
+            clock: moved,
             index: &self.index,
             sets: &self.sets,
             asked: Asked::nothing(),

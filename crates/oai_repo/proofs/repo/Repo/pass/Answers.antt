@@ -40,14 +40,14 @@ move_to-requires-clause-owns g c =
 pub returns-clause-step : goal.returns-clause-step
 returns-clause-step g c = λ honest.
     let fits : FitsSigned w64 c.args.moment = c.ranges.moment in
-    let fits_now : FitsSigned w64 c.now.result = record { sfits = c.now.type_inv } in
+    let fits_now : FitsSigned w64 c.now-moved.result = record { sfits = c.now-moved.type_inv } in
     let inside = c.self.inside in
     let before = g.V.Versions.lists c.args.store.now in
     let between = g.V.Versions.lists c.pass_query.new.store in
     let table = c.pass_query.new.lists in
     let now : ℤ = c.tick.new.self in
     let moved : now ≡ tick inside.clock c.args.moment = simp to_z-of_z at c.tick.ensures.moved in
-    let passed = rw c.now.ensures at (simp to_z-of_z at (c.in_ok-pass_query.ensures.passed honest)) in
+    let passed = rw c.now-moved.ensures at (simp to_z-of_z at (c.in_ok-pass_query.ensures.passed honest)) in
     let request : AskOrError = request_of inside.config.granularity (decoded_pairs c.args.query.now) in
     let holdings = holdings_of inside.index inside.sets before in
     let done = step-passed inside.config now (tick inside.clock c.args.moment) holdings (open_lists_of inside.clock inside.lists before) (open_lists_of now inside.lists before) (open_lists_of now table between) request
@@ -79,8 +79,8 @@ returns-clause-keeps g c =
 
 pub returns-clause-table : goal.returns-clause-table
 returns-clause-table g c =
-    let fits_now : FitsSigned w64 c.now.result = record { sfits = c.now.type_inv } in
-    let asked = rw c.now.ensures at (simp to_z-of_z at c.in_ok-pass_query.ensures.left.left.asked) in
+    let fits_now : FitsSigned w64 c.now-moved.result = record { sfits = c.now-moved.type_inv } in
+    let asked = rw c.now-moved.ensures at (simp to_z-of_z at c.in_ok-pass_query.ensures.left.left.asked) in
     let clock = ap (λ (s : RepoState). s.clock) c.move_to.ensures.moved in
     let dropped = rw clock at c.move_to.ensures.dropped.table in
     rw (← c.self.view_is, clock) (record { made = c.pass_query.new.lists; asked = asked; dropped = dropped; few = few_asked c.tick.new.self c.self.inside.lists c.pass_query.new.lists c.move_to.new.self.table asked dropped })
