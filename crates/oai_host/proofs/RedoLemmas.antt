@@ -1,12 +1,25 @@
 -- What an exchange left is what is left again by as much of it as was performed.
-use Rattle.std.proofs.Common.{◌≡◌, ◌∙◌, inl, inr, ℕ, ℤ, Bool, true, false, not, ◌&&◌, IsTrue, List, [], ◌∷◌, take, Option, None, Some, Result, Ok, Err, refl, sym, ap}
+use Rattle.std.proofs.Common.{◌≡◌, ◌∙◌, inl, inr, ℕ, ℤ, Bool, true, false, not, ◌&&◌, IsTrue, List, [], ◌∷◌, length, take, Option, None, Some, Result, Ok, Err, refl, sym, ap, arith}
 use Rattle.std.specs.Prelude.{OnOk}
 use Rattle.std.proofs.lemmas.Bool.{cases_Bool, cond-true, cond-false}
 use Rattle.oai_item.specs.declared.faults.Fault.{Fault}
 use Rattle.oai_item.specs.declared.faults.Fault.TheVariants.{Damaged, Device, NoMemory, TooManyPages}
 use Rattle.oai_settings.specs.Config.{Config}
 use Rattle.oai_repo.specs.Machine.{Output, bytes, query, step, wait}
-use Rattle.oai_repo.specs.State.{RepoState}
+use Rattle.oai_repo.specs.State.{OpenLists, RepoState, at_clock, moved}
+use Rattle.oai_repo.specs.Calls.{IsClockAt, IsPassed, changes_lists, room_to_ask}
+use Rattle.oai_repo.specs.Fields.{Keeps, RepoFields, holdings_of, state_of}
+use Rattle.oai_repo.proofs.PassLemmas.{bare_ticks, ticks}
+use Rattle.oai_args.specs.Pairs.{decoded_pairs}
+use Rattle.oai_args.specs.Requests.{request_of}
+use Rattle.std.specs.Int.Signed.{≤ℤ_refl}
+use Rattle.oai_repo.proofs.OpenListLemmas.{still_same}
+use Rattle.oai_catalogue.specs.Calls.{Uses}
+use Rattle.oai_catalogue.specs.Store.{Lists}
+use Rattle.oai_catalogue.specs.declared.versions.Versions.{Ghosts}
+use Rattle.oai_http.specs.declared.targets.Endpoint.{Endpoint}
+use Rattle.oai_http.specs.declared.targets.Endpoint.TheVariants.{Deposits, Requests}
+use Rattle.oai_host.specs.Exchanged.{RedoesIn}
 use Rattle.oai_http.specs.Answers.{failed}
 use Rattle.oai_http.specs.Redone.{call_again}
 use Rattle.oai_http.specs.Targets.{leads_to_repository}
@@ -15,14 +28,15 @@ use Rattle.oai_http.specs.declared.exchanges.Call.{Call}
 use Rattle.oai_http.specs.declared.handlers.Performed.{Performed}
 use Rattle.oai_http.specs.declared.statuses.Status.{Status}
 use Rattle.oai_host.specs.Alone.{done_alone, exchanged_alone}
-use Rattle.oai_host.specs.Answers.{answer_of, failure}
+use Rattle.oai_host.specs.Answers.{IsReply, answer_of, failure, failure_in}
 use Rattle.oai_host.specs.Bodies.{lines_in}
 use Rattle.oai_host.specs.DepositLines.{AreTaken}
 use Rattle.oai_host.specs.Hosts.{AreSteps, HostState, IsExchanged, Repository, is_of_none, refused, store_of}
 use Rattle.oai_host.specs.Performed.{HasStopped, IsDone, IsPerformed, StoreState}
-use Rattle.oai_host.specs.Redone.{IsRedone, redone_all, redone_at, reply_all}
+use Rattle.oai_host.specs.Redone.{IsRedone, LeaveSame, redone_all, redone_at, reply_all}
 use Rattle.oai_host.specs.Tasks.{Task, asking, depositing, refusing, task_of}
 use Rattle.oai_host.proofs.DepositLemmas.{lines_exact}
+use Rattle.oai_host.proofs.RoomLemmas.{fault_told}
 use Rattle.oai_host.proofs.RunLemmas.{done_exact}
 
 -- ---- faults
@@ -122,6 +136,84 @@ lines_left config moment body answer before old after new honest performed fault
       ∙ ap (λ (k : ℕ). (done_alone config before moment (depositing (take k (lines_in body)))).1) same
       ∙ ap (λ (lines : List (List ℕ)). (done_alone config before moment (depositing lines)).1) (sym taken)
 ]
+
+-- ---- what is enough
+
+request_ticks : (config : Config) (moment : ℤ) (arguments : List ℕ) (before : RepoState) → changes_lists (request_of config.granularity (decoded_pairs arguments)) ≡ false
+    → (done_alone config before moment (asking arguments)).1 ≡ moved moment before
+request_ticks config moment arguments before none = ticks config before moment (request_of config.granularity (decoded_pairs arguments)) none
+
+-- where the clock stands nothing has to be done again
+pub nothing_enough : (config : Config) (was is : ℤ) (arguments : List ℕ) → changes_lists (request_of config.granularity (decoded_pairs arguments)) ≡ false → is ≡ was → LeaveSame config Requests was is arguments None
+nothing_enough config was is arguments none stands moment before after first last open_ones left =
+    let moves : after ≡ moved moment before = left ∙ request_ticks config moment arguments before none in
+    moves ∙ ap (λ (clock : ℤ). at_clock clock before) (sym (ap (λ (s : RepoState). s.clock) moves) ∙ last ∙ stands) ∙ open_ones
+
+-- and else a request without arguments is enough
+pub tick_enough : (config : Config) (was is : ℤ) (arguments : List ℕ) → changes_lists (request_of config.granularity (decoded_pairs arguments)) ≡ false → LeaveSame config Requests was is arguments (Some [])
+tick_enough config was is arguments none moment before after first last open_ones left =
+    left ∙ request_ticks config moment arguments before none ∙ sym (request_ticks config moment [] before (bare_ticks config.granularity))
+
+pub all_enough : (config : Config) (endpoint : Endpoint) (was is : ℤ) (its : List ℕ) → LeaveSame config endpoint was is its (Some its)
+all_enough config endpoint was is its moment before after first last open_ones left = left
+
+pub no_lines_enough : (config : Config) (was is : ℤ) (lines : List ℕ) → length lines ≡ 0 → LeaveSame config Deposits was is lines None
+no_lines_enough config was is [] none moment before after first last open_ones left = left
+no_lines_enough config was is (b ∷ lines) none moment before after first last open_ones left = absurd (omega (arith, none))
+
+-- the lists of a repository are open at its clock
+pub stands_open : (clock : ℤ) (repo : RepoFields) (lists : Lists) → clock ≡ repo.clock → at_clock clock (state_of repo lists) ≡ state_of repo lists
+stands_open clock repo lists is =
+    ap (λ (now : ℤ). at_clock now (state_of repo lists)) is
+    ∙ ap (λ (open_ones : OpenLists). record { clock = repo.clock; holdings = holdings_of repo.index repo.sets lists; open_lists = open_ones }) (still_same repo.clock repo.clock repo.table lists (≤ℤ_refl repo.clock))
+
+-- ---- a request is passed
+
+reply_of_output : (output : Output) → IsReply (answer_of output)
+reply_of_output (bytes body) = refl
+reply_of_output (wait seconds) = refl
+
+-- a repository that passes a request has performed it, and its answer is dropped
+pub passed_in : {V : Type 0} (g : Ghosts V) (moment : ℤ) (arguments : List ℕ) (result : Result (Unit {0}) Fault) (old : RepoFields) (before : V) (new : RepoFields) (after : V)
+    → OnOk result (IsTrue (g.honest before) → IsPassed old (g.lists before) moment arguments new (g.lists after)) → IsClockAt result moment old (g.lists before) new (g.lists after)
+    → holdings_of new.index new.sets (g.lists after) ≡ holdings_of old.index old.sets (g.lists before) → Keeps (g.honest before) old (g.lists before) new (g.lists after)
+    → Uses g (room_to_ask (request_of old.config.granularity (decoded_pairs arguments))) result before after → RedoesIn g moment (asking arguments) result old before new after
+passed_in g moment arguments (Ok done) old before new after passed clock kept keeps store =
+    let was : RepoState = state_of old (g.lists before) in
+    let alone : Answer × RepoState = done_alone old.config was moment (asking arguments) in
+    let whole : alone.0.fault ≡ None = output_whole (step old.config was moment (query arguments)).0 in
+    let no_failure : failure_in alone.0 ≡ Ok done = ap failure whole in (
+      alone.0,
+      sym no_failure,
+      record {
+        performed = record {
+          ended = inl (record {
+            reply = reply_of_output (step old.config was moment (query arguments)).0;
+            clock = clock;
+            holdings = kept;
+            exact = λ honest. ap (λ (state : RepoState). (alone.0, state)) (sym (passed honest));
+          });
+          room = rw no_failure (record { enough = tt; used = store.room.used });
+          device = rw no_failure (record { count = store.device.count; device = tt });
+          honesty = rw no_failure (record { same = store.honesty.same; damaged = tt });
+        };
+        kept = keeps;
+      },
+    )
+passed_in g moment arguments (Err fault) old before new after passed clock kept keeps store =
+    let told = fault_told fault None in (
+      failed fault None,
+      sym told,
+      record {
+        performed = record {
+          ended = inr (fault, (refl, rw (clock.0, clock.1) refl));
+          room = rw told (record { enough = store.room.enough; used = store.room.used });
+          device = rw told (record { count = store.device.count; device = store.device.device });
+          honesty = rw told (record { same = store.honesty.same; damaged = store.honesty.damaged });
+        };
+        kept = keeps;
+      },
+    )
 
 -- ---- the host
 

@@ -6,7 +6,7 @@ use Rattle.oai_item.specs.declared.faults.Fault.{Fault}
 use Rattle.oai_item.specs.declared.faults.Fault.TheVariants.{Damaged}
 use Rattle.oai_catalogue.specs.Store.{IsCounted, IsHonest}
 use Rattle.oai_settings.specs.Config.{Config}
-use Rattle.oai_repo.specs.State.{RepoState}
+use Rattle.oai_repo.specs.State.{RepoState, at_clock}
 use Rattle.oai_http.specs.Exchanges.{call_of}
 use Rattle.oai_http.specs.Redone.{call_again, is_short_name, left_again, own_call}
 use Rattle.oai_http.specs.Targets.{leads_to_repository}
@@ -53,10 +53,36 @@ abbrev pub IsLeftBy : Config → ℤ → Endpoint → Option (List ℕ) → Repo
 IsLeftBy config moment endpoint None before after = after ≡ before
 IsLeftBy config moment endpoint (Some bytes) before after = after ≡ (done_alone config before moment (task_again endpoint bytes)).1
 
+-- where the first bytes were performed, others may be performed again in their place, or nothing: at a repository whose clock was the one and is
+-- the other, and whose lists are open, they leave the same
+abbrev pub LeaveSame : Config → Endpoint → ℤ → ℤ → List ℕ → Option (List ℕ) → Type 0
+LeaveSame config endpoint was is bytes others =
+    (moment : ℤ) (before after : RepoState)
+    → before.clock ≡ was
+    → after.clock ≡ is
+    → at_clock was before ≡ before
+    → IsLeftBy config moment endpoint (Some bytes) before after
+    → IsLeftBy config moment endpoint others before after
+
+-- they are no longer
+abbrev pub AreNoLonger : List ℕ → Option (List ℕ) → Type 0
+AreNoLonger bytes others = IfSome others (λ (its : List ℕ). length its ≤ length bytes)
+
 -- of an exchange of a repository that was answered so, these bytes were performed and nothing else; or nothing
 abbrev pub LeavesAgain : Endpoint → Exchange → Answer → Option (List ℕ) → Type 0
 LeavesAgain endpoint exchange answer bytes =
     (config : Config) (moment : ℤ) (before after : RepoState) (old new : StoreState)
+    → IsTrue old.honest
+    → IsPerformed config moment (task_in endpoint (call_of moment exchange)) answer before old after new
+    → IsLeftBy config moment endpoint bytes before after
+
+-- and so it is between these two clocks
+abbrev pub LeavesBetween : Config → Endpoint → Exchange → Answer → ℤ → ℤ → Option (List ℕ) → Type 0
+LeavesBetween config endpoint exchange answer was is bytes =
+    (moment : ℤ) (before after : RepoState) (old new : StoreState)
+    → before.clock ≡ was
+    → after.clock ≡ is
+    → at_clock was before ≡ before
     → IsTrue old.honest
     → IsPerformed config moment (task_in endpoint (call_of moment exchange)) answer before old after new
     → IsLeftBy config moment endpoint bytes before after

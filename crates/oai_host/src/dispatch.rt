@@ -1,12 +1,13 @@
 //! What exchanges ask of a repository, performed: requests of OAI-PMH, and deposits.
 ghost use Rattle.oai_host.specs.Answers.{failure_in};
 ghost use Rattle.oai_host.specs.Exchanged.{PerformsIn, RedoesIn};
-ghost use Rattle.oai_host.specs.Redone.{IsLeftBy, IsNoLonger, LeavesAgain, task_again};
+ghost use Rattle.oai_host.specs.Redone.{AreNoLonger, IsLeftBy, IsNoLonger, LeaveSame, LeavesAgain, LeavesBetween, task_again};
 ghost use Rattle.oai_host.specs.Tasks as spec;
 ghost use Rattle.oai_host.specs.Tasks.{task_in};
 ghost use Rattle.oai_http.specs.Exchanges.{call_of};
 ghost use Rattle.oai_repo.specs.Fields.{Owns};
 ghost use Rattle.oai_http.specs.declared.targets.Endpoint.TheVariants.{Deposits, Requests};
+ghost use Rattle.oai_settings.specs.Config.{Config};
 ghost use Rattle.std.specs.Option.{option_copied};
 ghost use Rattle.oai_repo.specs.Fields.{state_of};
 ghost use Rattle.std.specs.Prelude.{IfOk, IsTrue, MatchResult, length, max, ℤ, ◌≡◌, ◌≤◌};
@@ -111,12 +112,71 @@ pub(crate) fn perform_recorded<'a, V: Versions>(
         (state_of repo.new (V.lists store.new)) }
     ensures size { IsNoLonger exchange.now (option_copied result.1) }
 {
+    let clock = repo.clock();
     let answer = perform(alloc, repo, store, moment, endpoint, exchange);
-    let bytes = bytes_done(endpoint, exchange, &answer);
+    let bytes = bytes_to_redo(repo, clock, endpoint, exchange, &answer);
     (answer, bytes)
 }
 
-/// The bytes by which an exchange is performed again that was answered so; `None` where nothing was performed.
+/// The bytes by which an exchange is performed again that was answered so, where the clock stood at `clock` before it.
+fn bytes_to_redo<'a>(
+    repo: &Repo,
+    clock: i64,
+    endpoint: Endpoint,
+    exchange: &Exchange<'a>,
+    answer: &Answer,
+) -> Option<&'a [u8]>
+    ensures left { LeavesBetween repo.now.config endpoint exchange.now answer.now clock repo.now.clock
+        (option_copied result) }
+    ensures size { IsNoLonger exchange.now (option_copied result) }
+{
+    match bytes_done(endpoint, exchange, answer) {
+        Some(bytes) => enough_of(repo, clock, endpoint, bytes),
+        None => None,
+    }
+}
+
+/// As much of the bytes as has to be performed again, where the clock stood at `clock` before them.
+fn enough_of<'a>(repo: &Repo, clock: i64, endpoint: Endpoint, bytes: &'a [u8]) -> Option<&'a [u8]>
+    ensures same { LeaveSame repo.now.config endpoint clock repo.now.clock bytes.now
+        (option_copied result) }
+    ensures size { AreNoLonger bytes.now (option_copied result) }
+{
+    match endpoint {
+        Endpoint::Requests => enough_of_request(repo, clock, bytes),
+        Endpoint::Deposits => some_lines(bytes),
+    }
+}
+
+/// As much of a request as has to be performed again: all of it where it may have changed a list, a request without
+/// arguments where it moved the clock, and else nothing.
+fn enough_of_request<'a>(repo: &Repo, clock: i64, arguments: &'a [u8]) -> Option<&'a [u8]>
+    ensures same { LeaveSame repo.now.config Requests clock repo.now.clock arguments.now
+        (option_copied result) }
+    ensures size { AreNoLonger arguments.now (option_copied result) }
+{
+    if repo.changes_lists(arguments) {
+        Some(arguments)
+    } else if repo.clock() == clock {
+        None
+    } else {
+        Some(&[])
+    }
+}
+
+/// The lines, where there are bytes.
+fn some_lines(lines: &[u8]) -> Option<&[u8]>
+    ensures same { (config : Config) (was is : ℤ) → LeaveSame config Deposits was is lines.now
+        (option_copied result) }
+    ensures size { AreNoLonger lines.now (option_copied result) }
+{
+    if lines.is_empty() {
+        return None;
+    }
+    Some(lines)
+}
+
+/// The bytes that were performed of an exchange that was answered so; `None` where nothing was.
 fn bytes_done<'a>(endpoint: Endpoint, exchange: &Exchange<'a>, answer: &Answer) -> Option<&'a [u8]>
     ensures left { LeavesAgain endpoint exchange.now answer.now (option_copied result) }
     ensures size { IsNoLonger exchange.now (option_copied result) }
@@ -141,11 +201,28 @@ pub(crate) fn redo<V: Versions>(
     ensures { RedoesIn V.Versions moment (task_again endpoint bytes.now) result repo.old store.old
         repo.new store.new }
 {
-    let answer = match endpoint {
-        Endpoint::Requests => perform_request(alloc, repo, store, moment, bytes),
-        Endpoint::Deposits => perform_lines(alloc, repo, store, moment, bytes),
-    };
-    fault_of(&answer)
+    match endpoint {
+        Endpoint::Requests => pass_request(repo, store, moment, bytes),
+        Endpoint::Deposits => {
+            let answer = perform_lines(alloc, repo, store, moment, bytes);
+            fault_of(&answer)
+        }
+    }
+}
+
+/// Performs a request again, by its arguments, and makes no document.
+#[tactic(auto, using(crate::proofs::RedoLemmas::passed_in))]
+fn pass_request<V: Versions>(
+    repo: &mut Repo,
+    store: &mut V,
+    moment: i64,
+    arguments: &[u8],
+) -> Result<(), Fault>
+    requires owns { Owns (V.honest store.old) repo.old (V.lists store.old) }
+    ensures { RedoesIn V.Versions moment (spec.asking arguments.now) result repo.old store.old repo.new
+        store.new }
+{
+    repo.pass(store, moment, arguments)
 }
 
 /// Ok, or why the exchange failed that was answered so.

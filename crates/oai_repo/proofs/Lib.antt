@@ -16,3 +16,4 @@ pub mod MarkLemmas
 pub mod TokenLemmas
 pub mod WaitLemmas
 pub mod NeighbourLemmas
+pub mod PassLemmas

@@ -1,5 +1,5 @@
 -- What a call does at the moved clock is a step of the machine.
-use Rattle.std.proofs.Common.{◌≡◌, ◌∙◌, ℤ, Ok, Err, ap, sym, subst}
+use Rattle.std.proofs.Common.{◌≡◌, ◌∙◌, ℤ, Ok, Err, ap, refl, sym, subst}
 use Rattle.oai_item.specs.Refusals.{in_repository}
 use Rattle.oai_item.specs.declared.changes.Change.{Change}
 use Rattle.oai_item.specs.declared.refusals.ChangeRefusal.{ChangeRefusal}
@@ -74,3 +74,12 @@ step-asked config now t holdings open_lists before after request told is open_be
     ap from (ap (λ (x : ℤ). at_later x holdings open_lists) (sym is) ∙ ap (at now holdings) (sym open_before))
     in
     here ∙ ap (λ (x : Output). telling x (at now holdings (request_response config (at now holdings before) request).1)) (sym said) ∙ ap (λ (x : OpenLists). telling told (at now holdings x)) (sym left)
+
+-- one whose reply is dropped
+pub step-passed : (config : Config) (now t : ℤ) (holdings : Holdings) (open_lists before after : OpenLists) (request : AskOrError)
+    → now ≡ t → before ≡ still_open now open_lists
+    → after ≡ (request_response config (at now holdings before) request).1
+    → (act config (at_later t holdings open_lists) (requesting request)).1 ≡ at now holdings after
+step-passed config now t holdings open_lists before after request is open_before left =
+    ap (λ (done : Output × RepoState). done.1)
+    (step-asked config now t holdings open_lists before after request (outcome_output config.granularity (outcome_of config now (arguments_of_request request) (request_response config (at now holdings before) request).0)) is open_before refl left)

@@ -1,5 +1,5 @@
 -- What the calls of a repository answer and leave, by the machine's words: this repository's own.
-use Rattle.std.specs.Prelude.{◌≡◌, ◌+◌, ℕ, ℤ, List, Option, None, Result, Ok, Err}
+use Rattle.std.specs.Prelude.{◌≡◌, ◌+◌, ℕ, ℤ, Bool, true, false, List, Option, None, Result, Ok, Err}
 use Rattle.oai_item.specs.Items.{item_named}
 use Rattle.oai_item.specs.Refusals.{in_repository}
 use Rattle.oai_item.specs.declared.changes.Change.{Change}
@@ -35,6 +35,10 @@ abbrev pub IsAsked : RepoFields → Lists → ℤ → List ℕ → Reply → Rep
 IsAsked old before moment arguments reply new after =
     step old.config (state_of old before) moment (query arguments) ≡ (output_of_reply reply, state_of new after)
 
+-- what a request leaves, where its reply is dropped: it is what a step leaves
+abbrev pub IsPassed : RepoFields → Lists → ℤ → List ℕ → RepoFields → Lists → Type 0
+IsPassed old before moment arguments new after = state_of new after ≡ (step old.config (state_of old before) moment (query arguments)).1
+
 -- the causes among these that are looked for before any memory is taken and anything is read
 abbrev pub early_refusal : Config → Holdings → Change → Option ChangeRefusal
 early_refusal config holdings (change.Deposit identifier sets records) = deposit_refusal config holdings.sets sets records
@@ -48,6 +52,14 @@ IsChanged old before moment change (Ok stamp) new after = act_at old.config (sta
 IsChanged old before moment change (Err (refusal.Refused cause)) new after =
     act_at old.config (state_of old before) moment (changing change) ≡ (refused_with (in_repository cause), state_of new after)
 IsChanged old before moment change (Err (refusal.Fault fault)) new after = early_refusal old.config (holdings_of old.index old.sets before) change ≡ None
+
+-- ---- what a request may change beside the clock
+
+-- it asks for a list of records, which may begin, or continues one; an error and any other request change no list
+abbrev pub changes_lists : AskOrError → Bool
+changes_lists (asks (ask.List verb prefix from until set)) = true
+changes_lists (asks (ask.Resume verb token)) = true
+changes_lists request = false
 
 -- ---- how much room a call wants, over any store
 

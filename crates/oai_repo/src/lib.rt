@@ -3,8 +3,10 @@
 
 mod changes;
 mod item_index;
+mod laws;
 mod lists;
 mod parts;
+mod passes;
 mod records;
 mod repo;
 mod requests;
@@ -12,6 +14,7 @@ mod responses;
 mod tokens;
 mod view;
 
+pub use laws::tick_law;
 pub use oai_item::Refusal;
 pub use oai_settings::RepoConfig;
 pub use repo::Repo;

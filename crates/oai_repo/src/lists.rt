@@ -259,14 +259,14 @@ pub(crate) fn answer_by_verb<'a>(verb: ListVerb, format: &'a Format, list: Liste
 }
 
 /// Whether a set is asked for where there are none.
-fn lacks_sets(sets: &SetTree, set: &Option<Text>) -> bool
+pub(crate) fn lacks_sets(sets: &SetTree, set: &Option<Text>) -> bool
     ensures { result ≡ (is_some set.now && listing.has_no_sets sets.now) }
 {
     set.is_some() && sets.as_slice().is_empty()
 }
 
 /// What asks for the items, or None where the repository lacks the set.
-fn filter_of(
+pub(crate) fn filter_of(
     alloc: Global,
     sets: &SetTree,
     prefix: &Prefix,

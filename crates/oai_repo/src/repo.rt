@@ -1,9 +1,9 @@
-ghost use Rattle.std.specs.Prelude.{◌≡◌, ◌≤◌, ◌≤ℤ◌, true, length, IfOk, IsTrue, OnErr, OnOk};
+ghost use Rattle.std.specs.Prelude.{◌≡◌, ◌≤◌, ◌≤ℤ◌, true, false, length, IfOk, IsTrue, OnErr, OnOk};
 ghost use Rattle.oai_args.specs.Pairs.{decoded_pairs};
 ghost use Rattle.oai_args.specs.Requests.{request_of};
 ghost use Rattle.oai_catalogue.specs.Calls.{Frees, Uses};
 ghost use Rattle.oai_settings.specs.Config.{is_in_years};
-ghost use Rattle.oai_repo.specs.Calls.{DropsEnded, IsAccepted, IsAsked, IsChanged, IsClockAt, IsRefusedAt, OnRefused, fault_in, room_to_ask, room_to_change};
+ghost use Rattle.oai_repo.specs.Calls.{DropsEnded, IsAccepted, IsAsked, IsChanged, IsClockAt, IsPassed, IsRefusedAt, OnRefused, changes_lists, fault_in, room_to_ask, room_to_change};
 ghost use Rattle.oai_repo.specs.Fields.{IsNew, Keeps, Owns, holdings_of, state_of};
 ghost use Rattle.oai_repo.specs.State.{at_clock, moved};
 ghost use Rattle.oai_repo.specs.Tables.{IsAskedOf};
@@ -11,6 +11,7 @@ ghost use Rattle.oai_repo.specs.Tables.{IsAskedOf};
 use crate::changes::{ChangeContext, make_change};
 use crate::item_index::ItemIndex;
 use crate::lists::drop_first_ended;
+use crate::passes::{may_change_lists, pass_query};
 use crate::requests::reply_to_query;
 use crate::responses::Reply;
 use crate::view::RepoView;
@@ -130,6 +131,57 @@ impl Repo {
         let reply = reply_to_query(&view, &mut self.lists, store, query)?;
         self.move_to(store, clock);
         Ok(reply)
+    }
+
+    /// Performs a request again as `ask` does, and makes no reply: the repository is then as `ask` leaves it, but for
+    /// the marks of its lists. Any fault may come, and `TooManyPages` only where the request may begin a list and the
+    /// store may lack room for one call; after it everything is as it was. A further part of a list takes no memory
+    /// beside the arguments and reads nothing; the first part is counted and not read; any other request only moves
+    /// the clock.
+    pub fn pass<V: Versions>(
+        &mut self,
+        store: &mut V,
+        moment: i64,
+        query: &[u8],
+    ) -> Result<(), Fault>
+        requires { Owns (V.honest store.old) self.old (V.lists store.old) }
+        ensures step { OnOk result (IsTrue (V.honest store.old)
+            → IsPassed self.old (V.lists store.old) moment query.now self.new (V.lists store.new)) }
+        ensures clock { IsClockAt result moment self.old (V.lists store.old) self.new
+            (V.lists store.new) }
+        ensures kept { holdings_of self.new.index self.new.sets (V.lists store.new)
+            ≡ holdings_of self.old.index self.old.sets (V.lists store.old) }
+        ensures index { self.new.index ≡ self.old.index }
+        ensures table { OnOk result (IsAskedOf self.new.clock self.old.table self.new.table) }
+        ensures keeps { Keeps (V.honest store.old) self.old (V.lists store.old) self.new
+            (V.lists store.new) }
+        ensures store { Uses V.Versions (room_to_ask
+            (request_of self.old.config.granularity (decoded_pairs query.now))) result
+            store.old store.new }
+    {
+        let mut clock = self.clock;
+        clock.tick(moment);
+        let moved = clock.now();
+        let view = RepoView {
+            alloc: self.alloc,
+            config: &self.config,
+            clock: moved,
+            index: &self.index,
+            sets: &self.sets,
+            asked: Asked::nothing(),
+        };
+        pass_query(&view, &mut self.lists, store, query)?;
+        self.move_to(store, clock);
+        Ok(())
+    }
+
+    /// Whether a request, by the bytes of its query, may change the open lists: whether it asks for a list of records
+    /// or continues one, or memory to read it is refused. Any other moves the clock and does nothing else.
+    pub fn changes_lists(&self, query: &[u8]) -> bool
+        ensures { result ≡ false → changes_lists
+            (request_of self.now.config.granularity (decoded_pairs query.now)) ≡ false }
+    {
+        may_change_lists(self.alloc, self.config.granularity(), query)
     }
 
     /// Makes a change at the moment, and answers its datestamp, both in seconds from 1970 on; the

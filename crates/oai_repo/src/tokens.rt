@@ -74,7 +74,7 @@ pub(crate) fn reply_with_next_part<V: Versions>(
 
 /// How many records a part of a list may have.
 #[tactic(auto, unfolding(oai_settings::specs::Config::are_limits))]
-fn chunk_of(repo: &RepoView<'_>) -> u64
+pub(crate) fn chunk_of(repo: &RepoView<'_>) -> u64
     ensures chunk { result ≡ repo.now.config.now.chunk }
     ensures some { result ≢ 0 }
 {
@@ -83,7 +83,7 @@ fn chunk_of(repo: &RepoView<'_>) -> u64
 
 /// The open list that the token continues by that verb, and how many of its records come before the part
 /// that is asked for. Each part but the last has `chunk` records.
-fn continued<'a>(
+pub(crate) fn continued<'a>(
     lists: &'a Lists,
     now: i64,
     chunk: u64,
@@ -122,7 +122,13 @@ fn is_handed_out(chunk: u64, given: u64, cursor: u64) -> bool
 
 /// Changes the list of that number, of which a part was answered: it ends at `end`, in seconds from 1970 on,
 /// the cursor `next` of the part's token, if it has one, was given, and its mark is `mark`. It takes no memory.
-fn carry_on(lists: &mut Lists, number: u64, end: i64, next: Option<u64>, mark: Option<Mark>)
+pub(crate) fn carry_on(
+    lists: &mut Lists,
+    number: u64,
+    end: i64,
+    next: Option<u64>,
+    mark: Option<Mark>,
+)
     requires held { IsSome (list_numbered number lists.old.lists) }
     ensures { lists.new ≡ record lists.old {
       lists = with_change number (kept_open end next mark) lists.old.lists;
@@ -194,7 +200,7 @@ fn end_of_part(extent: Extent, items: &[Item]) -> u64
 
 /// The cursor of the token of a part, where `next` of the list's `size` records stand up to its end. None
 /// where no more records remain.
-fn cursor_behind(size: u64, next: u64) -> Option<u64>
+pub(crate) fn cursor_behind(size: u64, next: u64) -> Option<u64>
     ensures { result ≡ listing.cursor_behind size next }
 {
     if next < size { Some(next) } else { None }

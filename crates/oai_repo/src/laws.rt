@@ -1,0 +1,21 @@
+//! What is true of requests, in a law: an empty function whose contract is the statement.
+ghost use Rattle.std.specs.Prelude.{◌≡◌, ℤ, [], false};
+ghost use Rattle.oai_args.specs.Asks.{AskOrError};
+ghost use Rattle.oai_args.specs.Pairs.{decoded_pairs};
+ghost use Rattle.oai_args.specs.Requests.{request_of};
+ghost use Rattle.oai_repo.specs.Calls.{changes_lists};
+ghost use Rattle.oai_repo.specs.Machine.{act_at, requesting};
+ghost use Rattle.oai_repo.specs.State.{RepoState, moved};
+ghost use Rattle.oai_settings.specs.Config.{Config};
+ghost use Rattle.oai_time.specs.declared.granularity.Granularity.{Granularity};
+
+/// A request that neither asks for a list of records nor continues one moves the clock, at which lists may end, and
+/// leaves all else as it was. One without arguments is such a request. A theorem, proved by an empty function.
+#[tactic(auto, using(crate::proofs::PassLemmas::ticks, crate::proofs::PassLemmas::bare_ticks))]
+pub fn tick_law()
+    ensures ticks { (config : Config) (state : RepoState) (moment : ℤ) (request : AskOrError)
+        → changes_lists request ≡ false
+        → (act_at config state moment (requesting request)).1 ≡ moved moment state }
+    ensures bare { (granularity : Granularity)
+        → changes_lists (request_of granularity (decoded_pairs [])) ≡ false }
+{}

@@ -1,0 +1,245 @@
+//! Requests that are performed again: what each leaves of the open lists, with no reply made.
+ghost use Rattle.std.specs.Prelude.{◌≡◌, ◌≢◌, ◌<◌, ◌+◌, ◌-◌, length, min, true, false, None, IsTrue, OnOk};
+ghost use Rattle.oai_args.specs.Asks.{asks};
+ghost use Rattle.oai_args.specs.Pairs.{decoded_pairs};
+ghost use Rattle.oai_args.specs.Requests.{lists_records, request_of};
+ghost use Rattle.oai_args.specs.Verbs.{is_of_records};
+ghost use Rattle.oai_catalogue.specs.Calls.{Uses};
+ghost use Rattle.oai_catalogue.specs.Store.{Lists as Versioned};
+ghost use Rattle.oai_lists.specs.OpenLists.{open_fault};
+ghost use Rattle.oai_settings.specs.Config.{is_in_years};
+ghost use Rattle.oai_repo.specs.Calls.{changes_lists, room_to_ask};
+ghost use Rattle.oai_repo.specs.Fields.{AreInUse, TableAgrees};
+ghost use Rattle.oai_repo.specs.Listing as listing;
+ghost use Rattle.oai_repo.specs.Tables.{IsKeptTable, IsLeftOpen};
+ghost use Rattle.oai_repo.specs.Views.{IsOfFormat, IsReady, Leaves, view_ask_response, view_list_response, view_new_list, view_numbers, view_open_lists, view_response, view_selected, view_selection_response, view_token_response};
+
+use crate::lists::{ListRequest, Selection, filter_of, lacks_sets};
+use crate::tokens::{carry_on, chunk_of, continued, cursor_behind};
+use crate::view::RepoView;
+use oai_args::{ArgFault, Ask, read_request};
+use oai_catalogue::Versions;
+use oai_item::Fault;
+use oai_lists::{Lists, OpenFault, OpenList};
+use oai_names::ListVerb;
+use oai_time::Granularity;
+use std::alloc::Global;
+
+/// Passes a request, by the bytes of its query: what it leaves of the open lists is left, and no reply is made. A
+/// fault leaves everything as it was; any may come.
+pub(crate) fn pass_query<V: Versions>(
+    repo: &RepoView<'_>,
+    lists: &mut Lists,
+    store: &mut V,
+    query: &[u8],
+) -> Result<(), Fault>
+    requires ready { IsReady V.Versions repo.now lists.old store.old }
+    ensures passed { OnOk result (IsTrue (V.honest store.old)
+        → (let request = request_of repo.now.config.now.granularity (decoded_pairs query.now) in
+        view_open_lists repo.now lists.new (V.lists store.new)
+        ≡ (view_response repo.now lists.old (V.lists store.old) request).1)) }
+    ensures left { Leaves V.Versions result repo.now lists.old store.old lists.new store.new }
+    ensures store { Uses V.Versions (room_to_ask
+        (request_of repo.now.config.now.granularity (decoded_pairs query.now))) result
+        store.old store.new }
+{
+    match read_request(repo.alloc, query, repo.config.granularity()) {
+        Ok(ask) => pass(repo, lists, store, &ask),
+        Err(ArgFault::BadVerb) => Ok(()),
+        Err(ArgFault::BadArgument) => Ok(()),
+        Err(ArgFault::NoMemory) => Err(Fault::NoMemory),
+    }
+}
+
+/// Whether a request, by the bytes of its query, may change the open lists; also where memory to read it is refused.
+pub(crate) fn may_change_lists(alloc: Global, granularity: Granularity, query: &[u8]) -> bool
+    ensures { result ≡ false
+        → changes_lists (request_of granularity (decoded_pairs query.now)) ≡ false }
+{
+    match read_request(alloc, query, granularity) {
+        Ok(ask) => is_of_lists(&ask),
+        Err(ArgFault::BadVerb) => false,
+        Err(ArgFault::BadArgument) => false,
+        Err(ArgFault::NoMemory) => true,
+    }
+}
+
+/// Whether a well-formed request may change the open lists.
+fn is_of_lists(ask: &Ask) -> bool
+    ensures { result ≡ changes_lists (asks ask.now) }
+{
+    matches!(ask, Ask::List { .. } | Ask::Resume { .. })
+}
+
+/// Passes a well-formed request.
+fn pass<V: Versions>(
+    repo: &RepoView<'_>,
+    lists: &mut Lists,
+    store: &mut V,
+    ask: &Ask,
+) -> Result<(), Fault>
+    requires ready { IsReady V.Versions repo.now lists.old store.old }
+    requires lists { lists_records ask.now ≡ true }
+    ensures passed { OnOk result (IsTrue (V.honest store.old)
+        → view_open_lists repo.now lists.new (V.lists store.new)
+        ≡ (view_ask_response repo.now lists.old (V.lists store.old) ask.now).1) }
+    ensures left { Leaves V.Versions result repo.now lists.old store.old lists.new store.new }
+    ensures store { Uses V.Versions (room_to_ask (asks ask.now)) result store.old store.new }
+{
+    match ask {
+        Ask::Identify => Ok(()),
+        Ask::Formats { .. } => Ok(()),
+        Ask::Sets => Ok(()),
+        Ask::Get { .. } => Ok(()),
+        Ask::List {
+            verb,
+            prefix,
+            from,
+            until,
+            set,
+        } => {
+            let request = ListRequest {
+                verb: *verb,
+                prefix: prefix.as_str(),
+                from,
+                until,
+                set,
+            };
+            pass_list(repo, lists, store, &request)
+        }
+        Ask::Resume { verb, token } => {
+            pass_part(repo, lists, *verb, token.as_str());
+            Ok(())
+        }
+    }
+}
+
+/// Passes a list request.
+fn pass_list<V: Versions>(
+    repo: &RepoView<'_>,
+    lists: &mut Lists,
+    store: &mut V,
+    request: &ListRequest<'_>,
+) -> Result<(), Fault>
+    requires ready { IsReady V.Versions repo.now lists.old store.old }
+    requires lists { is_of_records request.now.verb ≡ true }
+    ensures passed { OnOk result (IsTrue (V.honest store.old)
+        → view_open_lists repo.now lists.new (V.lists store.new)
+        ≡ (view_list_response repo.now lists.old (V.lists store.old) request.now).1) }
+    ensures left { Leaves V.Versions result repo.now lists.old store.old lists.new store.new }
+    ensures store { Uses V.Versions 1 result store.old store.new }
+{
+    if lacks_sets(repo.sets, request.set) {
+        return Ok(());
+    }
+    let Some(format) = repo.config.formats().find_named(request.prefix) else {
+        return Ok(());
+    };
+    let Some(filter) = filter_of(repo.alloc, repo.sets, &format.prefix, request)? else {
+        return Ok(());
+    };
+    let selection = Selection {
+        verb: request.verb,
+        format,
+        filter,
+    };
+    pass_selection(repo, lists, store, selection)
+}
+
+/// Passes a list request by what is selected: a list begins where that is more than a part of a list may have. No page
+/// is read; it is only counted.
+fn pass_selection<V: Versions>(
+    repo: &RepoView<'_>,
+    lists: &mut Lists,
+    store: &mut V,
+    selection: Selection<'_>,
+) -> Result<(), Fault>
+    requires ready { IsReady V.Versions repo.now lists.old store.old }
+    requires selection { IsOfFormat repo.now.config.now selection }
+    ensures passed { OnOk result (IsTrue (V.honest store.old)
+        → view_open_lists repo.now lists.new (V.lists store.new)
+        ≡ (view_selection_response repo.now lists.old (V.lists store.old) selection.entry).1) }
+    ensures left { Leaves V.Versions result repo.now lists.old store.old lists.new store.new }
+    ensures store { Uses V.Versions 1 result store.old store.new }
+{
+    let size = store.count(repo.index.version(), &selection.filter)? as u64;
+    if size <= repo.config.chunk() {
+        return Ok(());
+    }
+    match lists.next(repo.clock) {
+        Ok(_) => start_unread(repo, lists, store, selection, size),
+        Err(OpenFault::Full) => Ok(()),
+        Err(OpenFault::NumbersSpent) => Ok(()),
+        Err(OpenFault::NoMemory) => Err(Fault::NoMemory),
+    }
+}
+
+/// Begins a list of so many records, of which no part is read.
+fn start_unread<V: Versions>(
+    repo: &RepoView<'_>,
+    lists: &mut Lists,
+    store: &mut V,
+    selection: Selection<'_>,
+    size: u64,
+) -> Result<(), Fault>
+    requires ready { IsReady V.Versions repo.now lists.old store.old }
+    requires selection { IsOfFormat repo.now.config.now selection }
+    requires size { IsTrue (V.honest store.old)
+        → size ≡ length (view_selected repo.now (V.lists store.old) selection.filter) }
+    ensures passed { OnOk result (IsTrue (V.honest store.old)
+        → view_open_lists repo.now lists.new (V.lists store.new)
+        ≡ (view_new_list repo.now lists.old (V.lists store.old) selection.entry None).1) }
+    ensures left { Leaves V.Versions result repo.now lists.old store.old lists.new store.new }
+    ensures store { Uses V.Versions 1 result store.old store.new }
+{
+    let end = repo.end();
+    let frozen = store.freeze(repo.index.version())?;
+    match lists.open(
+        repo.clock,
+        selection.verb,
+        selection.filter,
+        frozen,
+        size,
+        end,
+        repo.config.chunk(),
+    ) {
+        Ok(_) => Ok(()),
+        Err(_) => {
+            store.release(frozen);
+            Err(Fault::NoMemory)
+        }
+    }
+}
+
+/// Passes a request for the next part of a list: where its token continues one, the list is kept open and the token of
+/// that part counts as given. The list has no mark then, so its next part is found from its first record on. It takes
+/// no memory, reads nothing and cannot fail.
+fn pass_part(repo: &RepoView<'_>, lists: &mut Lists, verb: ListVerb, token: &str)
+    requires dated { is_in_years repo.now.clock ≡ true }
+    requires kept { IsKeptTable repo.now.config.now lists.old }
+    ensures passed { (all : Versioned) → TableAgrees lists.old all
+        → view_open_lists repo.now lists.new all
+        ≡ (view_token_response repo.now lists.old all verb token.now).1 }
+    ensures left { (all : Versioned) → AreInUse (view_numbers repo.now lists.old) all
+        → IsLeftOpen repo.now.config.now repo.now.clock repo.now.index.now.version lists.old all
+        lists.new all }
+    ensures agrees { (all : Versioned) → TableAgrees lists.old all → TableAgrees lists.new all }
+{
+    let chunk = chunk_of(repo);
+    let Some((list, cursor)) = continued(lists, repo.clock, chunk, verb, token) else {
+        return;
+    };
+    let number = list.number;
+    let next = next_cursor(list, chunk, cursor);
+    carry_on(lists, number, repo.end(), next, None);
+}
+
+/// The cursor of the token of the part of the list that begins behind its first `cursor` records, at most `chunk` of
+/// them. None where no more records remain.
+fn next_cursor(list: &OpenList, chunk: u64, cursor: u64) -> Option<u64>
+    requires within { cursor < list.now.size }
+    ensures { result
+        ≡ listing.cursor_behind list.now.size (cursor + min chunk (list.now.size - cursor)) }
+{
+    cursor_behind(list.size, cursor + chunk.min(list.size - cursor))
+}
