@@ -7,13 +7,15 @@
 #              one, and behind an answered 503 the message
 #   clock      commands at a later moment, each on a host of its own: behind one that is refused, Identify at the first moment
 #   token      the token of a list's second part: where it is refused, that of the third part is none that was handed out; then the token again
+#   recover    the script's journal, performed again: a recovery that is refused is made once more, and what is asked then is answered as by the host that
+#              ended
 #   copy       a harvester's copy that catches up with one harvest after the other: where a call is refused, its items are as before; then it again
 # Answers and pages, and the items of the copy, must be those of the undisturbed run. Of each it prints how many requests for memory it makes behind those that make the host, how
 # many of them were refused and answered so, how many were refused with no answer changed, and each that ended in a fault or was answered
 # otherwise. The last line is `N refused, M differences`, and the status is 0 where M is 0. LETTERS is how long the title of the first item
 # is, 1 if not given. COPY is a folder for the copy, which then stays; PARTS is how many runs go on side by side, 1 if not set. It stands beside the
 # gate, and needs rt and python3.
-# Usage: scripts/refuse-growth.sh [LETTERS [exchange|run|pieces|clock|token|copy]..]
+# Usage: scripts/refuse-growth.sh [LETTERS [exchange|run|pieces|clock|token|recover|copy]..]
 set -u
 cd "$(dirname "$0")/.." || exit 2
 if ! command -v rt >/dev/null; then
@@ -22,7 +24,7 @@ if ! command -v rt >/dev/null; then
 fi
 letters=${1:-1}
 shift $(($# > 0))
-(($#)) || set -- exchange run pieces clock token copy
+(($#)) || set -- exchange run pieces clock token recover copy
 copy=${COPY:-$(mktemp -d)}
 trap '[ -n "${COPY:-}" ] || rm -rf "$copy"' EXIT
 mkdir -p "$copy/crates"
@@ -35,7 +37,7 @@ for crate in crates/oai_*; do
 done
 {
     grep -E '^oai_' crates.txt
-    echo 'refuse_growth: oai_names oai_item oai_catalogue oai_device oai_pool oai_paged oai_http oai_host oai_front oai_copy'
+    echo 'refuse_growth: oai_names oai_item oai_catalogue oai_device oai_pool oai_paged oai_http oai_host oai_front oai_copy oai_journal oai_durable sqlite_disk'
 } >"$copy/crates.txt"
 program=$copy/crates/refuse_growth
 mkdir -p "$program"/{src,specs,proofs}
@@ -186,14 +188,150 @@ pub(crate) fn by_copy(alloc: Global, requests: u64) -> Result<Course, Outside> {
     Ok(course)
 }
 RATTLE
+cat >"$program/src/recoveries.rt" <<'RATTLE'
+//! A journal that is performed again while a request for memory is refused.
+use crate::steps::{configuration, steps};
+use crate::{Course, Outside, PagedHost, exchange_of, is_answer, new_host, spend, write_answer};
+use oai_durable::{Journaled, Progress, recover, resume};
+use oai_http::{Handler, Settled};
+use oai_journal::{FileJournal, Kind, Record, Recovery};
+use sqlite_disk::{Disk, Memory};
+use std::alloc::{AllocError, Global};
+
+type Archive = Journaled<PagedHost, FileJournal<Memory>>;
+
+/// Nobody who is told how far a recovery is.
+#[derive(Drop)]
+struct Quiet;
+
+impl Progress for Quiet {
+    fn note(&mut self, _position: usize, _len: usize, _records: u64) {}
+}
+
+/// A journal of no records.
+fn empty_journal(alloc: Global) -> Result<FileJournal<Memory>, AllocError> {
+    let first = Record {
+        moment: 1_704_067_200,
+        kind: Kind::Journal,
+        name: b"oaihostd",
+        body: configuration().as_bytes(),
+    };
+    match FileJournal::create(alloc, Memory::new(alloc), &first) {
+        Ok(journal) => Ok(journal),
+        Err(_) => Err(AllocError),
+    }
+}
+
+/// The disk of the script's journal.
+fn written(alloc: Global) -> Result<Memory, AllocError> {
+    let mut archive = Journaled::new(alloc, new_host(alloc)?, empty_journal(alloc)?);
+    for step in steps() {
+        let failed = archive.exchange(step.0, &exchange_of(step)).fault.is_some();
+        if archive.settle().is_err() || failed {
+            return Err(AllocError);
+        }
+    }
+    Ok(archive.into_journal().into_disk())
+}
+
+/// A disk with the same bytes.
+fn copy_of(alloc: Global, disk: &Memory) -> Result<Memory, AllocError> {
+    let mut copy = Memory::new(alloc);
+    match copy.write_at(0, disk.bytes()) {
+        Ok(()) => Ok(copy),
+        Err(_) => Err(AllocError),
+    }
+}
+
+/// The archive whose journal is on the disk.
+fn recovered(alloc: Global, disk: Memory) -> Option<Archive> {
+    let mut recovery = Recovery::new(alloc, disk);
+    if recovery.begin().is_err() {
+        return None;
+    }
+    let Ok(mut host) = new_host(alloc) else {
+        return None;
+    };
+    match recover(&mut host, &mut recovery, &mut Quiet) {
+        Ok(_) => resume(alloc, host, recovery),
+        Err(_) => None,
+    }
+}
+
+/// What is asked of an archive behind the script.
+fn later() -> [&'static str; 4] {
+    [
+        "/oai/a?verb=ListIdentifiers&resumptionToken=2.2",
+        "/oai/a?verb=GetRecord&identifier=oai:a:3&metadataPrefix=oai_dc",
+        "/oai/b?verb=Identify",
+        "/oai/c?verb=ListSets",
+    ]
+}
+
+/// Asks for the target, at the second time where memory is refused, and writes the answer; whether it was refused.
+fn asked<H: Handler>(handler: &mut H, target: &'static str, output: &mut Vec<u8>) -> bool {
+    let exchange = exchange_of((0, "GET", target, "", ""));
+    let mut answer = handler.exchange(1_704_067_263, &exchange);
+    let refused = answer.fault.is_some();
+    if refused {
+        answer = handler.exchange(1_704_067_263, &exchange);
+    }
+    output.clear();
+    let _ = write_answer(&answer, output);
+    refused
+}
+
+/// The archive answers as the host.
+fn answers_as(archive: &mut Archive, host: &mut PagedHost, one: &mut Vec<u8>, other: &mut Vec<u8>) -> Course {
+    let mut course = Course { refused: 0, differs: false };
+    for target in later() {
+        let first = asked(archive, target, one);
+        let second = asked(host, target, other);
+        course.refused = course.refused.wrapping_add(u32::from(first)).wrapping_add(u32::from(second));
+        course.differs = course.differs || one.as_slice() != other.as_slice();
+    }
+    course
+}
+
+/// The host that performed the script.
+fn ended(alloc: Global, output: &mut Vec<u8>) -> Result<PagedHost, AllocError> {
+    let mut host = new_host(alloc)?;
+    for step in steps() {
+        if !is_answer(&host.exchange(step.0, &exchange_of(step)), step.4, output) {
+            return Err(AllocError);
+        }
+    }
+    Ok(host)
+}
+
+/// The recovery of the script's journal, and again where it is refused memory.
+pub(crate) fn by_recover(alloc: Global, requests: u64) -> Result<Course, Outside> {
+    let mut one = Vec::with_capacity(alloc, 400_000)?;
+    let mut other = Vec::with_capacity(alloc, 400_000)?;
+    let disk = written(alloc)?;
+    let copy = copy_of(alloc, &disk)?;
+    let mut host = ended(alloc, &mut one)?;
+    spend(alloc, requests)?;
+    if let Some(mut archive) = recovered(alloc, disk) {
+        return Ok(answers_as(&mut archive, &mut host, &mut one, &mut other));
+    }
+    let Some(mut archive) = recovered(alloc, copy) else {
+        return Ok(Course { refused: 1, differs: true });
+    };
+    let course = answers_as(&mut archive, &mut host, &mut one, &mut other);
+    Ok(Course { refused: 1, differs: course.differs || course.refused > 0 })
+}
+RATTLE
 cat >"$program/src/main.rt" <<'RATTLE'
 //! A script of exchanges while a request for memory is refused.
 #![tactic(auto)]
 
 mod copies;
+mod recoveries;
 mod steps;
 
 use crate::copies::by_copy;
+use crate::recoveries::by_recover;
 use crate::steps::{Step, configuration, steps};
 use oai_device::MemoryDevice;
 use oai_front::{ConnId, Front, PieceFault};
@@ -207,7 +345,7 @@ use std::env;
 use std::io::{self, Write};
 use std::process::ExitCode;
 
-type PagedHost = Host<PagedVersions<MemoryDevice>>;
+pub(crate) type PagedHost = Host<PagedVersions<MemoryDevice>>;
 
 /// How a script went: how often memory was refused, and whether all else was as where it is not.
 #[derive(Clone, Copy)]
@@ -217,7 +355,7 @@ pub(crate) struct Course {
 }
 
 /// A host over pages in memory.
-fn new_host(alloc: Global) -> Result<PagedHost, AllocError> {
+pub(crate) fn new_host(alloc: Global) -> Result<PagedHost, AllocError> {
     let Ok(config) = Config::read(alloc, configuration().as_bytes()) else {
         return Err(AllocError);
     };
@@ -230,20 +368,24 @@ fn new_host(alloc: Global) -> Result<PagedHost, AllocError> {
     }
 }
 
-/// What the host answers to the exchange.
-fn answer_to(host: &mut PagedHost, step: Step) -> Answer {
-    let (moment, method, target, body, _) = step;
-    let exchange = Exchange {
+/// The exchange of the step.
+pub(crate) fn exchange_of(step: Step) -> Exchange<'static> {
+    let (_, method, target, body, _) = step;
+    Exchange {
         method: method.as_bytes(),
         target: target.as_bytes(),
         content_type: None,
         body: body.as_bytes(),
-    };
-    host.exchange(moment, &exchange)
+    }
+}
+
+/// What the host answers to the exchange.
+fn answer_to(host: &mut PagedHost, step: Step) -> Answer {
+    host.exchange(step.0, &exchange_of(step))
 }
 
 /// Writes the answer.
-fn write_answer(answer: &Answer, output: &mut Vec<u8>) -> io::Result<()> {
+pub(crate) fn write_answer(answer: &Answer, output: &mut Vec<u8>) -> io::Result<()> {
     write!(output, "{}", answer.status.number())?;
     if let Some(seconds) = answer.seconds {
         write!(output, " after {seconds}")?;
@@ -256,7 +398,7 @@ fn write_answer(answer: &Answer, output: &mut Vec<u8>) -> io::Result<()> {
 }
 
 /// Whether the answer is that.
-fn is_answer(answer: &Answer, wanted: &str, output: &mut Vec<u8>) -> bool {
+pub(crate) fn is_answer(answer: &Answer, wanted: &str, output: &mut Vec<u8>) -> bool {
     output.clear();
     write_answer(answer, output).is_ok() && output.as_slice() == wanted.as_bytes()
 }
@@ -590,6 +732,7 @@ fn course_of(alloc: Global, word: &str, requests: u64) -> Result<Course, Outside
         "pieces" => by_pieces(alloc, requests),
         "clock" => by_clock(alloc, requests),
         "token" => by_token(alloc, requests),
+        "recover" => by_recover(alloc, requests),
         "copy" => by_copy(alloc, requests),
         _ => Err(Outside { before: 0 }),
     }
@@ -620,7 +763,7 @@ RATTLE
 # (a longer item has a page and overflow pages of its own, and the two others one behind it)
 pages=1
 ((letters > 15940)) && pages=$((2 + (letters + 60 - 600 + 16383) / 16384))
-sed -i "s/^type PagedHost/\/\/\/ How many pages are named at the end of the script.\nconst PAGES: usize = $pages;\n\ntype PagedHost/" "$program/src/main.rt"
+sed -i "s/^pub(crate) type PagedHost/\/\/\/ How many pages are named at the end of the script.\nconst PAGES: usize = $pages;\n\npub(crate) type PagedHost/" "$program/src/main.rt"
 top=$PWD
 cases=$copy/cases
 cd "$program" || exit 2

@@ -44,6 +44,8 @@ pub(crate) fn host_on<D: PageDevice + Drop>(
     cache: usize,
 ) -> Pages<D> {
     let config = Config::read(alloc, worked_configuration().as_bytes()).expect(rt, "Config::read");
+    assert!(rt; cache >= 1);
+    assert!(rt; cache <= 65_536);
     let pool = Pool::new(alloc, device, cache).expect(rt, "Pool::new");
     Host::new(alloc, config, VersionsOver::new(alloc, pool)).expect(rt, "Host::new")
 }
