@@ -1,4 +1,4 @@
-//! Archives of the worked configuration, over a journal that can crash.
+//! Archives over a journal that can crash.
 use oai_device::{MemoryDevice, PageDevice};
 use oai_durable::{Journaled, Progress, recover, resume};
 use oai_host::{Config, Host};
@@ -12,7 +12,22 @@ use std::panic::Expect;
 use std::process::Abort;
 use tests_fixtures::{answer_to, body_of, exchange_in, worked_configuration, write_exchanged};
 
-/// A host of the worked configuration over pages of a device.
+/// Of which configuration a host is, and how many pages its cache has.
+#[derive(Clone, Copy)]
+pub(crate) struct Setting {
+    pub(crate) configuration: &'static str,
+    pub(crate) cache: usize,
+}
+
+/// The worked configuration, with a cache of so many pages.
+pub(crate) fn worked(cache: usize) -> Setting {
+    Setting {
+        configuration: worked_configuration(),
+        cache,
+    }
+}
+
+/// A host over pages of a device.
 pub(crate) type Pages<D> = Host<PagedVersions<D>>;
 
 /// The host and its journal.
@@ -36,17 +51,17 @@ fn first() -> Record<'static> {
     }
 }
 
-/// A new host over the device, with a cache of so many pages.
+/// A new host of that setting over the device.
 pub(crate) fn host_on<D: PageDevice + Drop>(
     rt: &impl Abort,
     alloc: Global,
     device: D,
-    cache: usize,
+    setting: Setting,
 ) -> Pages<D> {
-    let config = Config::read(alloc, worked_configuration().as_bytes()).expect(rt, "Config::read");
-    assert!(rt; cache >= 1);
-    assert!(rt; cache <= 65_536);
-    let pool = Pool::new(alloc, device, cache).expect(rt, "Pool::new");
+    let config = Config::read(alloc, setting.configuration.as_bytes()).expect(rt, "Config::read");
+    assert!(rt; setting.cache >= 1);
+    assert!(rt; setting.cache <= 65_536);
+    let pool = Pool::new(alloc, device, setting.cache).expect(rt, "Pool::new");
     Host::new(alloc, config, VersionsOver::new(alloc, pool)).expect(rt, "Host::new")
 }
 
@@ -63,15 +78,15 @@ pub(crate) fn begun_on<D: PageDevice + Drop>(
     rt: &impl Abort,
     alloc: Global,
     device: D,
-    cache: usize,
+    setting: Setting,
 ) -> Archive<D> {
-    let host = host_on(rt, alloc, device, cache);
+    let host = host_on(rt, alloc, device, setting);
     Journaled::new(alloc, host, empty_journal(rt, alloc))
 }
 
 /// An archive that begins over pages in memory.
-pub(crate) fn begun(rt: &impl Abort, alloc: Global, cache: usize) -> Archive<MemoryDevice> {
-    begun_on(rt, alloc, MemoryDevice::new(alloc), cache)
+pub(crate) fn begun(rt: &impl Abort, alloc: Global, setting: Setting) -> Archive<MemoryDevice> {
+    begun_on(rt, alloc, MemoryDevice::new(alloc), setting)
 }
 
 /// Performs all records again.
@@ -91,10 +106,10 @@ pub(crate) fn found_after<D: PageDevice + Drop>(
     rt: &impl Abort,
     alloc: Global,
     archive: Archive<D>,
-    cache: usize,
+    setting: Setting,
 ) -> Archive<MemoryDevice> {
     let recovery = archive.into_journal().crash(alloc);
-    let host = host_on(rt, alloc, MemoryDevice::new(alloc), cache);
+    let host = host_on(rt, alloc, MemoryDevice::new(alloc), setting);
     redo_all(rt, alloc, host, recovery)
 }
 

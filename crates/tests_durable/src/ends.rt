@@ -1,5 +1,5 @@
 //! Ends, and what goes on behind them.
-use crate::archives::{Archive, answer_of, begun, found_after, tell};
+use crate::archives::{Archive, Setting, answer_of, begun, found_after, tell, worked};
 use oai_device::MemoryDevice;
 use oai_http::{Settled, Status};
 use std::alloc::Global;
@@ -13,13 +13,13 @@ fn assert_same(rt: &impl Abort, found: &[u8], wanted: &[u8]) {
 }
 
 /// The archive ends after each exchange of the transcript and goes on from its journal; the answers are those of the transcript.
-fn assert_goes_on(rt: &impl Abort, alloc: Global, transcript: &str, cache: usize) {
+fn assert_goes_on(rt: &impl Abort, alloc: Global, transcript: &str, setting: Setting) {
     let mut output = Vec::new(alloc);
-    let mut archive = begun(rt, alloc, cache);
+    let mut archive = begun(rt, alloc, setting);
     for line in transcript.lines() {
         if let Some(line) = line.strip_prefix("> ") {
             tell(rt, alloc, &mut archive, line, &mut output);
-            archive = found_after(rt, alloc, archive, cache);
+            archive = found_after(rt, alloc, archive, setting);
         }
     }
     let wanted = wanted_in(alloc, transcript).expect(rt, "wanted_in");
@@ -32,7 +32,7 @@ fn end_after_each_exchange(rt: HostRuntime) {
     let alloc = rt.alloc();
     let script = script(alloc, short()).expect(&rt, "memory");
     for cache in [1usize, 2, 64] {
-        assert_goes_on(&rt, alloc, script.as_str(), cache);
+        assert_goes_on(&rt, alloc, script.as_str(), worked(cache));
     }
 }
 
@@ -41,7 +41,7 @@ fn end_after_each_exchange(rt: HostRuntime) {
 fn end_after_each_exchange_with_a_long_item(rt: HostRuntime) {
     let alloc = rt.alloc();
     let script = script(alloc, long()).expect(&rt, "memory");
-    assert_goes_on(&rt, alloc, script.as_str(), 2);
+    assert_goes_on(&rt, alloc, script.as_str(), worked(2));
 }
 
 /// Lists that end, tokens that were never handed out, and one that is asked for twice.
@@ -77,7 +77,7 @@ DOC <responseDate>2024-01-01T00:02:01Z</responseDate><request verb="Identify">ht
 
 #[test]
 fn tokens_after_an_end(rt: HostRuntime) {
-    assert_goes_on(&rt, rt.alloc(), tokens(), 1);
+    assert_goes_on(&rt, rt.alloc(), tokens(), worked(1));
 }
 
 /// Deposits the item of that number, one second after the one before it.
@@ -96,11 +96,11 @@ fn deposit(number: u32) -> &'static str {
 #[test]
 fn answer_that_was_held_back(rt: HostRuntime) {
     let alloc = rt.alloc();
-    let mut archive = begun(&rt, alloc, 1);
+    let mut archive = begun(&rt, alloc, worked(1));
     assert!(&rt; answer_of(&rt, alloc, &mut archive, deposit(1)).status == Status::Ok);
     archive.settle().expect(&rt, "settle");
     assert!(&rt; answer_of(&rt, alloc, &mut archive, deposit(2)).status == Status::Ok);
-    let mut archive = found_after(&rt, alloc, archive, 1);
+    let mut archive = found_after(&rt, alloc, archive, worked(1));
     assert_only_first(&rt, alloc, &mut archive);
 }
 

@@ -1,5 +1,5 @@
 //! Faults, and ends behind them.
-use crate::archives::{Archive, answer_of, begun_on, found_after};
+use crate::archives::{Archive, answer_of, begun_on, found_after, worked};
 use crate::ends::assert_only_first;
 use oai_device::MemoryDevice;
 use oai_http::{Answer, Settled};
@@ -20,7 +20,7 @@ type Refusing = RefusingDevice<MemoryDevice>;
 /// The archive over it, and what it answers to the two lines.
 fn deposited(rt: &impl Abort, alloc: Global, k: u64) -> (Archive<Refusing>, Answer) {
     let device = RefusingDevice::new(MemoryDevice::new(alloc), k);
-    let mut archive = begun_on(rt, alloc, device, 1);
+    let mut archive = begun_on(rt, alloc, device, worked(1));
     let answer = answer_of(rt, alloc, &mut archive, two_lines());
     archive.settle().expect(rt, "settle");
     (archive, answer)
@@ -34,7 +34,7 @@ fn deposit_that_failed_in_its_second_line(rt: HostRuntime) {
         let (archive, answer) = deposited(&rt, alloc, k);
         if answer.done == Some(1) {
             assert!(&rt; answer.fault == Some(Fault::NoMemory));
-            let mut archive = found_after(&rt, alloc, archive, 1);
+            let mut archive = found_after(&rt, alloc, archive, worked(1));
             assert_only_first(&rt, alloc, &mut archive);
             return;
         }

@@ -7,3 +7,7 @@ mod archives;
 mod ends;
 #[cfg(test)]
 mod faults;
+#[cfg(test)]
+mod lives;
+#[cfg(test)]
+mod written_lives;
