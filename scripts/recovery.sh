@@ -17,4 +17,6 @@ if [ -z "${OAIHOSTD:-}" ]; then
     [ $? -eq 2 ] || exit 2
 fi
 export OAIHOSTD="${OAIHOSTD:-crates/oaihostd/out/oaihostd}"
+# So that moving a byte within a long block is not counted as an instruction on one machine and not on another.
+export GLIBC_TUNABLES=glibc.cpu.x86_rep_stosb_threshold=1000000000:glibc.cpu.x86_rep_movsb_threshold=1000000000
 exec python3 -B scripts/recovery.py "$@"
