@@ -1,5 +1,5 @@
 -- What a request sees of a repository, what it needs and leaves, and what is replied: this repository's own.
-use Rattle.std.specs.Prelude.{◌≡◌, ◌+◌, ◌<◌, ℕ, ℤ, true, false, List, ◌∷◌, take, Option, None, Some, Result, IsSome, IsTrue, OnErr}
+use Rattle.std.specs.Prelude.{◌≡◌, ◌+◌, ◌+ℤ◌, ◌<◌, ℕ, ℤ, pos, true, false, List, ◌∷◌, take, Option, None, Some, Result, IsSome, IsTrue, OnErr}
 use Rattle.oai_names.specs.declared.list_verbs.ListVerb.{ListVerb}
 use Rattle.oai_names.specs.Sets.{HasSetsAbove, has_set}
 use Rattle.oai_item.specs.Formats.{format_named}
@@ -9,10 +9,10 @@ use Rattle.oai_item.specs.Selection.{Filter, selected}
 use Rattle.oai_answers.specs.Answers.{Answer, Attributes}
 use Rattle.oai_answers.specs.Borrowed.{attributes_of}
 use Rattle.oai_answers.specs.Documents.{document}
-use Rattle.oai_catalogue.specs.Store.{Lists}
+use Rattle.oai_catalogue.specs.Store.{Lists, list_at, with_list}
 use Rattle.oai_catalogue.specs.declared.versions.Versions.{Ghosts}
 use Rattle.oai_item.specs.declared.faults.Fault.{Fault}
-use Rattle.oai_lists.specs.OpenLists.{Table}
+use Rattle.oai_lists.specs.OpenLists.{IsListTable, Table, next_list, open_fault, with_opened}
 use Rattle.oai_lists.specs.declared.open_lists.OpenList.{OpenList}
 use Rattle.oai_lists.specs.Tokens.{token_of}
 use Rattle.oai_args.specs.Asks.{AskOrError}
@@ -109,6 +109,16 @@ pub record IsOfFormat (config : Config) (selection : Selection) : Type 0 where
   pub prefix : selection.filter.prefix ≡ selection.format.now.prefix
   pub known : IsSome (format_named selection.filter.prefix config.formats)
   pub lists : is_of_records selection.verb ≡ true
+
+-- a list of so many records has begun that is selected so, behind the others and without a mark: its version, which was in use for nothing, holds the
+-- items as they stand
+pub record HasBegun {V : Type 0} (g : Ghosts V) (repo : RepoView) (selection : Selection) (size : ℕ) (old : Table) (before : V) (new : Table) (after : V) : Type 0 where
+  pub version : ℕ
+  pub unused : g.lists before version ≡ None
+  pub frozen : g.lists after ≡ with_list version (list_at (g.lists before) repo.index.now.version) (g.lists before)
+  pub room : open_fault old repo.clock ≡ None
+  pub opened : new ≡ with_opened old (next_list old selection.verb selection.filter version size (repo.clock +ℤ pos repo.config.now.lifetime) repo.config.now.chunk)
+  pub valid : IsListTable old
 
 -- a part of an open list may be answered, behind so many of its records: there are more than that, the list is of a format of the repository,
 -- the verb is one of lists of records, its version is in use, and an honest store holds the records that it was opened for, and its mark

@@ -1,6 +1,6 @@
 //! ListIdentifiers and ListRecords (OAI-PMH 2.0, sections 4.3 and 4.5): what is selected is answered
 //! whole, or with the first part of a list that begins.
-ghost use Rattle.std.specs.Prelude.{◌≡◌, ◌+◌, ◌<◌, ◌-ℤ◌, ◌&&◌, int_le, int_lt, is_some, length, true, None, Ok, IfOk, IsSome, IsTrue};
+ghost use Rattle.std.specs.Prelude.{◌≡◌, ◌+◌, ◌<◌, ◌-ℤ◌, ◌&&◌, int_le, int_lt, is_some, length, true, None, Ok, IfOk, IsSome, IsTrue, OnOk};
 ghost use Rattle.oai_time.specs.declared.text.TheConstants.{LAST_SECOND};
 ghost use Rattle.std.specs.List.{list_all};
 ghost use Rattle.oai_args.specs.Bounds.{given_bound};
@@ -15,7 +15,7 @@ ghost use Rattle.oai_repo.specs.Answers as spec;
 ghost use Rattle.oai_repo.specs.Fields.{AreInUse, open_lists_of, versions_in};
 ghost use Rattle.oai_repo.specs.Listing as listing;
 ghost use Rattle.oai_repo.specs.Tables.{dropped_at, has_end, version_ended, without_version};
-ghost use Rattle.oai_repo.specs.Views.{IsFilter, IsOfFormat, IsReady, IsViewReply, Leaves, first_items, view_list_response, view_new_list, view_selected, view_selection_response, view_wait};
+ghost use Rattle.oai_repo.specs.Views.{HasBegun, IsFilter, IsOfFormat, IsReady, IsViewReply, Leaves, first_items, view_list_response, view_new_list, view_open_lists, view_selected, view_selection_response, view_wait};
 
 use crate::parts::mark_behind;
 use crate::responses::{Reply, make_reply, reply_with_error};
@@ -189,7 +189,6 @@ fn start_list<V: Versions>(
     ensures left { Leaves V.Versions result repo.now lists.old store.old lists.new store.new }
     ensures store { Uses V.Versions 1 result store.old store.new }
 {
-    let version = repo.index.version();
     let size = count_beyond(repo, store, &selection.filter, first.as_slice())?;
     let part = ListPart {
         number,
@@ -199,20 +198,43 @@ fn start_list<V: Versions>(
     let items = &first.as_slice()[..repo.config.chunk() as usize];
     let reply = reply_with_part(repo, selection.verb, selection.format, items, part)?;
     let mark = mark_behind(repo.alloc, items, repo.config.chunk());
-    let frozen = store.freeze(version)?;
+    start_unread(repo, lists, store, selection, size)?;
+    lists.set_mark(number, mark);
+    Ok(reply)
+}
+
+/// Begins a list of so many records, of which no part is read: the items as they stand are frozen for it.
+pub(crate) fn start_unread<V: Versions>(
+    repo: &RepoView<'_>,
+    lists: &mut Lists,
+    store: &mut V,
+    selection: Selection<'_>,
+    size: u64,
+) -> Result<(), Fault>
+    requires ready { IsReady V.Versions repo.now lists.old store.old }
+    requires selection { IsOfFormat repo.now.config.now selection }
+    requires size { IsTrue (V.honest store.old)
+        → size ≡ length (view_selected repo.now (V.lists store.old) selection.filter) }
+    ensures begun { OnOk result (HasBegun V.Versions repo.now selection.entry size lists.old store.old
+        lists.new store.new) }
+    ensures passed { OnOk result (IsTrue (V.honest store.old)
+        → view_open_lists repo.now lists.new (V.lists store.new)
+        ≡ (view_new_list repo.now lists.old (V.lists store.old) selection.entry None).1) }
+    ensures left { Leaves V.Versions result repo.now lists.old store.old lists.new store.new }
+    ensures store { Uses V.Versions 1 result store.old store.new }
+{
+    let end = repo.end();
+    let frozen = store.freeze(repo.index.version())?;
     match lists.open(
         repo.clock,
         selection.verb,
         selection.filter,
         frozen,
         size,
-        part.end,
+        end,
         repo.config.chunk(),
     ) {
-        Ok(_) => {
-            lists.set_mark(number, mark);
-            Ok(reply)
-        }
+        Ok(_) => Ok(()),
         Err(_) => {
             store.release(frozen);
             Err(Fault::NoMemory)

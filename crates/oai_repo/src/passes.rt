@@ -14,7 +14,7 @@ ghost use Rattle.oai_repo.specs.Listing as listing;
 ghost use Rattle.oai_repo.specs.Tables.{IsKeptTable, IsLeftOpen};
 ghost use Rattle.oai_repo.specs.Views.{IsOfFormat, IsReady, Leaves, view_ask_response, view_list_response, view_new_list, view_numbers, view_open_lists, view_response, view_selected, view_selection_response, view_token_response};
 
-use crate::lists::{ListRequest, Selection, filter_of, lacks_sets};
+use crate::lists::{ListRequest, Selection, filter_of, lacks_sets, start_unread};
 use crate::tokens::{carry_on, chunk_of, continued, cursor_behind};
 use crate::view::RepoView;
 use oai_args::{ArgFault, Ask, read_request};
@@ -171,43 +171,6 @@ fn pass_selection<V: Versions>(
         Err(OpenFault::Full) => Ok(()),
         Err(OpenFault::NumbersSpent) => Ok(()),
         Err(OpenFault::NoMemory) => Err(Fault::NoMemory),
-    }
-}
-
-/// Begins a list of so many records, of which no part is read.
-fn start_unread<V: Versions>(
-    repo: &RepoView<'_>,
-    lists: &mut Lists,
-    store: &mut V,
-    selection: Selection<'_>,
-    size: u64,
-) -> Result<(), Fault>
-    requires ready { IsReady V.Versions repo.now lists.old store.old }
-    requires selection { IsOfFormat repo.now.config.now selection }
-    requires size { IsTrue (V.honest store.old)
-        → size ≡ length (view_selected repo.now (V.lists store.old) selection.filter) }
-    ensures passed { OnOk result (IsTrue (V.honest store.old)
-        → view_open_lists repo.now lists.new (V.lists store.new)
-        ≡ (view_new_list repo.now lists.old (V.lists store.old) selection.entry None).1) }
-    ensures left { Leaves V.Versions result repo.now lists.old store.old lists.new store.new }
-    ensures store { Uses V.Versions 1 result store.old store.new }
-{
-    let end = repo.end();
-    let frozen = store.freeze(repo.index.version())?;
-    match lists.open(
-        repo.clock,
-        selection.verb,
-        selection.filter,
-        frozen,
-        size,
-        end,
-        repo.config.chunk(),
-    ) {
-        Ok(_) => Ok(()),
-        Err(_) => {
-            store.release(frozen);
-            Err(Fault::NoMemory)
-        }
     }
 }
 

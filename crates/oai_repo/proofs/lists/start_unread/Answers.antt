@@ -1,10 +1,11 @@
 -- The list stands behind the others, and its version holds the items as they stand.
-use Rattle.std.proofs.Common.{◌≡◌, ◌∙◌, ℤ, ℕ, List, None, ap, FitsSigned, w64, to_z, of_z, refl, arith}
+use Rattle.std.proofs.Common.{◌≡◌, ◌∙◌, ◌+ℤ◌, pos, ℤ, ℕ, List, None, ap, FitsSigned, w64, to_z, of_z, refl, arith}
 use Rattle.std.proofs.lemmas.Int.{to_z-of_z}
 use Rattle.oai_item.specs.Item.{ItemState}
 use Rattle.oai_item.specs.Selection.{selected}
 use Rattle.oai_catalogue.specs.Store.{list_at, without_list}
 use Rattle.oai_catalogue.proofs.ListsLemmas.{stands-with, without_with}
+use Rattle.oai_lists.specs.OpenLists.{next_list, with_opened}
 use Rattle.oai_lists.specs.declared.open_lists.OpenList.{OpenList}
 use Rattle.oai_repo.specs.Fields.{open_lists_of}
 use Rattle.oai_repo.specs.Listing.{new_list, with_new_list}
@@ -13,7 +14,7 @@ use Rattle.oai_repo.specs.Views.{view_open_lists, view_selected}
 use Rattle.oai_repo.proofs.OpenListLemmas.{open_lists_opened, left_opened, left_same_table, table_agrees_opened}
 use Rattle.oai_repo.proofs.ClockLemmas.{years_fit}
 use Rattle.oai_repo.proofs.WaitLemmas.{room_for_one, opening_failed}
-use Rattle.oai_repo.proofs.passes.start_unread.Goals as goal
+use Rattle.oai_repo.proofs.lists.start_unread.Goals as goal
 
 pub returns-in-Ok-clause-passed : goal.returns-in-Ok-clause-passed
 returns-in-Ok-clause-passed g c = λ honest.
@@ -92,4 +93,22 @@ returns-in-Err-clause-store g c =
       room = record { enough = λ is. cc; used = omega (arith, frozen.room.used, freed.room) };
       device = record { count = omega (arith, frozen.device.count, freed.count); device = λ is. cc };
       honesty = record { same = freed.honesty ∙ frozen.honesty.same; damaged = λ is. cc };
+    }
+
+pub returns-in-Ok-clause-begun : goal.returns-in-Ok-clause-begun
+returns-in-Ok-clause-begun g c =
+    let fits_now : FitsSigned w64 c.args.repo.now.clock = years_fit c.args.repo.now.clock c.requires.ready.dated in
+    let fits : FitsSigned w64 c.end-end.result = record { sfits = c.end-end.type_inv } in
+    let table = c.args.lists.now in
+    let selection = c.args.selection in
+    let opened = simp to_z-of_z at c.in-Ok.ensures.opened in
+    record {
+      version = c.in_ok-frozen.frozen;
+      unused = c.in_ok-frozen.ensures.unused;
+      frozen = rw c.version.ensures at c.in_ok-frozen.ensures.ok;
+      room = opened.0;
+      opened = opened.2
+          ∙ ap (λ (end : ℤ). with_opened table (next_list table selection.verb selection.filter c.in_ok-frozen.frozen c.args.size end c.chunk.result)) c.end-end.ensures.end
+          ∙ ap (λ (chunk : ℕ). with_opened table (next_list table selection.verb selection.filter c.in_ok-frozen.frozen c.args.size (c.args.repo.now.clock +ℤ pos c.args.repo.now.config.now.lifetime) chunk)) c.chunk.ensures.chunk;
+      valid = c.in-Ok.ensures.valid;
     }
