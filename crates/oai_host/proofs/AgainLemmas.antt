@@ -1,45 +1,94 @@
--- The call by which a repository performs again what it performed.
-use Rattle.std.proofs.Common.{◌≡◌, ◌∙◌, ◌<◌, ◌≤◌, ◌+◌, inl, inr, ℕ, ℤ, zero, suc, true, false, IsTrue, List, [], ◌∷◌, ◌++◌, append_assoc, length, take, drop, Option, None, Some, refl, sym, ap, subst, arith}
-use Rattle.std.specs.List.{All, position_or_len}
+-- The call by which a repository performs again what it performed, and what that leaves of the repositories of a host.
+use Rattle.std.proofs.Common.{◌≡◌, ◌∙◌, ◌≤◌, ◌+◌, ℕ, ℤ, zero, suc, Bool, true, false, not, ◌&&◌, ◌||◌, nat_le, IsTrue, List, [], ◌∷◌, ◌++◌, append_assoc, length, map, max, take, drop, Option, None, Some, Result, slice_set, refl, sym, ap, subst, arith, tests}
+use Rattle.std.specs.Int.{is_in_range}
+use Rattle.std.specs.List.{All, list_all, list_any, position_or_len, slice_get}
+use Rattle.std.specs.Prelude.{IfSome}
+use Rattle.std.specs.Str.{IsUtf8, bytes_eq}
 use Rattle.std.proofs.Math.Seq.{drop-append-add, get_or-append_seam, take-append_seam, take-length}
-use Rattle.std.proofs.lemmas.List.{get_or-take, get_or_append_left, take_all}
-use Rattle.std.specs.Prelude.{if◌then◌else◌}
-use Rattle.std.proofs.lemmas.Bool.{cond-true}
-use Rattle.std.proofs.lemmas.List.Sums.{fails_before_first, position_or_len_is}
+use Rattle.std.proofs.lemmas.Bool.{and_from, and_parts, cond-true, cond-false, not-true, or_parts}
+use Rattle.std.proofs.lemmas.List.{get_or_append_left}
+use Rattle.std.proofs.lemmas.List.Sums.{position_or_len_is}
+use Rattle.oai_catalogue.specs.Store.{Lists}
+use Rattle.oai_catalogue.specs.declared.versions.Versions.{Ghosts}
+use Rattle.oai_item.specs.Rules.{has_repeat}
 use Rattle.oai_item.specs.declared.faults.Fault.{Fault}
-use Rattle.oai_http.specs.Redone.{call_front, own_call}
-use Rattle.oai_http.specs.Targets.{endpoint_of, front_of, is_question_mark, path_of, query_of}
+use Rattle.oai_repo.specs.Fields.{RepoFields, state_of}
+use Rattle.oai_repo.specs.State.{RepoState}
+use Rattle.oai_settings.specs.Config.{Config, is_repository_byte, is_repository_name}
+use Rattle.oai_http.specs.Redone.{call_again, is_short_name, left_again, own_call}
+use Rattle.oai_http.specs.Targets.{front_of, is_question_mark, leads_to_repository, path_of, query_of}
 use Rattle.oai_http.specs.declared.exchanges.Answer.{Answer}
 use Rattle.oai_http.specs.declared.exchanges.Call.{Call}
-use Rattle.oai_http.specs.declared.statuses.Status.{Status}
-use Rattle.oai_http.specs.declared.statuses.Status.TheVariants as status
+use Rattle.oai_http.specs.declared.exchanges.Exchange.{Exchange}
+use Rattle.oai_http.specs.declared.handlers.Performed.{Performed}
 use Rattle.oai_http.specs.declared.targets.Endpoint.{Endpoint}
 use Rattle.oai_http.specs.declared.targets.Endpoint.TheVariants.{Deposits, Requests}
-use Rattle.oai_http.proofs.TargetLemmas.{endpoint_is}
-use Rattle.oai_host.specs.Alone.{done_alone}
-use Rattle.oai_host.specs.Bodies.{lines_in}
-use Rattle.oai_host.specs.DepositLines.{AreTaken}
-use Rattle.oai_host.specs.Hosts.{HostState, IsExchanged, Repository, store_of}
-use Rattle.oai_host.specs.Performed.{HasStopped, IsPerformed}
-use Rattle.oai_host.specs.Redone.{redone_all, redone_at}
-use Rattle.oai_host.specs.Tasks.{Task, asking, depositing, is_post, refusing, request_task, task_at, task_in, task_of}
-use Rattle.oai_host.proofs.RedoLemmas.{done_whole, each_left, each_same, is_at, never, redone_body, redone_some, whole_left}
+use Rattle.oai_http.proofs.TargetLemmas.{bytes_turned, endpoint_is, leads_not, leads_there}
+use Rattle.oai_host.specs.Alone.{done_alone, exchanged_alone}
+use Rattle.oai_host.specs.Hosts.{AreSteps, IsStep, Repository}
+use Rattle.oai_host.specs.NamedRepos.{AreNamedRepos, place_in, repo_names, repositories_of, repository_of}
+use Rattle.oai_host.specs.Exchanged.{RedoesIn, store_state}
+use Rattle.oai_host.specs.Places.{IsRepoPlace}
+use Rattle.oai_host.specs.Performed.{IsPerformed, StoreState}
+use Rattle.oai_host.specs.Redone.{AreLeftBy, AreRedone, IsLeftBy, IsNoLonger, IsPerformedAt, has_name, redone_all, redone_at, task_again}
+use Rattle.oai_host.specs.Tasks.{Task, asking, task_at, task_in, task_of}
+use Rattle.oai_host.specs.declared.repositories.NamedRepo.{NamedRepo}
+use Rattle.oai_host.proofs.NamedRepoLemmas.{steps_set, unused_at}
+use Rattle.oai_host.proofs.PlaceLemmas.{named_at, nothing_there, place_none, place_there, same_one}
+use Rattle.oai_host.proofs.RouteLemmas.{name_utf8}
+
+-- ---- names
+
+byte_plain : (b : ℕ) → is_repository_byte b ≡ true → is_question_mark b ≡ false
+byte_plain b is = grind (arith, tests)
+
+byte_seen : (b : ℕ) → is_repository_byte b ≡ true → (nat_le 33 b && nat_le b 126) ≡ true
+byte_seen b is = grind (arith, tests)
+
+range_below : (n : ℕ) → is_in_range 1 32 n ≡ true → nat_le n 32 ≡ true
+range_below n is = grind (arith, tests)
+
+all_more : (b : ℕ) (text : List ℕ) → is_question_mark b ≡ false → All (λ (b : ℕ). is_question_mark b ≡ false) text → All (λ (b : ℕ). is_question_mark b ≡ false) (b ∷ text)
+all_more b text first others zero d below = first
+all_more b text first others (suc k) d below = others k d (omega (arith, below))
+
+-- a name has no question mark
+name_plain : (name : List ℕ) → list_all is_repository_byte name ≡ true → All (λ (b : ℕ). is_question_mark b ≡ false) name
+name_plain [] all = λ k d below. absurd (omega (arith, below))
+name_plain (b ∷ name) all =
+    let parts = and_parts (is_repository_byte b) (list_all is_repository_byte name) all in
+    all_more b name (byte_plain b parts.0) (name_plain name parts.1)
+
+name_seen : (name : List ℕ) → list_all is_repository_byte name ≡ true → list_all (λ (b : ℕ). nat_le 33 b && nat_le b 126) name ≡ true
+name_seen [] all = refl
+name_seen (b ∷ name) all =
+    let parts = and_parts (is_repository_byte b) (list_all is_repository_byte name) all in
+    and_from (nat_le 33 b && nat_le b 126) (list_all (λ (b : ℕ). nat_le 33 b && nat_le b 126) name) (byte_seen b parts.0) (name_seen name parts.1)
+
+short_name : (name : List ℕ) → is_repository_name name ≡ true → is_short_name name ≡ true
+unfolding is_repository_name
+short_name name is =
+    let parts = and_parts (is_in_range 1 32 (length name)) (list_all is_repository_byte name) is in
+    and_from (list_all (λ (b : ℕ). nat_le 33 b && nat_le b 126) name) (nat_le (length name) 32) (name_seen name parts.1) (range_below (length name) parts.0)
+
+-- a name that is no text is none of these
+pub place_utf8 : (repos : List NamedRepo) (name : List ℕ) → list_all is_repository_name (repo_names repos) ≡ true → (IsUtf8 name → ⊥) → place_in (repo_names repos) name ≡ None
+place_utf8 repos name named never = one (place_in (repo_names repos) name) refl
+  where
+    one : (place : Option ℕ) → place_in (repo_names repos) name ≡ place → place ≡ None
+    one None is = refl
+    one (Some i) is =
+        let there = place_there repos name i is in
+        absurd (never (subst IsUtf8 there.2 (name_utf8 there.0.name (named_at repos i there.0 there.1 named))))
+
+pub lacks_name : (repos : List NamedRepo) (lists : Lists) (name : List ℕ) → place_in (repo_names repos) name ≡ None → has_name (repositories_of repos lists) name ≡ false
+lacks_name repos lists name none = same repos ∙ place_none (repo_names repos) name none
+  where
+    same : (these : List NamedRepo) → has_name (repositories_of these lists) name ≡ list_any (λ (one : List ℕ). bytes_eq one name) (repo_names these)
+    same [] = refl
+    same (x ∷ these) = ap (λ (b : Bool). bytes_eq x.name name || b) (same these)
 
 -- ---- the path of such a call
-
--- a path has no question mark
-plain_path : (target : List ℕ) → All (λ (b : ℕ). is_question_mark b ≡ false) (path_of target)
-plain_path target = λ k d below.
-    let n : ℕ = position_or_len is_question_mark target in
-    let early : k < n = shorter n target k below in
-    ap is_question_mark (get_or-take n target k d early) ∙ fails_before_first is_question_mark target k d early
-  where
-    shorter : (n : ℕ) (text : List ℕ) (k : ℕ) → k < length (take n text) → k < n
-    shorter zero [] k below = absurd (omega (arith, below))
-    shorter zero (b ∷ text) k below = absurd (omega (arith, below))
-    shorter (suc n) [] k below = absurd (omega (arith, below))
-    shorter (suc n) (b ∷ text) zero below = omega arith
-    shorter (suc n) (b ∷ text) (suc k) below = let less = shorter n text k (omega (arith, below)) in omega (arith, less)
 
 mark_at : (path rest : List ℕ) → All (λ (b : ℕ). is_question_mark b ≡ false) path → position_or_len is_question_mark (path ++ 63 ∷ rest) ≡ length path
 mark_at path rest plain =
@@ -66,117 +115,157 @@ path_whole path plain =
 
 -- ---- what such a call asks
 
-module _ (call : Call) (name : List ℕ) where
-  plain_named : (endpoint : Endpoint) → path_of call.target ≡ front_of endpoint ++ name → All (λ (b : ℕ). is_question_mark b ≡ false) (front_of endpoint ++ name)
-  plain_named endpoint path = subst (λ (p : List ℕ). All (λ (b : ℕ). is_question_mark b ≡ false) p) path (plain_path call.target)
+behind_plain : (front name : List ℕ) → list_all (λ (b : ℕ). not (is_question_mark b)) front ≡ true → All (λ (b : ℕ). is_question_mark b ≡ false) name → All (λ (b : ℕ). is_question_mark b ≡ false) (front ++ name)
+behind_plain [] name all others = others
+behind_plain (b ∷ front) name all others =
+    let parts = and_parts (not (is_question_mark b)) (list_all (λ (b : ℕ). not (is_question_mark b)) front) all in
+    all_more b (front ++ name) (not-true (is_question_mark b) parts.0) (behind_plain front name parts.1 others)
 
-  asks_path : (arguments : List ℕ) → path_of call.target ≡ front_of Requests ++ name → path_of (own_call call.moment Requests name arguments).target ≡ path_of call.target
-  asks_path arguments path =
-      ap path_of (sym (append_assoc (front_of Requests) name (63 ∷ arguments)))
-      ∙ path_with (front_of Requests ++ name) arguments (plain_named Requests path)
-      ∙ sym path
+front_plain : (endpoint : Endpoint) (name : List ℕ) → is_repository_name name ≡ true → All (λ (b : ℕ). is_question_mark b ≡ false) (front_of endpoint ++ name)
+unfolding is_repository_name
+front_plain Requests name is = behind_plain (front_of Requests) name refl (name_plain name (and_parts _ _ is).1)
+front_plain Deposits name is = behind_plain (front_of Deposits) name refl (name_plain name (and_parts _ _ is).1)
 
-  asks_again : (arguments : List ℕ) → path_of call.target ≡ front_of Requests ++ name → task_of (own_call call.moment Requests name arguments) ≡ asking arguments
-  asks_again arguments path =
-      let own : Call = own_call call.moment Requests name arguments in
-      ap (λ (at : Option Endpoint). task_at at own) (endpoint_is Requests name own.target (asks_path arguments path ∙ path))
-      ∙ ap asking (ap query_of (sym (append_assoc (front_of Requests) name (63 ∷ arguments))) ∙ query_with (front_of Requests ++ name) arguments (plain_named Requests path))
+pub again_path : (moment : ℤ) (endpoint : Endpoint) (name bytes : List ℕ) → is_repository_name name ≡ true → path_of (own_call moment endpoint name bytes).target ≡ front_of endpoint ++ name
+again_path moment Requests name arguments is =
+    ap path_of (sym (append_assoc (front_of Requests) name (63 ∷ arguments)))
+    ∙ path_with (front_of Requests ++ name) arguments (front_plain Requests name is)
+again_path moment Deposits name lines is = path_whole (front_of Deposits ++ name) (front_plain Deposits name is)
 
-  deposits_path : (lines : List ℕ) → path_of call.target ≡ front_of Deposits ++ name → path_of (own_call call.moment Deposits name lines).target ≡ path_of call.target
-  deposits_path lines path = path_whole (front_of Deposits ++ name) (plain_named Deposits path) ∙ sym path
+again_in : (moment : ℤ) (endpoint : Endpoint) (name bytes : List ℕ) → is_repository_name name ≡ true → task_in endpoint (own_call moment endpoint name bytes) ≡ task_again endpoint bytes
+again_in moment Requests name arguments is =
+    ap asking (ap query_of (sym (append_assoc (front_of Requests) name (63 ∷ arguments))) ∙ query_with (front_of Requests ++ name) arguments (front_plain Requests name is))
+again_in moment Deposits name lines is = refl
 
-  deposits_again : (lines : List ℕ) → path_of call.target ≡ front_of Deposits ++ name → task_of (own_call call.moment Deposits name lines) ≡ depositing (lines_in lines)
-  deposits_again lines path =
-      let own : Call = own_call call.moment Deposits name lines in
-      ap (λ (at : Option Endpoint). task_at at own) (endpoint_is Deposits name own.target (deposits_path lines path ∙ path))
+pub again_task : (moment : ℤ) (endpoint : Endpoint) (name bytes : List ℕ) → is_repository_name name ≡ true → task_of (own_call moment endpoint name bytes) ≡ task_again endpoint bytes
+again_task moment endpoint name bytes is =
+    let own : Call = own_call moment endpoint name bytes in
+    ap (λ (at : Option Endpoint). task_at at own) (endpoint_is endpoint name own.target (again_path moment endpoint name bytes is))
+    ∙ again_in moment endpoint name bytes is
 
--- ---- what is left
+own_moment : (moment : ℤ) (endpoint : Endpoint) (name bytes : List ℕ) → (own_call moment endpoint name bytes).moment ≡ moment
+own_moment moment Requests name bytes = refl
+own_moment moment Deposits name bytes = refl
 
-module _ (call : Call) (answer : Answer) (before after : HostState) (honest : IsTrue before.honest) (exchanged : IsExchanged call answer before after) where
-  -- a refusal leaves all
-  refused_again : (why : Status) → task_of call ≡ refusing why → after.repositories ≡ before.repositories
-  refused_again why is =
-      each_same call answer (store_of before) (store_of after) before.repositories after.repositories exchanged.each (λ x y performed. same x y performed)
-    where
-      same : (x y : Repository) → IsPerformed x.config call.moment (task_of call) answer x.state (store_of before) y.state (store_of after) → y.state ≡ x.state
-      same x y performed =
-          let so = subst (λ (task : Task). IsPerformed x.config call.moment task answer x.state (store_of before) y.state (store_of after)) is performed in
-          elim so.ended [
-            | inl done ↦ done.1
-            | inr stopped ↦ absurd stopped.1
-          ]
+again_done : (config : Config) (state : RepoState) (moment : ℤ) (endpoint : Endpoint) (name bytes : List ℕ) → is_repository_name name ≡ true
+    → exchanged_alone config state (own_call moment endpoint name bytes) ≡ done_alone config state moment (task_again endpoint bytes)
+again_done config state moment endpoint name bytes is =
+    let own : Call = own_call moment endpoint name bytes in
+    ap (λ (m : ℤ). done_alone config state m (task_of own)) (own_moment moment endpoint name bytes)
+    ∙ ap (λ (t : Task). done_alone config state moment t) (again_task moment endpoint name bytes is)
 
-  pub nowhere_again : endpoint_of call.target ≡ None → after.repositories ≡ before.repositories
-  nowhere_again none = refused_again _ (ap (λ (at : Option Endpoint). task_at at call) none)
+-- ---- what is left of the repositories
 
-  pub refusal_again : (endpoint : Endpoint) (name : List ℕ) (why : Status) → path_of call.target ≡ front_of endpoint ++ name → task_in endpoint call ≡ refusing why → after.repositories ≡ before.repositories
-  refusal_again endpoint name why path is = refused_again why (ap (λ (at : Option Endpoint). task_at at call) (endpoint_is endpoint name call.target path) ∙ is)
+map_same : (repositories : List Repository) → map (λ (r : Repository). r) repositories ≡ repositories
+map_same [] = refl
+map_same (x ∷ repositories) = ap (λ (rs : List Repository). x ∷ rs) (map_same repositories)
 
-  -- a request that has no fault
-  pub request_again : (name arguments : List ℕ) → path_of call.target ≡ front_of Requests ++ name → request_task call ≡ asking arguments → answer.fault ≡ None
-      → after.repositories ≡ redone_all before.repositories (own_call call.moment Requests name arguments)
-  request_again name arguments path asked none =
-      each_left call answer (store_of before) (store_of after) (own_call call.moment Requests name arguments) (asks_path call name arguments path) before.repositories after.repositories exchanged.each
-      (λ x y performed.
-      whole_left x.config call answer x.state (store_of before) y.state (store_of after) honest performed none
-      ∙ ap (λ (task : Task). (done_alone x.config x.state call.moment task).1)
-      (ap (λ (at : Option Endpoint). task_at at call) (endpoint_is Requests name call.target path) ∙ asked ∙ sym (asks_again call name arguments path)))
+-- one of them is changed as `f` changes it, and the path of the call leads to it alone
+module _ (call : Call) (answer : Answer) (m n : StoreState) (endpoint : Endpoint) (one : NamedRepo) (new : RepoFields) (before after : Lists) (path : path_of call.target ≡ front_of endpoint ++ one.name)
+    (f : Repository → Repository) (elsewhere : (r : Repository) → leads_to_repository r.name call.target ≡ false → f r ≡ r) where
+  other_left : (x : NamedRepo) → bytes_eq one.name x.name ≡ false → IsStep call answer m n (repository_of before x) (repository_of after x) → repository_of after x ≡ f (repository_of before x)
+  other_left x apart step =
+      let away = leads_not endpoint one.name x.name call.target path apart in
+      ap (λ (s : RepoState). record { name = x.name; config = x.repo.config; state = s }) (step.other away) ∙ sym (elsewhere (repository_of before x) away)
 
-  -- one that has
-  pub failed_again : (name arguments : List ℕ) (fault : Fault) → path_of call.target ≡ front_of Requests ++ name → request_task call ≡ asking arguments → answer.fault ≡ Some fault
-      → after.repositories ≡ before.repositories
-  failed_again name arguments fault path asked told =
-      each_same call answer (store_of before) (store_of after) before.repositories after.repositories exchanged.each (λ x y performed. same x y performed)
-    where
-      task : task_of call ≡ asking arguments
-      task = ap (λ (at : Option Endpoint). task_at at call) (endpoint_is Requests name call.target path) ∙ asked
+  others_left : (repos : List NamedRepo) → list_any (bytes_eq one.name) (repo_names repos) ≡ false → AreSteps call answer m n (repositories_of repos before) (repositories_of repos after)
+      → repositories_of repos after ≡ map f (repositories_of repos before)
+  others_left [] unused steps = refl
+  others_left (x ∷ repos) unused steps =
+      let parts = or_parts (bytes_eq one.name x.name) (list_any (bytes_eq one.name) (repo_names repos)) unused in
+      ap (λ (r : Repository). r ∷ repositories_of repos after) (other_left x parts.0 steps.0)
+      ∙ ap (λ (rs : List Repository). f (repository_of before x) ∷ rs) (others_left repos parts.1 steps.1)
 
-      same : (x y : Repository) → IsPerformed x.config call.moment (task_of call) answer x.state (store_of before) y.state (store_of after) → y.state ≡ x.state
-      same x y performed = elim performed.ended [
-        | inl done ↦ never fault (sym (done_whole x.config call answer x.state (store_of before) y.state (store_of after) honest performed done) ∙ told)
-        | inr stopped ↦ (subst (λ (t : Task). HasStopped before.honest x.config call.moment t stopped.0 x.state answer y.state) task stopped.1).1
-      ]
+  set_left : (repos : List NamedRepo) (i : ℕ) → slice_get repos i ≡ Some one → has_repeat (repo_names repos) ≡ false
+      → AreSteps call answer m n (repositories_of repos before) (repositories_of (slice_set repos i (record { name = one.name; repo = new })) after)
+      → repository_of after (record { name = one.name; repo = new }) ≡ f (repository_of before one)
+      → repositories_of (slice_set repos i (record { name = one.name; repo = new })) after ≡ map f (repositories_of repos before)
+  set_left [] i there distinct steps own = nothing_there one there
+  set_left (x ∷ repos) zero there distinct steps own =
+      let same = same_one x one there in
+      let parts = or_parts (list_any (bytes_eq x.name) (repo_names repos)) (has_repeat (repo_names repos)) distinct in
+      ap (λ (r : Repository). r ∷ repositories_of repos after) (own ∙ ap (λ (y : NamedRepo). f (repository_of before y)) (sym same))
+      ∙ ap (λ (rs : List Repository). f (repository_of before x) ∷ rs)
+      (others_left repos (subst (λ (y : NamedRepo). list_any (bytes_eq y.name) (repo_names repos) ≡ false) same parts.0) steps.1)
+  set_left (x ∷ repos) (suc i) there distinct steps own =
+      let parts = or_parts (list_any (bytes_eq x.name) (repo_names repos)) (has_repeat (repo_names repos)) distinct in
+      ap (λ (r : Repository). r ∷ repositories_of (slice_set repos i (record { name = one.name; repo = new })) after)
+      (other_left x (bytes_turned x.name one.name (unused_at x.name repos i one there parts.0)) steps.0)
+      ∙ ap (λ (rs : List Repository). f (repository_of before x) ∷ rs) (set_left repos i there parts.1 steps.1 own)
 
--- ---- deposits
+-- what is left of one by these bytes is what their call leaves of all
+pub set_left_by : (call : Call) (answer : Answer) (m n : StoreState) (endpoint : Endpoint) (one : NamedRepo) (new : RepoFields) (before after : Lists) → path_of call.target ≡ front_of endpoint ++ one.name
+    → is_repository_name one.name ≡ true → (repos : List NamedRepo) (i : ℕ) → slice_get repos i ≡ Some one → has_repeat (repo_names repos) ≡ false
+    → AreSteps call answer m n (repositories_of repos before) (repositories_of (slice_set repos i (record { name = one.name; repo = new })) after) → new.config ≡ one.repo.config
+    → (moment : ℤ) (bytes : Option (List ℕ)) → IsLeftBy one.repo.config moment endpoint bytes (state_of one.repo before) (state_of new after)
+    → AreLeftBy moment endpoint one.name bytes (repositories_of repos before) (repositories_of (slice_set repos i (record { name = one.name; repo = new })) after)
+set_left_by call answer m n endpoint one new before after path named repos i there distinct steps config moment None left =
+    set_left call answer m n endpoint one new before after path (λ (r : Repository). r) (λ r away. refl) repos i there distinct steps
+    (ap (λ (s : RepoState). record { name = one.name; config = new.config; state = s }) left ∙ ap (λ c. record { name = one.name; config = c; state = state_of one.repo before }) config)
+    ∙ map_same (repositories_of repos before)
+set_left_by call answer m n endpoint one new before after path named repos i there distinct steps config moment (Some bytes) left =
+    let other : Call = own_call moment endpoint one.name bytes in
+    let there_too = again_path moment endpoint one.name bytes named in
+    set_left call answer m n endpoint one new before after path (redone_at other)
+    (λ r away. cond-false (leads_to_repository r.name other.target) (record r { state = (exchanged_alone r.config r.state other).1 }) r
+    (ap (λ (p : List ℕ). bytes_eq p (front_of Requests ++ r.name) || bytes_eq p (front_of Deposits ++ r.name)) (there_too ∙ sym path) ∙ away))
+    repos i there distinct steps
+    (ap (λ (s : RepoState). record { name = one.name; config = new.config; state = s }) (left ∙ ap (λ (done : Answer × RepoState). done.1) (sym (again_done one.repo.config (state_of one.repo before) moment endpoint one.name bytes named)))
+    ∙ ap (λ c. record { name = one.name; config = c; state = (exchanged_alone one.repo.config (state_of one.repo before) other).1 }) config
+    ∙ sym (cond-true (leads_to_repository one.name other.target) (record { name = one.name; config = one.repo.config; state = (exchanged_alone one.repo.config (state_of one.repo before) other).1 }) (repository_of before one)
+    (leads_there endpoint one.name other.target there_too)))
 
-abbrev redone_so : List ℕ → ℤ → Task → Repository → Repository
-redone_so path moment task x = if is_at x.name path then record x { state = (done_alone x.config x.state moment task).1 } else x
+-- ---- what is performed again at one
 
--- calls that ask the same of the same repository leave the same
-same_redone : (one other : Call) → path_of one.target ≡ path_of other.target → one.moment ≡ other.moment → task_of one ≡ task_of other → (repositories : List Repository)
-    → redone_all repositories one ≡ redone_all repositories other
-same_redone one other path moment task [] = refl
-same_redone one other path moment task (x ∷ repositories) =
-    ap (λ (r : Repository). r ∷ redone_all repositories one) (
-    ap (λ (p : List ℕ). redone_so p one.moment (task_of one) x) path
-    ∙ ap (λ (m : ℤ). redone_so (path_of other.target) m (task_of one) x) moment
-    ∙ ap (λ (t : Task). redone_so (path_of other.target) other.moment t x) task
+-- a repository performs again what was performed, and it is an exchange of its own
+pub redone_set : {V : Type 0} (g : Ghosts V) (moment : ℤ) (performed : Performed) (result : Result (Unit {0}) Fault) (repos : List NamedRepo) (i : ℕ) (one : NamedRepo) (new : RepoFields) (before after : V)
+    → slice_get repos i ≡ Some one → one.name ≡ performed.name.now → AreNamedRepos (g.honest before) repos (g.lists before)
+    → RedoesIn g moment (task_again performed.endpoint performed.bytes.now) result one.repo before new after
+    → AreRedone (call_again moment performed) result (store_state g before) (store_state g after) (repositories_of repos (g.lists before))
+    (repositories_of (slice_set repos i (record { name = one.name; repo = new })) (g.lists after))
+redone_set g moment performed result repos i one new before after there is repos_stand redone =
+    let call : Call = call_again moment performed in
+    let named : is_repository_name performed.name.now ≡ true = subst (λ (name : List ℕ). is_repository_name name ≡ true) is (named_at repos i one there repos_stand.named.named) in
+    let path : path_of call.target ≡ front_of performed.endpoint ++ one.name = again_path moment performed.endpoint performed.name.now performed.bytes.now named ∙ ap (λ (name : List ℕ). front_of performed.endpoint ++ name) (sym is) in
+    let own = redone.2.performed in (
+      redone.0,
+      redone.1,
+      steps_set (g.honest before) call redone.0 (store_state g before) (store_state g after) performed.endpoint repos i one new (g.lists before) (g.lists after) there repos_stand redone.2.kept repos_stand.named.distinct path
+          (subst (λ (task : Task). IsPerformed one.repo.config call.moment task redone.0 (state_of one.repo (g.lists before)) (store_state g before) (state_of new (g.lists after)) (store_state g after))
+          (sym (again_in moment performed.endpoint performed.name.now performed.bytes.now named))
+          (subst (λ (m : ℤ). IsPerformed one.repo.config m (task_again performed.endpoint performed.bytes.now) redone.0 (state_of one.repo (g.lists before)) (store_state g before) (state_of new (g.lists after)) (store_state g after))
+          (sym (own_moment moment performed.endpoint performed.name.now performed.bytes.now)) own)),
+      own.device,
+      own.honesty,
     )
-    ∙ ap (λ (rs : List Repository). redone_at other x ∷ rs) (same_redone one other path moment task repositories)
 
--- its first lines
-front_again : (call : Call) (name : List ℕ) (size : ℕ) → path_of call.target ≡ front_of Deposits ++ name → is_post call.method ≡ true → (repositories : List Repository)
-    → redone_all repositories (call_front call size) ≡ redone_all repositories (own_call call.moment Deposits name (take size call.body))
-front_again call name size path post repositories =
-    let part : Call = call_front call size in
-    same_redone part (own_call call.moment Deposits name (take size call.body)) (sym (deposits_path call name (take size call.body) path)) refl
-    (ap (λ (at : Option Endpoint). task_at at part) (endpoint_is Deposits name call.target path)
-    ∙ cond-true (is_post call.method) (depositing (lines_in (take size call.body))) (refusing status.MethodNotAllowed) post
-    ∙ sym (deposits_again call name (take size call.body) path))
-    repositories
+pub again_place : (moment : ℤ) (performed : Performed) (repos : List NamedRepo) (i : ℕ) → place_in (repo_names repos) performed.name.now ≡ Some i → list_all is_repository_name (repo_names repos) ≡ true
+    → IsRepoPlace repos i performed.endpoint (call_again moment performed).target
+again_place moment performed repos i found all =
+    let place = place_there repos performed.name.now i found in
+    let named : is_repository_name performed.name.now ≡ true = subst (λ (name : List ℕ). is_repository_name name ≡ true) place.2 (named_at repos i place.0 place.1 all) in
+    record {
+      one = place.0;
+      there = place.1;
+      path = again_path moment performed.endpoint performed.name.now performed.bytes.now named ∙ ap (λ (name : List ℕ). front_of performed.endpoint ++ name) (sym place.2);
+    }
 
-module _ (call : Call) (answer : Answer) (before after : HostState) (honest : IsTrue before.honest) (exchanged : IsExchanged call answer before after) (name : List ℕ) (path : path_of call.target ≡ front_of Deposits ++ name)
-    (post : is_post call.method ≡ true) where
-  -- all lines
-  pub lines_again : answer.fault ≡ None → after.repositories ≡ redone_all before.repositories (own_call call.moment Deposits name call.body)
-  lines_again none =
-      redone_body call answer before after honest exchanged none
-      ∙ front_again call name (length call.body) path post before.repositories
-      ∙ ap (λ (body : List ℕ). redone_all before.repositories (own_call call.moment Deposits name body)) (take_all (length call.body) call.body (omega arith))
+-- ---- what is to be performed again
 
-  -- the first ones
-  pub first_again : (fault : Fault) (n size : ℕ) → answer.fault ≡ Some fault → answer.done ≡ Some n → AreTaken call.body size n
-      → after.repositories ≡ redone_all before.repositories (own_call call.moment Deposits name (take size call.body))
-  first_again fault n size is count taken =
-      redone_some call answer before after honest exchanged fault n size is count taken
-      ∙ front_again call name size path post before.repositories
+pub left_performed : (moment : ℤ) (endpoint : Endpoint) (name : List ℕ) (bytes : Option (List ℕ)) (performed : Option Performed) (before after : List Repository) → IsPerformedAt endpoint name bytes performed
+    → AreLeftBy moment endpoint name bytes before after → after ≡ left_again redone_all before moment performed
+left_performed moment endpoint name bytes None before after is left = subst (λ (b : Option (List ℕ)). AreLeftBy moment endpoint name b before after) is left
+left_performed moment endpoint name bytes (Some p) before after is left =
+    subst (λ (b : Option (List ℕ)). AreLeftBy moment endpoint name b before after) is.2 left
+    ∙ ap (λ (e : Endpoint). redone_all before (own_call moment e name p.bytes.now)) (sym is.0)
+    ∙ ap (λ (n : List ℕ). redone_all before (own_call moment p.endpoint n p.bytes.now)) (sym is.1)
+
+pub performed_name : (endpoint : Endpoint) (name : List ℕ) (bytes : Option (List ℕ)) (performed : Option Performed) → IsPerformedAt endpoint name bytes performed → is_repository_name name ≡ true
+    → IfSome performed (λ (p : Performed). IsTrue (is_short_name p.name.now))
+performed_name endpoint name bytes None is named = tt
+performed_name endpoint name bytes (Some p) is named = ap is_short_name is.1 ∙ short_name name named
+
+pub performed_size : (exchange : Exchange) (endpoint : Endpoint) (name : List ℕ) (bytes : Option (List ℕ)) (performed : Option Performed) → IsPerformedAt endpoint name bytes performed → IsNoLonger exchange bytes
+    → IfSome performed (λ (p : Performed). length p.bytes.now ≤ max (length exchange.target.now) (length exchange.body.now))
+performed_size exchange endpoint name bytes None is within = tt
+performed_size exchange endpoint name bytes (Some p) is within = subst (λ (b : Option (List ℕ)). IsNoLonger exchange b) is.2 within

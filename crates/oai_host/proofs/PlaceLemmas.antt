@@ -151,3 +151,11 @@ place_added repos one was is n old unused last updates name =
     ∙ ap (λ (m : ℕ). cond (bytes_eq one.name name) (Some m) (place_in (repo_names repos) name)) (last ∙ sym (names_len repos))
     ∙ sym (place_last (repo_names repos) one.name name unused)
     ∙ ap (λ (names : List (List ℕ)). place_in names name) (sym (names_last repos one))
+
+-- ---- the name at a place
+
+pub named_at : (repos : List NamedRepo) (i : ℕ) (one : NamedRepo) → slice_get repos i ≡ Some one → list_all is_repository_name (repo_names repos) ≡ true → is_repository_name one.name ≡ true
+named_at [] i one there named = nothing_there one there
+named_at (x ∷ repos) zero one there named =
+    subst (λ (y : NamedRepo). is_repository_name y.name ≡ true) (same_one x one there) (and_parts (is_repository_name x.name) (list_all is_repository_name (repo_names repos)) named).0
+named_at (x ∷ repos) (suc i) one there named = named_at repos i one there (and_parts (is_repository_name x.name) (list_all is_repository_name (repo_names repos)) named).1

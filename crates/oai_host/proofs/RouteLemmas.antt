@@ -110,6 +110,10 @@ front_ascii : (endpoint : Endpoint) → IsAscii (front_of endpoint)
 front_ascii Requests = ascii_where (codes "/oai/") refl
 front_ascii Deposits = ascii_where (codes "/deposit/") refl
 
+pub name_utf8 : (name : List ℕ) → is_repository_name name ≡ true → IsUtf8 name
+unfolding is_repository_name
+name_utf8 name named = IsUtf8-from_ascii name (ascii_name name (and_parts _ _ named).1)
+
 pub path_utf8 : (endpoint : Endpoint) (name : List ℕ) → is_repository_name name ≡ true → IsUtf8 (front_of endpoint ++ name)
 unfolding is_repository_name
 path_utf8 endpoint name named = IsUtf8-from_ascii (front_of endpoint ++ name) (ascii_behind (front_of endpoint) name (front_ascii endpoint) (ascii_name name (and_parts _ _ named).1))
@@ -339,7 +343,7 @@ has_name path route utf8 found =
 
 -- ---- the one way in which a path is one of a repository
 
-same_front : (endpoint : Endpoint) (one other : List ℕ) → front_of endpoint ++ one ≡ front_of endpoint ++ other → one ≡ other
+pub same_front : (endpoint : Endpoint) (one other : List ℕ) → front_of endpoint ++ one ≡ front_of endpoint ++ other → one ≡ other
 same_front Requests one other h = ap (drop 5) h
 same_front Deposits one other h = ap (drop 9) h
 

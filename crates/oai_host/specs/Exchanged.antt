@@ -8,6 +8,7 @@ use Rattle.oai_item.specs.declared.refusals.LineRefusal.{LineRefusal}
 use Rattle.oai_repo.specs.Fields.{Keeps, RepoFields, state_of}
 use Rattle.oai_http.specs.Exchanges.{Asked, call_at}
 use Rattle.oai_http.specs.declared.exchanges.Answer.{Answer}
+use Rattle.oai_host.specs.Answers.{failure_in}
 use Rattle.oai_host.specs.Hosts.{HostState, IsExchanged}
 use Rattle.oai_host.specs.Performed.{IsLinePerformed, IsPerformed, StoreState}
 use Rattle.oai_host.specs.Room.{room_for_line}
@@ -27,6 +28,10 @@ store_state g store = record { honest = g.honest store; failures = g.failures st
 pub record PerformsIn {V : Type 0} (g : Ghosts V) (moment : ℤ) (task : Task) (answer : Answer) (old : RepoFields) (before : V) (new : RepoFields) (after : V) : Type 0 where
   pub performed : IsPerformed old.config moment task answer (state_of old (g.lists before)) (store_state g before) (state_of new (g.lists after)) (store_state g after)
   pub kept : Keeps (g.honest before) old (g.lists before) new (g.lists after)
+
+-- and its answer is dropped but for its fault
+abbrev pub RedoesIn : {V : Type 0} → Ghosts V → ℤ → Task → Result (Unit {0}) Fault → RepoFields → V → RepoFields → V → Type 0
+RedoesIn g moment task result old before new after = (answer : Answer) × (result ≡ failure_in answer) × PerformsIn g moment task answer old before new after
 
 -- ---- a line of a deposit
 

@@ -1,16 +1,29 @@
--- What an exchange leaves at the repositories of a host, with its answer dropped. This repository's own.
-use Rattle.std.specs.Prelude.{◌≡◌, ◌++◌, ℕ, ℤ, if◌then◌else◌, IsTrue, List, map, MatchOption, Option, Result}
+-- What an exchange leaves at the repositories of a host, and what of it is to be performed again. This repository's own.
+use Rattle.std.specs.Prelude.{◌≡◌, ◌≤◌, ◌⊎◌, ℕ, ℤ, Bool, false, if◌then◌else◌, IfSome, IsTrue, length, List, [], ◌∷◌, map, MatchOption, max, Option, None, Some, Err, Result}
+use Rattle.std.specs.List.{list_any}
+use Rattle.std.specs.Str.{bytes_eq}
 use Rattle.oai_item.specs.declared.faults.Fault.{Fault}
+use Rattle.oai_item.specs.declared.faults.Fault.TheVariants.{Damaged}
+use Rattle.oai_catalogue.specs.Store.{IsCounted, IsHonest}
+use Rattle.oai_settings.specs.Config.{Config}
+use Rattle.oai_repo.specs.State.{RepoState}
 use Rattle.oai_http.specs.Exchanges.{call_of}
-use Rattle.oai_http.specs.Redone.{own_call}
-use Rattle.oai_http.specs.Targets.{front_of, leads_to_repository, path_of}
-use Rattle.oai_http.specs.declared.exchanges.Exchange.{Exchange}
-use Rattle.oai_http.specs.declared.targets.Endpoint.{Endpoint}
+use Rattle.oai_http.specs.Redone.{call_again, is_short_name, left_again, own_call}
+use Rattle.oai_http.specs.Targets.{leads_to_repository}
 use Rattle.oai_http.specs.declared.exchanges.Answer.{Answer}
 use Rattle.oai_http.specs.declared.exchanges.Call.{Call}
-use Rattle.oai_host.specs.Alone.{exchanged_alone}
+use Rattle.oai_http.specs.declared.exchanges.Exchange.{Exchange}
+use Rattle.oai_http.specs.declared.handlers.Performed.{Performed}
+use Rattle.oai_http.specs.declared.targets.Endpoint.{Endpoint}
+use Rattle.oai_http.specs.declared.targets.Endpoint.TheVariants.{Deposits, Requests}
+use Rattle.oai_host.specs.Alone.{done_alone, exchanged_alone}
 use Rattle.oai_host.specs.Answers.{failure_in}
-use Rattle.oai_host.specs.Hosts.{HostState, IsExchanged, Repository}
+use Rattle.oai_host.specs.Bodies.{lines_in}
+use Rattle.oai_host.specs.Hosts.{AreSteps, HostState, IsExchanged, Repository, refused}
+use Rattle.oai_host.specs.Performed.{IsPerformed, StoreState}
+use Rattle.oai_host.specs.Tasks.{Task, asking, depositing, task_in}
+
+-- ---- what a call leaves, and what it is answered
 
 -- the repository whose it is does what it alone would do, and any other nothing
 abbrev pub redone_at : Call → Repository → Repository
@@ -21,16 +34,71 @@ redone_at call repository =
 abbrev pub redone_all : List Repository → Call → List Repository
 redone_all repositories call = map (redone_at call) repositories
 
--- an exchange was performed again, and its answer dropped but for its fault
-abbrev pub IsRedone : Call → Result (Unit {0}) Fault → HostState → HostState → Type 0
-IsRedone call result before after = (answer : Answer) × (result ≡ failure_in answer) × IsExchanged call answer before after
+-- the repository whose it is answers what it alone would answer; a call that is none's is refused
+abbrev pub reply_all : List Repository → Call → Answer
+reply_all [] call = refused call
+reply_all (repository ∷ repositories) call =
+    if leads_to_repository repository.name call.target then (exchanged_alone repository.config repository.state call).0
+    else reply_all repositories call
 
--- of an exchange that was answered so these bytes were performed at the repository that its path names, and nothing else; or nothing
+-- ---- what is performed again at one repository
+
+-- a request with these arguments, or a deposit of these lines
+abbrev pub task_again : Endpoint → List ℕ → Task
+task_again Requests arguments = asking arguments
+task_again Deposits lines = depositing (lines_in lines)
+
+-- the state after is what that leaves of the state before; or nothing has to be done, since it is the state before
+abbrev pub IsLeftBy : Config → ℤ → Endpoint → Option (List ℕ) → RepoState → RepoState → Type 0
+IsLeftBy config moment endpoint None before after = after ≡ before
+IsLeftBy config moment endpoint (Some bytes) before after = after ≡ (done_alone config before moment (task_again endpoint bytes)).1
+
+-- of an exchange of a repository that was answered so, these bytes were performed and nothing else; or nothing
 abbrev pub LeavesAgain : Endpoint → Exchange → Answer → Option (List ℕ) → Type 0
 LeavesAgain endpoint exchange answer bytes =
-    (name : List ℕ) (moment : ℤ) (before after : HostState)
-    → path_of exchange.target.now ≡ front_of endpoint ++ name
-    → IsTrue before.honest
-    → IsExchanged (call_of moment exchange) answer before after
-    → MatchOption bytes (after.repositories ≡ before.repositories)
-    (λ (its : List ℕ). after.repositories ≡ redone_all before.repositories (own_call moment endpoint name its))
+    (config : Config) (moment : ℤ) (before after : RepoState) (old new : StoreState)
+    → IsTrue old.honest
+    → IsPerformed config moment (task_in endpoint (call_of moment exchange)) answer before old after new
+    → IsLeftBy config moment endpoint bytes before after
+
+-- they are no longer than the target or the body of the exchange
+abbrev pub IsNoLonger : Exchange → Option (List ℕ) → Type 0
+IsNoLonger exchange bytes = IfSome bytes (λ (its : List ℕ). length its ≤ max (length exchange.target.now) (length exchange.body.now))
+
+-- ---- at a host
+
+-- the repository of that name was left so, and the others as they were
+abbrev pub AreLeftBy : ℤ → Endpoint → List ℕ → Option (List ℕ) → List Repository → List Repository → Type 0
+AreLeftBy moment endpoint name None before after = after ≡ before
+AreLeftBy moment endpoint name (Some bytes) before after = after ≡ redone_all before (own_call moment endpoint name bytes)
+
+-- this was performed by these bytes at the repository of that name; or nothing was
+abbrev pub IsPerformedAt : Endpoint → List ℕ → Option (List ℕ) → Option Performed → Type 0
+IsPerformedAt endpoint name bytes performed =
+    MatchOption performed (bytes ≡ None) (λ (p : Performed). (p.endpoint ≡ endpoint) × (p.name.now ≡ name) × (bytes ≡ Some p.bytes.now))
+
+-- an exchange was answered so, and this is what of it is to be performed again
+pub record IsRecorded (moment : ℤ) (exchange : Exchange) (answer : Answer) (performed : Option Performed) (before after : HostState) : Type 0 where
+  pub exchanged : IsExchanged (call_of moment exchange) answer before after
+  pub left : IsTrue before.honest → after.repositories ≡ left_again redone_all before.repositories moment performed
+  pub name : IfSome performed (λ (p : Performed). IsTrue (is_short_name p.name.now))
+  pub size : IfSome performed (λ (p : Performed). length p.bytes.now ≤ max (length exchange.target.now) (length exchange.body.now))
+
+-- a call was performed again at each, and its answer dropped but for its fault, which has its cause
+abbrev pub AreRedone : Call → Result (Unit {0}) Fault → StoreState → StoreState → List Repository → List Repository → Type 0
+AreRedone call result old new before after =
+    (answer : Answer)
+    × (result ≡ failure_in answer)
+    × AreSteps call answer old new before after
+    × IsCounted (failure_in answer) old.failures new.failures
+    × IsHonest (failure_in answer) old.honest new.honest
+
+-- a repository has that name
+abbrev pub has_name : List Repository → List ℕ → Bool
+has_name repositories name = list_any (λ (repository : Repository). bytes_eq repository.name name) repositories
+
+-- what was performed was performed again, and its answer dropped but for its fault; or no repository has its name, and nothing was done
+abbrev pub IsRedone : ℤ → Performed → Result (Unit {0}) Fault → HostState → HostState → Type 0
+IsRedone moment performed result before after =
+    ((answer : Answer) × (result ≡ failure_in answer) × IsExchanged (call_again moment performed) answer before after)
+    ⊎ ((has_name before.repositories performed.name.now ≡ false) × (result ≡ Err Damaged) × (after ≡ before))

@@ -1,17 +1,20 @@
 //! What exchanges ask of a repository, performed: requests of OAI-PMH, and deposits.
-ghost use Rattle.oai_host.specs.Exchanged.{PerformsIn};
-ghost use Rattle.oai_host.specs.Redone.{LeavesAgain};
+ghost use Rattle.oai_host.specs.Answers.{failure_in};
+ghost use Rattle.oai_host.specs.Exchanged.{PerformsIn, RedoesIn};
+ghost use Rattle.oai_host.specs.Redone.{IsLeftBy, IsNoLonger, LeavesAgain, task_again};
 ghost use Rattle.oai_host.specs.Tasks as spec;
 ghost use Rattle.oai_host.specs.Tasks.{task_in};
 ghost use Rattle.oai_http.specs.Exchanges.{call_of};
 ghost use Rattle.oai_repo.specs.Fields.{Owns};
 ghost use Rattle.oai_http.specs.declared.targets.Endpoint.TheVariants.{Deposits, Requests};
 ghost use Rattle.std.specs.Option.{option_copied};
-ghost use Rattle.std.specs.Prelude.{MatchResult, ℤ, ◌≡◌};
+ghost use Rattle.oai_repo.specs.Fields.{state_of};
+ghost use Rattle.std.specs.Prelude.{IfOk, IsTrue, MatchResult, length, max, ℤ, ◌≡◌, ◌≤◌};
 
 use crate::deposits::{first_lines, perform_lines};
 use oai_catalogue::Versions;
 use oai_http::{Answer, Endpoint, Exchange, Status, is_form, query_of};
+use oai_item::Fault;
 use oai_repo::{Reply, Repo};
 use std::alloc::Global;
 
@@ -46,9 +49,11 @@ pub(crate) fn perform<V: Versions>(
 /// The arguments of the request that the exchange makes, still encoded: the query of a GET, the body of
 /// a POST that is a form. Else the status that the exchange is answered.
 pub(crate) fn arguments_of<'a>(exchange: &Exchange<'a>) -> Result<&'a [u8], Status>
-    ensures { (moment : ℤ) → MatchResult result
+    ensures asked { (moment : ℤ) → MatchResult result
         (λ arguments. spec.request_task (call_of moment exchange.now) ≡ spec.asking arguments.now)
         (λ status. spec.request_task (call_of moment exchange.now) ≡ spec.refusing status) }
+    ensures size { IfOk result (λ arguments. length arguments.now
+        ≤ max (length exchange.now.target.now) (length exchange.now.body.now)) }
 {
     if exchange.method == b"GET".as_slice() {
         Ok(query_of(exchange.target))
@@ -87,9 +92,76 @@ pub(crate) fn perform_request<V: Versions>(
     }
 }
 
+/// Performs what the exchange asks of the repository, as `perform` does, and gives with the answer the bytes by
+/// which it is performed again: the arguments of a request, or the lines of a deposit. `None` where nothing has to be
+/// done again.
+pub(crate) fn perform_recorded<'a, V: Versions>(
+    alloc: Global,
+    repo: &mut Repo,
+    store: &mut V,
+    moment: i64,
+    endpoint: Endpoint,
+    exchange: &Exchange<'a>,
+) -> (Answer, Option<&'a [u8]>)
+    requires owns { Owns (V.honest store.old) repo.old (V.lists store.old) }
+    ensures performed { PerformsIn V.Versions moment (task_in endpoint (call_of moment exchange.now))
+        result.0 repo.old store.old repo.new store.new }
+    ensures left { IsTrue (V.honest store.old) → IsLeftBy repo.old.config moment endpoint
+        (option_copied result.1) (state_of repo.old (V.lists store.old))
+        (state_of repo.new (V.lists store.new)) }
+    ensures size { IsNoLonger exchange.now (option_copied result.1) }
+{
+    let answer = perform(alloc, repo, store, moment, endpoint, exchange);
+    let bytes = bytes_done(endpoint, exchange, &answer);
+    (answer, bytes)
+}
+
+/// The bytes by which an exchange is performed again that was answered so; `None` where nothing was performed.
+fn bytes_done<'a>(endpoint: Endpoint, exchange: &Exchange<'a>, answer: &Answer) -> Option<&'a [u8]>
+    ensures left { LeavesAgain endpoint exchange.now answer.now (option_copied result) }
+    ensures size { IsNoLonger exchange.now (option_copied result) }
+{
+    match endpoint {
+        Endpoint::Requests => request_done(exchange, answer),
+        Endpoint::Deposits => lines_done(exchange, answer),
+    }
+}
+
+/// Performs again at the repository, at the moment, in seconds from 1970 on, what was performed there by these bytes:
+/// a request of these arguments, or a deposit of these lines. The error is the fault that ended it.
+pub(crate) fn redo<V: Versions>(
+    alloc: Global,
+    repo: &mut Repo,
+    store: &mut V,
+    moment: i64,
+    endpoint: Endpoint,
+    bytes: &[u8],
+) -> Result<(), Fault>
+    requires owns { Owns (V.honest store.old) repo.old (V.lists store.old) }
+    ensures { RedoesIn V.Versions moment (task_again endpoint bytes.now) result repo.old store.old
+        repo.new store.new }
+{
+    let answer = match endpoint {
+        Endpoint::Requests => perform_request(alloc, repo, store, moment, bytes),
+        Endpoint::Deposits => perform_lines(alloc, repo, store, moment, bytes),
+    };
+    fault_of(&answer)
+}
+
+/// Ok, or why the exchange failed that was answered so.
+fn fault_of(answer: &Answer) -> Result<(), Fault>
+    ensures { result ≡ failure_in answer.now }
+{
+    match answer.fault {
+        None => Ok(()),
+        Some(fault) => Err(fault),
+    }
+}
+
 /// The arguments of a request that was performed; `None` where nothing was.
-pub(crate) fn request_done<'a>(exchange: &Exchange<'a>, answer: &Answer) -> Option<&'a [u8]>
-    ensures { LeavesAgain Requests exchange.now answer.now (option_copied result) }
+fn request_done<'a>(exchange: &Exchange<'a>, answer: &Answer) -> Option<&'a [u8]>
+    ensures left { LeavesAgain Requests exchange.now answer.now (option_copied result) }
+    ensures size { IsNoLonger exchange.now (option_copied result) }
 {
     match arguments_of(exchange) {
         Ok(arguments) => match answer.fault {
@@ -101,8 +173,9 @@ pub(crate) fn request_done<'a>(exchange: &Exchange<'a>, answer: &Answer) -> Opti
 }
 
 /// The lines of a deposit that were performed, as far as they were; `None` where nothing was.
-pub(crate) fn lines_done<'a>(exchange: &Exchange<'a>, answer: &Answer) -> Option<&'a [u8]>
-    ensures { LeavesAgain Deposits exchange.now answer.now (option_copied result) }
+fn lines_done<'a>(exchange: &Exchange<'a>, answer: &Answer) -> Option<&'a [u8]>
+    ensures left { LeavesAgain Deposits exchange.now answer.now (option_copied result) }
+    ensures size { IsNoLonger exchange.now (option_copied result) }
 {
     if !is_post(exchange.method) {
         return None;

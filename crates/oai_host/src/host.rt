@@ -4,23 +4,22 @@ ghost use Rattle.oai_host.specs.Hosts.{AreAloneUnlessFailed, AreAnswered, AreExc
 ghost use Rattle.oai_host.specs.NamedRepos.{AreNamedRepos, StandFor, repo_names};
 ghost use Rattle.oai_host.specs.Places.{IsRepoPlace, LeadsNowhere};
 ghost use Rattle.oai_host.specs.Props.{named_repo_props};
-ghost use Rattle.oai_host.specs.Redone.{IsRedone};
+ghost use Rattle.oai_host.specs.Redone.{IsPerformedAt, IsRecorded, IsRedone};
 ghost use Rattle.oai_http.specs.Exchanges.{call_of};
 ghost use Rattle.oai_http.specs.Targets as spec;
 ghost use Rattle.oai_http.specs.declared.statuses.Status.TheVariants as status;
 ghost use Rattle.oai_item.specs.declared.faults.Fault.TheVariants.{TooManyPages};
 ghost use Rattle.oai_settings.specs.Config.{is_repository_name};
 ghost use Rattle.std.specs.List.{list_all};
-ghost use Rattle.std.specs.Option.{IfNone};
-ghost use Rattle.std.specs.Prelude.{IfErr, IfOk, IfSome, IsTrue, OnErr, if◌then◌else◌, length, map, true, ◌+◌, ◌<◌, ◌≡◌, ◌≤◌};
+ghost use Rattle.std.specs.Option.{IfNone, option_copied};
+ghost use Rattle.std.specs.Prelude.{IfErr, IfOk, IfSome, IsTrue, OnErr, if◌then◌else◌, length, map, true, ◌++◌, ◌+◌, ◌<◌, ◌≡◌, ◌≤◌};
 
-use crate::dispatch::{lines_done, request_done};
 use crate::repositories::Repositories;
 use crate::routes::Routes;
 use oai_catalogue::Versions;
 use oai_config::Config;
 use oai_http::{
-    Answer, Call, Endpoint, Exchange, Handler, Performed, Replayed, Status, is_rooted, named,
+    Answer, Call, Done, Endpoint, Exchange, Handler, Performed, Replayed, Status, is_rooted,
     path_of,
 };
 use oai_item::Fault;
@@ -97,7 +96,7 @@ impl<V: Versions + Drop> Host<V> {
         ensures { IsExchanged (call_of moment exchange.now) result self.old self.new }
     {
         match find(&self.routes, &self.repositories, exchange.target) {
-            Some((endpoint, place)) => {
+            Some((endpoint, place, _)) => {
                 self.repositories
                     .perform(&mut self.store, place, endpoint, moment, exchange)
             }
@@ -105,14 +104,36 @@ impl<V: Versions + Drop> Host<V> {
         }
     }
 
-    /// Performs an exchange again that was performed before, as `exchange` does, and makes no answer. The error is
-    /// the fault that ended it.
-    pub fn redo(&mut self, moment: i64, exchange: &Exchange<'_>) -> Result<(), Fault>
-        ensures { IsRedone (call_of moment exchange.now) result self.old self.new }
+    /// Performs again, at the moment, in seconds from 1970 on, what was performed before, as `exchange` does, and makes
+    /// no answer. The error is the fault that ended it. Where no repository has the name, nothing is done, and the
+    /// error is `Damaged`.
+    pub fn redo(&mut self, moment: i64, performed: &Performed<'_>) -> Result<(), Fault>
+        ensures { IsRedone moment performed.now result self.old self.new }
     {
-        match Host::exchange(self, moment, exchange).fault {
-            Some(fault) => Err(fault),
-            None => Ok(()),
+        match self.repositories.place_named(performed.name) {
+            Some(place) => self
+                .repositories
+                .redo(&mut self.store, place, moment, performed),
+            None => Err(Fault::Damaged),
+        }
+    }
+
+    /// Performs an exchange as `exchange` does, and gives with the answer what of it is to be performed again.
+    fn perform_recorded<'a>(&mut self, moment: i64, exchange: &Exchange<'a>) -> Done<'a>
+        ensures { IsRecorded moment exchange.now result.answer result.performed self.old self.new }
+    {
+        match find(&self.routes, &self.repositories, exchange.target) {
+            Some((endpoint, place, name)) => {
+                let (answer, bytes) = self
+                    .repositories
+                    .perform_recorded(&mut self.store, place, endpoint, moment, exchange);
+                let performed = performed_at(endpoint, name, bytes);
+                Done { answer, performed }
+            }
+            None => Done {
+                answer: Answer::of_status(self.alloc, status_of(exchange.target)),
+                performed: None,
+            },
         }
     }
 
@@ -154,15 +175,40 @@ impl<V: Versions + Drop> Host<V> {
     }
 }
 
-/// What the path of the target is for, and the place of the repository whose it is.
-fn find(routes: &Routes, repositories: &Repositories, target: &[u8]) -> Option<(Endpoint, usize)>
+/// What the path of the target is for, and the place and the name of the repository whose it is.
+fn find<'a>(
+    routes: &Routes,
+    repositories: &Repositories,
+    target: &'a [u8],
+) -> Option<(Endpoint, usize, &'a [u8])>
     requires { list_all is_repository_name (repo_names repositories.now) ≡ true }
     ensures place { IfSome result (λ found. IsRepoPlace repositories.now found.1 found.0 target.now) }
+    ensures path { IfSome result (λ found. spec.path_of target.now
+        ≡ spec.front_of found.0 ++ found.2.now) }
+    ensures name { IfSome result (λ found. is_repository_name found.2.now ≡ true) }
     ensures nowhere { IfNone result (LeadsNowhere repositories.now target.now) }
 {
     let (endpoint, name) = routes.find(path_of(target))?;
     let place = repositories.place_of(name)?;
-    Some((endpoint, place))
+    Some((endpoint, place, name.as_bytes()))
+}
+
+/// What was performed at the repository of that name, where something was.
+fn performed_at<'a>(
+    endpoint: Endpoint,
+    name: &'a [u8],
+    bytes: Option<&'a [u8]>,
+) -> Option<Performed<'a>>
+    ensures { IsPerformedAt endpoint name.now (option_copied bytes.entry) result }
+{
+    match bytes {
+        Some(bytes) => Some(Performed {
+            endpoint,
+            name,
+            bytes,
+        }),
+        None => None,
+    }
 }
 
 /// The status for a target that is no repository's.
@@ -189,7 +235,7 @@ impl<V: Versions + Drop> Handler for Host<V> {
 impl<V: Versions + Drop> Replayed for Host<V> {
     ghost use Rattle.std.specs.Prelude.{List};
     ghost use Rattle.oai_host.specs.Hosts.{HostState, Repository};
-    ghost use Rattle.oai_host.specs.Redone.{redone_all};
+    ghost use Rattle.oai_host.specs.Redone.{redone_all, reply_all};
 
     ghost Kept = { List Repository };
 
@@ -199,29 +245,13 @@ impl<V: Versions + Drop> Replayed for Host<V> {
 
     ghost redone = { redone_all };
 
-    fn performed<'a>(exchange: &Exchange<'a>, answer: &Answer) -> Option<Performed<'a>> {
-        match named(exchange.target) {
-            Some((Endpoint::Requests, name)) => match request_done(exchange, answer) {
-                Some(bytes) => Some(Performed {
-                    endpoint: Endpoint::Requests,
-                    name,
-                    bytes,
-                }),
-                None => None,
-            },
-            Some((Endpoint::Deposits, name)) => match lines_done(exchange, answer) {
-                Some(bytes) => Some(Performed {
-                    endpoint: Endpoint::Deposits,
-                    name,
-                    bytes,
-                }),
-                None => None,
-            },
-            None => None,
-        }
+    ghost reply = { reply_all };
+
+    fn perform<'a>(&mut self, moment: i64, exchange: &Exchange<'a>) -> Done<'a> {
+        self.perform_recorded(moment, exchange)
     }
 
-    fn redo(&mut self, moment: i64, exchange: &Exchange<'_>) -> Result<(), Fault> {
-        self.redo(moment, exchange)
+    fn redo(&mut self, moment: i64, performed: &Performed<'_>) -> Result<(), Fault> {
+        self.redo(moment, performed)
     }
 }

@@ -6,17 +6,21 @@ ghost use Rattle.oai_host.specs.Exchanged.{store_state};
 ghost use Rattle.oai_host.specs.Hosts.{AreSteps, begun};
 ghost use Rattle.oai_host.specs.NamedRepos.{AreNamedRepos, place_in, repo_names, repositories_of};
 ghost use Rattle.oai_host.specs.Places.{IsRepoPlace};
+ghost use Rattle.oai_host.specs.Redone.{AreLeftBy, AreRedone, IsNoLonger};
 ghost use Rattle.oai_http.specs.Exchanges.{call_of};
+ghost use Rattle.oai_http.specs.Redone.{call_again};
+ghost use Rattle.oai_http.specs.Targets.{front_of, path_of};
 ghost use Rattle.oai_settings.specs.Config.{is_repository_name};
 ghost use Rattle.std.specs.BTreeMap.{IsUnchanged, get_by_text};
-ghost use Rattle.std.specs.List.{list_any};
-ghost use Rattle.std.specs.Prelude.{List, OnErr, OnOk, Some, [], false, if◌then◌else◌, true, ℕ, ◌++◌, ◌∷◌, ◌≡◌};
+ghost use Rattle.std.specs.List.{list_all, list_any};
+ghost use Rattle.std.specs.Option.{option_copied};
+ghost use Rattle.std.specs.Prelude.{IsTrue, List, OnErr, OnOk, Some, [], false, if◌then◌else◌, true, ℕ, ◌++◌, ◌∷◌, ◌≡◌};
 ghost use Rattle.std.specs.Str.{bytes_eq};
 
-use crate::dispatch::perform;
+use crate::dispatch::{perform, perform_recorded, redo};
 use oai_catalogue::Versions;
 use oai_config::NamedConfig;
-use oai_http::{Answer, Endpoint, Exchange};
+use oai_http::{Answer, Endpoint, Exchange, Performed};
 use oai_item::Fault;
 use oai_names::Text;
 use oai_repo::Repo;
@@ -75,6 +79,17 @@ impl Repositories {
         self.places.get(name).copied()
     }
 
+    /// The place of the repository of that name, which may be any bytes, if there is one.
+    pub(crate) fn place_named(&self, name: &[u8]) -> Option<usize>
+        requires { list_all is_repository_name (repo_names self.now) ≡ true }
+        ensures { result ≡ place_in (repo_names self.now) name.now }
+    {
+        match str::from_utf8(name) {
+            Ok(text) => self.place_of(text),
+            Err(_) => None,
+        }
+    }
+
     /// Adds a repository that begins, in a new version of the store. Any fault may come.
     pub(crate) fn begin<V: Versions>(
         &mut self,
@@ -129,6 +144,63 @@ impl Repositories {
     {
         let repo = &mut self.repos[place].repo;
         perform(self.alloc, repo, store, moment, endpoint, exchange)
+    }
+
+    /// Performs an exchange of the repository at the place as `perform` does, and gives with the answer the bytes by
+    /// which it is performed again; `None` where nothing has to be.
+    pub(crate) fn perform_recorded<'a, V: Versions>(
+        &mut self,
+        store: &mut V,
+        place: usize,
+        endpoint: Endpoint,
+        moment: i64,
+        exchange: &Exchange<'a>,
+    ) -> (Answer, Option<&'a [u8]>)
+        requires place { IsRepoPlace self.old place endpoint exchange.now.target.now }
+        requires repos { AreNamedRepos (V.honest store.old) self.old (V.lists store.old) }
+        ensures steps { AreSteps (call_of moment exchange.now) result.0
+            (store_state V.Versions store.old) (store_state V.Versions store.new)
+            (repositories_of self.old (V.lists store.old))
+            (repositories_of self.new (V.lists store.new)) }
+        ensures left { (name : List ℕ) → path_of exchange.now.target.now ≡ front_of endpoint ++ name
+            → IsTrue (V.honest store.old) → AreLeftBy moment endpoint name (option_copied result.1)
+            (repositories_of self.old (V.lists store.old))
+            (repositories_of self.new (V.lists store.new)) }
+        ensures size { IsNoLonger exchange.now (option_copied result.1) }
+        ensures repos { AreNamedRepos (V.honest store.new) self.new (V.lists store.new) }
+        ensures device { IsCounted (failure_in result.0) (V.failures store.old) (V.failures store.new) }
+        ensures honesty { IsHonest (failure_in result.0) (V.honest store.old) (V.honest store.new) }
+    {
+        let own = &mut self.repos[place].repo;
+        perform_recorded(self.alloc, own, store, moment, endpoint, exchange)
+    }
+
+    /// Performs again, at the repository at the place and at the moment, in seconds from 1970 on, what was performed.
+    /// The error is the fault that ended it.
+    pub(crate) fn redo<V: Versions>(
+        &mut self,
+        store: &mut V,
+        place: usize,
+        moment: i64,
+        performed: &Performed<'_>,
+    ) -> Result<(), Fault>
+        requires place { place_in (repo_names self.old) performed.now.name.now ≡ Some place }
+        requires repos { AreNamedRepos (V.honest store.old) self.old (V.lists store.old) }
+        ensures steps { AreRedone (call_again moment performed.now) result
+            (store_state V.Versions store.old) (store_state V.Versions store.new)
+            (repositories_of self.old (V.lists store.old))
+            (repositories_of self.new (V.lists store.new)) }
+        ensures repos { AreNamedRepos (V.honest store.new) self.new (V.lists store.new) }
+    {
+        let own = &mut self.repos[place].repo;
+        redo(
+            self.alloc,
+            own,
+            store,
+            moment,
+            performed.endpoint,
+            performed.bytes,
+        )
     }
 }
 

@@ -7,14 +7,14 @@ use Rattle.oai_host.proofs.dispatch.perform.Goals as goal
 pub returns-in-Ok : goal.returns-in-Ok
 returns-in-Ok g c =
     let fits : FitsSigned w64 c.args.moment = c.ranges.moment in
-    let task = rw c.in-Ok.is at (c.arguments_of.ensures c.args.moment) in
+    let task = rw c.in-Ok.is at (c.arguments_of.ensures.asked c.args.moment) in
     rw (c.in-Requests.is, task) (simp to_z-of_z at c.perform_request.ensures)
 
 pub returns-in-Err : goal.returns-in-Err
 returns-in-Err g c =
     let V = g.V.Versions in
     let store = c.args.store.now in
-    let task = rw c.in-Err.is at (c.arguments_of.ensures c.args.moment) in
+    let task = rw c.in-Err.is at (c.arguments_of.ensures.asked c.args.moment) in
     rw (c.in-Requests.is, task, c.of_status.ensures) (record {
       performed = record {
         ended = inl (refl, refl);

@@ -1,6 +1,8 @@
 -- A path leads to the repository whose name it ends with, or nowhere.
-use Rattle.std.proofs.Common.{◌∙◌, sym}
+use Rattle.std.proofs.Common.{◌≡◌, ◌∙◌, ℕ, List, true, subst, sym}
+use Rattle.oai_settings.specs.Config.{is_repository_name}
 use Rattle.oai_host.proofs.HostLemmas.{nowhere_name, nowhere_path, place_found}
+use Rattle.oai_host.proofs.PlaceLemmas.{named_at, place_there}
 use Rattle.oai_host.proofs.host.find.Goals as goal
 
 pub returns-in_err-endpoint-clause-nowhere : goal.returns-in_err-endpoint-clause-nowhere
@@ -20,3 +22,9 @@ returns-clause-place c =
     let repos = c.args.repositories.now in
     let path = rw c.path_of.ensures at c.in_ok-endpoint.ensures.found in
     place_found repos c.args.target.now c.in_ok-endpoint.name.now c.in_ok-place.place c.in_ok-endpoint.endpoint (sym c.place_of.ensures ∙ c.in_ok-place.was) path
+
+pub returns-clause-name : goal.returns-clause-name
+returns-clause-name c =
+    let repos = c.args.repositories.now in
+    let there = place_there repos c.in_ok-endpoint.name.now c.in_ok-place.place (sym c.place_of.ensures ∙ c.in_ok-place.was) in
+    rw c.as_bytes.ensures.value (subst (λ (name : List ℕ). is_repository_name name ≡ true) there.2 (named_at repos c.in_ok-place.place there.0 there.1 c.requires))
