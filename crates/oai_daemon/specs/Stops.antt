@@ -1,0 +1,50 @@
+-- What a server says where it stops, and with which status it ends. This repository's own.
+use Rattle.std.specs.Prelude.{ℕ, ℤ, List, ◌++◌, codes, decimal, pos}
+use Rattle.oai_cli.specs.Stops as other
+use Rattle.oai_item.specs.declared.faults.Fault.{Fault}
+use Rattle.oai_item.specs.declared.faults.Fault.TheVariants.{Damaged as IsDamaged, Device, NoMemory, TooManyPages}
+use Rattle.oai_time.specs.Clock.{tick}
+use Rattle.oai_time.specs.TimeTexts.{second_text}
+use Rattle.oai_daemon.specs.declared.stop.Stop.{Stop}
+use Rattle.oai_daemon.specs.declared.stop.Stop.TheVariants.{CannotOpen, CannotWrite, Common, Damaged, InUse, Jumped, NotOurs, OfVersion, OtherConfig, Performing, Usage}
+
+-- a fault, in words
+abbrev pub fault_text : Fault → List ℕ
+fault_text NoMemory = codes "out of memory"
+fault_text Device = codes "the device failed"
+fault_text IsDamaged = codes "the stored items are damaged"
+fault_text TooManyPages = codes "there are too many pages"
+
+unfoldable pub performing_fails : List ℕ
+performing_fails = codes ": performing it fails: "
+
+-- a second as a datestamp: one before 1970 as the first of 1970, and one behind the year 9998 as its last
+abbrev pub jump_text : ℤ → List ℕ
+jump_text second = second_text (tick (pos 0) second)
+
+abbrev pub stop_text : Stop → List ℕ
+stop_text Usage = codes "usage: oaihostd serve CONFIG PORT FOLDER | verify FOLDER"
+stop_text (Common cause) = other.stop_text cause
+stop_text CannotOpen = codes "folder: cannot open"
+stop_text InUse = codes "folder: in use"
+stop_text NotOurs = codes "journal: not of this program"
+stop_text (OfVersion version) = codes "journal: of version " ++ decimal version
+stop_text (Damaged at) = codes "journal: damaged at byte " ++ decimal at
+stop_text (Performing number fault) = codes "journal: record " ++ decimal number ++ performing_fails ++ fault_text fault
+stop_text CannotWrite = codes "journal: cannot write"
+stop_text (Jumped second) = codes "clock: jumped to " ++ jump_text second
+stop_text (OtherConfig at) = codes "config: differs from the journal: at byte " ++ decimal at
+
+-- 2 where the arguments or the configuration do not serve, and 1 for all else
+abbrev pub status_of : Stop → ℕ
+status_of Usage = 2
+status_of (Common cause) = other.status_of cause
+status_of CannotOpen = 1
+status_of InUse = 1
+status_of NotOurs = 1
+status_of (OfVersion version) = 1
+status_of (Damaged at) = 1
+status_of (Performing number fault) = 1
+status_of CannotWrite = 1
+status_of (Jumped second) = 1
+status_of (OtherConfig at) = 2

@@ -1,0 +1,85 @@
+//! The clock of a server.
+use crate::stop::Stop;
+use oai_cli::Stop as Other;
+use std::cell::Cell;
+use std::io;
+use std::rt::Clock;
+use std::time::Duration;
+
+/// How many seconds the system's clock may gain on the one that does not go back: a day.
+const MAX_GAIN: u64 = 86_400;
+
+/// The system's clock, which cannot be read once it has jumped ahead: it gained more than a day, between two readings of it, on the
+/// clock that does not go back.
+#[derive(Drop)]
+pub(crate) struct GuardedClock<'a, C> {
+    clock: &'a C,
+    /// What both clocks showed at the last reading, in seconds; none was made where both are 0.
+    last: Cell<(u64, u64)>,
+    /// The second to which it jumped.
+    jumped: Cell<Option<u64>>,
+}
+
+impl<'a, C: Clock> GuardedClock<'a, C> {
+    /// Over the clock of the system, which has not been read.
+    pub(crate) fn new(clock: &'a C) -> GuardedClock<'a, C> {
+        GuardedClock {
+            clock,
+            last: Cell::new((0, 0)),
+            jumped: Cell::new(None),
+        }
+    }
+
+    /// The second from 1970 on to which the clock jumped, if it did.
+    pub(crate) fn jumped(&self) -> Option<u64> {
+        self.jumped.get()
+    }
+}
+
+impl<C: Clock> Clock for GuardedClock<'_, C> {
+    fn monotonic(&self) -> io::Result<Duration> {
+        self.clock.monotonic()
+    }
+
+    fn since_1970(&self) -> io::Result<Duration> {
+        let time = self.clock.since_1970()?;
+        let steady = self.clock.monotonic()?.as_secs();
+        let shown = time.as_secs();
+        if has_jumped(self.last.get(), (shown, steady)) {
+            self.jumped.set(Some(shown));
+            return Err(io::Error::from(io::ErrorKind::InvalidData));
+        }
+        self.last.set((shown, steady));
+        Ok(time)
+    }
+}
+
+/// Whether the clock gained more than a day on the one that does not go back, between two readings of both.
+fn has_jumped(last: (u64, u64), now: (u64, u64)) -> bool {
+    if last == (0, 0) {
+        return false;
+    }
+    let steady = now.1.saturating_sub(last.1);
+    now.0 > last.0.saturating_add(steady).saturating_add(MAX_GAIN)
+}
+
+/// The clock's moment, in seconds from 1970 on. The error is `InputFault`.
+pub(crate) fn moment_of<C: Clock>(clock: &C) -> Result<i64, Stop> {
+    match clock.since_1970() {
+        Ok(time) => Ok(to_moment(time.as_secs())),
+        Err(_) => Err(Stop::Common(Other::InputFault)),
+    }
+}
+
+/// The second of a clock that does not go back; 0 where it cannot be read.
+pub(crate) fn second_of<C: Clock>(clock: &C) -> u64 {
+    match clock.monotonic() {
+        Ok(time) => time.as_secs(),
+        Err(_) => 0,
+    }
+}
+
+/// The second from 1970 on, as a moment.
+pub(crate) fn to_moment(second: u64) -> i64 {
+    i64::try_from(second).unwrap_or(i64::MAX)
+}

@@ -1,0 +1,210 @@
+//! The folder, the port and the streams of the system.
+use crate::notes::Note;
+use crate::places::Place;
+use crate::stop::Stop;
+use oai_cli::Stop as Other;
+use oai_device::FileDevice;
+use oai_serving::{Listener, Socket};
+use sqlite_disk::Files;
+use sqlite_std_file::{FileFrom, OpenError, Start, Unknown, Wary, open};
+use std::fs::{self, DirBuilder, File, OpenOptions, TryLockError};
+use std::io::{self, ErrorKind};
+use std::net::{Ipv4Addr, SocketAddr, SocketAddrV4};
+use std::os::unix::fs::{DirBuilderExt, OpenOptionsExt};
+
+/// The mode of a folder that is made.
+const FOLDER_MODE: u32 = 0o750;
+
+/// The mode of a file that is made.
+const FILE_MODE: u32 = 0o640;
+
+/// A folder by its path, a port of 127.0.0.1, and the standard streams. In the folder are `lock`, which is locked from the
+/// first call to the last and never renamed, `journal`, `journal-wal`, which the file layer keeps beside it and which is
+/// empty, and `pages`; while a journal is begun also `journal.new` and `journal.new-wal`.
+#[derive(Drop)]
+pub struct HostPlace<'a> {
+    rt: &'a HostRuntime,
+    folder: &'a str,
+    port: u16,
+    lock: Option<File>,
+}
+
+impl<'a> HostPlace<'a> {
+    /// The folder at that path, and that port; port 0 is a free one. Nothing is opened.
+    pub fn new(rt: &'a HostRuntime, folder: &'a str, port: u16) -> HostPlace<'a> {
+        HostPlace {
+            rt,
+            folder,
+            port,
+            lock: None,
+        }
+    }
+
+    /// The path of the file of that name in the folder.
+    fn path(&self, name: &str) -> Result<String, Stop> {
+        let folder = self.folder;
+        Ok(format!(in self.rt.alloc(); "{folder}/{name}")?)
+    }
+
+    /// Removes the file of that name, where there is one.
+    fn remove(&self, name: &str) -> Result<(), Stop> {
+        match fs::remove_file(self.rt, self.path(name)?.as_str()) {
+            Ok(()) => Ok(()),
+            Err(error) if error.kind() == ErrorKind::NotFound => Ok(()),
+            Err(error) => Err(stop_of(error)),
+        }
+    }
+
+    /// Syncs the folder of that name in the folder, as `.`.
+    fn sync(&self, name: &str) -> Result<(), Stop> {
+        let folder = match File::open(self.rt, self.path(name)?.as_str()) {
+            Ok(folder) => folder,
+            Err(error) => return Err(stop_of(error)),
+        };
+        match folder.sync_all() {
+            Ok(()) => Ok(()),
+            Err(_) => Err(Stop::CannotWrite),
+        }
+    }
+
+    /// Makes the folder, where there is none.
+    fn make_folder(&self) -> Result<(), Stop> {
+        let made = DirBuilder::new()
+            .mode(FOLDER_MODE)
+            .create(self.rt, self.folder);
+        match made {
+            Ok(()) => self.sync(".."),
+            Err(error) if error.kind() == ErrorKind::AlreadyExists => Ok(()),
+            Err(error) => Err(stop_of(error)),
+        }
+    }
+
+    /// Opens the file of that name to be read and written. It is made where there is none, and emptied where that is asked for.
+    fn open_file(&self, name: &str, emptied: bool) -> Result<File, Stop> {
+        let opened = OpenOptions::new()
+            .read(true)
+            .write(true)
+            .create(true)
+            .truncate(emptied)
+            .mode(FILE_MODE)
+            .open(self.rt, self.path(name)?.as_str());
+        match opened {
+            Ok(file) => Ok(file),
+            Err(error) => Err(stop_of(error)),
+        }
+    }
+
+    /// The disk over the file of that name, which held what `S` says.
+    fn disk<S: Start>(&self, name: &str, start: S) -> Result<FileFrom<S>, Stop> {
+        match open(self.rt, self.path(name)?.as_str(), start) {
+            Ok(Files { log: _, db }) => Ok(db),
+            Err(error) => Err(stop_of_opening(error)),
+        }
+    }
+}
+
+/// Why the server stops, where the file of a journal could not be opened.
+fn stop_of_opening(error: OpenError) -> Stop {
+    match error {
+        OpenError::OutOfMemory => Stop::Common(Other::NoMemory),
+        OpenError::Busy => Stop::InUse,
+        OpenError::HotJournal => Stop::CannotOpen,
+        OpenError::Io(error) => stop_of(error),
+    }
+}
+
+/// Why the server stops, where a file or a folder could not be opened, made or removed.
+fn stop_of(error: io::Error) -> Stop {
+    match error.kind() {
+        ErrorKind::OutOfMemory => Stop::Common(Other::NoMemory),
+        _ => Stop::CannotOpen,
+    }
+}
+
+impl Place for HostPlace<'_> {
+    type Disk = FileFrom<Wary>;
+
+    type NewDisk = FileFrom<Unknown>;
+
+    type Pages = FileDevice;
+
+    type Link = Socket;
+
+    type Port = Listener;
+
+    fn lock(&mut self) -> Result<(), Stop> {
+        self.make_folder()?;
+        let file = self.open_file("lock", false)?;
+        match file.try_lock() {
+            Ok(()) => {
+                self.lock = Some(file);
+                Ok(())
+            }
+            Err(TryLockError::WouldBlock) => Err(Stop::InUse),
+            Err(TryLockError::Error(error)) => Err(stop_of(error)),
+        }
+    }
+
+    fn listen(&mut self) -> Result<Listener, Stop> {
+        let address = SocketAddr::V4(SocketAddrV4::new(Ipv4Addr::LOCALHOST, self.port));
+        match Listener::bind(self.rt.alloc(), self.rt, address) {
+            Ok(listener) => Ok(listener),
+            Err(error) if error.kind() == ErrorKind::OutOfMemory => {
+                Err(Stop::Common(Other::NoMemory))
+            }
+            Err(_) => Err(Stop::Common(Other::SocketFault)),
+        }
+    }
+
+    fn find_journal(&mut self) -> Result<bool, Stop> {
+        self.remove("journal.new")?;
+        self.remove("journal.new-wal")?;
+        match fs::symlink_metadata(self.rt, self.path("journal")?.as_str()) {
+            Ok(_) => Ok(true),
+            Err(error) if error.kind() == ErrorKind::NotFound => Ok(false),
+            Err(error) => Err(stop_of(error)),
+        }
+    }
+
+    fn begin_journal(&mut self) -> Result<FileFrom<Unknown>, Stop> {
+        drop(self.open_file("journal.new", true)?);
+        self.disk("journal.new", Unknown)
+    }
+
+    fn keep_journal(&mut self) -> Result<(), Stop> {
+        let begun = self.path("journal.new")?;
+        let kept = self.path("journal")?;
+        if fs::rename(self.rt, begun.as_str(), kept.as_str()).is_err() {
+            return Err(Stop::CannotWrite);
+        }
+        self.remove("journal.new-wal")?;
+        self.sync(".")?;
+        self.sync("..")
+    }
+
+    fn open_journal(&mut self) -> Result<FileFrom<Wary>, Stop> {
+        self.disk("journal", Wary)
+    }
+
+    fn empty_pages(&mut self) -> Result<FileDevice, Stop> {
+        match self.open_file("pages", true) {
+            Ok(file) => Ok(FileDevice::new(file)),
+            Err(Stop::CannotOpen) => Err(Stop::Common(Other::DeviceFault)),
+            Err(stop) => Err(stop),
+        }
+    }
+
+    fn announce(&mut self, port: &Listener) -> Result<(), Stop> {
+        let Ok(address) = port.address() else {
+            return Err(Stop::Common(Other::SocketFault));
+        };
+        match println!(self.rt; "listening on 127.0.0.1:{}", address.port()) {
+            Ok(()) => Ok(()),
+            Err(_) => Err(Stop::Common(Other::OutputFault)),
+        }
+    }
+
+    fn tell(&mut self, note: Note) {
+        let _ = eprintln!(self.rt; "{note}");
+    }
+}

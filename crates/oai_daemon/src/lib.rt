@@ -1,0 +1,23 @@
+//! A server that keeps what it acknowledged: what it is called with, the order in which it starts, and what it says. Files,
+//! ports and streams are those of a `Place`; `HostPlace` has them of the system.
+#![tactic(auto)]
+
+mod clocks;
+mod firsts;
+mod host_places;
+mod journals;
+mod notes;
+mod places;
+mod read_files;
+mod recoveries;
+mod service;
+mod stop;
+mod verify;
+
+pub use host_places::HostPlace;
+pub use notes::Note;
+pub use places::Place;
+pub use read_files::ReadFile;
+pub use service::serve;
+pub use stop::Stop;
+pub use verify::verify_journal;

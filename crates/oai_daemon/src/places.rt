@@ -1,0 +1,49 @@
+//! What a server has of the world around it.
+use crate::notes::Note;
+use crate::stop::Stop;
+use oai_device::PageDevice;
+use oai_serving::{Sockets, Stream};
+use sqlite_disk::Disk;
+
+/// A folder, a port, and the streams on which a server says what it does. Each call is made once at most, in the order in
+/// which they stand here.
+pub trait Place {
+    /// The disk of the journal.
+    type Disk: Disk + Drop;
+    /// The disk of a journal that is begun. It is another type, since what a disk's clauses say of its contents is of one file.
+    type NewDisk: Disk + Drop;
+    /// The device of the pages.
+    type Pages: PageDevice + Drop;
+    /// The stream of a connection.
+    type Link: Stream + Drop;
+    /// What accepts connections.
+    type Port: Sockets<Self::Link> + Drop;
+
+    /// Opens the folder, or makes it, and keeps others out of it from now on. The errors are `CannotOpen` and `InUse`.
+    fn lock(&mut self) -> Result<(), Stop>;
+
+    /// Listens at the port; connections wait until they are accepted. The errors are `SocketFault` and `NoMemory`.
+    fn listen(&mut self) -> Result<Self::Port, Stop>;
+
+    /// Takes away what an earlier start left of a journal that it began, and says whether there is a journal.
+    fn find_journal(&mut self) -> Result<bool, Stop>;
+
+    /// The disk of a journal that is begun beside the folder's: it is empty.
+    fn begin_journal(&mut self) -> Result<Self::NewDisk, Stop>;
+
+    /// Makes the journal that was begun, and is written, the folder's.
+    fn keep_journal(&mut self) -> Result<(), Stop>;
+
+    /// The disk of the folder's journal.
+    fn open_journal(&mut self) -> Result<Self::Disk, Stop>;
+
+    /// The device of the pages, without pages.
+    fn empty_pages(&mut self) -> Result<Self::Pages, Stop>;
+
+    /// Says, to whoever started the server, at which port it listens. The error is `OutputFault`, or `SocketFault` where
+    /// the port is not known.
+    fn announce(&mut self, port: &Self::Port) -> Result<(), Stop>;
+
+    /// Says, to whoever keeps the server, what it does. That it cannot be said ends nothing.
+    fn tell(&mut self, note: Note);
+}

@@ -1,0 +1,150 @@
+//! Why the server stops, what it says then, and its exit status.
+ghost use Rattle.std.specs.Prelude.{◌≡◌};
+ghost use Rattle.oai_daemon.specs.Stops as spec;
+ghost use Rattle.oai_daemon.specs.declared.stop.Stop.TheVariants as stop;
+ghost use Rattle.oai_cli.specs.declared.stop.Stop.TheVariants as other;
+
+use oai_cli::Stop as Other;
+use oai_item::Fault;
+use oai_time::{Clock, write_second};
+use std::alloc::AllocError;
+use std::error::Error;
+use std::fmt;
+
+/// Why the server stopped.
+#[derive(Clone, Copy, Debug, PartialEq, Eq)]
+pub enum Stop {
+    /// It was called with other arguments than it takes.
+    Usage,
+    /// For a cause that stops `oaihost` too.
+    Common(Other),
+    /// The folder, or a file in it, could not be opened or made.
+    CannotOpen,
+    /// Another process has the folder.
+    InUse,
+    /// The first record of the journal is none of this program.
+    NotOurs,
+    /// The journal is of that version, which this program does not read.
+    OfVersion(u64),
+    /// The journal is damaged at that byte.
+    Damaged(usize),
+    /// To perform the record of that number again, counted from 1 behind the first one, failed.
+    Performing(u64, Fault),
+    /// The journal could not be written or synced.
+    CannotWrite,
+    /// The system's clock jumped to that second, from 1970 on.
+    Jumped(i64),
+    /// The configuration is another one than the journal's, from that byte on.
+    OtherConfig(usize),
+}
+
+impl Stop {
+    /// The program's exit status: 2 where the arguments are wrong, or the configuration cannot be read, has a fault, or
+    /// is not the journal's, and 1 for each other cause.
+    pub fn status(self) -> u8
+        ensures { result ≡ spec.status_of self }
+    {
+        match self {
+            Stop::Usage => 2,
+            Stop::Common(cause) => cause.status(),
+            Stop::CannotOpen => 1,
+            Stop::InUse => 1,
+            Stop::NotOurs => 1,
+            Stop::OfVersion(_) => 1,
+            Stop::Damaged(_) => 1,
+            Stop::Performing(_, _) => 1,
+            Stop::CannotWrite => 1,
+            Stop::Jumped(_) => 1,
+            Stop::OtherConfig(_) => 2,
+        }
+    }
+}
+
+impl From<Other> for Stop {
+    ghost from_gives = { λ cause e. e ≡ stop.Common cause };
+
+    fn from(cause: Other) -> Stop {
+        Stop::Common(cause)
+    }
+}
+
+impl From<AllocError> for Stop {
+    ghost from_gives = { λ _ e. e ≡ stop.Common other.NoMemory };
+
+    fn from(_refused: AllocError) -> Stop {
+        Stop::Common(Other::NoMemory)
+    }
+}
+
+/// What the program says of it on standard error.
+impl fmt::Display for Stop {
+    ghost use Rattle.std.specs.Prelude.{Some};
+    ghost use Rattle.oai_daemon.specs.Stops.{stop_text};
+
+    ghost output = { λ stop. Some (stop_text stop) };
+
+    fn fmt<W: fmt::Write>(&self, f: &mut fmt::Formatter<W>) -> fmt::Result {
+        match self {
+            Stop::Usage => write!(
+                f,
+                "usage: oaihostd serve CONFIG PORT FOLDER | verify FOLDER"
+            ),
+            Stop::Common(cause) => write!(f, "{cause}"),
+            Stop::CannotOpen => write!(f, "folder: cannot open"),
+            Stop::InUse => write!(f, "folder: in use"),
+            Stop::NotOurs => write!(f, "journal: not of this program"),
+            Stop::OfVersion(version) => write!(f, "journal: of version {version}"),
+            Stop::Damaged(at) => write!(f, "journal: damaged at byte {at}"),
+            Stop::Performing(number, fault) => {
+                let (fails, cause) = (performing_fails(), fault_word(*fault));
+                write!(f, "journal: record {number}{fails}{cause}")
+            }
+            Stop::CannotWrite => write!(f, "journal: cannot write"),
+            Stop::Jumped(second) => write!(f, "clock: jumped to {}", Second(*second)),
+            Stop::OtherConfig(at) => write!(f, "config: differs from the journal: at byte {at}"),
+        }
+    }
+}
+
+impl Error for Stop {}
+
+/// What stands between the number of a record and the fault that ended it.
+#[tactic(auto, unfolding(crate::specs::Stops::performing_fails))]
+fn performing_fails() -> &'static str
+    ensures { result.now ≡ spec.performing_fails }
+{
+    ": performing it fails: "
+}
+
+/// The fault, in words.
+fn fault_word(fault: Fault) -> &'static str
+    ensures { result.now ≡ spec.fault_text fault }
+{
+    match fault {
+        Fault::NoMemory => "out of memory",
+        Fault::Device => "the device failed",
+        Fault::Damaged => "the stored items are damaged",
+        Fault::TooManyPages => "there are too many pages",
+    }
+}
+
+/// A second from 1970 on, shown as its datestamp; one before 1970 as its first, and one behind the year 9998 as the last of
+/// that year.
+#[derive(Drop)]
+struct Second(i64);
+
+impl fmt::Display for Second {
+    ghost use Rattle.std.specs.Prelude.{Some};
+    ghost use Rattle.oai_daemon.specs.Stops.{jump_text};
+
+    ghost output = { λ second. Some (jump_text second.0) };
+
+    fn fmt<W: fmt::Write>(&self, f: &mut fmt::Formatter<W>) -> fmt::Result {
+        let mut clock = Clock::start(0);
+        clock.tick(self.0);
+        match str::from_utf8(&write_second(clock.now())) {
+            Ok(text) => f.write_str(text),
+            Err(_) => Err(fmt::Error),
+        }
+    }
+}
