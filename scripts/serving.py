@@ -1,9 +1,10 @@
 #!/usr/bin/env python3
-"""Measures a server of many connections: requests a second with 1, 64 and 512 clients, an answer beside idle clients, and the memory that
-clients which read nothing make it hold.
+"""Measures a server of many connections: the processor time of a deposited line, requests a second with 1, 64 and 512 clients, an answer beside idle
+clients, and the memory that clients which read nothing make it hold.
 
-Usage: scripts/serving.py PROGRAM CONFIG TARGET, where PROGRAM CONFIG PORT SPILL serves and says `listening on 127.0.0.1:<port>`. `ulimit -n 4096`
-first. TARGET is what is asked, as `/oai/a?verb=Identify`. A line of figures for each measurement goes to standard output.
+Usage: scripts/serving.py PROGRAM CONFIG TARGET [LINES..], where PROGRAM CONFIG PORT PLACE serves and says `listening on 127.0.0.1:<port>`. PROGRAM may
+have a word behind it, as `crates/oaihostd/out/oaihostd serve`; PLACE is the path of a file or a folder that is not there yet. `ulimit -n 4096`
+first. TARGET is what is asked, as `/oai/a?verb=Identify`; LINES are files of deposit lines. A line of figures for each measurement goes to standard output.
 """
 import os
 import selectors
@@ -22,6 +23,12 @@ def memory(pid):
             if line.startswith("VmRSS:"):
                 return int(line.split()[1]) / 1024
     return 0.0
+
+
+def processor(pid):
+    """For how many seconds of a processor's time the process has worked."""
+    with open(f"/proc/{pid}/schedstat", encoding="ascii") as it:
+        return int(it.read().split()[0]) / 1e9
 
 
 def request(target, ending=b"\r\n"):
@@ -135,12 +142,14 @@ def stalled(pid, port, target, clients, requests, ending):
 
 def main():
     program, config, target = sys.argv[1:4]
-    spill = tempfile.NamedTemporaryFile(prefix="serving-")
-    server = subprocess.Popen([program, config, "0", spill.name], stdout=subprocess.PIPE, text=True)
+    folder = tempfile.TemporaryDirectory(prefix="serving-")
+    server = subprocess.Popen([*program.split(" "), config, "0", f"{folder.name}/place"], stdout=subprocess.PIPE, text=True)
     try:
         port = int(server.stdout.readline().rsplit(":", 1)[1])
         for lines in sys.argv[4:]:
-            deposit(port, lines)
+            before = processor(server.pid)
+            count = deposit(port, lines)
+            print(f"{count} lines deposited: {(processor(server.pid) - before) / count * 1e6:.1f} us of a processor each", flush=True)
         print(f"load {os.getloadavg()[0]:.1f}, memory {memory(server.pid):.1f} MB", flush=True)
         for clients in (1, 64, 512):
             print(f"{clients} clients: {rate(port, target, clients, 5):.0f} answers a second", flush=True)
@@ -156,10 +165,11 @@ def main():
     finally:
         server.kill()
         server.wait()
+        folder.cleanup()
 
 
 def deposit(port, path):
-    """Deposits the lines of a file at the target `/deposit/a`, 500 a message."""
+    """Deposits the lines of a file at the target `/deposit/a`, 500 a message; how many they were."""
     with open(path, "rb") as file:
         lines = file.read().splitlines(keepends=True)
     with connect(port) as client:
@@ -168,6 +178,7 @@ def deposit(port, path):
             head = b"POST /deposit/a HTTP/1.1\r\nHost: h\r\nContent-Length: %d\r\n\r\n" % len(body)
             client.sendall(head + body)
             read_answer(client, b"")
+    return len(lines)
 
 
 if __name__ == "__main__":

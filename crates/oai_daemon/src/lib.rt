@@ -6,6 +6,7 @@ mod clocks;
 mod firsts;
 mod host_places;
 mod journals;
+mod laws;
 mod notes;
 mod places;
 mod read_files;
@@ -15,6 +16,7 @@ mod stop;
 mod verify;
 
 pub use host_places::HostPlace;
+pub use laws::archive_law;
 pub use notes::Note;
 pub use places::Place;
 pub use read_files::ReadFile;
