@@ -1,16 +1,10 @@
 //! What exchanges ask of a repository, performed: requests of OAI-PMH, and deposits.
-ghost use Rattle.oai_host.specs.Answers.{failure_in};
-ghost use Rattle.oai_host.specs.Exchanged.{PerformsIn, RedoesIn};
-ghost use Rattle.oai_host.specs.Redone.{AreNoLonger, IsLeftBy, IsNoLonger, LeaveSame, LeavesAgain, LeavesBetween, task_again};
+ghost use Rattle.oai_host.specs.Exchanged.{PerformsIn};
 ghost use Rattle.oai_host.specs.Tasks as spec;
 ghost use Rattle.oai_host.specs.Tasks.{task_in};
 ghost use Rattle.oai_http.specs.Exchanges.{call_of};
 ghost use Rattle.oai_repo.specs.Fields.{Owns};
-ghost use Rattle.oai_http.specs.declared.targets.Endpoint.TheVariants.{Deposits, Requests};
-ghost use Rattle.oai_settings.specs.Config.{Config};
-ghost use Rattle.std.specs.Option.{option_copied};
-ghost use Rattle.oai_repo.specs.Fields.{state_of};
-ghost use Rattle.std.specs.Prelude.{IfOk, IsTrue, MatchResult, length, max, ℤ, ◌≡◌, ◌≤◌};
+ghost use Rattle.std.specs.Prelude.{IfOk, MatchResult, length, max, ℤ, ◌≡◌, ◌≤◌};
 
 use crate::deposits::perform_lines;
 use oai_catalogue::Versions;

@@ -10,7 +10,7 @@ ghost use Rattle.oai_http.specs.declared.targets.Endpoint.TheVariants.{Deposits,
 ghost use Rattle.oai_settings.specs.Config.{Config};
 ghost use Rattle.std.specs.Option.{option_copied};
 ghost use Rattle.oai_repo.specs.Fields.{state_of};
-ghost use Rattle.std.specs.Prelude.{IfOk, IsTrue, MatchResult, length, max, ℤ, ◌≡◌, ◌≤◌};
+ghost use Rattle.std.specs.Prelude.{IsTrue, ℤ, ◌≡◌};
 
 use crate::deposits::{first_lines, perform_lines};
 use crate::dispatch::{arguments_of, is_post, perform};
