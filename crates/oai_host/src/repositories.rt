@@ -17,7 +17,8 @@ ghost use Rattle.std.specs.Option.{option_copied};
 ghost use Rattle.std.specs.Prelude.{IsTrue, List, OnErr, OnOk, Some, [], false, if◌then◌else◌, true, ℕ, ◌++◌, ◌∷◌, ◌≡◌};
 ghost use Rattle.std.specs.Str.{bytes_eq};
 
-use crate::dispatch::{perform, perform_recorded, redo};
+use crate::dispatch::perform;
+use crate::records::{perform_recorded, redo};
 use oai_catalogue::Versions;
 use oai_config::NamedConfig;
 use oai_http::{Answer, Endpoint, Exchange, Performed};

@@ -1,18 +1,17 @@
 //! Requests that are performed again: what each leaves of the open lists, with no reply made.
-ghost use Rattle.std.specs.Prelude.{◌≡◌, ◌≢◌, ◌<◌, ◌+◌, ◌-◌, length, min, true, false, None, IsTrue, OnOk};
+ghost use Rattle.std.specs.Prelude.{◌≡◌, ◌<◌, ◌+◌, ◌-◌, min, true, false, None, IsTrue, OnOk};
 ghost use Rattle.oai_args.specs.Asks.{asks};
 ghost use Rattle.oai_args.specs.Pairs.{decoded_pairs};
 ghost use Rattle.oai_args.specs.Requests.{lists_records, request_of};
 ghost use Rattle.oai_args.specs.Verbs.{is_of_records};
 ghost use Rattle.oai_catalogue.specs.Calls.{Uses};
 ghost use Rattle.oai_catalogue.specs.Store.{Lists as Versioned};
-ghost use Rattle.oai_lists.specs.OpenLists.{open_fault};
 ghost use Rattle.oai_settings.specs.Config.{is_in_years};
 ghost use Rattle.oai_repo.specs.Calls.{changes_lists, room_to_ask};
 ghost use Rattle.oai_repo.specs.Fields.{AreInUse, TableAgrees};
 ghost use Rattle.oai_repo.specs.Listing as listing;
 ghost use Rattle.oai_repo.specs.Tables.{IsKeptTable, IsLeftOpen};
-ghost use Rattle.oai_repo.specs.Views.{IsOfFormat, IsReady, Leaves, view_ask_response, view_list_response, view_new_list, view_numbers, view_open_lists, view_response, view_selected, view_selection_response, view_token_response};
+ghost use Rattle.oai_repo.specs.Views.{IsOfFormat, IsReady, Leaves, view_ask_response, view_list_response, view_numbers, view_open_lists, view_response, view_selection_response, view_token_response};
 
 use crate::lists::{ListRequest, Selection, filter_of, lacks_sets, start_unread};
 use crate::tokens::{carry_on, chunk_of, continued, cursor_behind};

@@ -1,7 +1,7 @@
 -- What was performed, or what is enough of it.
 use Rattle.std.proofs.Common.{FitsSigned, w64}
 use Rattle.std.proofs.lemmas.Int.{to_z-of_z}
-use Rattle.oai_host.proofs.dispatch.bytes_to_redo.Goals as goal
+use Rattle.oai_host.proofs.records.bytes_to_redo.Goals as goal
 
 pub returns-in-Some-clause-left : goal.returns-in-Some-clause-left
 returns-in-Some-clause-left c = λ moment before after old new first last open_ones honest performed.

@@ -2,7 +2,7 @@
 use Rattle.std.proofs.Common.{◌≡◌, ◌∙◌, FitsSigned, ap, sym, to_z, w64}
 use Rattle.std.proofs.lemmas.Int.{to_z-of_z}
 use Rattle.oai_host.proofs.RedoLemmas.{nothing_enough, tick_enough}
-use Rattle.oai_host.proofs.dispatch.enough_of_request.Goals as goal
+use Rattle.oai_host.proofs.records.enough_of_request.Goals as goal
 
 pub returns-then-clock-clause-same : goal.returns-then-clock-clause-same
 returns-then-clock-clause-same c =

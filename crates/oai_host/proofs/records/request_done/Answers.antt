@@ -1,6 +1,6 @@
 -- A request was performed whole, or not at all.
 use Rattle.oai_host.proofs.RedoLemmas.{asked_left, refusal_left, whole_left}
-use Rattle.oai_host.proofs.dispatch.request_done.Goals as goal
+use Rattle.oai_host.proofs.records.request_done.Goals as goal
 
 pub returns-in-None-clause-left : goal.returns-in-None-clause-left
 returns-in-None-clause-left c = λ config moment before after old new honest performed.

@@ -1,7 +1,7 @@
 -- As many lines were performed as the answer says.
 use Rattle.std.proofs.Common.{◌∙◌, sym}
 use Rattle.oai_host.proofs.RedoLemmas.{lines_left, none_left, refusal_left, whole_left}
-use Rattle.oai_host.proofs.dispatch.lines_done.Goals as goal
+use Rattle.oai_host.proofs.records.lines_done.Goals as goal
 
 pub returns-then-not-is_post-clause-left : goal.returns-then-not-is_post-clause-left
 returns-then-not-is_post-clause-left c = λ config moment before after old new honest performed.

@@ -1,5 +1,5 @@
 -- By what the exchange is for.
-use Rattle.oai_host.proofs.dispatch.bytes_done.Goals as goal
+use Rattle.oai_host.proofs.records.bytes_done.Goals as goal
 
 pub returns-in-Requests-clause-left : goal.returns-in-Requests-clause-left
 returns-in-Requests-clause-left c = rw c.in-Requests.is c.request_done.ensures.left

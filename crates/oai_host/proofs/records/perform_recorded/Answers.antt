@@ -4,7 +4,7 @@ use Rattle.std.proofs.lemmas.Int.{to_z-of_z}
 use Rattle.oai_repo.specs.Fields.{state_of}
 use Rattle.oai_host.specs.Exchanged.{store_state}
 use Rattle.oai_host.proofs.RedoLemmas.{stands_open}
-use Rattle.oai_host.proofs.dispatch.perform_recorded.Goals as goal
+use Rattle.oai_host.proofs.records.perform_recorded.Goals as goal
 
 pub returns-clause-left : goal.returns-clause-left
 returns-clause-left g c = λ honest.

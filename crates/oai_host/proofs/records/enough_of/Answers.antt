@@ -1,7 +1,7 @@
 -- By what the exchange is for.
 use Rattle.std.proofs.Common.{FitsSigned, w64}
 use Rattle.std.proofs.lemmas.Int.{to_z-of_z}
-use Rattle.oai_host.proofs.dispatch.enough_of.Goals as goal
+use Rattle.oai_host.proofs.records.enough_of.Goals as goal
 
 pub returns-in-Requests-clause-same : goal.returns-in-Requests-clause-same
 returns-in-Requests-clause-same c =
