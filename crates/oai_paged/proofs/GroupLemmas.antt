@@ -23,7 +23,7 @@ use Rattle.oai_sums.specs.Sums.{SetTotal, counted_in}
 use Rattle.oai_paged.specs.Directory.{IsDirectory}
 use Rattle.oai_paged.specs.Parts.{EndsBy, IsInside}
 use Rattle.oai_paged.specs.Places.{Pages, PlaceState, first_cmp, is_wanted, items_at, items_on, known_in}
-use Rattle.oai_paged.specs.Sums.{AreKnown, ArePassed, AreTotals, IsSum, IsSumInside, SumState, counted_at, have_prefixes, known_in_sum}
+use Rattle.oai_paged.specs.Sums.{AreKnown, IsStretch, AreTotals, IsSum, IsSumInside, SumState, counted_at, have_prefixes, known_in_sum}
 use Rattle.oai_paged.specs.declared.sizes.TheConstants.{MAX_ENTRY_BYTES}
 use Rattle.oai_paged.proofs.DirectoryLemmas.{no_place}
 use Rattle.oai_paged.proofs.InsidePlaces.{known_counted, known_few}
@@ -214,10 +214,10 @@ all_known places asked stamp identifier at (suc len) n within h so =
           }
 
 -- what is known of a sum is known of each of its places
-pub passed_from : (sum : SumState) (places : List PlaceState) (asked : Filter) (stamp : ℤ) (identifier : List ℕ) (at len n : ℕ) → 0 < len → at + len ≤ length places
+pub stretch_from : (sum : SumState) (places : List PlaceState) (asked : Filter) (stamp : ℤ) (identifier : List ℕ) (at len n : ℕ) → 0 < len → at + len ≤ length places
     → IsSum sum (take len (drop at places)) → known_in_sum sum asked.set ≡ Some n → (n ≡ 0) ⊎ IsSumInside sum (drop (at + len) places) asked stamp identifier
-    → ArePassed places asked stamp identifier at len n
-passed_from sum places asked stamp identifier at len n some within h known so = record {
+    → IsStretch places asked stamp identifier at len n
+stretch_from sum places asked stamp identifier at len n some within h known so = record {
   some = some;
   within = within;
   known = all_known places asked stamp identifier at len n within (numbered sum asked.set (take len (drop at places)) n h known)
@@ -233,12 +233,12 @@ all_at P (y ∷ xs) (suc at) x h within is = all_at P xs at x h.1 (omega arith) 
 -- ---- the items of places that are passed over
 
 -- so many of them are wanted
-pub passed_counted : (pages : Pages) (places : List PlaceState) (asked : Filter) (stamp : ℤ) (identifier : List ℕ) (at len n : ℕ) → IsDirectory pages places → at + len ≤ length places
+pub stretch_counted : (pages : Pages) (places : List PlaceState) (asked : Filter) (stamp : ℤ) (identifier : List ℕ) (at len n : ℕ) → IsDirectory pages places → at + len ≤ length places
     → AreKnown places asked stamp identifier at len n
     → (n ≡ length (filter (is_wanted asked stamp identifier) (items_on pages (take len (drop at places))))) × (n ≤ MAX_ENTRY_BYTES * len)
-passed_counted pages places asked stamp identifier at zero n h within known =
+stretch_counted pages places asked stamp identifier at zero n h within known =
     (known ∙ sym (ap (λ xs. length (filter (is_wanted asked stamp identifier) xs)) (items_on-nil pages)), omega (arith, known))
-passed_counted pages places asked stamp identifier at (suc len) n h within known =
+stretch_counted pages places asked stamp identifier at (suc len) n h within known =
     let p : ItemState → Bool = is_wanted asked stamp identifier in
     let q : PlaceState = get_or places at no_place in
     let rest = take len (drop (at + 1) places) in
@@ -248,7 +248,7 @@ passed_counted pages places asked stamp identifier at (suc len) n h within known
     let number = known.2 in
     let here = known_counted pages places asked stamp identifier at own h there known.3 no_place in
     let few = known_few pages places asked stamp identifier at own h there known.3 in
-    let others = passed_counted pages places asked stamp identifier (at + 1) len left h (omega (arith, within)) known.4 in
+    let others = stretch_counted pages places asked stamp identifier (at + 1) len left h (omega (arith, within)) known.4 in
     let cut : filter p (items_on pages (take (suc len) (drop at places))) ≡ filter p (items_at pages q) ++ filter p (items_on pages rest) =
     ap (λ ps. filter p (items_on pages (take (suc len) ps))) (drop_more places at no_place there) ∙ ap (filter p) (items_on-cons pages q rest) ∙ filter-append p (items_at pages q) (items_on pages rest) in
     (omega (arith, number, here, others.0, ap length cut, length-append (filter p (items_at pages q)) (filter p (items_on pages rest))), omega (arith, number, few, others.1))

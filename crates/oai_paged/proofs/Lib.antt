@@ -1,5 +1,4 @@
 mod NameLemmas
-mod PassedLemmas
 mod PlaceLemmas
 mod OrderedPlaces
 mod RenamedLemmas
@@ -34,6 +33,7 @@ mod ReplaceLemmas
 mod LoneLemmas
 mod GroupLemmas
 mod HaveReadLemmas
+mod StretchLemmas
 mod SumLemmas
 mod TakenLemmas
 mod ReadPlaces

@@ -81,7 +81,7 @@ AreKnown places asked stamp identifier at (suc len) n =
     (own : ℕ) × (rest : ℕ) × (n ≡ own + rest) × IsKnown places at asked stamp identifier own × AreKnown places asked stamp identifier (at + 1) len rest
 
 -- some places from `at` on are passed over, of whose items so many are wanted
-pub record ArePassed (places : List PlaceState) (asked : Filter) (stamp : ℤ) (identifier : List ℕ) (at len n : ℕ) : Type 0 where
+pub record IsStretch (places : List PlaceState) (asked : Filter) (stamp : ℤ) (identifier : List ℕ) (at len n : ℕ) : Type 0 where
   pub some : 0 < len
   pub within : at + len ≤ length places
   pub known : AreKnown places asked stamp identifier at len n

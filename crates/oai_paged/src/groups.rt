@@ -1,7 +1,7 @@
 //! Groups of places of a directory that follow one another: what is known of the items of a group spares a look at each of its places.
 ghost use Rattle.std.specs.Prelude.{◌≡◌, ◌+◌, ◌<◌, ◌≤◌, List, [], None, length, drop, IfOk, IfSome, IsTrue};
 ghost use Rattle.oai_paged.specs.Places.{PlaceState};
-ghost use Rattle.oai_paged.specs.Sums.{AreExchanged, AreGroups, ArePassed, IsGroup, IsSumInside};
+ghost use Rattle.oai_paged.specs.Sums.{AreExchanged, AreGroups, IsStretch, IsGroup, IsSumInside};
 
 use crate::places::SharedPlace;
 use crate::reading::{Wanted, ends_by};
@@ -52,7 +52,7 @@ impl Model for Groups {
 
 /// Places that are passed over, and how many of their items are wanted.
 #[derive(Clone, Copy)]
-pub(crate) struct Passed {
+pub(crate) struct Stretch {
     pub(crate) places: usize,
     pub(crate) items: usize,
 }
@@ -161,22 +161,22 @@ impl Groups {
     }
 
     /// The places from `at` on of the group that begins there, where it is known how many of their items are wanted.
-    pub(crate) fn passed(
+    pub(crate) fn stretch_at(
         &self,
         places: &[SharedPlace],
         at: usize,
         wanted: Wanted<'_>,
-    ) -> Option<Passed>
+    ) -> Option<Stretch>
         requires within { at < length places.now }
         requires groups { AreGroups places.now self.now }
-        ensures { IfSome result (λ passed. ArePassed places.now wanted.entry.filter.now wanted.entry.stamp wanted.entry.identifier.now
-            at passed.places passed.items) }
+        ensures { IfSome result (λ stretch. IsStretch places.now wanted.entry.filter.now wanted.entry.stamp wanted.entry.identifier.now
+            at stretch.places stretch.items) }
     {
         let near = self.place_of(at);
         if near >= self.groups.len() {
             return None;
         }
-        self.groups[near].passed(places, at, wanted)
+        self.groups[near].stretch_at(places, at, wanted)
     }
 
     /// Where the last group stands that begins at that place or before it, or 0.
@@ -232,7 +232,7 @@ impl Group {
         if self.ends_by(at) {
             return;
         }
-        if let Some(first) = moved(self.first, at, len, count) {
+        if let Some(first) = place_after(self.first, at, len, count) {
             self.first = first;
             return;
         }
@@ -265,11 +265,11 @@ impl Group {
     }
 
     /// The places of the group, where it begins at `at` and it is known how many of their items are wanted.
-    fn passed(&self, places: &[SharedPlace], at: usize, wanted: Wanted<'_>) -> Option<Passed>
+    fn stretch_at(&self, places: &[SharedPlace], at: usize, wanted: Wanted<'_>) -> Option<Stretch>
         requires within { at < length places.now }
         requires group { IsGroup places.now self.now }
-        ensures { IfSome result (λ passed. ArePassed places.now wanted.entry.filter.now wanted.entry.stamp wanted.entry.identifier.now
-            at passed.places passed.items) }
+        ensures { IfSome result (λ stretch. IsStretch places.now wanted.entry.filter.now wanted.entry.stamp wanted.entry.identifier.now
+            at stretch.places stretch.items) }
     {
         let Some(sum) = &self.sum else {
             return None;
@@ -291,13 +291,13 @@ impl Group {
                 return None;
             }
         }
-        Some(Passed { places: len, items })
+        Some(Stretch { places: len, items })
     }
 }
 
 /// Where the place at `first` stands behind a change of so many places from `at` on, for which so many others were put in; None where it is one of
 /// those that were changed, or stands before them.
-fn moved(first: usize, at: usize, len: usize, count: usize) -> Option<usize>
+fn place_after(first: usize, at: usize, len: usize, count: usize) -> Option<usize>
     ensures { IfSome result (λ new. (at + len ≤ first) × (new + len ≡ first + count)) }
 {
     if len > first {

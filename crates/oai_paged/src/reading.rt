@@ -20,7 +20,7 @@ ghost use Rattle.oai_paged.specs.Sums.{AreGroups};
 use crate::entries::{Entries, are_zeros};
 use crate::faults::fault_of;
 use crate::finding::{begins_on_page, find_on_page, has_items};
-use crate::groups::{Groups, Passed};
+use crate::groups::{Groups, Stretch};
 use crate::places::SharedPlace;
 use crate::searches::place_of;
 use crate::sizes::FRONT_BYTES;
@@ -47,7 +47,7 @@ pub(crate) struct Wanted<'a> {
 
 /// Places of which the wanted items were taken, and how many more are to be skipped.
 #[derive(Clone, Copy)]
-struct Taken {
+struct PartStep {
     places: usize,
     left: usize,
 }
@@ -372,9 +372,9 @@ fn count_wanted<P: PagePool>(
         if places[at].stamp() > filter.upper {
             break;
         }
-        let passed = count_from(alloc, pages, places, groups, at, wanted)?;
-        total += passed.items;
-        at += passed.places;
+        let stretch = count_from(alloc, pages, places, groups, at, wanted)?;
+        total += stretch.items;
+        at += stretch.places;
     }
     Ok(total)
 }
@@ -517,23 +517,23 @@ fn count_from<P: PagePool>(
     groups: &Groups,
     at: usize,
     wanted: Wanted<'_>,
-) -> Result<Passed, Fault>
+) -> Result<Stretch, Fault>
     requires within { at < length places.now }
     requires stands { StandsIn P.PagePool pages.old places.now }
     requires groups { AreGroups places.now groups.now }
-    ensures number { IfOk result (λ passed. IsTrue (P.honest pages.old)
-        → passed.items ≡ length (filter (is_wanted wanted.entry.filter.now wanted.entry.stamp wanted.entry.identifier.now)
-        (items_on (P.pages pages.old) (take passed.places (drop at places.now))))) }
-    ensures some { IfOk result (λ passed. 0 < passed.places) }
-    ensures end { IfOk result (λ passed. at + passed.places ≤ length places.now) }
-    ensures few { IfOk result (λ passed. passed.items ≤ 4_294_967_295 * passed.places) }
+    ensures number { IfOk result (λ stretch. IsTrue (P.honest pages.old)
+        → stretch.items ≡ length (filter (is_wanted wanted.entry.filter.now wanted.entry.stamp wanted.entry.identifier.now)
+        (items_on (P.pages pages.old) (take stretch.places (drop at places.now))))) }
+    ensures some { IfOk result (λ stretch. 0 < stretch.places) }
+    ensures end { IfOk result (λ stretch. at + stretch.places ≤ length places.now) }
+    ensures few { IfOk result (λ stretch. stretch.items ≤ 4_294_967_295 * stretch.places) }
     ensures pages { ReadsPages P.PagePool result pages.old pages.new }
 {
-    if let Some(passed) = groups.passed(places, at, wanted) {
-        return Ok(passed);
+    if let Some(stretch) = groups.stretch_at(places, at, wanted) {
+        return Ok(stretch);
     }
     let items = count_at(alloc, pages, places, at, wanted)?;
-    Ok(Passed { places: 1, items })
+    Ok(Stretch { places: 1, items })
 }
 
 /// How many items of the place are wanted.
@@ -594,7 +594,7 @@ fn take_from<P: PagePool>(
     skip: usize,
     most: usize,
     part: &mut Vec<Item>,
-) -> Result<Taken, Fault>
+) -> Result<PartStep, Fault>
     requires within { at < length places.now }
     requires stands { StandsIn P.PagePool pages.old places.now }
     requires groups { AreGroups places.now groups.now }
@@ -605,17 +605,17 @@ fn take_from<P: PagePool>(
     ensures end { IfOk result (λ taken. at + taken.places ≤ length places.now) }
     ensures pages { ReadsPages P.PagePool result pages.old pages.new }
 {
-    if let Some(passed) = groups.passed(places, at, wanted) {
-        if skip >= passed.items {
-            let left = skip - passed.items;
-            return Ok(Taken {
-                places: passed.places,
+    if let Some(stretch) = groups.stretch_at(places, at, wanted) {
+        if skip >= stretch.items {
+            let left = skip - stretch.items;
+            return Ok(PartStep {
+                places: stretch.places,
                 left,
             });
         }
     }
     let left = take_at(alloc, pages, places, at, wanted, skip, most, part)?;
-    Ok(Taken { places: 1, left })
+    Ok(PartStep { places: 1, left })
 }
 
 /// Adds the wanted items of the place after the first `skip` to the part, up to `most`, and answers how many are then left to be skipped.

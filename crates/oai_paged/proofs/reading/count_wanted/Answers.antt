@@ -4,7 +4,7 @@ use Rattle.std.proofs.lemmas.Int.{to_z-of_z}
 use Rattle.oai_item.specs.Selection.{Filter}
 use Rattle.oai_paged.specs.Places.{is_wanted, items_on}
 use Rattle.oai_paged.proofs.HaveReadLemmas.{read_more, read_none}
-use Rattle.oai_paged.proofs.PassedLemmas.{counting_on, starts_within}
+use Rattle.oai_paged.proofs.StretchLemmas.{counting_on, starts_within}
 use Rattle.oai_paged.proofs.WantedPlaces.{counting_ends, counting_starts, none_late, wanted_end}
 use Rattle.oai_paged.proofs.reading.count_wanted.Goals as goal
 use lib.Signed.{lt_z}
@@ -24,13 +24,13 @@ places-preserved g c =
     let p = is_wanted c.args.wanted.filter.now c.args.wanted.stamp c.args.wanted.identifier.now in
     let pages = G.pages c.args.pages.now in
     let so_far = c.places.invariant in
-    let passed = c.in_ok-passed.passed in
+    let stretch = c.in_ok-stretch.stretch in
     record {
       read = read_more G c.count_from.result c.args.pages.now c.places.pages c.count_from.new.pages so_far.read c.count_from.ensures.pages;
-      number = λ honest. counting_on p pages (G.pages c.places.pages) c.args.places.now c.places.at passed.places c.places.total passed.items (length (filter p (items_on pages c.args.places.now)))
-          so_far.read.same (so_far.number honest) (c.in_ok-passed.ensures.number (so_far.read.honesty ∙ honest));
-      few = omega (arith, so_far.few, c.in_ok-passed.ensures.few);
-      within = c.in_ok-passed.ensures.end;
+      number = λ honest. counting_on p pages (G.pages c.places.pages) c.args.places.now c.places.at stretch.places c.places.total stretch.items (length (filter p (items_on pages c.args.places.now)))
+          so_far.read.same (so_far.number honest) (c.in_ok-stretch.ensures.number (so_far.read.honesty ∙ honest));
+      few = omega (arith, so_far.few, c.in_ok-stretch.ensures.few);
+      within = c.in_ok-stretch.ensures.end;
     }
 
 pub returns-after-places-clause-number : goal.returns-after-places-clause-number

@@ -6,7 +6,7 @@ use Rattle.oai_item.specs.Selection.{Filter}
 use Rattle.oai_paged.specs.Places.{is_wanted, items_on}
 use Rattle.oai_paged.proofs.HaveReadLemmas.{read_failed, read_more, read_none, stands_read}
 use Rattle.oai_paged.proofs.PartLemmas.{part_ends, part_full}
-use Rattle.oai_paged.proofs.PassedLemmas.{starts_within, taking_on}
+use Rattle.oai_paged.proofs.StretchLemmas.{starts_within, taking_on}
 use Rattle.oai_paged.proofs.WantedPlaces.{none_late, taking_starts, wanted_end}
 use Rattle.oai_paged.proofs.reading.part_wanted.Goals.{else-places-test, then-places-test+then-len-most, then-places-test+else-len-most+then-stamp-filter}
 use Rattle.oai_paged.proofs.reading.part_wanted.Goals as goal

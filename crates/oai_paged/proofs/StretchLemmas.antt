@@ -10,8 +10,8 @@ use Rattle.oai_paged.specs.Directory.{IsDirectory}
 use Rattle.oai_paged.specs.Parts.{IsPartTaken}
 use Rattle.oai_paged.specs.Places.{Pages, PlaceState, is_wanted, items_at, items_on}
 use Rattle.oai_paged.specs.Searches.{StartsAt}
-use Rattle.oai_paged.specs.Sums.{ArePassed}
-use Rattle.oai_paged.proofs.GroupLemmas.{passed_counted}
+use Rattle.oai_paged.specs.Sums.{IsStretch}
+use Rattle.oai_paged.proofs.GroupLemmas.{stretch_counted}
 use Rattle.oai_paged.proofs.PartLemmas.{taken_past}
 use Rattle.oai_paged.proofs.PlaceLemmas.{items_on-append, items_on-cons, items_on-nil}
 
@@ -46,21 +46,21 @@ taking_on p pages now places at len most skip left old new whole same h taken =
     taken rest ∙ ap (λ zs. old ++ take (most - length old) (drop skip (filter p zs))) joined ∙ h
 
 -- places that are passed over
-pub passed_number : (pages : Pages) (places : List PlaceState) (asked : Filter) (stamp : ℤ) (identifier : List ℕ) (at len n : ℕ) → IsDirectory pages places → ArePassed places asked stamp identifier at len n
+pub stretch_number : (pages : Pages) (places : List PlaceState) (asked : Filter) (stamp : ℤ) (identifier : List ℕ) (at len n : ℕ) → IsDirectory pages places → IsStretch places asked stamp identifier at len n
     → n ≡ length (filter (is_wanted asked stamp identifier) (items_on pages (take len (drop at places))))
-passed_number pages places asked stamp identifier at len n h passed = (passed_counted pages places asked stamp identifier at len n h passed.within passed.known).0
+stretch_number pages places asked stamp identifier at len n h stretch = (stretch_counted pages places asked stamp identifier at len n h stretch.within stretch.known).0
 
-pub passed_few : (pages : Pages) (places : List PlaceState) (asked : Filter) (stamp : ℤ) (identifier : List ℕ) (at len n : ℕ) → IsDirectory pages places → ArePassed places asked stamp identifier at len n
+pub stretch_few : (pages : Pages) (places : List PlaceState) (asked : Filter) (stamp : ℤ) (identifier : List ℕ) (at len n : ℕ) → IsDirectory pages places → IsStretch places asked stamp identifier at len n
     → n ≤ 4_294_967_295 * len
-passed_few pages places asked stamp identifier at len n h passed = omega (arith, (passed_counted pages places asked stamp identifier at len n h passed.within passed.known).1)
+stretch_few pages places asked stamp identifier at len n h stretch = omega (arith, (stretch_counted pages places asked stamp identifier at len n h stretch.within stretch.known).1)
 
 -- where so many are to be skipped, all of them are
-pub passed_past : (pages : Pages) (places : List PlaceState) (asked : Filter) (stamp : ℤ) (identifier : List ℕ) (at len n most : ℕ) (part : List ItemState) (skip : ℕ) → IsDirectory pages places
-    → n ≤ skip → ArePassed places asked stamp identifier at len n → IsPartTaken (is_wanted asked stamp identifier) most part part skip (skip - n) (items_on pages (take len (drop at places)))
-passed_past pages places asked stamp identifier at len n most part skip h past passed =
+pub stretch_past : (pages : Pages) (places : List PlaceState) (asked : Filter) (stamp : ℤ) (identifier : List ℕ) (at len n most : ℕ) (part : List ItemState) (skip : ℕ) → IsDirectory pages places
+    → n ≤ skip → IsStretch places asked stamp identifier at len n → IsPartTaken (is_wanted asked stamp identifier) most part part skip (skip - n) (items_on pages (take len (drop at places)))
+stretch_past pages places asked stamp identifier at len n most part skip h past stretch =
     let wanted = is_wanted asked stamp identifier in
     let own : List ItemState = items_on pages (take len (drop at places)) in
-    let is = passed_number pages places asked stamp identifier at len n h passed in
+    let is = stretch_number pages places asked stamp identifier at len n h stretch in
     subst (λ (m : ℕ). IsPartTaken wanted most part part skip (skip - m) own) (sym is) (taken_past wanted most part skip own (omega (arith, is, past)))
 
 -- a search does not begin behind the last place
