@@ -1,5 +1,5 @@
 -- Places of which all items are wanted: they are counted and passed over by their number.
-use Rattle.std.proofs.Common.{◌≡◌, ◌∙◌, ◌==◌, false, ◌∷◌, ◌-◌, ◌<◌, ◌≤◌, ℕ, ℤ, Bool, List, [], Option, None, Some, ◌+◌, ◌⊎◌, ⊎_elim, length, get_or, refl, sym, ap, subst, arith, true, inl, inr}
+use Rattle.std.proofs.Common.{◌≡◌, ◌∙◌, ◌==◌, false, ◌∷◌, ◌-◌, ◌<◌, ◌≤◌, ℕ, ℤ, Bool, List, [], Option, None, Some, ◌⊎◌, ⊎_elim, length, get_or, refl, sym, ap, subst, arith, true, inl, inr}
 use Rattle.std.specs.Prelude.{filter, option_map}
 use Rattle.std.proofs.lemmas.Bool.{cases_lt}
 use Rattle.std.proofs.lemmas.List.{get_or_read}
@@ -20,7 +20,6 @@ use Rattle.oai_paged.proofs.DirectoryLemmas.{item_at-cut, no_place, placed-cut}
 use Rattle.oai_paged.proofs.PageLemmas.{size_of-least}
 use Rattle.oai_paged.proofs.PartLemmas.{fewer, filter_alike, filter_both, taken_past}
 use Rattle.oai_paged.proofs.PlaceLemmas.{items_on-nil}
-use Rattle.oai_paged.proofs.ReadPlaces.{placed_at}
 use Rattle.oai_paged.proofs.ShortLemmas.{fit_parts}
 use Rattle.oai_paged.proofs.WantedPlaces.{inside_given, stored_items}
 use Rattle.oai_paged.proofs.WantedLemmas.{given_from}

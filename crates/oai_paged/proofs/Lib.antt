@@ -6,6 +6,7 @@ mod DirectoryLemmas
 mod ExchangeLemmas
 mod PartLemmas
 mod WantedLemmas
+mod WindowLemmas
 mod RecountLemmas
 mod SlotLemmas
 mod ShelfLemmas
@@ -13,6 +14,7 @@ mod RoomLemmas
 mod FewLemmas
 mod HeldLemmas
 pub mod PageLemmas
+mod EachLemmas
 mod EntryLemmas
 mod ReadLemmas
 mod ShortLemmas
@@ -29,7 +31,10 @@ mod ChangedLemmas
 mod DirectoryChanges
 mod ReplaceLemmas
 mod LoneLemmas
+mod GroupLemmas
 mod HaveReadLemmas
+mod StretchLemmas
+mod SumLemmas
 mod TakenLemmas
 mod ReadPlaces
 mod InsidePlaces

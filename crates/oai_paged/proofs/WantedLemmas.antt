@@ -1,5 +1,5 @@
 -- Which items of a directory can be wanted, and of which places it is known without reading them.
-use Rattle.std.proofs.Common.{◌≡◌, ◌∙◌, ◌<ℤ◌, ◌⊎◌, inl, inr, ⊎_elim, ℕ, ℤ, Bool, true, false, ◌&&◌, List, [], ◌∷◌, None, refl, sym, ap, arith}
+use Rattle.std.proofs.Common.{◌≡◌, ◌∙◌, ◌<ℤ◌, ◌⊎◌, inl, inr, ⊎_elim, ℕ, ℤ, Bool, true, false, ◌&&◌, List, [], ◌∷◌, refl, sym, ap, arith}
 use Rattle.std.specs.Prelude.{int_le}
 use Rattle.std.specs.List.{list_all}
 use Rattle.std.specs.Ordering.{int_cmp, is_gt, is_lt, nat_cmp, ordering_then}

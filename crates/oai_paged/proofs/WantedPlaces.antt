@@ -1,6 +1,6 @@
 -- The places of a directory that may have wanted items, and those of which all items are.
 use Rattle.std.specs.Prelude.{filter, int_le, length}
-use Rattle.std.proofs.Common.{◌≡◌, ◌∙◌, ◌+◌, ◌-◌, ◌<◌, ◌≤◌, ◌≤ℤ◌, ◌⊎◌, inl, inr, ⊎_elim, ℕ, ℤ, pos, suc, zero, Bool, true, false, cond, not, ◌==◌, Some, List, [], ◌∷◌, ◌++◌, None, take, drop, get_or, refl, sym, ap, subst, arith, length-append}
+use Rattle.std.proofs.Common.{◌≡◌, ◌∙◌, ◌+◌, ◌-◌, ◌<◌, ◌≤◌, ◌≤ℤ◌, ◌⊎◌, inl, inr, ⊎_elim, ℕ, ℤ, pos, suc, zero, Bool, true, false, cond, not, ◌==◌, List, [], ◌∷◌, ◌++◌, take, drop, get_or, refl, sym, ap, subst, arith}
 use Rattle.std.specs.List.{AllByRecursion, list_all}
 use Rattle.std.specs.Ordering.{is_gt, is_lt, ordering_index}
 use Rattle.std.specs.declared.cmp.Ordering.{Ordering}
@@ -17,7 +17,7 @@ use Rattle.oai_item.specs.Selection.{Filter, is_in_given}
 use Rattle.oai_item.proofs.Around.{in_order-append}
 use Rattle.oai_paged.specs.Directory.{IsDirectory}
 use Rattle.oai_paged.specs.Pages.{AreStorable, begins_at}
-use Rattle.oai_paged.specs.Parts.{EndsBy, IsInside, IsPartTaken}
+use Rattle.oai_paged.specs.Parts.{EndsBy, IsInside}
 use Rattle.oai_paged.specs.Places.{IsSoundPlace, Pages, PlaceState, are_below, first_cmp, is_wanted, items_at, items_on}
 use Rattle.oai_paged.specs.Searches.{StartsAt}
 use Rattle.oai_paged.proofs.DirectoryLemmas.{goes_on, items-cut, no_place, placed-cut}
@@ -201,14 +201,6 @@ pub counting_starts : (pages : Pages) (places : List PlaceState) (asked : Filter
     → 0 + length (filter (is_wanted asked stamp identifier) (items_on pages (drop at places))) ≡ length (filter (is_wanted asked stamp identifier) (items_on pages places))
 counting_starts pages places asked stamp identifier at h starts = omega (arith, ap length (wanted_start pages places asked stamp identifier at h starts))
 
-pub counting_more : (p : ItemState → Bool) (pages now : Pages) (places : List PlaceState) (at total n whole : ℕ) (d : PlaceState) → at < length places → now ≡ pages
-    → total + length (filter p (items_on pages (drop at places))) ≡ whole → n ≡ length (filter p (items_at now (get_or places at d)))
-    → (total + n) + length (filter p (items_on pages (drop (at + 1) places))) ≡ whole
-counting_more p pages now places at total n whole d within same h counted =
-    let q : PlaceState = get_or places at d in
-    let here : n ≡ length (filter p (items_at pages q)) = counted ∙ ap (λ (g : Pages). length (filter p (items_at g q))) same in
-    omega (arith, h, here, ap length (wanted_step p pages places at d within), length-append (filter p (items_at pages q)) (filter p (items_on pages (drop (at + 1) places))))
-
 pub counting_ends : (total whole : ℕ) (rest : List ItemState) → rest ≡ [] → total + length rest ≡ whole → total ≡ whole
 counting_ends total whole rest none h = omega (arith, h, ap length none)
 
@@ -224,14 +216,3 @@ taking_starts pages places asked stamp identifier at most skip part h starts non
     ap (λ (xs : List ItemState). xs ++ take (most - length xs) (drop skip left)) none
     ∙ ap (λ m. take m (drop skip left)) all
     ∙ ap (λ zs. take most (drop skip zs)) (wanted_start pages places asked stamp identifier at h starts)
-
-pub taking_more : (p : ItemState → Bool) (pages now : Pages) (places : List PlaceState) (at most skip left : ℕ) (old new whole : List ItemState) (d : PlaceState) → at < length places → now ≡ pages
-    → old ++ take (most - length old) (drop skip (filter p (items_on pages (drop at places)))) ≡ whole → IsPartTaken p most old new skip left (items_at now (get_or places at d))
-    → new ++ take (most - length new) (drop left (filter p (items_on pages (drop (at + 1) places)))) ≡ whole
-taking_more p pages now places at most skip left old new whole d within same h taken =
-    let q : PlaceState = get_or places at d in
-    let rest : List ItemState = items_on pages (drop (at + 1) places) in
-    let joined : items_at now q ++ rest ≡ items_on pages (drop at places) =
-    ap (λ (g : Pages). items_at g q ++ rest) same ∙ sym (ap (items_on pages) (drop_more places at d within) ∙ items_on-cons pages q (drop (at + 1) places))
-    in
-    taken rest ∙ ap (λ zs. old ++ take (most - length old) (drop skip (filter p zs))) joined ∙ h

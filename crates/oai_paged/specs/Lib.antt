@@ -5,6 +5,7 @@ pub mod Finding
 pub mod Places
 pub mod Searches
 pub mod Parts
+pub mod Sums
 pub mod Directory
 pub mod Calls
 pub mod Recounts

@@ -9,10 +9,12 @@ ghost use Rattle.oai_paged.specs.Directory.{MayStand, StandsIn};
 ghost use Rattle.oai_paged.specs.Pages.{AreCuts, FitAlone, between, overflow_of, pages_of};
 ghost use Rattle.oai_paged.specs.Places.{have_records, named_in};
 ghost use Rattle.oai_paged.specs.Recounts.{AddsNumbers, Recounts};
+ghost use Rattle.oai_paged.specs.Sums.{AreGroups};
 
 use crate::entries::{Cuts, Entries};
 use crate::exchanges::{exchange, reserve};
 use crate::faults::fault_of;
+use crate::groups::Groups;
 use crate::names::{drop_all, drop_numbers};
 use crate::places::SharedPlace;
 use oai_device::PAGE_BYTES;
@@ -44,6 +46,7 @@ pub(crate) fn change<P: PagePool>(
     pages: &mut P,
     names: &mut SetNames,
     places: &mut Vec<SharedPlace>,
+    groups: &mut Groups,
     at: usize,
     len: usize,
     entries: &Entries,
@@ -61,12 +64,14 @@ pub(crate) fn change<P: PagePool>(
     ensures capacity { vec_capacity places.old ≤ vec_capacity places.new }
     ensures err { OnErr result (ChangesNothing P.PagePool places.old.items places.new.items pages.old pages.new) }
     ensures pool { AddsPages P.PagePool entries.now result pages.old pages.new }
+    ensures groups { AreGroups places.old.items groups.old → AreGroups places.new.items groups.new }
 {
     let mut others = add_all(alloc, pages, names, entries, cuts, places.get(at))?;
     match reserve(places, &mut others) {
         Ok(()) => {
             let count = others.len();
             exchange(places, at, len, &mut others);
+            groups.exchange(at, len, count);
             Ok(Changed {
                 at,
                 len: count,
@@ -82,7 +87,12 @@ pub(crate) fn change<P: PagePool>(
 
 /// Takes a change back: the places that are gone stand where they stood, and the new ones are gone, with the names of their pages. It takes no
 /// memory and cannot fail.
-pub(crate) fn undo<P: PagePool>(pages: &mut P, places: &mut Vec<SharedPlace>, changed: Changed)
+pub(crate) fn undo<P: PagePool>(
+    pages: &mut P,
+    places: &mut Vec<SharedPlace>,
+    groups: &mut Groups,
+    changed: Changed,
+)
     requires back { HasWayBack changed.at changed.len
         (vec_len places.old) (vec_capacity places.old) (vec_len changed.gone) (vec_capacity changed.gone) }
     requires named { (n : ℕ) → named_in (take changed.len (drop changed.at places.old.items)) n ≤ count_of (P.counts pages.old) n }
@@ -90,9 +100,12 @@ pub(crate) fn undo<P: PagePool>(pages: &mut P, places: &mut Vec<SharedPlace>, ch
         ++ (changed.gone.items ++ drop (changed.at + changed.len) places.old.items) }
     ensures names { Renames P.PagePool (take changed.len (drop changed.at places.old.items)) [] pages.old pages.new }
     ensures pool { FreesPages P.PagePool pages.old pages.new }
+    ensures groups { AreGroups places.old.items groups.old → AreGroups places.new.items groups.new }
 {
     let mut others = changed.gone;
+    let count = others.len();
     exchange(places, changed.at, changed.len, &mut others);
+    groups.exchange(changed.at, changed.len, count);
     drop_all(pages, others);
 }
 

@@ -1,5 +1,8 @@
 ghost use Rattle.std.specs.Prelude.{◌≡◌, []};
+ghost use Rattle.oai_paged.specs.Props.{group_props};
+ghost use Rattle.oai_paged.specs.Sums.{AreGroups};
 
+use crate::groups::Groups;
 use crate::places::SharedPlace;
 use std::alloc::Global;
 use std::marker::Model;
@@ -8,6 +11,9 @@ use std::marker::Model;
 #[derive(Drop)]
 pub(crate) struct Directory {
     pub(crate) places: Vec<SharedPlace>,
+    /// What is known of places that follow one another.
+    pub(crate) groups: Groups,
+    ghost sound: { AreGroups places.items groups } by { Prim.hlevel group_props },
 }
 
 impl Model for Directory {
@@ -26,6 +32,7 @@ impl Directory {
     {
         Directory {
             places: Vec::new(alloc),
+            groups: Groups::new(alloc),
         }
     }
 
@@ -34,5 +41,19 @@ impl Directory {
         ensures { result.now ≡ self.now }
     {
         self.places.as_slice()
+    }
+
+    /// The groups of its places.
+    pub(crate) fn groups(&self) -> &Groups
+        ensures { AreGroups self.now result.now }
+    {
+        &self.groups
+    }
+
+    /// Finds out what is not known of the groups of its places, as far as there is memory.
+    pub(crate) fn tend(&mut self, alloc: Global)
+        ensures { self.new ≡ self.old }
+    {
+        self.groups.tend(alloc, self.places.as_slice());
     }
 }

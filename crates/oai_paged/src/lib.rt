@@ -8,6 +8,7 @@ mod entries;
 mod exchanges;
 mod faults;
 mod finding;
+mod groups;
 mod names;
 mod page_numbers;
 mod places;
@@ -16,6 +17,7 @@ mod reading;
 mod searches;
 mod sizes;
 mod store;
+mod sums;
 
 pub use sizes::{
     FRONT_BYTES, HEAD_BYTES, MAX_ENTRY_BYTES, MAX_OVERFLOW_PAGES, MAX_WHOLE_BYTES, NUMBER_BYTES,

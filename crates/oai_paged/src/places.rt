@@ -1,4 +1,4 @@
-ghost use Rattle.std.specs.Prelude.{◌≡◌, nat_lt, ℕ, length, IfOk};
+ghost use Rattle.std.specs.Prelude.{◌≡◌, nat_lt, ℕ, length, option_copied, IfOk};
 ghost use Rattle.oai_names.specs.Names.{is_among};
 ghost use Rattle.oai_paged.specs.Places.{first_cmp, known_in};
 
@@ -159,6 +159,13 @@ impl SharedPlace {
         }
     }
 
+    /// How many items are in each set, where that is known.
+    pub(crate) fn sets(&self) -> Option<&SetCounts>
+        ensures { option_copied result ≡ self.now.sets }
+    {
+        self.place.sets.as_ref()
+    }
+
     /// How the first item stands to this datestamp, in seconds from 1970 on, and identifier.
     pub(crate) fn order_to(&self, stamp: i64, identifier: &str) -> Ordering
         ensures { result ≡ first_cmp self.now stamp identifier.now }
@@ -171,7 +178,7 @@ impl SharedPlace {
 }
 
 /// Whether the prefix is one of these.
-fn is_among(prefixes: &[Prefix], prefix: &str) -> bool
+pub(crate) fn is_among(prefixes: &[Prefix], prefix: &str) -> bool
     ensures { result ≡ is_among prefixes.now prefix.now }
 {
     prefixes.iter().any(|other| prefix == other.as_str())

@@ -7,10 +7,12 @@ ghost use Rattle.oai_paged.specs.Calls.{Changes, HasWayBack, PutsItem, Takes, Ta
 ghost use Rattle.oai_paged.specs.Directory.{PutsAt, StandsIn};
 ghost use Rattle.oai_paged.specs.Places.{items_on};
 ghost use Rattle.oai_paged.specs.Searches.{BelongsAt};
+ghost use Rattle.oai_paged.specs.Sums.{AreGroups};
 ghost use Rattle.oai_paged.specs.declared.sizes.TheConstants.{MAX_OVERFLOW_PAGES};
 
 use crate::changes::{Changed, change, undo};
 use crate::entries::{Cuts, Entries};
+use crate::groups::Groups;
 use crate::names::drop_all;
 use crate::places::SharedPlace;
 use crate::reading::read_place;
@@ -28,6 +30,7 @@ pub(crate) fn put<P: PagePool>(
     pages: &mut P,
     names: &mut SetNames,
     places: &mut Vec<SharedPlace>,
+    groups: &mut Groups,
     item: &Item,
 ) -> Result<(), Fault>
     requires stands { StandsIn P.PagePool pages.old places.old.items }
@@ -35,8 +38,9 @@ pub(crate) fn put<P: PagePool>(
     ensures list { OnOk result (IsTrue (P.honest pages.old) → items_on (P.pages pages.new) places.new.items
         ≡ with_item item.now (items_on (P.pages pages.old) places.old.items)) }
     ensures changes { Changes P.PagePool (3 + MAX_OVERFLOW_PAGES) result places.old.items places.new.items pages.old pages.new }
+    ensures groups { AreGroups places.old.items groups.old → AreGroups places.new.items groups.new }
 {
-    let changed = put_in(alloc, pages, names, places, item)?;
+    let changed = put_in(alloc, pages, names, places, groups, item)?;
     drop_all(pages, changed.gone);
     Ok(())
 }
@@ -48,6 +52,7 @@ pub(crate) fn remove<P: PagePool>(
     pages: &mut P,
     names: &mut SetNames,
     places: &mut Vec<SharedPlace>,
+    groups: &mut Groups,
     stamp: i64,
     identifier: &str,
 ) -> Result<bool, Fault>
@@ -57,8 +62,9 @@ pub(crate) fn remove<P: PagePool>(
     ensures list { OnOk result (IsTrue (P.honest pages.old) → items_on (P.pages pages.new) places.new.items
         ≡ without_at stamp identifier.now (items_on (P.pages pages.old) places.old.items)) }
     ensures changes { Changes P.PagePool 1 result places.old.items places.new.items pages.old pages.new }
+    ensures groups { AreGroups places.old.items groups.old → AreGroups places.new.items groups.new }
 {
-    match take_out(alloc, pages, names, places, stamp, identifier)? {
+    match take_out(alloc, pages, names, places, groups, stamp, identifier)? {
         Some(changed) => {
             drop_all(pages, changed.gone);
             Ok(true)
@@ -75,6 +81,7 @@ pub(crate) fn replace<P: PagePool>(
     pages: &mut P,
     names: &mut SetNames,
     places: &mut Vec<SharedPlace>,
+    groups: &mut Groups,
     stamp: i64,
     identifier: &str,
     item: &Item,
@@ -86,19 +93,20 @@ pub(crate) fn replace<P: PagePool>(
     ensures list { OnOk result (IsTrue (P.honest pages.old) → items_on (P.pages pages.new) places.new.items
         ≡ with_item item.now (without_at stamp identifier.now (items_on (P.pages pages.old) places.old.items))) }
     ensures changes { Changes P.PagePool (4 + MAX_OVERFLOW_PAGES) result places.old.items places.new.items pages.old pages.new }
+    ensures groups { AreGroups places.old.items groups.old → AreGroups places.new.items groups.new }
 {
-    let Some(first) = take_out(alloc, pages, names, places, stamp, identifier)? else {
-        put(alloc, pages, names, places, item)?;
+    let Some(first) = take_out(alloc, pages, names, places, groups, stamp, identifier)? else {
+        put(alloc, pages, names, places, groups, item)?;
         return Ok(false);
     };
-    match put_in(alloc, pages, names, places, item) {
+    match put_in(alloc, pages, names, places, groups, item) {
         Ok(second) => {
             drop_all(pages, second.gone);
             drop_all(pages, first.gone);
             Ok(true)
         }
         Err(fault) => {
-            undo(pages, places, first);
+            undo(pages, places, groups, first);
             Err(fault)
         }
     }
@@ -110,6 +118,7 @@ fn put_in<P: PagePool>(
     pages: &mut P,
     names: &mut SetNames,
     places: &mut Vec<SharedPlace>,
+    groups: &mut Groups,
     item: &Item,
 ) -> Result<Changed, Fault>
     requires stands { StandsIn P.PagePool pages.old places.old.items }
@@ -117,15 +126,16 @@ fn put_in<P: PagePool>(
     ensures item { PutsItem P.PagePool item.now result places.old.items places.new.items pages.old pages.new }
     ensures capacity { vec_capacity places.old ≤ vec_capacity places.new }
     ensures pool { Takes P.PagePool (3 + MAX_OVERFLOW_PAGES) result pages.old pages.new }
+    ensures groups { AreGroups places.old.items groups.old → AreGroups places.new.items groups.new }
 {
     if places.is_empty() {
-        return put_alone(alloc, pages, names, places, 0, 0, item);
+        return put_alone(alloc, pages, names, places, groups, 0, 0, item);
     }
     let at = place_of(places.as_slice(), item.stamp(), item.identifier().as_str());
     if places[at].is_long() {
-        return put_by_long(alloc, pages, names, places, at, item);
+        return put_by_long(alloc, pages, names, places, groups, at, item);
     }
-    put_among(alloc, pages, names, places, at, item)
+    put_among(alloc, pages, names, places, groups, at, item)
 }
 
 /// Puts the item in among those of the place at `at`, which has one page, and to which it belongs. Any fault may come; directory and pages are then as
@@ -135,6 +145,7 @@ fn put_among<P: PagePool>(
     pages: &mut P,
     names: &mut SetNames,
     places: &mut Vec<SharedPlace>,
+    groups: &mut Groups,
     at: usize,
     item: &Item,
 ) -> Result<Changed, Fault>
@@ -146,12 +157,13 @@ fn put_among<P: PagePool>(
     ensures item { PutsItem P.PagePool item.now result places.old.items places.new.items pages.old pages.new }
     ensures capacity { vec_capacity places.old ≤ vec_capacity places.new }
     ensures pool { Takes P.PagePool (3 + MAX_OVERFLOW_PAGES) result pages.old pages.new }
+    ensures groups { AreGroups places.old.items groups.old → AreGroups places.new.items groups.new }
 {
     let old = read_place(alloc, pages, places.as_slice(), at)?;
     let comes_last = at + 1 == places.len()
         && old.are_before(item.stamp(), item.identifier().as_str());
     let (entries, cuts) = old.put(alloc, item, comes_last)?;
-    change(alloc, pages, names, places, at, 1, &entries, cuts)
+    change(alloc, pages, names, places, groups, at, 1, &entries, cuts)
 }
 
 /// Puts the item in beside the one of the place at `at`, which has overflow pages, and to which the item belongs, or in its place. Nothing is read. Any
@@ -161,6 +173,7 @@ fn put_by_long<P: PagePool>(
     pages: &mut P,
     names: &mut SetNames,
     places: &mut Vec<SharedPlace>,
+    groups: &mut Groups,
     at: usize,
     item: &Item,
 ) -> Result<Changed, Fault>
@@ -172,11 +185,12 @@ fn put_by_long<P: PagePool>(
     ensures item { PutsItem P.PagePool item.now result places.old.items places.new.items pages.old pages.new }
     ensures capacity { vec_capacity places.old ≤ vec_capacity places.new }
     ensures pool { Takes P.PagePool (3 + MAX_OVERFLOW_PAGES) result pages.old pages.new }
+    ensures groups { AreGroups places.old.items groups.old → AreGroups places.new.items groups.new }
 {
     match places[at].order_to(item.stamp(), item.identifier().as_str()) {
-        Ordering::Less => put_alone(alloc, pages, names, places, at + 1, 0, item),
-        Ordering::Equal => put_alone(alloc, pages, names, places, at, 1, item),
-        Ordering::Greater => put_alone(alloc, pages, names, places, at, 0, item),
+        Ordering::Less => put_alone(alloc, pages, names, places, groups, at + 1, 0, item),
+        Ordering::Equal => put_alone(alloc, pages, names, places, groups, at, 1, item),
+        Ordering::Greater => put_alone(alloc, pages, names, places, groups, at, 0, item),
     }
 }
 
@@ -187,6 +201,7 @@ fn put_alone<P: PagePool>(
     pages: &mut P,
     names: &mut SetNames,
     places: &mut Vec<SharedPlace>,
+    groups: &mut Groups,
     at: usize,
     len: usize,
     item: &Item,
@@ -199,9 +214,10 @@ fn put_alone<P: PagePool>(
     ensures item { PutsItem P.PagePool item.now result places.old.items places.new.items pages.old pages.new }
     ensures capacity { vec_capacity places.old ≤ vec_capacity places.new }
     ensures pool { Takes P.PagePool (3 + MAX_OVERFLOW_PAGES) result pages.old pages.new }
+    ensures groups { AreGroups places.old.items groups.old → AreGroups places.new.items groups.new }
 {
     let (entries, cuts) = Entries::new(alloc).put(alloc, item, false)?;
-    change(alloc, pages, names, places, at, len, &entries, cuts)
+    change(alloc, pages, names, places, groups, at, len, &entries, cuts)
 }
 
 /// Takes the item of that datestamp, in seconds from 1970 on, and identifier out, if there is one; the pages that it was on are still named. It adds one
@@ -211,6 +227,7 @@ fn take_out<P: PagePool>(
     pages: &mut P,
     names: &mut SetNames,
     places: &mut Vec<SharedPlace>,
+    groups: &mut Groups,
     stamp: i64,
     identifier: &str,
 ) -> Result<Option<Changed>, Fault>
@@ -219,15 +236,16 @@ fn take_out<P: PagePool>(
     ensures back { IfOk result (λ changed. IfSome changed (λ some. HasWayBack some.at some.len
         (vec_len places.new) (vec_capacity places.new) (vec_len some.gone) (vec_capacity some.gone))) }
     ensures pool { Takes P.PagePool 1 result pages.old pages.new }
+    ensures groups { AreGroups places.old.items groups.old → AreGroups places.new.items groups.new }
 {
     if places.is_empty() {
         return Ok(None);
     }
     let at = place_of(places.as_slice(), stamp, identifier);
     if places[at].is_long() {
-        return take_out_long(alloc, pages, names, places, at, stamp, identifier);
+        return take_out_long(alloc, pages, names, places, groups, at, stamp, identifier);
     }
-    take_out_among(alloc, pages, names, places, at, stamp, identifier)
+    take_out_among(alloc, pages, names, places, groups, at, stamp, identifier)
 }
 
 /// Takes the item out of those of the place at `at`, which has one page, and to which its datestamp and identifier belong. Any fault may come; directory
@@ -237,6 +255,7 @@ fn take_out_among<P: PagePool>(
     pages: &mut P,
     names: &mut SetNames,
     places: &mut Vec<SharedPlace>,
+    groups: &mut Groups,
     at: usize,
     stamp: i64,
     identifier: &str,
@@ -249,12 +268,13 @@ fn take_out_among<P: PagePool>(
     ensures back { IfOk result (λ changed. IfSome changed (λ some. HasWayBack some.at some.len
         (vec_len places.new) (vec_capacity places.new) (vec_len some.gone) (vec_capacity some.gone))) }
     ensures pool { Takes P.PagePool 1 result pages.old pages.new }
+    ensures groups { AreGroups places.old.items groups.old → AreGroups places.new.items groups.new }
 {
     let old = read_place(alloc, pages, places.as_slice(), at)?;
     match old.remove(alloc, stamp, identifier)? {
         Some(entries) => {
             let cuts = entries.cuts(false);
-            let changed = change(alloc, pages, names, places, at, 1, &entries, cuts)?;
+            let changed = change(alloc, pages, names, places, groups, at, 1, &entries, cuts)?;
             Ok(Some(changed))
         }
         None => Ok(None),
@@ -268,6 +288,7 @@ fn take_out_long<P: PagePool>(
     pages: &mut P,
     names: &mut SetNames,
     places: &mut Vec<SharedPlace>,
+    groups: &mut Groups,
     at: usize,
     stamp: i64,
     identifier: &str,
@@ -280,11 +301,22 @@ fn take_out_long<P: PagePool>(
     ensures back { IfOk result (λ changed. IfSome changed (λ some. HasWayBack some.at some.len
         (vec_len places.new) (vec_capacity places.new) (vec_len some.gone) (vec_capacity some.gone))) }
     ensures pool { Takes P.PagePool 1 result pages.old pages.new }
+    ensures groups { AreGroups places.old.items groups.old → AreGroups places.new.items groups.new }
 {
     if places[at].order_to(stamp, identifier) != Ordering::Equal {
         return Ok(None);
     }
     let none = Entries::new(alloc);
-    let changed = change(alloc, pages, names, places, at, 1, &none, Cuts::none())?;
+    let changed = change(
+        alloc,
+        pages,
+        names,
+        places,
+        groups,
+        at,
+        1,
+        &none,
+        Cuts::none(),
+    )?;
     Ok(Some(changed))
 }

@@ -1,5 +1,5 @@
 //! What is read of a directory: which items it has.
-ghost use Rattle.std.specs.Prelude.{◌≡◌, ◌+◌, ◌^◌, ◌<◌, ◌≤◌, ◌++◌, ℕ, [], true, false, length, take, drop, filter, HoldsAt, IfErr, IfOk, IfSome, IsSome, IsTrue, OnOk};
+ghost use Rattle.std.specs.Prelude.{◌≡◌, ◌+◌, ◌*◌, ◌^◌, ◌<◌, ◌≤◌, ◌++◌, ℕ, [], true, false, length, take, drop, filter, HoldsAt, IfErr, IfOk, IfSome, IsSome, IsTrue, OnOk};
 ghost use Rattle.std.specs.List.{flat_map, list_all};
 ghost use Rattle.std.specs.Ordering.{is_eq};
 ghost use Rattle.oai_item.specs.Items.{item_at, items_after};
@@ -15,10 +15,12 @@ ghost use Rattle.oai_paged.specs.Pages.{FitPage, IsPage, fit_one, items_in};
 ghost use Rattle.oai_paged.specs.Parts.{EndsBy, IsInside, IsKnown, IsOutside, IsPartTaken};
 ghost use Rattle.oai_paged.specs.Places.{FitPages, IsSoundPlace, are_below, bytes_on, first_cmp, is_wanted, items_at, items_on, page_at};
 ghost use Rattle.oai_paged.specs.Searches.{MayBeAt, StartsAt};
+ghost use Rattle.oai_paged.specs.Sums.{AreGroups};
 
 use crate::entries::{Entries, are_zeros};
 use crate::faults::fault_of;
 use crate::finding::{begins_on_page, find_on_page, has_items};
+use crate::groups::{Groups, Stretch};
 use crate::places::SharedPlace;
 use crate::searches::place_of;
 use crate::sizes::FRONT_BYTES;
@@ -41,6 +43,13 @@ pub(crate) struct Wanted<'a> {
     pub(crate) stamp: i64,
     /// The identifier.
     pub(crate) identifier: &'a str,
+}
+
+/// Places of which the wanted items were taken, and how many more are to be skipped.
+#[derive(Clone, Copy)]
+struct PartStep {
+    places: usize,
+    left: usize,
 }
 
 /// The entries of the page of that number, which is named, and the page of its items. Any fault but `TooManyPages`.
@@ -272,15 +281,17 @@ pub(crate) fn count<P: PagePool>(
     alloc: Global,
     pages: &mut P,
     places: &[SharedPlace],
+    groups: &Groups,
     filter: &Filter,
 ) -> Result<usize, Fault>
     requires stands { StandsIn P.PagePool pages.old places.now }
     requires few { length places.now ≤ MAX_PAGES }
+    requires groups { AreGroups places.now groups.now }
     ensures number { IfOk result (λ n. IsTrue (P.honest pages.old)
         → n ≡ length (selected filter.now (items_on (P.pages pages.old) places.now))) }
     ensures pages { ReadsPages P.PagePool result pages.old pages.new }
 {
-    count_wanted(alloc, pages, places, Wanted::all(filter))
+    count_wanted(alloc, pages, places, groups, Wanted::all(filter))
 }
 
 /// Of the items that pass the filter, in their order, those after the first `skip`, at most `most` of them. It passes over places by the number of their
@@ -289,16 +300,26 @@ pub(crate) fn part<P: PagePool>(
     alloc: Global,
     pages: &mut P,
     places: &[SharedPlace],
+    groups: &Groups,
     filter: &Filter,
     skip: usize,
     most: usize,
 ) -> Result<Sequence<Item>, Fault>
-    requires { StandsIn P.PagePool pages.old places.now }
+    requires stands { StandsIn P.PagePool pages.old places.now }
+    requires groups { AreGroups places.now groups.now }
     ensures part { IfOk result (λ part. IsTrue (P.honest pages.old)
         → part ≡ take most (drop skip (selected filter.now (items_on (P.pages pages.old) places.now)))) }
     ensures pages { ReadsPages P.PagePool result pages.old pages.new }
 {
-    part_wanted(alloc, pages, places, Wanted::all(filter), skip, most)
+    part_wanted(
+        alloc,
+        pages,
+        places,
+        groups,
+        Wanted::all(filter),
+        skip,
+        most,
+    )
 }
 
 /// Of the items that pass the filter, in their order, those that stand behind this datestamp, in seconds from 1970 on, and identifier, at most `most` of
@@ -307,12 +328,14 @@ pub(crate) fn part_after<P: PagePool>(
     alloc: Global,
     pages: &mut P,
     places: &[SharedPlace],
+    groups: &Groups,
     filter: &Filter,
     stamp: i64,
     identifier: &str,
     most: usize,
 ) -> Result<Sequence<Item>, Fault>
-    requires { StandsIn P.PagePool pages.old places.now }
+    requires stands { StandsIn P.PagePool pages.old places.now }
+    requires groups { AreGroups places.now groups.now }
     ensures part { IfOk result (λ part. IsTrue (P.honest pages.old)
         → part ≡ take most (selected filter.now
         (items_after stamp identifier.now (items_on (P.pages pages.old) places.now)))) }
@@ -323,7 +346,7 @@ pub(crate) fn part_after<P: PagePool>(
         stamp,
         identifier,
     };
-    part_wanted(alloc, pages, places, wanted, 0, most)
+    part_wanted(alloc, pages, places, groups, wanted, 0, most)
 }
 
 /// How many items are wanted.
@@ -331,10 +354,12 @@ fn count_wanted<P: PagePool>(
     alloc: Global,
     pages: &mut P,
     places: &[SharedPlace],
+    groups: &Groups,
     wanted: Wanted<'_>,
 ) -> Result<usize, Fault>
     requires stands { StandsIn P.PagePool pages.old places.now }
     requires few { length places.now ≤ MAX_PAGES }
+    requires groups { AreGroups places.now groups.now }
     ensures number { IfOk result (λ n. IsTrue (P.honest pages.old)
         → n ≡ length (filter (is_wanted wanted.entry.filter.now wanted.entry.stamp wanted.entry.identifier.now)
         (items_on (P.pages pages.old) places.now))) }
@@ -342,11 +367,14 @@ fn count_wanted<P: PagePool>(
 {
     let mut total = 0;
     let filter = wanted.filter;
-    'places: for at in start_of(places, wanted)..places.len() {
+    let mut at = start_of(places, wanted);
+    'places: while at < places.len() {
         if places[at].stamp() > filter.upper {
             break;
         }
-        total += count_at(alloc, pages, places, at, wanted)?;
+        let stretch = count_from(alloc, pages, places, groups, at, wanted)?;
+        total += stretch.items;
+        at += stretch.places;
     }
     Ok(total)
 }
@@ -356,11 +384,13 @@ fn part_wanted<P: PagePool>(
     alloc: Global,
     pages: &mut P,
     places: &[SharedPlace],
+    groups: &Groups,
     wanted: Wanted<'_>,
     skip: usize,
     most: usize,
 ) -> Result<Sequence<Item>, Fault>
-    requires { StandsIn P.PagePool pages.old places.now }
+    requires stands { StandsIn P.PagePool pages.old places.now }
+    requires groups { AreGroups places.now groups.now }
     ensures part { IfOk result (λ part. IsTrue (P.honest pages.old)
         → part ≡ take most (drop skip (filter (is_wanted wanted.entry.filter.now wanted.entry.stamp wanted.entry.identifier.now)
         (items_on (P.pages pages.old) places.now)))) }
@@ -369,14 +399,19 @@ fn part_wanted<P: PagePool>(
     let mut part = Vec::new(alloc);
     let mut left = skip;
     let filter = wanted.filter;
-    'places: for at in start_of(places, wanted)..places.len() {
+    let mut at = start_of(places, wanted);
+    'places: while at < places.len() {
         if part.len() >= most {
             break;
         }
         if places[at].stamp() > filter.upper {
             break;
         }
-        left = take_at(alloc, pages, places, at, wanted, left, most, &mut part)?;
+        let taken = take_from(
+            alloc, pages, places, groups, at, wanted, left, most, &mut part,
+        )?;
+        left = taken.left;
+        at += taken.places;
     }
     Ok(Sequence::new(part))
 }
@@ -465,13 +500,40 @@ fn is_outside(places: &[SharedPlace], at: usize, wanted: Wanted<'_>) -> bool
 }
 
 /// Whether all items before these places have a datestamp of at most `upper`, in seconds from 1970 on.
-fn ends_by(places: &[SharedPlace], upper: i64) -> bool
+pub(crate) fn ends_by(places: &[SharedPlace], upper: i64) -> bool
     ensures { IsTrue result → EndsBy places.now upper }
 {
     match places {
         [] => upper >= LAST_SECOND,
         [next, ..] => next.stamp() <= upper,
     }
+}
+
+/// How many items are wanted of some places from `at` on: those of a group, where that is known of it, or else one place.
+fn count_from<P: PagePool>(
+    alloc: Global,
+    pages: &mut P,
+    places: &[SharedPlace],
+    groups: &Groups,
+    at: usize,
+    wanted: Wanted<'_>,
+) -> Result<Stretch, Fault>
+    requires within { at < length places.now }
+    requires stands { StandsIn P.PagePool pages.old places.now }
+    requires groups { AreGroups places.now groups.now }
+    ensures number { IfOk result (λ stretch. IsTrue (P.honest pages.old)
+        → stretch.items ≡ length (filter (is_wanted wanted.entry.filter.now wanted.entry.stamp wanted.entry.identifier.now)
+        (items_on (P.pages pages.old) (take stretch.places (drop at places.now))))) }
+    ensures some { IfOk result (λ stretch. 0 < stretch.places) }
+    ensures end { IfOk result (λ stretch. at + stretch.places ≤ length places.now) }
+    ensures few { IfOk result (λ stretch. stretch.items ≤ 4_294_967_295 * stretch.places) }
+    ensures pages { ReadsPages P.PagePool result pages.old pages.new }
+{
+    if let Some(stretch) = groups.stretch_at(places, at, wanted) {
+        return Ok(stretch);
+    }
+    let items = count_at(alloc, pages, places, at, wanted)?;
+    Ok(Stretch { places: 1, items })
 }
 
 /// How many items of the place are wanted.
@@ -518,6 +580,42 @@ fn is_wanted(entries: &Entries, at: usize, wanted: Wanted<'_>) -> bool
 {
     entries.order_to(at, wanted.stamp, wanted.identifier) == Ordering::Greater
         && entries.passes(at, wanted.filter)
+}
+
+/// Adds the wanted items of some places from `at` on after the first `skip` to the part, up to `most`, and answers how many are then left to be skipped:
+/// those of a group that is passed over, or else one place.
+fn take_from<P: PagePool>(
+    alloc: Global,
+    pages: &mut P,
+    places: &[SharedPlace],
+    groups: &Groups,
+    at: usize,
+    wanted: Wanted<'_>,
+    skip: usize,
+    most: usize,
+    part: &mut Vec<Item>,
+) -> Result<PartStep, Fault>
+    requires within { at < length places.now }
+    requires stands { StandsIn P.PagePool pages.old places.now }
+    requires groups { AreGroups places.now groups.now }
+    ensures taken { IfOk result (λ taken. IsTrue (P.honest pages.old)
+        → IsPartTaken (is_wanted wanted.entry.filter.now wanted.entry.stamp wanted.entry.identifier.now) most
+        part.old.items part.new.items skip taken.left (items_on (P.pages pages.old) (take taken.places (drop at places.now)))) }
+    ensures some { IfOk result (λ taken. 0 < taken.places) }
+    ensures end { IfOk result (λ taken. at + taken.places ≤ length places.now) }
+    ensures pages { ReadsPages P.PagePool result pages.old pages.new }
+{
+    if let Some(stretch) = groups.stretch_at(places, at, wanted) {
+        if skip >= stretch.items {
+            let left = skip - stretch.items;
+            return Ok(PartStep {
+                places: stretch.places,
+                left,
+            });
+        }
+    }
+    let left = take_at(alloc, pages, places, at, wanted, skip, most, part)?;
+    Ok(PartStep { places: 1, left })
 }
 
 /// Adds the wanted items of the place after the first `skip` to the part, up to `most`, and answers how many are then left to be skipped.

@@ -58,8 +58,12 @@ impl<P: PagePool + Drop> Versions for VersionsOver<P> {
         let Some(directory) = self.directories.get(v as usize) else {
             unreachable!()
         };
+        let groups = directory.groups().copy(self.alloc);
         match share_all(self.alloc, &mut self.pool, directory.places()) {
-            Ok(places) => Ok(self.directories.insert_reserved(Directory { places }) as u64),
+            Ok(places) => Ok(
+                self.directories
+                    .insert_reserved(Directory { places, groups }) as u64,
+            ),
             Err(fault) => Err(fault),
         }
     }
@@ -73,6 +77,7 @@ impl<P: PagePool + Drop> Versions for VersionsOver<P> {
             &mut self.pool,
             &mut self.names,
             &mut directory.places,
+            &mut directory.groups,
             item,
         )
     }
@@ -87,6 +92,7 @@ impl<P: PagePool + Drop> Versions for VersionsOver<P> {
             &mut self.pool,
             &mut self.names,
             places,
+            &mut directory.groups,
             stamp,
             identifier.as_str(),
         )
@@ -108,6 +114,7 @@ impl<P: PagePool + Drop> Versions for VersionsOver<P> {
             &mut self.pool,
             &mut self.names,
             places,
+            &mut directory.groups,
             stamp,
             identifier.as_str(),
             item,
@@ -128,10 +135,17 @@ impl<P: PagePool + Drop> Versions for VersionsOver<P> {
     }
 
     fn count(&mut self, v: u64, filter: &Filter) -> Result<usize, Fault> {
-        let Some(directory) = self.directories.get(v as usize) else {
+        let Some(directory) = self.directories.get_mut(v as usize) else {
             unreachable!()
         };
-        count(self.alloc, &mut self.pool, directory.places(), filter)
+        directory.tend(self.alloc);
+        count(
+            self.alloc,
+            &mut self.pool,
+            directory.places(),
+            directory.groups(),
+            filter,
+        )
     }
 
     fn part(
@@ -141,13 +155,15 @@ impl<P: PagePool + Drop> Versions for VersionsOver<P> {
         skip: usize,
         most: usize,
     ) -> Result<Sequence<Item>, Fault> {
-        let Some(directory) = self.directories.get(v as usize) else {
+        let Some(directory) = self.directories.get_mut(v as usize) else {
             unreachable!()
         };
+        directory.tend(self.alloc);
         part(
             self.alloc,
             &mut self.pool,
             directory.places(),
+            directory.groups(),
             filter,
             skip,
             most,
@@ -171,6 +187,7 @@ impl<P: PagePool + Drop> Versions for VersionsOver<P> {
             self.alloc,
             &mut self.pool,
             places,
+            directory.groups(),
             filter,
             stamp,
             identifier,

@@ -1,7 +1,7 @@
 -- One item more, counted in each set that it is in once.
 use Rattle.std.specs.Prelude.{Option, OnSome}
 use Rattle.std.proofs.Common.{◌≡◌, ◌∙◌, ◌+◌, ◌<◌, ℕ, Bool, true, false, ◌&&◌, ◌||◌, not, if◌then◌else◌, List, [], ◌∷◌, ◌++◌, Some, None, length, take, drop, get_or, refl, sym, ap, arith, slice_set}
-use Rattle.std.specs.List.{list_all, list_any}
+use Rattle.std.specs.List.{list_any}
 use Rattle.std.specs.Str.{bytes_eq}
 use Rattle.std.proofs.lemmas.Bool.{and_from, and_parts, false_from_ne_true, false≢true}
 use Rattle.std.proofs.lemmas.List.{drop_more, drop-set, take-append-drop, take-set, take_more}
@@ -9,11 +9,7 @@ use Rattle.std.proofs.lemmas.Slice.Eq.{bytes_eq-Decides}
 use Rattle.oai_item.specs.Membership.{is_above, is_in}
 use Rattle.oai_item.proofs.Above.{is_above-parent, is_above-root}
 use Rattle.oai_names.specs.Sets.{covers, parent_of}
-use Rattle.oai_sums.specs.Sums.{SetTotal, counted_in, one_if}
-
--- the set is none of these
-unfoldable pub lacks : List ℕ → List SetTotal → Bool
-lacks set totals = list_all (λ (total : SetTotal). not (bytes_eq set total.set)) totals
+use Rattle.oai_sums.specs.Sums.{SetTotal, counted_in, lacks, one_if}
 
 pub lacks-none : (set : List ℕ) → lacks set [] ≡ true
 unfolding lacks
@@ -43,33 +39,30 @@ both_no : (q s t : List ℕ) → bytes_eq s t ≡ false → bytes_eq q t ≡ tru
 both_no q s t apart is =
     false_from_ne_true (bytes_eq q s) (λ h. false≢true (sym apart ∙ (bytes_eq-Decides s t).1 (sym ((bytes_eq-Decides q s).0 h) ∙ (bytes_eq-Decides q t).0 is)))
 
-own_more : (b : Bool) (count rest : ℕ) → (if b then count + 1 else rest) ≡ (if b then count else rest) + one_if b
-own_more true count rest = refl
-own_more false count rest = omega arith
+own_more : (b : Bool) (count more rest : ℕ) → (if b then count + more else rest) ≡ (if b then count else rest) + (if b then more else 0)
+own_more true count more rest = refl
+own_more false count more rest = omega arith
 
-other_more : (b c : Bool) (count new old : ℕ) → (b ≡ true → c ≡ false) → new ≡ old + one_if c → (if b then count else new) ≡ (if b then count else old) + one_if c
-other_more true c count new old apart h = rw (apart refl) (omega arith)
-other_more false c count new old apart h = h
+other_more : (b c : Bool) (count more new old : ℕ) → (b ≡ true → c ≡ false) → new ≡ old + (if c then more else 0) → (if b then count else new) ≡ (if b then count else old) + (if c then more else 0)
+other_more true c count more new old apart h = rw (apart refl) (omega arith)
+other_more false c count more new old apart h = h
 
--- the first one of the set is counted once more
-pub counts_one : (set q : List ℕ) (front : List SetTotal) (total : SetTotal) (back : List SetTotal) → lacks set front ≡ true → bytes_eq set total.set ≡ true
-    → counted_in q (front ++ record { set = total.set; count = total.count + 1 } ∷ back) ≡ counted_in q (front ++ total ∷ back) + one_if (bytes_eq q set)
-counts_one set q [] total back none is =
-    own_more (bytes_eq q total.set) total.count (counted_in q back) ∙ ap (λ b. counted_in q (total ∷ back) + one_if b) (same_set q set total.set is)
-counts_one set q (other ∷ front) total back none is =
+-- the first one of the set counts so many more
+pub counts_one : (set q : List ℕ) (more : ℕ) (front : List SetTotal) (total : SetTotal) (back : List SetTotal) → lacks set front ≡ true → bytes_eq set total.set ≡ true
+    → counted_in q (front ++ record { set = total.set; count = total.count + more } ∷ back) ≡ counted_in q (front ++ total ∷ back) + (if bytes_eq q set then more else 0)
+counts_one set q more [] total back none is =
+    own_more (bytes_eq q total.set) total.count more (counted_in q back) ∙ ap (λ b. counted_in q (total ∷ back) + (if b then more else 0)) (same_set q set total.set is)
+counts_one set q more (other ∷ front) total back none is =
     let own = lacks-own set other front none in
-    other_more (bytes_eq q other.set) (bytes_eq q set) other.count _ _ (both_no q set other.set own.0) (counts_one set q front total back own.1 is)
+    other_more (bytes_eq q other.set) (bytes_eq q set) other.count more _ _ (both_no q set other.set own.0) (counts_one set q more front total back own.1 is)
 
 -- a set behind the others
-pub counts_new : (set q : List ℕ) (totals : List SetTotal) → lacks set totals ≡ true
-    → counted_in q (totals ++ record { set = set; count = 1 } ∷ []) ≡ counted_in q totals + one_if (bytes_eq q set)
-counts_new set q [] none = own_more (bytes_eq q set) 0 0 ∙ none_else (bytes_eq q set) where
-  none_else : (b : Bool) → (if b then 0 else 0) + one_if b ≡ 0 + one_if b
-  none_else true = refl
-  none_else false = refl
-counts_new set q (other ∷ totals) none =
+pub counts_new : (set q : List ℕ) (more : ℕ) (totals : List SetTotal) → lacks set totals ≡ true
+    → counted_in q (totals ++ record { set = set; count = more } ∷ []) ≡ counted_in q totals + (if bytes_eq q set then more else 0)
+counts_new set q more [] none = omega arith
+counts_new set q more (other ∷ totals) none =
     let own = lacks-own set other totals none in
-    other_more (bytes_eq q other.set) (bytes_eq q set) other.count _ _ (both_no q set other.set own.0) (counts_new set q totals own.1)
+    other_more (bytes_eq q other.set) (bytes_eq q set) other.count more _ _ (both_no q set other.set own.0) (counts_new set q more totals own.1)
 
 -- ---- by places
 
@@ -80,13 +73,13 @@ set_parts : (totals : List SetTotal) (at : ℕ) (y : SetTotal) → at < length t
 set_parts totals at y within =
     sym (take-append-drop at (slice_set totals at y)) ∙ (λ i. take-set totals at y i ++ drop-set totals at y within i)
 
-pub counts_at : (set q : List ℕ) (totals : List SetTotal) (at : ℕ) (own new : SetTotal) → at < length totals → lacks set (take at totals) ≡ true → own ≡ get_or totals at own → bytes_eq set own.set ≡ true
-    → new ≡ record { set = own.set; count = own.count + 1 } → counted_in q (slice_set totals at new) ≡ counted_in q totals + one_if (bytes_eq q set)
-counts_at set q totals at own new within none is same more =
+pub counts_at : (set q : List ℕ) (more : ℕ) (totals : List SetTotal) (at : ℕ) (own new : SetTotal) → at < length totals → lacks set (take at totals) ≡ true → own ≡ get_or totals at own → bytes_eq set own.set ≡ true
+    → new ≡ record { set = own.set; count = own.count + more } → counted_in q (slice_set totals at new) ≡ counted_in q totals + (if bytes_eq q set then more else 0)
+counts_at set q more totals at own new within none is same counted =
     ap (counted_in q) (set_parts totals at new within)
-    ∙ ap (λ y. counted_in q (take at totals ++ y ∷ drop (at + 1) totals)) more
-    ∙ counts_one set q (take at totals) own (drop (at + 1) totals) none same
-    ∙ ap (λ zs. counted_in q zs + one_if (bytes_eq q set)) (ap (λ y. take at totals ++ y ∷ drop (at + 1) totals) is ∙ sym (parts_at totals at own within))
+    ∙ ap (λ y. counted_in q (take at totals ++ y ∷ drop (at + 1) totals)) counted
+    ∙ counts_one set q more (take at totals) own (drop (at + 1) totals) none same
+    ∙ ap (λ zs. counted_in q zs + (if bytes_eq q set then more else 0)) (ap (λ y. take at totals ++ y ∷ drop (at + 1) totals) is ∙ sym (parts_at totals at own within))
 
 pub counted_at : (set : List ℕ) (totals : List SetTotal) (at : ℕ) (own : SetTotal) → at < length totals → own ≡ get_or totals at own → bytes_eq set own.set ≡ true → own.count ≡ counted_in set (drop at totals)
 counted_at set totals at own within is same =
@@ -107,6 +100,12 @@ pub lacks_past : (set : List ℕ) (totals : List SetTotal) (at : ℕ) (own : Set
     → lacks set (take (at + 1) totals) ≡ true
 lacks_past set totals at own within is apart h =
     ap (lacks set) (take_more totals at own within ∙ ap (λ y. take at totals ++ y ∷ []) (sym is)) ∙ lacks-more set (take at totals) own h apart
+
+-- one more of counts is counted
+pub counts_next : (q : List ℕ) (totals : List SetTotal) (at : ℕ) (own : SetTotal) → at < length totals → own ≡ get_or totals at own → lacks own.set (take at totals) ≡ true
+    → counted_in q (take (at + 1) totals) ≡ counted_in q (take at totals) + (if bytes_eq q own.set then own.count else 0)
+counts_next q totals at own within is none =
+    ap (counted_in q) (take_more totals at own within ∙ ap (λ y. take at totals ++ y ∷ []) (sym is)) ∙ counts_new own.set q own.count (take at totals) none
 
 -- ---- a set and those above it
 

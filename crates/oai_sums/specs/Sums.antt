@@ -1,5 +1,6 @@
 -- How many of many items are in each set. OAI-PMH 2.0, section 2.6: an item that is in a set is in each set above it too.
-use Rattle.std.specs.Prelude.{◌≡◌, ◌+◌, ℕ, Bool, if◌then◌else◌, List, [], ◌∷◌, length, filter}
+use Rattle.std.specs.Prelude.{◌≡◌, ◌+◌, ℕ, Bool, if◌then◌else◌, List, [], ◌∷◌, length, filter, not}
+use Rattle.std.specs.List.{list_all}
 use Rattle.std.specs.Str.{bytes_eq}
 use Rattle.oai_item.specs.Item.{ItemState}
 use Rattle.oai_item.specs.Membership.{is_in}
@@ -17,6 +18,10 @@ pub record SetTotal : Type 0 where
 abbrev pub counted_in : List ℕ → List SetTotal → ℕ
 counted_in set [] = 0
 counted_in set (total ∷ totals) = if bytes_eq set total.set then total.count else counted_in set totals
+
+-- the set is none of these
+unfoldable pub lacks : List ℕ → List SetTotal → Bool
+lacks set totals = list_all (λ (total : SetTotal). not (bytes_eq set total.set)) totals
 
 -- each set has as many of the items as are counted in it
 abbrev pub AreCounts : List SetTotal → List ItemState → Type 0

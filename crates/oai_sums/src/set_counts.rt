@@ -1,8 +1,8 @@
-ghost use Rattle.std.specs.Prelude.{◌≡◌, ◌+◌, ◌&&◌, ◌++◌, ◌∷◌, ℕ, List, [], not, IfSome, OnSome, OnOk};
+ghost use Rattle.std.specs.Prelude.{◌≡◌, ◌≤◌, ◌+◌, ◌&&◌, ◌++◌, ◌∷◌, if◌then◌else◌, ℕ, List, [], true, not, length, take, IfSome, IsTrue, OnSome, OnOk};
 ghost use Rattle.std.specs.Str.{bytes_eq};
 ghost use Rattle.oai_item.specs.Membership.{is_in};
 ghost use Rattle.oai_names.specs.Sets.{covers};
-ghost use Rattle.oai_sums.specs.Sums.{CountsMore, counted_in, one_if};
+ghost use Rattle.oai_sums.specs.Sums.{CountsMore, counted_in, lacks, one_if};
 
 use crate::set_names::SetNames;
 use oai_item::SpelledSets;
@@ -51,11 +51,24 @@ impl SetCount {
         self.count as usize
     }
 
-    /// One item more, or None where no more can be counted.
-    fn add_one(&mut self) -> Option<()>
-        ensures { OnSome result (self.new ≡ record { set = self.old.set; count = self.old.count + 1 }) }
+    /// A copy of the count, which has its setSpec in common, or None where memory is refused.
+    fn copy(&self) -> Option<SetCount>
+        ensures { IfSome result (λ copy. copy ≡ self.now) }
     {
-        match self.count.checked_add(1) {
+        match self.set.clone() {
+            Ok(set) => Some(SetCount {
+                set,
+                count: self.count,
+            }),
+            Err(_) => None,
+        }
+    }
+
+    /// So many items more, or None where they are too many to be counted.
+    fn add(&mut self, more: u32) -> Option<()>
+        ensures { OnSome result (self.new ≡ record { set = self.old.set; count = self.old.count + more }) }
+    {
+        match self.count.checked_add(more) {
             Some(count) => {
                 self.count = count;
                 Some(())
@@ -119,6 +132,51 @@ impl SetCounts {
         Some(())
     }
 
+    /// Counts the items of other counts too. None where there would be more than `MAX_COUNTED_SETS` sets, where one has too many items to be counted, or
+    /// memory is refused; the counts are then those of no items in particular.
+    pub fn add_all(&mut self, others: &SetCounts) -> Option<()>
+        ensures { OnSome result ((set : List ℕ) → counted_in set self.new ≡ counted_in set self.old + counted_in set others.now) }
+    {
+        for at in 0..others.counts.len() {
+            let other = &others.counts[at];
+            if !others.lacks(at, other.set()) {
+                return None;
+            }
+            self.add_count(other)?;
+        }
+        Some(())
+    }
+
+    /// Whether the set is none of the first so many.
+    fn lacks(&self, most: usize, set: &str) -> bool
+        requires { most ≤ length self.now }
+        ensures { IsTrue result → lacks set.now (take most self.now) ≡ true }
+    {
+        for at in 0..most {
+            if set == self.counts[at].set() {
+                return false;
+            }
+        }
+        true
+    }
+
+    /// Counts the items of the set too that another count has.
+    fn add_count(&mut self, other: &SetCount) -> Option<()>
+        ensures { OnSome result ((set : List ℕ) → counted_in set self.new
+            ≡ counted_in set self.old + (if bytes_eq set other.now.set then other.now.count else 0)) }
+    {
+        for at in 0..self.counts.len() {
+            if other.set() == self.counts[at].set() {
+                return self.counts[at].add(other.count);
+            }
+        }
+        if self.counts.len() >= MAX_COUNTED_SETS {
+            return None;
+        }
+        let copy = other.copy()?;
+        self.push(copy)
+    }
+
     /// Frees the memory that is kept for more sets, as far as that can be done. It takes no memory of its own.
     pub fn fit(&mut self)
         ensures { self.new ≡ self.old }
@@ -160,7 +218,7 @@ impl SetCounts {
     {
         for at in 0..self.counts.len() {
             if set == self.counts[at].set() {
-                return self.counts[at].add_one();
+                return self.counts[at].add(1);
             }
         }
         if self.counts.len() >= MAX_COUNTED_SETS {

@@ -32,3 +32,11 @@ returns-in-Ok-clause-ok g c =
     (c.exchange.ensures.places
     ∙ ap (λ ps. take at ps ++ (c.reserve.new.others.items ++ drop (at + len) ps)) c.reserve.ensures.places
     ∙ ap (λ os. take at before ++ (os ++ drop (at + len) before)) c.reserve.ensures.others)
+
+pub returns-in-Ok-clause-groups : goal.returns-in-Ok-clause-groups
+returns-in-Ok-clause-groups g c = c.exchange-in-Ok.ensures c.args.places.now.items c.exchange.new.places.items (record {
+  added = c.reserve.new.others.items;
+  many = omega (arith, c.len-count.ensures, c.reserve.new.others.ok.0);
+  within = omega (arith, c.requires.within, c.args.places.now.ok.0);
+  is = c.exchange.ensures.places ∙ ap (λ ps. take c.args.at ps ++ (c.reserve.new.others.items ++ drop (c.args.at + c.args.len) ps)) c.reserve.ensures.places;
+})

@@ -1,4 +1,4 @@
-use Rattle.std.proofs.Common.{ap, arith, length, sym}
+use Rattle.std.proofs.Common.{arith}
 use Rattle.oai_paged.proofs.InsidePlaces.{known_counted, known_few}
 use Rattle.oai_paged.proofs.reading.count_at.Goals as goal
 

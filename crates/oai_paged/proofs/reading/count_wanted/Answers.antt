@@ -3,9 +3,9 @@ use Rattle.std.specs.Prelude.{filter}
 use Rattle.std.proofs.lemmas.Int.{to_z-of_z}
 use Rattle.oai_item.specs.Selection.{Filter}
 use Rattle.oai_paged.specs.Places.{is_wanted, items_on}
-use Rattle.oai_paged.proofs.DirectoryLemmas.{no_place}
 use Rattle.oai_paged.proofs.HaveReadLemmas.{read_more, read_none}
-use Rattle.oai_paged.proofs.WantedPlaces.{counting_ends, counting_more, counting_starts, none_late, wanted_end}
+use Rattle.oai_paged.proofs.StretchLemmas.{counting_on, starts_within}
+use Rattle.oai_paged.proofs.WantedPlaces.{counting_ends, counting_starts, none_late, wanted_end}
 use Rattle.oai_paged.proofs.reading.count_wanted.Goals as goal
 use lib.Signed.{lt_z}
 
@@ -15,6 +15,7 @@ places-init g c = record {
   number = λ honest. counting_starts (g.P.PagePool.pages c.args.pages.now) c.args.places.now c.args.wanted.filter.now c.args.wanted.stamp c.args.wanted.identifier.now c.start_of-at.result
       c.requires.stands.directory c.start_of-at.ensures;
   few = omega arith;
+  within = starts_within c.args.places.now c.args.wanted.filter.now c.args.wanted.stamp c.args.wanted.identifier.now c.start_of-at.result c.start_of-at.ensures;
 }
 
 pub places-preserved : goal.places-preserved
@@ -23,12 +24,13 @@ places-preserved g c =
     let p = is_wanted c.args.wanted.filter.now c.args.wanted.stamp c.args.wanted.identifier.now in
     let pages = G.pages c.args.pages.now in
     let so_far = c.places.invariant in
-    let within : c.places.at < length c.args.places.now = omega (arith, c.places-test.true) in
+    let stretch = c.in_ok-stretch.stretch in
     record {
-      read = read_more G c.count_at.result c.args.pages.now c.places.pages c.count_at.new.pages so_far.read c.count_at.ensures.pages;
-      number = λ honest. counting_more p pages (G.pages c.places.pages) c.args.places.now c.places.at c.places.total c.in_ok-total.field-0 (length (filter p (items_on pages c.args.places.now))) no_place
-          within so_far.read.same (so_far.number honest) (c.in_ok-total.ensures.number (so_far.read.honesty ∙ honest) no_place);
-      few = omega (arith, so_far.few, c.in_ok-total.ensures.few);
+      read = read_more G c.count_from.result c.args.pages.now c.places.pages c.count_from.new.pages so_far.read c.count_from.ensures.pages;
+      number = λ honest. counting_on p pages (G.pages c.places.pages) c.args.places.now c.places.at stretch.places c.places.total stretch.items (length (filter p (items_on pages c.args.places.now)))
+          so_far.read.same (so_far.number honest) (c.in_ok-stretch.ensures.number (so_far.read.honesty ∙ honest));
+      few = omega (arith, so_far.few, c.in_ok-stretch.ensures.few);
+      within = c.in_ok-stretch.ensures.end;
     }
 
 pub returns-after-places-clause-number : goal.returns-after-places-clause-number

@@ -1,4 +1,4 @@
-use Rattle.std.proofs.Common.{◌≡◌, ◌∙◌, Some, ap, inl, inr, refl, sym}
+use Rattle.std.proofs.Common.{◌∙◌, Some, ap, inl, inr, refl, sym}
 use Rattle.oai_item.specs.Selection.{Filter}
 use Rattle.oai_paged.proofs.InsidePlaces.{known_from}
 use Rattle.oai_paged.proofs.reading.known_at.Goals as goal

@@ -14,5 +14,5 @@ returns-clause-part g c =
     let p = is_wanted c.all.result.filter.now c.all.result.stamp c.all.result.identifier.now in
     if_ok_map (λ (part : List ItemState). IsTrue (G.honest c.args.pages.now) → part ≡ take c.args.most (drop c.args.skip (filter p (items_on pages c.args.places.now))))
     (λ (part : List ItemState). IsTrue (G.honest c.args.pages.now) → part ≡ take c.args.most (drop c.args.skip (selected c.args.filter.now (items_on pages c.args.places.now)))) c.part_wanted.result
-    (λ part taken honest. taken honest ∙ ap (λ xs. take c.args.most (drop c.args.skip xs)) (wanted_all p c.args.filter.now pages c.args.places.now c.requires.directory.placed c.all.ensures))
+    (λ part taken honest. taken honest ∙ ap (λ xs. take c.args.most (drop c.args.skip xs)) (wanted_all p c.args.filter.now pages c.args.places.now c.requires.stands.directory.placed c.all.ensures))
     c.part_wanted.ensures.part

@@ -1,4 +1,4 @@
-use Rattle.std.specs.Prelude.{◌≡◌, ◌-◌, ◌++◌, IsTrue, filter, length, drop, take}
+use Rattle.std.specs.Prelude.{◌≡◌, ◌≤◌, ◌-◌, ◌++◌, IsTrue, filter, length, drop, take}
 use Rattle.oai_paged.specs.Places.{is_wanted, items_on}
 use Rattle.oai_paged.proofs.HaveReadLemmas.{HaveRead}
 use Rattle.oai_paged.proofs.reading.part_wanted.Given as goal
@@ -11,4 +11,8 @@ invariant-places g l =
       part : IsTrue (P.honest l.initial.pages) → l.part.items ++ take (l.most - length l.part.items)
           (drop l.left (filter (is_wanted l.wanted.filter.now l.wanted.stamp l.wanted.identifier.now) (items_on (P.pages l.initial.pages) (drop l.at l.places))))
           ≡ take l.most (drop l.skip (filter (is_wanted l.wanted.filter.now l.wanted.stamp l.wanted.identifier.now) (items_on (P.pages l.initial.pages) l.places)));
+      within : l.at ≤ length l.places;
     }
+
+abbrev pub decreases-places : goal.decreases-places
+decreases-places g l = length l.places - l.at

@@ -1,8 +1,7 @@
-use Rattle.std.proofs.Common.{◌≡◌, ◌∙◌, ◌+◌, ◌∷◌, ◌++◌, ℕ, List, pos, [], ap, sym, subst, arith, Some}
+use Rattle.std.proofs.Common.{◌≡◌, ◌∙◌, ◌+◌, ◌∷◌, ◌++◌, ℕ, List, pos, [], ap, sym, arith, Some}
 use Rattle.oai_item.specs.Item.{ItemState}
-use Rattle.oai_item.specs.Membership.{is_in}
 use Rattle.oai_item.proofs.Around.{only_place}
-use Rattle.oai_sums.specs.Sums.{AreCounts, CountsMore, SetTotal, counted_in, number_in}
+use Rattle.oai_sums.specs.Sums.{counted_in, number_in}
 use Rattle.oai_sums.proofs.NumberLemmas.{counts_more, counts_none}
 use Rattle.oai_paged.specs.Pages.{between}
 use Rattle.oai_paged.proofs.BetweenLemmas.{between-none}

@@ -1,5 +1,9 @@
-use Rattle.std.proofs.Common.{◌≡◌, Some, sym}
+use Rattle.std.proofs.Common.{◌≡◌, ◌∙◌, ◌≤◌, List, Some, length, subst, sym}
+use Rattle.oai_pool.specs.declared.pools.TheConstants.{MAX_PAGES}
+use Rattle.oai_paged.specs.Directory.{StandsIn}
+use Rattle.oai_paged.specs.Places.{PlaceState}
 use Rattle.oai_paged.specs.Shelves.{directory_at}
+use Rattle.oai_paged.specs.Sums.{AreGroups}
 use Rattle.oai_paged.proofs.FewLemmas.{few_places}
 use Rattle.oai_paged.proofs.ShelfLemmas.{on_ok, shelved_in_order, shelved_stands}
 use Rattle.oai_paged.proofs.store.VersionsOverVersions.count.Goals as goal
@@ -8,15 +12,20 @@ pub count-requires-clause-stands : goal.count-requires-clause-stands
 count-requires-clause-stands g c =
     let G = g.P.PagePool in
     let self = c.args.self.now in
-    let found : Some c.in-Some.directory.now ≡ directory_at self.directories.slots c.args.v = c.in-Some.ensures in
-    rw c.places.ensures (shelved_stands G self.directories.slots c.args.v c.in-Some.directory.now self.pool self.shelved (sym found))
+    let found : Some c.in-Some.directory.now ≡ directory_at self.directories.slots c.args.v = c.in-Some.ensures.value in
+    subst (λ (places : List PlaceState). StandsIn G self.pool places) (sym (c.places.ensures ∙ c.tend.ensures))
+    (shelved_stands G self.directories.slots c.args.v c.in-Some.directory.now self.pool self.shelved (sym found))
+
+pub count-requires-clause-groups : goal.count-requires-clause-groups
+count-requires-clause-groups g c = subst (λ (places : List PlaceState). AreGroups places c.groups.result.now) (sym c.places.ensures) c.groups.ensures
 
 pub count-requires-clause-few : goal.count-requires-clause-few
 count-requires-clause-few g c =
     let G = g.P.PagePool in
     let self = c.args.self.now in
-    let found : Some c.in-Some.directory.now ≡ directory_at self.directories.slots c.args.v = c.in-Some.ensures in
-    rw c.places.ensures (few_places G self.pool c.in-Some.directory.now (g.met.P.PagePool.limited self.pool)
+    let found : Some c.in-Some.directory.now ≡ directory_at self.directories.slots c.args.v = c.in-Some.ensures.value in
+    subst (λ (places : List PlaceState). length places ≤ MAX_PAGES) (sym (c.places.ensures ∙ c.tend.ensures))
+    (few_places G self.pool c.in-Some.directory.now (g.met.P.PagePool.limited self.pool)
     (shelved_stands G self.directories.slots c.args.v c.in-Some.directory.now self.pool self.shelved (sym found)))
 
 pub returns-clause-rising : goal.returns-clause-rising

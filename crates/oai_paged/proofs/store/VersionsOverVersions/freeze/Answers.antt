@@ -1,8 +1,9 @@
-use Rattle.std.proofs.Common.{◌≡◌, ◌∙◌, List, [], Some, ap, arith, sym}
+use Rattle.std.proofs.Common.{◌≡◌, ◌∙◌, List, [], Some, ap, arith, subst, sym}
 use Rattle.slab.specs.Slab.{Updates}
 use Rattle.oai_paged.specs.Calls.{Renames}
 use Rattle.oai_paged.specs.Places.{PlaceState}
 use Rattle.oai_paged.specs.Shelves.{directory_at}
+use Rattle.oai_paged.specs.Sums.{AreGroups}
 use Rattle.oai_paged.proofs.RecountLemmas.{not_damaged, not_device, only_full}
 use Rattle.oai_paged.proofs.RoomLemmas.{kept_left, runs_out_left, shared_left}
 use Rattle.oai_paged.proofs.ShelfLemmas.{frozen_lists, lists_kept, shelved_in_order, shelved_kept, shelved_named, turn_frozen, turned_shelved}
@@ -129,3 +130,9 @@ returns-in-Err-clause-store g c =
       device = record { count = omega (arith, count); device = λ failed. absurd (not_device _ _ cause failed) };
       honesty = record { same = c.share_all.ensures.pool.honesty; damaged = λ damage. absurd (not_damaged _ _ cause damage) };
     }
+
+pub invariant_of-insert_reserved : goal.invariant_of-insert_reserved
+invariant_of-insert_reserved g c = (
+  subst (λ (places : List PlaceState). AreGroups places c.copy-groups.result) (sym (c.in-Ok.ensures.copies ∙ c.places.ensures)) (c.copy-groups.ensures c.in-Some.directory.now c.groups.ensures),
+  tt,
+)

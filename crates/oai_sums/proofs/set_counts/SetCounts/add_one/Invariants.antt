@@ -1,5 +1,5 @@
 use Rattle.std.proofs.Common.{◌≡◌, take, true}
-use Rattle.oai_sums.proofs.CountLemmas.{lacks}
+use Rattle.oai_sums.specs.Sums.{lacks}
 use Rattle.oai_sums.proofs.set_counts.SetCounts.add_one.Given as goal
 
 -- nothing has changed, and the set is none of those so far
