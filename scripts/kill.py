@@ -8,7 +8,7 @@ for with the part that was given before, and with the model's. No list number ma
 server, and all of its records behind it. Every third round it is started on a copy of its folder first, in which the bytes behind the gate that
 ends the journal are cut or overwritten: it has to find the same records there.
 
-It writes each difference, and at its end how many kills there were and how many differences; its status is 0 where there are none.
+It writes its seed to standard error, each difference, and at its end how many kills there were and how many differences; its status is 0 where there are none.
 """
 
 import http.client
@@ -393,13 +393,14 @@ def rounds(program, config, folder, count, chance, known):
 def main():
     program, count = sys.argv[1], int(sys.argv[2])
     seed = int(sys.argv[3]) if len(sys.argv) > 3 else random.randrange(1 << 32)
+    print(f"seed {seed}", file=sys.stderr)
     known = Known()
     with tempfile.TemporaryDirectory(prefix="kill-") as place:
         config = f"{place}/config.json"
         with open(config, "w", encoding="utf-8") as it:
             json.dump(CONFIGURATION, it)
         kills = rounds(program, config, f"{place}/folder", count, random.Random(seed), known)
-    print(f"{kills} kills, {known.differences} differences (seed {seed})")
+    print(f"{kills} kills, {known.differences} differences")
     sys.exit(1 if known.differences else 0)
 
 
