@@ -8,7 +8,7 @@ for with the part that was given before, and with the model's. No list number ma
 server, and all of its records behind it. Every third round it is started on a copy of its folder first, in which the bytes behind the gate that
 ends the journal are cut or overwritten: it has to find the same records there.
 
-It writes each difference, and at its end how many kills there were and how many differences; its status is 0 where there are none.
+It writes its seed to standard error, each difference, and at its end how many kills there were and how many differences; its status is 0 where there are none.
 """
 
 import http.client
@@ -29,6 +29,8 @@ import fuzz_model
 # For how many seconds an answer is waited for.
 PATIENCE = 60
 CLIENTS = 6
+# After how many kills a new folder is begun, so that a start does not take ever longer.
+ROUNDS = 25
 CHUNK = 3
 OPEN, CLOSED = b"+&", b"-"
 VARYING = re.compile(r"<responseDate>[^<]*</responseDate>| expirationDate=\"[^\"]*\"")
@@ -89,11 +91,11 @@ class Journal:
         self.path, self.at, self.known = path, 0, b""
 
     def read_on(self):
-        """The records that came since, as tuples of a moment, a kind, a name and a body."""
+        """The records that came since, as tuples of a moment, a kind, a name and a body; None where those of before are others now."""
         with open(self.path, "rb") as file:
             held = file.read()
         if held[: self.at] != self.known:
-            raise ValueError("records that were there are others now")
+            return None
         records = []
         while held[self.at : self.at + 1] in (b"+", b"&"):
             end = held.index(b"\n", self.at)
@@ -370,6 +372,9 @@ def rounds(program, config, folder, count, chance, known):
     for number in range(count):
         attack(server, known, number * CLIENTS, chance, lambda: verified(program, folder, known))
         records = journal.read_on()
+        if records is None:
+            known.differ("records that were in the journal are others now")
+            return number + 1
         performed += len(records)
         if verified(program, folder, known) != (performed, journal.at):
             known.differ(f"verify does not find {performed} records and {journal.at} bytes")
@@ -393,14 +398,19 @@ def rounds(program, config, folder, count, chance, known):
 def main():
     program, count = sys.argv[1], int(sys.argv[2])
     seed = int(sys.argv[3]) if len(sys.argv) > 3 else random.randrange(1 << 32)
-    known = Known()
+    print(f"seed {seed}", file=sys.stderr)
+    chance, kills, differences = random.Random(seed), 0, 0
     with tempfile.TemporaryDirectory(prefix="kill-") as place:
         config = f"{place}/config.json"
         with open(config, "w", encoding="utf-8") as it:
             json.dump(CONFIGURATION, it)
-        kills = rounds(program, config, f"{place}/folder", count, random.Random(seed), known)
-    print(f"{kills} kills, {known.differences} differences (seed {seed})")
-    sys.exit(1 if known.differences else 0)
+        while kills < count and not differences:
+            known = Known()
+            kills += rounds(program, config, f"{place}/folder", min(count - kills, ROUNDS), chance, known)
+            differences += known.differences
+            shutil.rmtree(f"{place}/folder")
+    print(f"{kills} kills, {differences} differences")
+    sys.exit(1 if differences else 0)
 
 
 if __name__ == "__main__":

@@ -3,6 +3,7 @@
 #![tactic(auto)]
 
 mod clocks;
+mod dated;
 mod firsts;
 mod host_places;
 mod journals;
@@ -14,6 +15,7 @@ mod recoveries;
 mod service;
 mod stop;
 mod verify;
+mod watched;
 
 pub use host_places::HostPlace;
 pub use laws::archive_law;

@@ -1,4 +1,9 @@
 //! What a server says while it runs.
+ghost use Rattle.std.specs.Prelude.{◌≡◌};
+ghost use Rattle.oai_daemon.specs.Notes as spec;
+
+use crate::stop::{Second, fault_word};
+use oai_item::Fault;
 use std::fmt;
 
 /// What a server says of its work.
@@ -8,6 +13,11 @@ pub enum Note {
     Recovering(usize, usize, u64),
     /// A recovery is done: so many records of so many bytes, in so many seconds.
     Recovered(u64, usize, u64),
+    /// The clock is at that second, from 1970 on, more than 366 days ahead of the last record, whose second is the other, or more than an hour
+    /// behind it.
+    Clock(i64, i64),
+    /// So many exchanges were answered 500 (Internal Server Error) for that fault.
+    Failed(u64, Fault),
 }
 
 impl fmt::Display for Note {
@@ -27,6 +37,22 @@ impl fmt::Display for Note {
                     "recovered: {records} records, {bytes} bytes, {seconds} s"
                 )
             }
+            Note::Clock(now, last) => {
+                let behind = last_record();
+                write!(f, "clock: at {}{behind}{}", Second(*now), Second(*last))
+            }
+            Note::Failed(count, fault) => {
+                let cause = fault_word(*fault);
+                write!(f, "answered 500: {count} times: {cause}")
+            }
         }
     }
+}
+
+/// What stands between the time of a clock and that of a record.
+#[tactic(auto, unfolding(crate::specs::Notes::last_record))]
+fn last_record() -> &'static str
+    ensures { result.now ≡ spec.last_record }
+{
+    ", and the last record is of "
 }

@@ -1,5 +1,6 @@
 //! What a server performed before, performed again.
-use crate::clocks::second_of;
+use crate::clocks::{moment_of, second_of};
+use crate::dated::Dated;
 use crate::journals::stop_of_reading;
 use crate::notes::Note;
 use crate::places::Place;
@@ -8,6 +9,12 @@ use oai_durable::{Progress, RecoverFault, recover};
 use oai_http::Replayed;
 use oai_journal::Recovery;
 use std::rt::Clock;
+
+/// How many seconds the clock may be ahead of the last record, and nothing is said of it: 366 days.
+const MAX_AHEAD: i64 = 31_622_400;
+
+/// How many seconds it may be behind it: an hour.
+const MAX_BEHIND: i64 = 3_600;
 
 /// Says each second how far a recovery is.
 #[derive(Drop)]
@@ -28,28 +35,49 @@ impl<P: Place, C: Clock> Progress for Meter<'_, P, C> {
     }
 }
 
-/// Performs again what the journal has behind its first record, and says how far it is each second, and at its end what it
-/// was. The errors are `Damaged`, `Performing`, `InputFault` and `NoMemory`.
-pub(crate) fn recover_all<P: Place, H: Replayed, C: Clock>(
+/// Performs again what the journal has behind its first record, and says how far it is each second, and at its end what it was, and
+/// whether the clock is far from the last record. The handler is then what it was. The errors are `Damaged`, `NotOurs`, `Performing`,
+/// `InputFault` and `NoMemory`.
+pub(crate) fn recover_all<P: Place, H: Replayed + Drop, C: Clock>(
+    place: &mut P,
+    clock: &C,
+    handler: H,
+    recovery: &mut Recovery<P::Disk>,
+) -> Result<H, Stop> {
+    let begun = second_of(clock);
+    let mut dated = Dated::new(handler);
+    let records = recover_dated(place, clock, &mut dated, recovery)?;
+    let seconds = second_of(clock).saturating_sub(begun);
+    place.tell(Note::Recovered(records, recovery.position(), seconds));
+    tell_clock(place, moment_of(clock)?, dated.last);
+    Ok(dated.handler)
+}
+
+/// Performs again what the journal has behind its first record; how many records that are.
+fn recover_dated<P: Place, H: Replayed, C: Clock>(
     place: &mut P,
     clock: &C,
     handler: &mut H,
     recovery: &mut Recovery<P::Disk>,
-) -> Result<(), Stop> {
-    let begun = second_of(clock);
-    let mut meter = Meter {
-        place,
-        clock,
-        last: begun,
-    };
-    match recover(handler, recovery, &mut meter) {
-        Ok(records) => {
-            let seconds = second_of(clock).saturating_sub(begun);
-            place.tell(Note::Recovered(records, recovery.position(), seconds));
-            Ok(())
-        }
+) -> Result<u64, Stop> {
+    let last = second_of(clock);
+    match recover(handler, recovery, &mut Meter { place, clock, last }) {
+        Ok(records) => Ok(records),
         Err(fault) => Err(stop_of_recovery(fault)),
     }
+}
+
+/// Says where the moment is more than 366 days ahead of the last record, or more than an hour behind it.
+fn tell_clock<P: Place>(place: &mut P, moment: i64, last: Option<i64>) {
+    match last {
+        Some(last) if is_far(moment, last) => place.tell(Note::Clock(moment, last)),
+        _ => {}
+    }
+}
+
+/// Whether the moment is more than 366 days ahead of the other one, or more than an hour behind it.
+fn is_far(moment: i64, last: i64) -> bool {
+    moment > last.saturating_add(MAX_AHEAD) || moment < last.saturating_sub(MAX_BEHIND)
 }
 
 /// Why the server stops, where the recovery failed.

@@ -4,6 +4,7 @@ use crate::journals::open_journal;
 use crate::places::Place;
 use crate::recoveries::recover_all;
 use crate::stop::Stop;
+use crate::watched::Watched;
 use oai_cli::{Stop as Other, config_in, host_on};
 use oai_durable::resume;
 use oai_http::{Replayed, Settled};
@@ -36,16 +37,17 @@ fn serve_over<P: Place, H: Replayed + Drop, C: Clock>(
     alloc: Global,
     place: &mut P,
     clock: &C,
-    mut handler: H,
+    handler: H,
     mut recovery: Recovery<P::Disk>,
     mut port: P::Port,
 ) -> Result<(), Stop> {
-    recover_all(place, clock, &mut handler, &mut recovery)?;
+    let handler = recover_all(place, clock, handler, &mut recovery)?;
     let Some(journaled) = resume(alloc, handler, recovery) else {
         return Err(Stop::Common(Other::InputFault));
     };
     place.announce(&port)?;
-    serve_at(alloc, &GuardedClock::new(clock), journaled, &mut port)
+    let watched = Watched::new(journaled, place);
+    serve_at(alloc, &GuardedClock::new(clock), watched, &mut port)
 }
 
 /// Serves the handler until it is killed or cannot go on.

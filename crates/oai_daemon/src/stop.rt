@@ -117,7 +117,7 @@ fn performing_fails() -> &'static str
 }
 
 /// The fault, in words.
-fn fault_word(fault: Fault) -> &'static str
+pub(crate) fn fault_word(fault: Fault) -> &'static str
     ensures { result.now ≡ spec.fault_text fault }
 {
     match fault {
@@ -131,7 +131,7 @@ fn fault_word(fault: Fault) -> &'static str
 /// A second from 1970 on, shown as its datestamp; one before 1970 as its first, and one behind the year 9998 as the last of
 /// that year.
 #[derive(Drop)]
-struct Second(i64);
+pub(crate) struct Second(pub(crate) i64);
 
 impl fmt::Display for Second {
     ghost use Rattle.std.specs.Prelude.{Some};

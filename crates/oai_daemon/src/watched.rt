@@ -1,0 +1,78 @@
+//! A handler whose faults are told.
+ghost use Rattle.std.specs.Prelude.{◌≡◌};
+
+use crate::notes::Note;
+use crate::places::Place;
+use oai_http::{Answer, Exchange, Handler, SettleFault, Settled, Status};
+use oai_item::Fault;
+
+/// A handler, and the place that is told of each exchange that it answers with 500 (Internal Server Error); of equal faults once a second,
+/// with how many they were since.
+#[derive(Drop)]
+pub(crate) struct Watched<'a, H, P> {
+    handler: H,
+    place: &'a mut P,
+    /// The fault that was told last, and at which moment.
+    told: Option<(Fault, i64)>,
+    /// How many equal ones came since.
+    untold: u64,
+}
+
+impl<'a, H: Handler, P: Place> Watched<'a, H, P> {
+    /// Over that handler, whose faults the place is told.
+    pub(crate) fn new(handler: H, place: &'a mut P) -> Watched<'a, H, P> {
+        Watched {
+            handler,
+            place,
+            told: None,
+            untold: 0,
+        }
+    }
+
+    /// Takes note of an answer at that moment.
+    fn watch(&mut self, moment: i64, status: Status, fault: Option<Fault>)
+        ensures { self.new.handler ≡ self.old.handler }
+    {
+        match (status, fault) {
+            (Status::InternalServerError, Some(fault)) => self.fail(moment, fault),
+            _ => {}
+        }
+    }
+
+    /// Takes note of a fault at that moment.
+    fn fail(&mut self, moment: i64, fault: Fault)
+        ensures { self.new.handler ≡ self.old.handler }
+    {
+        if self.told == Some((fault, moment)) {
+            self.untold = self.untold.saturating_add(1);
+            return;
+        }
+        match self.told {
+            Some((before, _)) if self.untold > 0 => {
+                self.place.tell(Note::Failed(self.untold, before));
+            }
+            _ => {}
+        }
+        self.untold = 0;
+        self.told = Some((fault, moment));
+        self.place.tell(Note::Failed(1, fault));
+    }
+}
+
+impl<H: Handler, P: Place> Handler for Watched<'_, H, P> {
+    ghost step = { λ old moment asked answer new. H.step old.handler moment asked answer new.handler };
+
+    fn exchange(&mut self, moment: i64, exchange: &Exchange<'_>) -> Answer {
+        let answer = self.handler.exchange(moment, exchange);
+        self.watch(moment, answer.status, answer.fault);
+        answer
+    }
+}
+
+impl<H: Settled, P: Place> Settled for Watched<'_, H, P> {
+    ghost settled = { λ old result new. H.settled old.handler result new.handler };
+
+    fn settle(&mut self) -> Result<(), SettleFault> {
+        self.handler.settle()
+    }
+}

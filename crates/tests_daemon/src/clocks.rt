@@ -1,0 +1,70 @@
+//! Clocks in memory, and what a server does whose clock jumps.
+use crate::places::{MemoryPlace, configuration};
+use oai_daemon::{Stop, serve};
+use std::cell::Cell;
+use std::io;
+use std::panic::Expect;
+use std::rt::Clock;
+use std::time::Duration;
+
+/// What the clocks show first: 2024-01-01T00:00:00Z.
+const FIRST: u64 = 1_704_067_200;
+
+/// A clock that stands.
+#[derive(Drop)]
+pub(crate) struct Standing;
+
+impl Clock for Standing {
+    fn monotonic(&self) -> io::Result<Duration> {
+        Ok(Duration::from_secs(5))
+    }
+
+    fn since_1970(&self) -> io::Result<Duration> {
+        Ok(Duration::from_secs(FIRST))
+    }
+}
+
+/// A clock that gains so many seconds with each reading.
+#[derive(Drop)]
+struct Gaining {
+    seconds: u64,
+    shown: Cell<u64>,
+}
+
+impl Clock for Gaining {
+    fn monotonic(&self) -> io::Result<Duration> {
+        Ok(Duration::from_secs(5))
+    }
+
+    fn since_1970(&self) -> io::Result<Duration> {
+        let shown = self.shown.get();
+        self.shown.set(shown.saturating_add(self.seconds));
+        Ok(Duration::from_secs(shown))
+    }
+}
+
+/// A server ends whose clock gained a day and a second between two readings, and says to which second it jumped.
+#[test]
+fn clock_jumps(rt: HostRuntime) {
+    let clock = Gaining {
+        seconds: 86_401,
+        shown: Cell::new(FIRST),
+    };
+    let mut place = MemoryPlace::new(rt.alloc(), 100).expect(&rt, "place");
+    place.rounds = 10;
+    let stop = serve(rt.alloc(), &mut place, &clock, configuration());
+    assert_eq!(&rt; stop, Err(Stop::Jumped(1_704_153_601)));
+}
+
+/// One that gained a day goes on.
+#[test]
+fn clock_gains_a_day(rt: HostRuntime) {
+    let clock = Gaining {
+        seconds: 86_400,
+        shown: Cell::new(FIRST),
+    };
+    let mut place = MemoryPlace::new(rt.alloc(), 100).expect(&rt, "place");
+    place.rounds = 10;
+    let stop = serve(rt.alloc(), &mut place, &clock, configuration());
+    assert_eq!(&rt; stop, Err(Stop::Common(oai_cli::Stop::SocketFault)));
+}

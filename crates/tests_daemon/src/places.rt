@@ -1,0 +1,193 @@
+//! A place in memory.
+use oai_cli::Stop as Other;
+use oai_daemon::{Note, Place, Stop};
+use oai_device::MemoryDevice;
+use oai_journal::{FileJournal, Kind, Record};
+use oai_serving::{Readiness, Sockets, Stream};
+use sqlite_disk::Memory;
+use std::alloc::{AllocError, Global};
+use std::io::{self, ErrorKind};
+use std::time::Duration;
+
+/// The configuration of a repository.
+pub(crate) fn configuration() -> &'static [u8] {
+    b"{\"base\":\"http://host.example\",\"cache\":1,\"repositories\":[{\"name\":\"a\",\"repositoryName\":\"A\",\
+\"adminEmail\":[\"a@host.example\"],\"earliestDatestamp\":\"2024-01-01T00:00:00Z\",\"deletedRecord\":\"persistent\",\
+\"granularity\":\"seconds\",\"chunk\":2,\"lifetime\":60,\"lists\":1,\"items\":100,\"formats\":[]}]}"
+}
+
+/// The body of the first record of its journal.
+pub(crate) fn first_body() -> &'static [u8] {
+    b"1\n{\"base\":\"http://host.example\",\"cache\":1,\"repositories\":[{\"name\":\"a\",\"repositoryName\":\"A\",\
+\"adminEmail\":[\"a@host.example\"],\"earliestDatestamp\":\"2024-01-01T00:00:00Z\",\"deletedRecord\":\"persistent\",\
+\"granularity\":\"seconds\",\"chunk\":2,\"lifetime\":60,\"lists\":1,\"items\":100,\"formats\":[]}]}"
+}
+
+/// A place that takes note of the calls that are made, and fails at one of them.
+#[derive(Drop)]
+pub(crate) struct MemoryPlace {
+    alloc: Global,
+    /// The calls, each with a space behind it.
+    pub(crate) calls: String,
+    /// How many calls are done before one fails.
+    left: u32,
+    /// Whether there is a journal.
+    pub(crate) found: bool,
+    /// The name and the body of the first record of the journal.
+    pub(crate) name: &'static [u8],
+    pub(crate) body: &'static [u8],
+    /// How many times its port can be waited for.
+    pub(crate) rounds: u32,
+}
+
+impl MemoryPlace {
+    /// A place with a journal, of which the call behind so many fails.
+    pub(crate) fn new(alloc: Global, left: u32) -> Result<MemoryPlace, AllocError> {
+        Ok(MemoryPlace {
+            alloc,
+            calls: String::new(alloc),
+            left,
+            found: true,
+            name: b"oaihostd",
+            body: first_body(),
+            rounds: 0,
+        })
+    }
+
+    /// Where its memory comes from.
+    pub(crate) fn alloc(&self) -> Global {
+        self.alloc
+    }
+
+    /// Takes note of a call.
+    fn call(&mut self, word: &str) -> Result<(), Stop> {
+        self.calls.push_str(word)?;
+        self.calls.push(' ')?;
+        if self.left == 0 {
+            return Err(Stop::Common(Other::DeviceFault));
+        }
+        self.left -= 1;
+        Ok(())
+    }
+
+    /// A disk with a journal of the first record alone.
+    fn journal(&self) -> Result<Memory, Stop> {
+        let first = Record {
+            moment: 1_704_067_200,
+            kind: Kind::Journal,
+            name: self.name,
+            body: self.body,
+        };
+        if !first.is_fit() {
+            return Err(Stop::NotOurs);
+        }
+        match FileJournal::create(self.alloc, Memory::new(self.alloc), &first) {
+            Ok(journal) => Ok(journal.into_disk()),
+            Err(_) => Err(Stop::CannotWrite),
+        }
+    }
+}
+
+impl Place for MemoryPlace {
+    type Disk = Memory;
+
+    type NewDisk = Memory;
+
+    type Pages = MemoryDevice;
+
+    type Link = Nothing;
+
+    type Port = Quiet;
+
+    fn lock(&mut self) -> Result<(), Stop> {
+        self.call("lock")
+    }
+
+    fn listen(&mut self) -> Result<Quiet, Stop> {
+        self.call("listen")?;
+        Ok(Quiet {
+            rounds: self.rounds,
+        })
+    }
+
+    fn find_journal(&mut self) -> Result<bool, Stop> {
+        self.call("find")?;
+        Ok(self.found)
+    }
+
+    fn begin_journal(&mut self) -> Result<Memory, Stop> {
+        self.call("begin")?;
+        Ok(Memory::new(self.alloc))
+    }
+
+    fn keep_journal(&mut self) -> Result<(), Stop> {
+        self.call("keep")
+    }
+
+    fn open_journal(&mut self) -> Result<Memory, Stop> {
+        self.call("open")?;
+        self.journal()
+    }
+
+    fn empty_pages(&mut self) -> Result<MemoryDevice, Stop> {
+        self.call("pages")?;
+        Ok(MemoryDevice::new(self.alloc))
+    }
+
+    fn announce(&mut self, _port: &Quiet) -> Result<(), Stop> {
+        self.call("announce")
+    }
+
+    fn tell(&mut self, note: Note) {
+        match note {
+            Note::Recovering(_, _, _) => drop(self.call("recovering")),
+            Note::Recovered(_, _, _) => drop(self.call("recovered")),
+            Note::Clock(_, _) => drop(self.call("clock")),
+            Note::Failed(_, _) => drop(self.call("failed")),
+        }
+    }
+}
+
+/// A port at which nobody comes, and that can be waited for so often.
+#[derive(Drop)]
+pub(crate) struct Quiet {
+    rounds: u32,
+}
+
+impl Sockets<Nothing> for Quiet {
+    fn wait(&mut self, _most: Duration) -> io::Result<usize> {
+        if self.rounds == 0 {
+            return Err(io::Error::from(ErrorKind::Other));
+        }
+        self.rounds -= 1;
+        Ok(0)
+    }
+
+    fn ready(&self, _at: usize) -> Option<Readiness> {
+        None
+    }
+
+    fn accept(&mut self) -> io::Result<Option<Nothing>> {
+        Ok(None)
+    }
+
+    fn watch(&mut self, _stream: &mut Nothing, _key: usize) -> io::Result<()> {
+        Ok(())
+    }
+}
+
+/// A stream that cannot be read or written.
+#[derive(Drop)]
+pub(crate) struct Nothing;
+
+impl Stream for Nothing {
+    fn read(&mut self, _buffer: &mut [u8]) -> io::Result<usize> {
+        Err(io::Error::from(ErrorKind::Other))
+    }
+
+    fn write(&mut self, _bytes: &[u8]) -> io::Result<usize> {
+        Err(io::Error::from(ErrorKind::Other))
+    }
+
+    fn finish(&mut self) {}
+}

@@ -1,0 +1,88 @@
+//! What a server says where it stops, and with which status.
+use oai_cli::Stop as Other;
+use oai_daemon::{Note, Stop};
+use oai_item::Fault;
+use std::alloc::Global;
+use std::fmt::Display;
+use std::panic::Expect;
+use std::process::Abort;
+
+/// The value is shown so.
+fn assert_shown<T: Display + Drop>(rt: &impl Abort, alloc: Global, value: T, wanted: &str) {
+    assert_eq!(rt;
+        value.to_string(alloc).expect(rt, "memory").as_str(),
+        wanted
+    );
+}
+
+/// The stop has that text and that status.
+fn assert_stop(rt: &impl Abort, alloc: Global, stop: Stop, text: &str, status: u8) {
+    assert_shown(rt, alloc, stop, text);
+    assert_eq!(rt; stop.status(), status);
+}
+
+#[test]
+fn arguments_and_configurations(rt: HostRuntime) {
+    let alloc = rt.alloc();
+    assert_stop(
+        &rt,
+        alloc,
+        Stop::Usage,
+        "usage: oaihostd serve CONFIG PORT FOLDER | verify FOLDER",
+        2,
+    );
+    let unread = Stop::Common(Other::CannotRead);
+    assert_stop(&rt, alloc, unread, "config: cannot read", 2);
+    let differs = "config: differs from the journal: at byte 7";
+    assert_stop(&rt, alloc, Stop::OtherConfig(7), differs, 2);
+    let refused = Stop::Common(Other::NoMemory);
+    assert_stop(&rt, alloc, refused, "out of memory", 1);
+}
+
+#[test]
+fn folders_and_clocks(rt: HostRuntime) {
+    let alloc = rt.alloc();
+    assert_stop(&rt, alloc, Stop::CannotOpen, "folder: cannot open", 1);
+    assert_stop(&rt, alloc, Stop::InUse, "folder: in use", 1);
+    let second = Stop::Jumped(1_704_153_601);
+    assert_stop(
+        &rt,
+        alloc,
+        second,
+        "clock: jumped to 2024-01-02T00:00:01Z",
+        1,
+    );
+    let late = Stop::Jumped(999_999_999_999);
+    assert_stop(&rt, alloc, late, "clock: jumped to 9998-12-31T23:59:59Z", 1);
+}
+
+#[test]
+fn journals(rt: HostRuntime) {
+    let alloc = rt.alloc();
+    assert_stop(&rt, alloc, Stop::NotOurs, "journal: not of this program", 1);
+    assert_stop(&rt, alloc, Stop::OfVersion(2), "journal: of version 2", 1);
+    assert_stop(
+        &rt,
+        alloc,
+        Stop::Damaged(975),
+        "journal: damaged at byte 975",
+        1,
+    );
+    assert_stop(&rt, alloc, Stop::CannotWrite, "journal: cannot write", 1);
+    let failed = Stop::Performing(3, Fault::NoMemory);
+    let text = "journal: record 3: performing it fails: out of memory";
+    assert_stop(&rt, alloc, failed, text, 1);
+}
+
+#[test]
+fn notes(rt: HostRuntime) {
+    let alloc = rt.alloc();
+    let on = "recovering: 100 of 975 bytes, 7 records";
+    assert_shown(&rt, alloc, Note::Recovering(100, 975, 7), on);
+    let done = "recovered: 7 records, 975 bytes, 2 s";
+    assert_shown(&rt, alloc, Note::Recovered(7, 975, 2), done);
+    let far = "clock: at 2024-01-02T00:00:01Z, and the last record is of 2024-01-01T00:00:00Z";
+    assert_shown(&rt, alloc, Note::Clock(1_704_153_601, 1_704_067_200), far);
+    let failed = "answered 500: 3 times: the device failed";
+    assert_shown(&rt, alloc, Note::Failed(3, Fault::Device), failed);
+}
