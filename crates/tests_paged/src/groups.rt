@@ -11,13 +11,13 @@ use std::process::Abort;
 /// How many items there are: those of two groups of 256 pages, and some more.
 const COUNT: u16 = 600;
 
-/// The item of that number, of 8,000 bytes, which has a page of its own: every third one is in the set, and all but some of the second group are
+/// The item of that number, of 9,000 bytes, which has a page of its own: every third one is in the set, and all but some of the second group are
 /// in `jnl`. Two have the same datestamp.
 fn nth(number: u16) -> Sample {
     Sample {
         in_set: number % 3 == 0,
         in_jnl: number < 300 || number >= 350,
-        ..sized(u32::from(number), u32::from(number / 2), 8_000)
+        ..sized(u32::from(number), u32::from(number / 2), 9_000)
     }
 }
 
@@ -54,7 +54,7 @@ fn change<V: Versions + Drop + UsesPages>(rt: &impl Abort, both: &mut Both<V>) {
     for number in [3u16, 257, 599] {
         both.call(
             rt,
-            Call::Replace(nth(number), sized(u32::from(number), 301, 8_000)),
+            Call::Replace(nth(number), sized(u32::from(number), 301, 9_000)),
         );
         assert_all_asked(rt, both);
     }
