@@ -21,6 +21,8 @@ mod failing;
 #[cfg(test)]
 mod five_pages;
 #[cfg(test)]
+mod groups;
+#[cfg(test)]
 mod long_costs;
 #[cfg(test)]
 mod long_filters;
