@@ -7,7 +7,7 @@ use Rattle.oai_item.specs.declared.faults.Fault.TheVariants.{Damaged, Device, No
 use Rattle.oai_settings.specs.Config.{Config}
 use Rattle.oai_repo.specs.Machine.{Output, bytes, query, step, wait}
 use Rattle.oai_repo.specs.State.{OpenLists, RepoState, at_clock, moved}
-use Rattle.oai_repo.specs.Calls.{IsClockAt, IsPassed, changes_lists, room_to_ask}
+use Rattle.oai_repo.specs.Calls.{IsClockAt, IsLeftByStep, changes_lists, room_to_ask}
 use Rattle.oai_repo.specs.Fields.{Keeps, RepoFields, holdings_of, state_of}
 use Rattle.oai_repo.proofs.PassLemmas.{bare_ticks, ticks}
 use Rattle.oai_args.specs.Pairs.{decoded_pairs}
@@ -175,7 +175,7 @@ reply_of_output (wait seconds) = refl
 
 -- a repository that passes a request has performed it, and its answer is dropped
 pub passed_in : {V : Type 0} (g : Ghosts V) (moment : ℤ) (arguments : List ℕ) (result : Result (Unit {0}) Fault) (old : RepoFields) (before : V) (new : RepoFields) (after : V)
-    → OnOk result (IsTrue (g.honest before) → IsPassed old (g.lists before) moment arguments new (g.lists after)) → IsClockAt result moment old (g.lists before) new (g.lists after)
+    → OnOk result (IsTrue (g.honest before) → IsLeftByStep old (g.lists before) moment arguments new (g.lists after)) → IsClockAt result moment old (g.lists before) new (g.lists after)
     → holdings_of new.index new.sets (g.lists after) ≡ holdings_of old.index old.sets (g.lists before) → Keeps (g.honest before) old (g.lists before) new (g.lists after)
     → Uses g (room_to_ask (request_of old.config.granularity (decoded_pairs arguments))) result before after → RedoesIn g moment (asking arguments) result old before new after
 passed_in g moment arguments (Ok done) old before new after passed clock kept keeps store =

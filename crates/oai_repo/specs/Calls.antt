@@ -36,8 +36,8 @@ IsAsked old before moment arguments reply new after =
     step old.config (state_of old before) moment (query arguments) ≡ (output_of_reply reply, state_of new after)
 
 -- what a request leaves, where its reply is dropped: it is what a step leaves
-abbrev pub IsPassed : RepoFields → Lists → ℤ → List ℕ → RepoFields → Lists → Type 0
-IsPassed old before moment arguments new after = state_of new after ≡ (step old.config (state_of old before) moment (query arguments)).1
+abbrev pub IsLeftByStep : RepoFields → Lists → ℤ → List ℕ → RepoFields → Lists → Type 0
+IsLeftByStep old before moment arguments new after = state_of new after ≡ (step old.config (state_of old before) moment (query arguments)).1
 
 -- the causes among these that are looked for before any memory is taken and anything is read
 abbrev pub early_refusal : Config → Holdings → Change → Option ChangeRefusal

@@ -112,7 +112,7 @@ pub record IsOfFormat (config : Config) (selection : Selection) : Type 0 where
 
 -- a list of so many records has begun that is selected so, behind the others and without a mark: its version, which was in use for nothing, holds the
 -- items as they stand
-pub record HasBegun {V : Type 0} (g : Ghosts V) (repo : RepoView) (selection : Selection) (size : ℕ) (old : Table) (before : V) (new : Table) (after : V) : Type 0 where
+pub record HasListBegun {V : Type 0} (g : Ghosts V) (repo : RepoView) (selection : Selection) (size : ℕ) (old : Table) (before : V) (new : Table) (after : V) : Type 0 where
   pub version : ℕ
   pub unused : g.lists before version ≡ None
   pub frozen : g.lists after ≡ with_list version (list_at (g.lists before) repo.index.now.version) (g.lists before)

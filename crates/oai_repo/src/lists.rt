@@ -15,7 +15,7 @@ ghost use Rattle.oai_repo.specs.Answers as spec;
 ghost use Rattle.oai_repo.specs.Fields.{AreInUse, open_lists_of, versions_in};
 ghost use Rattle.oai_repo.specs.Listing as listing;
 ghost use Rattle.oai_repo.specs.Tables.{dropped_at, has_end, version_ended, without_version};
-ghost use Rattle.oai_repo.specs.Views.{HasBegun, IsFilter, IsOfFormat, IsReady, IsViewReply, Leaves, first_items, view_list_response, view_new_list, view_open_lists, view_selected, view_selection_response, view_wait};
+ghost use Rattle.oai_repo.specs.Views.{HasListBegun, IsFilter, IsOfFormat, IsReady, IsViewReply, Leaves, first_items, view_list_response, view_new_list, view_open_lists, view_selected, view_selection_response, view_wait};
 
 use crate::parts::mark_behind;
 use crate::responses::{Reply, make_reply, reply_with_error};
@@ -215,7 +215,7 @@ pub(crate) fn start_unread<V: Versions>(
     requires selection { IsOfFormat repo.now.config.now selection }
     requires size { IsTrue (V.honest store.old)
         → size ≡ length (view_selected repo.now (V.lists store.old) selection.filter) }
-    ensures begun { OnOk result (HasBegun V.Versions repo.now selection.entry size lists.old store.old
+    ensures begun { OnOk result (HasListBegun V.Versions repo.now selection.entry size lists.old store.old
         lists.new store.new) }
     ensures passed { OnOk result (IsTrue (V.honest store.old)
         → view_open_lists repo.now lists.new (V.lists store.new)

@@ -3,7 +3,7 @@ ghost use Rattle.oai_args.specs.Pairs.{decoded_pairs};
 ghost use Rattle.oai_args.specs.Requests.{request_of};
 ghost use Rattle.oai_catalogue.specs.Calls.{Frees, Uses};
 ghost use Rattle.oai_settings.specs.Config.{is_in_years};
-ghost use Rattle.oai_repo.specs.Calls.{DropsEnded, IsAccepted, IsAsked, IsChanged, IsClockAt, IsPassed, IsRefusedAt, OnRefused, changes_lists, fault_in, room_to_ask, room_to_change};
+ghost use Rattle.oai_repo.specs.Calls.{DropsEnded, IsAccepted, IsAsked, IsChanged, IsClockAt, IsLeftByStep, IsRefusedAt, OnRefused, changes_lists, fault_in, room_to_ask, room_to_change};
 ghost use Rattle.oai_repo.specs.Fields.{IsNew, Keeps, Owns, holdings_of, state_of};
 ghost use Rattle.oai_repo.specs.State.{at_clock, moved};
 ghost use Rattle.oai_repo.specs.Tables.{IsAskedOf};
@@ -146,7 +146,7 @@ impl Repo {
     ) -> Result<(), Fault>
         requires { Owns (V.honest store.old) self.old (V.lists store.old) }
         ensures step { OnOk result (IsTrue (V.honest store.old)
-            → IsPassed self.old (V.lists store.old) moment query.now self.new (V.lists store.new)) }
+            → IsLeftByStep self.old (V.lists store.old) moment query.now self.new (V.lists store.new)) }
         ensures clock { IsClockAt result moment self.old (V.lists store.old) self.new
             (V.lists store.new) }
         ensures kept { holdings_of self.new.index self.new.sets (V.lists store.new)

@@ -18,8 +18,6 @@ mod many_sets;
 #[cfg(test)]
 mod pages;
 #[cfg(test)]
-mod performed_again;
-#[cfg(test)]
 mod refusals;
 #[cfg(test)]
 mod refused_memory;

@@ -25,7 +25,7 @@ fn write_line<V: Versions + Drop>(
 }
 
 /// What the host answers to the transcript's exchanges.
-pub(crate) fn answers_to_all<V: Versions + Drop>(
+fn answers_to_all<V: Versions + Drop>(
     rt: &impl Abort,
     alloc: Global,
     host: &mut Host<V>,
