@@ -1,9 +1,11 @@
 //! Clocks in memory, and what a server does whose clock jumps.
 use crate::places::{MemoryPlace, configuration};
 use oai_daemon::{Stop, serve};
+use std::alloc::Global;
 use std::cell::Cell;
 use std::io;
 use std::panic::Expect;
+use std::process::Abort;
 use std::rt::Clock;
 use std::time::Duration;
 
@@ -43,7 +45,8 @@ impl Clock for Gaining {
     }
 }
 
-/// A server ends whose clock gained a day and a second between two readings, and says to which second it jumped.
+/// A server ends whose clock gained a day and a second between two readings, and says to which second it jumped: the start reads it
+/// once, and each round once.
 #[test]
 fn clock_jumps(rt: HostRuntime) {
     let clock = Gaining {
@@ -53,7 +56,7 @@ fn clock_jumps(rt: HostRuntime) {
     let mut place = MemoryPlace::new(rt.alloc(), 100).expect(&rt, "place");
     place.rounds = 10;
     let stop = serve(rt.alloc(), &mut place, &clock, configuration());
-    assert_eq!(&rt; stop, Err(Stop::Jumped(1_704_153_601)));
+    assert_eq!(&rt; stop, Err(Stop::Jumped(1_704_240_002)));
 }
 
 /// One that gained a day goes on.
@@ -67,4 +70,24 @@ fn clock_gains_a_day(rt: HostRuntime) {
     place.rounds = 10;
     let stop = serve(rt.alloc(), &mut place, &clock, configuration());
     assert_eq!(&rt; stop, Err(Stop::Common(oai_cli::Stop::SocketFault)));
+}
+
+/// A start in a place whose journal ends with a tick at that moment makes these calls.
+fn assert_calls(rt: &impl Abort, alloc: Global, moment: i64, calls: &str) {
+    let mut place = MemoryPlace::new(alloc, 100).expect(rt, "place");
+    place.tick = Some(moment);
+    let stop = serve(alloc, &mut place, &Standing, configuration());
+    assert_eq!(rt; stop, Err(Stop::Common(oai_cli::Stop::SocketFault)));
+    assert_eq!(rt; place.calls.as_str(), calls);
+}
+
+/// A clock that is more than 366 days ahead of the last record, or more than an hour behind it, is told, and ends nothing.
+#[test]
+fn clock_is_far_from_the_journal(rt: HostRuntime) {
+    let near = "lock listen find open pages recovered announce ";
+    let far = "lock listen find open pages recovered clock announce ";
+    assert_calls(&rt, rt.alloc(), 1_672_444_799, far);
+    assert_calls(&rt, rt.alloc(), 1_672_444_800, near);
+    assert_calls(&rt, rt.alloc(), 1_704_070_800, near);
+    assert_calls(&rt, rt.alloc(), 1_704_070_801, far);
 }

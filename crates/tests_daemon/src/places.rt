@@ -2,7 +2,7 @@
 use oai_cli::Stop as Other;
 use oai_daemon::{Note, Place, Stop};
 use oai_device::MemoryDevice;
-use oai_journal::{FileJournal, Kind, Record};
+use oai_journal::{FileJournal, Journal, Kind, Record};
 use oai_serving::{Readiness, Sockets, Stream};
 use sqlite_disk::Memory;
 use std::alloc::{AllocError, Global};
@@ -36,6 +36,8 @@ pub(crate) struct MemoryPlace {
     /// The name and the body of the first record of the journal.
     pub(crate) name: &'static [u8],
     pub(crate) body: &'static [u8],
+    /// The moment of a tick of the repository behind the first record, if there is one.
+    pub(crate) tick: Option<i64>,
     /// How many times its port can be waited for.
     pub(crate) rounds: u32,
 }
@@ -50,6 +52,7 @@ impl MemoryPlace {
             found: true,
             name: b"oaihostd",
             body: first_body(),
+            tick: None,
             rounds: 0,
         })
     }
@@ -70,7 +73,7 @@ impl MemoryPlace {
         Ok(())
     }
 
-    /// A disk with a journal of the first record alone.
+    /// A disk with a journal of the first record, and of the tick.
     fn journal(&self) -> Result<Memory, Stop> {
         let first = Record {
             moment: 1_704_067_200,
@@ -82,9 +85,39 @@ impl MemoryPlace {
             return Err(Stop::NotOurs);
         }
         match FileJournal::create(self.alloc, Memory::new(self.alloc), &first) {
-            Ok(journal) => Ok(journal.into_disk()),
+            Ok(journal) => with_tick(journal, self.tick),
             Err(_) => Err(Stop::CannotWrite),
         }
+    }
+}
+
+/// The disk of the journal, to which a tick at that moment is added, if there is one.
+fn with_tick(mut journal: FileJournal<Memory>, tick: Option<i64>) -> Result<Memory, Stop> {
+    if let Some(moment) = tick {
+        add_tick(&mut journal, moment)?;
+    }
+    Ok(journal.into_disk())
+}
+
+/// Adds a tick at that moment to the journal, and commits it.
+fn add_tick<J: Journal>(journal: &mut J, moment: i64) -> Result<(), Stop> {
+    let tick = Record {
+        moment,
+        kind: Kind::Tick,
+        name: b"a",
+        body: b"",
+    };
+    if !tick.is_fit() {
+        return Err(Stop::CannotWrite);
+    }
+    match journal.reserve(tick.body.len()) {
+        Ok(()) => {}
+        Err(_) => return Err(Stop::CannotWrite),
+    }
+    journal.append(&tick);
+    match journal.commit() {
+        Ok(()) => Ok(()),
+        Err(_) => Err(Stop::CannotWrite),
     }
 }
 
