@@ -8,7 +8,7 @@
 # document is well-formed XML. Each difference is named; the status is 0 where there is none. It stands beside the gate, since it needs these
 # packages of Debian:
 #     apt-get install libhttp-oai-perl libxml2-utils python3
-# OAIHOST is the program, `bin/oaihost` if it is not set; ITEMS the number of items, 5000 if it is not set: a multiple of
+# OAIHOST is the program, `bin/oaihost` if it is not set, and OAIHOSTD, where it is set, the one that is tried; ITEMS the number of items, 5000 if it is not set: a multiple of
 # 250, at least 1000.
 # Usage: scripts/interop.sh
 set -u

@@ -11,6 +11,9 @@ from generated import NAME, body_of
 # The program: the one that the environment names, or the one that is built on first use.
 PROGRAM = os.environ.get("OAIHOST", "bin/oaihost")
 
+# The program with a journal, where a server of it is wanted.
+DAEMON = os.environ.get("OAIHOSTD")
+
 # More connections than any run makes: the server ends when it is told to.
 CONNECTIONS = "1000000000"
 
@@ -19,7 +22,8 @@ PATIENCE = 600
 
 
 class Server:
-    """A server that runs on a free port, from here to the end of the `with`; with its pages in that file, or in one of its own."""
+    """A server that runs on a free port, from here to the end of the `with`; with its pages in that file, or in one of its own. A server with a
+    journal has its folder there."""
 
     def __init__(self, configuration, spill=None):
         self.configuration, self.spill = configuration, spill
@@ -46,6 +50,8 @@ class Server:
 
     def command(self, path):
         """What runs a server of that configuration."""
+        if DAEMON:
+            return [DAEMON, "serve", path, "0", self.spill]
         return [PROGRAM, "serve", path, "0", self.spill, CONNECTIONS]
 
     def base(self):
@@ -58,7 +64,7 @@ class Server:
 
     def file_kilobytes(self):
         """How long the file of its pages is, in kilobytes."""
-        return os.path.getsize(self.spill) / 1024
+        return os.path.getsize(f"{self.spill}/pages" if DAEMON else self.spill) / 1024
 
     def processor(self):
         """For how many seconds of a processor's time it has worked."""
