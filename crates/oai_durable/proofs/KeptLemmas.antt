@@ -8,7 +8,7 @@ use Rattle.oai_http.specs.declared.exchanges.Answer.{Answer}
 use Rattle.oai_http.specs.declared.handlers.Performed.{Performed}
 use Rattle.oai_journal.specs.Records.{Entry}
 use Rattle.oai_journal.specs.declared.journals.Journal as journal
-use Rattle.oai_durable.specs.Journaled.{IsExchange, IsHeld, IsKept, Parts, Replaying, refused}
+use Rattle.oai_durable.specs.Journaled.{IsExchange, Parts, Replaying, refused}
 use Rattle.oai_durable.specs.Records.{entries_of, redone_all}
 use Rattle.oai_durable.proofs.RecordLemmas.{left_redone, redone_append}
 

@@ -1,14 +1,13 @@
 -- What lives leave, and where the exchanges stand in it.
-use Rattle.std.proofs.Common.{◌≡◌, ◌∙◌, ◌≤◌, ℕ, ◌+◌, ◌-◌, ◌++◌, List, [], ◌∷◌, length, take, drop, refl, sym, ap, subst, arith}
+use Rattle.std.proofs.Common.{◌≡◌, ◌∙◌, ◌≤◌, ℕ, ◌+◌, ◌-◌, ◌++◌, List, [], ◌∷◌, length, take, sym, ap, arith}
 use Rattle.std.proofs.lemmas.List.{append-nil, append_assoc}
 use Rattle.std.proofs.lemmas.Grind.{flat_map-append}
 use Rattle.std.proofs.Math.Seq.{take-append-add}
-use Rattle.std.specs.List.{flat_map}
 use Rattle.oai_http.specs.declared.exchanges.Answer.{Answer}
 use Rattle.oai_http.specs.declared.exchanges.Call.{Call}
 use Rattle.oai_journal.specs.Journals.{IsLeft}
 use Rattle.oai_journal.specs.Records.{Entry}
-use Rattle.oai_durable.specs.Lives.{AreAmong, AreLives, Exchanged, HasPlace, HavePlaces, IsLife, Life, answered_in, records_in}
+use Rattle.oai_durable.specs.Lives.{AreAmong, AreLives, Exchanged, HavePlaces, Life, answered_in, records_in}
 
 apart : (n m : ℕ) → n ≤ m → m ≡ n + (m - n)
 apart n m low = grind (arith)

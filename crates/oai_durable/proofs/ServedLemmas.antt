@@ -1,5 +1,5 @@
 -- A life as a server lives it is a life.
-use Rattle.std.proofs.Common.{◌≡◌, ◌∙◌, ◌⊎◌, inl, inr, ◌≤◌, ℕ, ◌+◌, ◌++◌, IsTrue, List, [], ◌∷◌, length, map, Result, Ok, Err, refl, sym, ap, arith}
+use Rattle.std.proofs.Common.{◌≡◌, ◌∙◌, inl, inr, ◌≤◌, ℕ, ◌+◌, ◌++◌, IsTrue, List, [], ◌∷◌, length, map, Option, Result, Ok, Err, refl, sym, ap, arith}
 use Rattle.std.proofs.lemmas.List.{append-nil, append_assoc, length-append, map-append}
 use Rattle.std.proofs.lemmas.Grind.{flat_map-append}
 use Rattle.std.proofs.Math.Nat.{le_refl, le_trans}
@@ -9,10 +9,12 @@ use Rattle.oai_http.specs.declared.exchanges.Call.{Call}
 use Rattle.oai_journal.specs.Records.{Entry}
 use Rattle.oai_journal.specs.Journals.{IsLeft}
 use Rattle.oai_journal.specs.declared.journals.Journal as journal
-use Rattle.oai_serving.specs.Rounds.{AreSettled, served_in}
-use Rattle.oai_durable.specs.Journaled.{IsExchange, IsHeld, IsKept, IsSettled, Parts, Replaying}
-use Rattle.oai_durable.specs.Lives.{Exchanged, HasPlace, HavePlaces, IsLife, Life, records_in}
-use Rattle.oai_durable.specs.Served.{AreThose, EndsAs, IsLived, LivesAs, told_by, told_to}
+use Rattle.oai_serving.specs.Rounds.{AreSettled, IsRoundSettled, IsService, World, served_in}
+use Rattle.oai_serving.specs.declared.faults.ServeFault.{ServeFault}
+use Rattle.oai_serving.specs.declared.faults.ServeFault.TheVariants.{Clock, Unsettled, Wait}
+use Rattle.oai_durable.specs.Journaled.{IsExchange, IsHeld, IsSettled, Parts, Replaying}
+use Rattle.oai_durable.specs.Lives.{Exchanged, HavePlaces, records_in}
+use Rattle.oai_durable.specs.Served.{AreThose, EndsAs, IsLived, IsRemembered, LivesAs, told_by, told_to}
 
 -- messages that were served behind these records, as exchanges with their records
 pub record Goes {H J : Type 0} (h : Replaying H) (j : journal.Ghosts J) (begun : h.Kept) (before : List Entry) (durable : ℕ) (served : List Served) (new : Parts H J) : Type 0 where
@@ -157,3 +159,56 @@ lives_as h j law begun found first rounds held left lived =
         leaves = left_as before.durable (length (found ++ records_in es)) entries (found ++ records_in (es ++ behind.exchanges)) left before.all joined is;
       };
     }
+
+-- ---- a service
+
+-- how a life ends whose last round ended so
+ends_as : {H J : Type 0} (j : journal.Ghosts J) (performed last : Parts H J) (fault : ServeFault) → IsRoundSettled (IsSettled j) performed (Err fault) last → EndsAs j performed last
+ends_as j performed last Unsettled settles = inr (Err settles.0, settles.1)
+ends_as j performed last Wait is = inl is
+ends_as j performed last Clock is = inl is
+
+pub service_lives : {S H J : Type 0} (h : Replaying H) (j : journal.Ghosts J) (contents remaining : S → Option (List ℕ))
+    → ((journal : J) (entries : List Entry) (durable : ℕ) (found : List Entry) → j.holds journal entries durable → j.may_leave journal found → IsLeft durable entries found)
+    → (begun : h.Kept) (found : List Entry) (known later : Option (List S)) (old new : World S (Parts H J)) (result : Result (Unit {0}) ServeFault) (left : List Entry)
+    → IsService (IsExchange h j) (IsSettled j) contents remaining known later old result new
+    → IsHeld h j begun old.handler found (length found)
+    → IsTrue (h.is_honest old.handler.handler)
+    → j.may_leave new.handler.journal left
+    → IsRemembered contents remaining h.redone h.reply begun found known later old new left
+service_lives h j contents remaining law begun found known later old new (Ok done) left service begins honest leaves = record {
+  answered = served_in service.rounds;
+  held = [];
+  lives = lives_as h j law begun found old.handler service.rounds [] left (record {
+    begins = begins;
+    honest = honest;
+    settled = service.mid;
+    settles = service.settles;
+    performed = service.mid;
+    serves = refl;
+    last = new.handler;
+    ends = inl service.ends;
+    leaves = leaves;
+  });
+  streams = service.streams;
+  accepts = service.accepts;
+  clients = service.answered;
+}
+service_lives h j contents remaining law begun found known later old new (Err fault) left service begins honest leaves = record {
+  answered = served_in service.rounds;
+  held = service.ends.served;
+  lives = lives_as h j law begun found old.handler service.rounds service.ends.served left (record {
+    begins = begins;
+    honest = honest;
+    settled = service.mid;
+    settles = service.settles;
+    performed = service.ends.performed;
+    serves = service.ends.run;
+    last = new.handler;
+    ends = ends_as j service.ends.performed new.handler fault service.ends.settles;
+    leaves = leaves;
+  });
+  streams = service.streams;
+  accepts = service.accepts;
+  clients = service.answered;
+}

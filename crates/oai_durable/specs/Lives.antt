@@ -1,5 +1,5 @@
 -- Lives of a handler, one behind the other: what each leaves in its journal, and what was answered in them. This repository's own.
-use Rattle.std.specs.Prelude.{◌≡◌, ℕ, ℤ, List, [], ◌∷◌, ◌++◌, length, None}
+use Rattle.std.specs.Prelude.{◌≡◌, ℤ, List, [], ◌∷◌, ◌++◌, length, None}
 use Rattle.std.specs.List.{flat_map}
 use Rattle.oai_http.specs.Exchanges.{Asked, call_at}
 use Rattle.oai_http.specs.declared.exchanges.Answer.{Answer}

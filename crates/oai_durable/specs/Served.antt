@@ -1,6 +1,6 @@
 -- A life of a handler as a server lives it: rounds in which messages are served and the handler settles, and then others whose answers are held
 -- back. This repository's own.
-use Rattle.std.specs.Prelude.{◌≡◌, ◌⊎◌, ℕ, ℤ, IsTrue, List, ◌++◌, length, map, Result}
+use Rattle.std.specs.Prelude.{◌≡◌, ◌⊎◌, ℕ, ℤ, IsTrue, List, ◌++◌, length, map, Option, Result}
 use Rattle.oai_http.specs.Exchanges.{Asked}
 use Rattle.oai_http.specs.declared.exchanges.Answer.{Answer}
 use Rattle.oai_http.specs.declared.exchanges.Call.{Call}
@@ -8,7 +8,9 @@ use Rattle.oai_http.specs.declared.handlers.SettleFault.{SettleFault}
 use Rattle.oai_front.specs.Runs.{Served, Serves}
 use Rattle.oai_journal.specs.Records.{Entry}
 use Rattle.oai_journal.specs.declared.journals.Journal as journal
-use Rattle.oai_serving.specs.Rounds.{AreSettled, served_in}
+use Rattle.oai_serving.specs.Accepted.{Accepts}
+use Rattle.oai_serving.specs.Rounds.{AreSettled, World}
+use Rattle.oai_serving.specs.Tables.{AreLinksAnswered, AreLinksKept}
 use Rattle.oai_durable.specs.Journaled.{IsExchange, IsHeld, IsSettled, Parts, Replaying}
 use Rattle.oai_durable.specs.Lives.{Exchanged, IsLife, Life}
 
@@ -51,3 +53,15 @@ pub record LivesAs {K : Type 0} (redone : K → Call → K) (reply : K → Call 
   pub answers : AreThose life.answered answered
   pub others : AreThose life.held held
   pub is : IsLife redone reply begun found life left
+
+-- what a service leaves behind: of the messages that were served those whose answers left, each of which has its place among the records that a
+-- crash then leaves, and the others; and each client has the front of the answers to its own among the first
+pub record IsRemembered {S H J K : Type 0} (contents remaining : S → Option (List ℕ)) (redone : K → Call → K) (reply : K → Call → Answer) (begun : K) (found : List Entry)
+    (known later : Option (List S)) (old new : World S (Parts H J)) (left : List Entry) : Type 0 where
+  pub answered : List Served
+  pub held : List Served
+  pub lives : LivesAs redone reply begun found answered held left
+  pub streams : List S
+  pub accepts : Accepts known later streams
+  pub clients : (accepted : List S) (earlier : List Served) → old.last ≡ length accepted → AreLinksKept contents remaining accepted earlier old.links
+      → AreLinksAnswered contents remaining (accepted ++ streams) (earlier ++ answered) new.links

@@ -1,14 +1,16 @@
 //! What is so of every list of lives: theorems, each on a function with an empty body.
 ghost use Rattle.oai_durable.specs.Lives.{AreAmong, AreLives, Life, answered_in};
-ghost use Rattle.oai_durable.specs.Journaled.{Parts};
-ghost use Rattle.oai_durable.specs.Served.{IsLived, LivesAs};
+ghost use Rattle.oai_durable.specs.Journaled.{IsExchange, IsHeld, IsSettled, Parts};
+ghost use Rattle.oai_durable.specs.Served.{IsLived, IsRemembered, LivesAs};
 ghost use Rattle.oai_front.specs.Runs.{Served};
 ghost use Rattle.oai_journal.specs.Records.{Entry};
-ghost use Rattle.oai_serving.specs.Rounds.{served_in};
-ghost use Rattle.std.specs.Prelude.{[], List};
+ghost use Rattle.oai_serving.specs.Rounds.{IsService, World, served_in};
+ghost use Rattle.oai_serving.specs.declared.faults.ServeFault.{ServeFault as Fault};
+ghost use Rattle.std.specs.Prelude.{[], IsTrue, List, Option, Result, length};
 
 use oai_http::Replayed;
 use oai_journal::Journal;
+use oai_serving::Stream;
 
 /// What the last of any number of lives of a handler left is one list of records, in which every answer that left has its place,
 /// in order over all lives: without a fault it is what the records before it make of what was asked, and its own record
@@ -34,4 +36,31 @@ pub fn life_law<H: Replayed, J: Journal>()
           reply = H.reply;
         }) J.Journal begun found first rounds held left
         → LivesAs H.redone H.reply begun found (served_in rounds) held left }
+{}
+
+/// A service, as `Server::serve` promises it, is such a life, for its clients too: each has the front of the answers to its own messages among
+/// those whose answers left, and each of these has its place among the records that a crash then leaves.
+pub fn service_law<S: Stream, H: Replayed, J: Journal>()
+    ensures { (begun : H.Kept) (found : List Entry) (known later : Option (List S)) (old new : World S (Parts H J))
+        (result : Result Unit Fault) (left : List Entry)
+        → IsService (IsExchange (record {
+          step = H.step;
+          Kept = H.Kept;
+          kept = H.kept;
+          is_honest = H.is_honest;
+          redone = H.redone;
+          reply = H.reply;
+        }) J.Journal) (IsSettled J.Journal) S.contents S.remaining known later old
+        result new
+        → IsHeld (record {
+          step = H.step;
+          Kept = H.Kept;
+          kept = H.kept;
+          is_honest = H.is_honest;
+          redone = H.redone;
+          reply = H.reply;
+        }) J.Journal begun old.handler found (length found)
+        → IsTrue (H.is_honest old.handler.handler)
+        → J.may_leave new.handler.journal left
+        → IsRemembered S.contents S.remaining H.redone H.reply begun found known later old new left }
 {}

@@ -8,5 +8,5 @@ mod records;
 mod recovery;
 
 pub use journaled::Journaled;
-pub use laws::{life_law, restart_law};
+pub use laws::{life_law, restart_law, service_law};
 pub use recovery::{Progress, RecoverFault, recover, resume};
