@@ -3,7 +3,7 @@ use Rattle.std.proofs.Common.{◌≡◌, ◌∙◌, ◌+◌, ◌-◌, ◌≤◌,
 use Rattle.std.proofs.Math.Seq.{drop-append-add}
 use Rattle.std.proofs.lemmas.List.{drop-drop, drop-take, length-take-le, take-append-drop, take-append-le}
 use Rattle.oai_paged.specs.Places.{PlaceState}
-use Rattle.oai_paged.specs.Sums.{AreExchanged, GroupState, IsGroup, IsSum}
+use Rattle.oai_paged.specs.Sums.{AreExchanged, GroupState, IsSoundGroup, IsSum}
 
 -- places before those that were exchanged
 window_before : (at len count first many : ℕ) (before after : List PlaceState) → AreExchanged at len count before after → first + many ≤ at → take many (drop first after) ≡ take many (drop first before)
@@ -27,14 +27,14 @@ window_behind at len count first new before after e behind is =
     ∙ drop-drop n (at + len) before
     ∙ ap (λ m. drop m before) far
 
-pub group_before : (at len count : ℕ) (before after : List PlaceState) (group : GroupState) → AreExchanged at len count before after → group.first + group.len ≤ at → IsGroup before group → IsGroup after group
+pub group_before : (at len count : ℕ) (before after : List PlaceState) (group : GroupState) → AreExchanged at len count before after → group.first + group.len ≤ at → IsSoundGroup before group → IsSoundGroup after group
 group_before at len count before after group e ends h sum known = subst (IsSum sum) (sym (window_before at len count group.first group.len before after e ends)) (h sum known)
 
 pub group_behind : (at len count new : ℕ) (before after : List PlaceState) (group moved : GroupState) → AreExchanged at len count before after → at + len ≤ group.first → new + len ≡ group.first + count
-    → moved ≡ record { first = new; len = group.len; sum = group.sum } → IsGroup before group → IsGroup after moved
+    → moved ≡ record { first = new; len = group.len; sum = group.sum } → IsSoundGroup before group → IsSoundGroup after moved
 group_behind at len count new before after group moved e behind is same h =
-    subst (IsGroup after) (sym same) (λ sum known. subst (λ (ps : List PlaceState). IsSum sum (take group.len ps)) (sym (window_behind at len count group.first new before after e behind is)) (h sum known))
+    subst (IsSoundGroup after) (sym same) (λ sum known. subst (λ (ps : List PlaceState). IsSum sum (take group.len ps)) (sym (window_behind at len count group.first new before after e behind is)) (h sum known))
 
 -- a group of which nothing is known
-pub group_none : (places : List PlaceState) (group : GroupState) → group.sum ≡ None → IsGroup places group
+pub group_none : (places : List PlaceState) (group : GroupState) → group.sum ≡ None → IsSoundGroup places group
 group_none places group none sum known = absurd (let no : ⊥ = cc in no)

@@ -6,7 +6,7 @@ use Rattle.oai_item.specs.Encoding.{Spells, encoded}
 use Rattle.oai_item.specs.Item.{ItemState}
 use Rattle.oai_paged.specs.Pages.{AreStorable}
 use Rattle.oai_paged.specs.Places.{IsSoundPlace, Pages, PlaceState}
-use Rattle.oai_paged.specs.Sums.{AreGroups, AreTotals, GroupState, IsGroup, IsSum, SumState}
+use Rattle.oai_paged.specs.Sums.{AreGroups, AreTotals, GroupState, IsSoundGroup, IsSum, SumState}
 use Rattle.oai_sums.specs.Sums.{SetTotal}
 
 Spells-prop : (item : ItemState) → IsProp (Spells (encoded item) item)
@@ -29,10 +29,10 @@ AreTotals-prop totals places = hlevel std.props
 IsSum-prop : (sum : SumState) (places : List PlaceState) → IsProp (IsSum sum places)
 IsSum-prop sum places = hlevel (AreTotals-prop, std.props)
 
-IsGroup-prop : (places : List PlaceState) (group : GroupState) → IsProp (IsGroup places group)
-IsGroup-prop places group = hlevel (IsSum-prop, std.props)
+IsSoundGroup-prop : (places : List PlaceState) (group : GroupState) → IsProp (IsSoundGroup places group)
+IsSoundGroup-prop places group = hlevel (IsSum-prop, std.props)
 
 pub AreGroups-prop : (places : List PlaceState) (groups : List GroupState) → IsProp (AreGroups places groups)
-AreGroups-prop places groups = AllByRecursion-prop _ (IsGroup-prop places) groups
+AreGroups-prop places groups = AllByRecursion-prop _ (IsSoundGroup-prop places) groups
 
 pub ruleset group_props = (AreGroups-prop, std.props)

@@ -60,12 +60,12 @@ pub record GroupState : Type 0 where
   pub sum : Option SumState
 
 -- what is known of the group is so
-abbrev pub IsGroup : List PlaceState → GroupState → Type 0
-IsGroup places group = (sum : SumState) → group.sum ≡ Some sum → IsSum sum (take group.len (drop group.first places))
+abbrev pub IsSoundGroup : List PlaceState → GroupState → Type 0
+IsSoundGroup places group = (sum : SumState) → group.sum ≡ Some sum → IsSum sum (take group.len (drop group.first places))
 
 -- what is known of the groups is so
 abbrev pub AreGroups : List PlaceState → List GroupState → Type 0
-AreGroups places groups = AllByRecursion (IsGroup places) groups
+AreGroups places groups = AllByRecursion (IsSoundGroup places) groups
 
 -- so many places were put in for those from `at` on
 pub record AreExchanged (at len count : ℕ) (before after : List PlaceState) : Type 0 where

@@ -1,7 +1,7 @@
 //! Groups of places of a directory that follow one another: what is known of the items of a group spares a look at each of its places.
 ghost use Rattle.std.specs.Prelude.{◌≡◌, ◌+◌, ◌<◌, ◌≤◌, List, [], None, length, drop, IfOk, IfSome, IsTrue};
 ghost use Rattle.oai_paged.specs.Places.{PlaceState};
-ghost use Rattle.oai_paged.specs.Sums.{AreExchanged, AreGroups, IsStretch, IsGroup, IsSumInside};
+ghost use Rattle.oai_paged.specs.Sums.{AreExchanged, AreGroups, IsStretch, IsSoundGroup, IsSumInside};
 
 use crate::places::SharedPlace;
 use crate::reading::{Wanted, ends_by};
@@ -146,7 +146,7 @@ impl Groups {
 
     /// Puts the group behind the others. The error is out of memory.
     fn push(&mut self, group: Group) -> Result<(), AllocError>
-        ensures { (places : List PlaceState) → IsGroup places group → AreGroups places self.old → AreGroups places self.new }
+        ensures { (places : List PlaceState) → IsSoundGroup places group → AreGroups places self.old → AreGroups places self.new }
     {
         self.groups.push(group)?;
         Ok(())
@@ -198,7 +198,7 @@ impl Groups {
 impl Group {
     /// The group of some places from `first` on.
     fn new(alloc: Global, places: &[SharedPlace], first: usize) -> Group
-        ensures { IsGroup places.now result }
+        ensures { IsSoundGroup places.now result }
     {
         let mut group = Group {
             first,
@@ -227,7 +227,7 @@ impl Group {
     /// Forgets what is known of the group where so many of its places from `at` on were changed, for which so many others were put in.
     fn exchange(&mut self, at: usize, len: usize, count: usize)
         ensures { (before after : List PlaceState) → AreExchanged at len count before after
-            → IsGroup before self.old → IsGroup after self.new }
+            → IsSoundGroup before self.old → IsSoundGroup after self.new }
     {
         if self.ends_by(at) {
             return;
@@ -249,7 +249,7 @@ impl Group {
 
     /// Finds out what is not known of the places of the group, as far as there is memory.
     fn sum_up(&mut self, alloc: Global, places: &[SharedPlace])
-        ensures { IsGroup places.now self.old → IsGroup places.now self.new }
+        ensures { IsSoundGroup places.now self.old → IsSoundGroup places.now self.new }
     {
         if self.sum.is_some() {
             return;
@@ -267,7 +267,7 @@ impl Group {
     /// The places of the group, where it begins at `at` and it is known how many of their items are wanted.
     fn stretch_at(&self, places: &[SharedPlace], at: usize, wanted: Wanted<'_>) -> Option<Stretch>
         requires within { at < length places.now }
-        requires group { IsGroup places.now self.now }
+        requires group { IsSoundGroup places.now self.now }
         ensures { IfSome result (λ stretch. IsStretch places.now wanted.entry.filter.now wanted.entry.stamp wanted.entry.identifier.now
             at stretch.places stretch.items) }
     {

@@ -1,5 +1,5 @@
 use Rattle.std.proofs.Common.{refl, subst, sym}
-use Rattle.oai_paged.specs.Sums.{IsGroup}
+use Rattle.oai_paged.specs.Sums.{IsSoundGroup}
 use Rattle.oai_paged.proofs.WindowLemmas.{group_before, group_behind}
 use Rattle.oai_paged.proofs.groups.Group.exchange.Goals as goal
 
@@ -9,4 +9,4 @@ returns-then-ends_by c = λ before after e h. group_before c.args.at c.args.len 
 pub returns-in-Some : goal.returns-in-Some
 returns-in-Some c = λ before after e h.
     group_behind c.args.at c.args.len c.args.count c.in-Some.first before after (record { first = c.self.inside.first; len = c.self.inside.len; sum = c.self.inside.sum }) _ e c.in-Some.ensures.0 c.in-Some.ensures.1 refl
-    (subst (IsGroup before) (sym c.self.view_is) h)
+    (subst (IsSoundGroup before) (sym c.self.view_is) h)

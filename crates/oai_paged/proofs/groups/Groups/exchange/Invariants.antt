@@ -1,7 +1,7 @@
 use Rattle.std.proofs.Common.{◌≡◌, List, drop, length, take}
 use Rattle.std.specs.List.{AllByRecursion}
 use Rattle.oai_paged.specs.Places.{PlaceState}
-use Rattle.oai_paged.specs.Sums.{AreExchanged, AreGroups, IsGroup}
+use Rattle.oai_paged.specs.Sums.{AreExchanged, AreGroups, IsSoundGroup}
 use Rattle.oai_paged.proofs.groups.Groups.exchange.Given as goal
 
 -- those so far are groups of the places after the exchange, the others of those before it
@@ -9,5 +9,5 @@ abbrev pub invariant-groups : goal.invariant-groups
 invariant-groups l = record {
   many : length l.self-inside.groups.items ≡ length l.fn.self;
   groups : (before after : List PlaceState) → AreExchanged l.at l.len l.count before after → AreGroups before l.fn.self
-      → AllByRecursion (IsGroup after) (take l.near l.self-inside.groups.items) × AllByRecursion (IsGroup before) (drop l.near l.self-inside.groups.items);
+      → AllByRecursion (IsSoundGroup after) (take l.near l.self-inside.groups.items) × AllByRecursion (IsSoundGroup before) (drop l.near l.self-inside.groups.items);
 }
