@@ -117,7 +117,9 @@ ended 1 "$("$daemon" verify "$folder/cut" 2>&1 | grep 'journal: damaged at byte 
 
 mkdir "$folder/begun"
 printf '+17' >"$folder/begun/journal.new"
+head -c 1000000 /dev/zero >"$folder/begun/pages"
 ended 124 '' 'a start that was cut off' serve "$config" 0 "$folder/begun"
+[ "$(stat -c %s "$folder/begun/pages")" -lt 1000000 ] || { echo "the pages of before were not emptied"; wrong=1; }
 [ ! -e "$folder/begun/journal.new" ] || { echo "a start that was cut off: journal.new is still there"; wrong=1; }
 
 [ "$wrong" = 0 ] && echo "daemon-statuses: none differs"
