@@ -19,6 +19,11 @@ pub record StandsIn {P : Type 0} (g : Ghosts P) (pool : P) (places : List PlaceS
   pub directory : IsDirectory (g.pages pool) places
   pub named : (n : ℕ) → named_in places n ≤ count_of (g.counts pool) n
 
+-- so many places from `at` on are at most one, and among as many as there are
+pub record IsOneWithin (at len count : ℕ) : Type 0 where
+  pub within : at + len ≤ count
+  pub one : len ≤ 1
+
 -- the items may stand in the place of those of so many places from `at` on: all are then in order
 abbrev pub MayStand : Pages → List PlaceState → ℕ → ℕ → List ItemState → Type 0
 MayStand pages places at len items =

@@ -5,7 +5,7 @@ ghost use Rattle.oai_item.specs.Item.{ItemState};
 ghost use Rattle.oai_item.specs.Order.{are_in_order};
 ghost use Rattle.oai_pool.specs.Counts.{count_of};
 ghost use Rattle.oai_paged.specs.Calls.{Adds, AddsPages, ChangesNothing, FreesPages, HasWayBack, IsDirectoryChanged, Renames, Takes};
-ghost use Rattle.oai_paged.specs.Directory.{MayStand, StandsIn};
+ghost use Rattle.oai_paged.specs.Directory.{IsOneWithin, MayStand, StandsIn};
 ghost use Rattle.oai_paged.specs.Pages.{AreCuts, FitAlone, between, overflow_of, pages_of};
 ghost use Rattle.oai_paged.specs.Places.{have_records, named_in};
 ghost use Rattle.oai_paged.specs.Recounts.{AddsNumbers, Recounts};
@@ -52,8 +52,7 @@ pub(crate) fn change<P: PagePool>(
     entries: &Entries,
     cuts: Cuts,
 ) -> Result<Changed, Fault>
-    requires within { at + len ≤ vec_len places.old }
-    requires one { len ≤ 1 }
+    requires within { IsOneWithin at len (vec_len places.old) }
     requires stands { StandsIn P.PagePool pages.old places.old.items }
     requires cuts { AreCuts entries.now cuts.first cuts.second }
     requires may_stand { MayStand (P.pages pages.old) places.old.items at len entries.now }

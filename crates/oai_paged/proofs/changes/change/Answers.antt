@@ -26,7 +26,7 @@ returns-in-Ok-clause-ok g c =
     let before : List PlaceState = c.args.places.now.items in
     let others : List PlaceState = c.in_ok-others.others.items in
     is_changed g.P.PagePool c.args.entries.now at len c.len-count.result others c.exchange.new.others.items before c.exchange.new.places.items c.args.pages.now c.add_all.new.pages c.requires.stands
-    (omega (arith, c.requires.within, c.args.places.now.ok.0)) c.in_ok-others.ensures.added c.requires.may_stand
+    (omega (arith, c.requires.within.within, c.args.places.now.ok.0)) c.in_ok-others.ensures.added c.requires.may_stand
     (omega (arith, c.len-count.ensures, c.reserve.new.others.ok.0, ap length c.reserve.ensures.others))
     (c.exchange.ensures.others ∙ ap (λ ps. take len (drop at ps)) c.reserve.ensures.places)
     (c.exchange.ensures.places
@@ -37,6 +37,6 @@ pub returns-in-Ok-clause-groups : goal.returns-in-Ok-clause-groups
 returns-in-Ok-clause-groups g c = c.exchange-in-Ok.ensures c.args.places.now.items c.exchange.new.places.items (record {
   added = c.reserve.new.others.items;
   many = omega (arith, c.len-count.ensures, c.reserve.new.others.ok.0);
-  within = omega (arith, c.requires.within, c.args.places.now.ok.0);
+  within = omega (arith, c.requires.within.within, c.args.places.now.ok.0);
   is = c.exchange.ensures.places ∙ ap (λ ps. take c.args.at ps ++ (c.reserve.new.others.items ++ drop (c.args.at + c.args.len) ps)) c.reserve.ensures.places;
 })
