@@ -14,6 +14,12 @@ pub record BelongsAt (places : List PlaceState) (stamp : ℤ) (identifier : List
   pub not_above : 0 < at → HoldsAt (λ place. is_gt (first_cmp place stamp identifier) ≡ false) places at
   pub below : at + 1 < length places → HoldsAt (λ place. is_gt (first_cmp place stamp identifier) ≡ true) places (at + 1)
 
+-- the place at `at` is one of so many, passes the test, and is the one to which an item of that datestamp and identifier belongs
+pub record IsPlaceFor (test : PlaceState → Type 0) (places : List PlaceState) (count : ℕ) (stamp : ℤ) (identifier : List ℕ) (at : ℕ) : Type 0 where
+  pub within : at < count
+  pub passes : HoldsAt test places at
+  pub belongs : BelongsAt places stamp identifier at
+
 -- items that may have been read at this place: those of a page, of which the first is the one that the place names, and the last stands before
 -- the first of the next place; those of a place of one page fit on it
 pub record MayBeAt (places : List PlaceState) (at : ℕ) (items : List ItemState) : Type 0 where

@@ -4,9 +4,9 @@ ghost use Rattle.oai_item.specs.Encoding.{encoded};
 ghost use Rattle.oai_item.specs.Items.{item_at, with_item, without_at};
 ghost use Rattle.oai_item.specs.declared.sizes.TheConstants.{MAX_ITEM_BYTES};
 ghost use Rattle.oai_paged.specs.Calls.{Changes, HasWayBack, PutsItem, Takes, TakesItemOut};
-ghost use Rattle.oai_paged.specs.Directory.{PutsAt, StandsIn};
+ghost use Rattle.oai_paged.specs.Directory.{IsOneWithin, PutsAt, StandsIn};
 ghost use Rattle.oai_paged.specs.Places.{items_on};
-ghost use Rattle.oai_paged.specs.Searches.{BelongsAt};
+ghost use Rattle.oai_paged.specs.Searches.{IsPlaceFor};
 ghost use Rattle.oai_paged.specs.Sums.{AreGroups};
 ghost use Rattle.oai_paged.specs.declared.sizes.TheConstants.{MAX_OVERFLOW_PAGES};
 
@@ -149,9 +149,7 @@ fn put_among<P: PagePool>(
     at: usize,
     item: &Item,
 ) -> Result<Changed, Fault>
-    requires within { at < vec_len places.old }
-    requires short { HoldsAt (λ place. length place.pages ≤ 1) places.old.items at }
-    requires belongs { BelongsAt places.old.items item.now.stamp item.now.identifier at }
+    requires place { IsPlaceFor (λ place. length place.pages ≤ 1) places.old.items (vec_len places.old) item.now.stamp item.now.identifier at }
     requires stands { StandsIn P.PagePool pages.old places.old.items }
     requires fits { length (encoded item.now) ≤ MAX_ITEM_BYTES }
     ensures item { PutsItem P.PagePool item.now result places.old.items places.new.items pages.old pages.new }
@@ -177,9 +175,7 @@ fn put_by_long<P: PagePool>(
     at: usize,
     item: &Item,
 ) -> Result<Changed, Fault>
-    requires within { at < vec_len places.old }
-    requires long { HoldsAt (λ place. 1 < length place.pages) places.old.items at }
-    requires belongs { BelongsAt places.old.items item.now.stamp item.now.identifier at }
+    requires place { IsPlaceFor (λ place. 1 < length place.pages) places.old.items (vec_len places.old) item.now.stamp item.now.identifier at }
     requires stands { StandsIn P.PagePool pages.old places.old.items }
     requires fits { length (encoded item.now) ≤ MAX_ITEM_BYTES }
     ensures item { PutsItem P.PagePool item.now result places.old.items places.new.items pages.old pages.new }
@@ -206,8 +202,7 @@ fn put_alone<P: PagePool>(
     len: usize,
     item: &Item,
 ) -> Result<Changed, Fault>
-    requires within { at + len ≤ vec_len places.old }
-    requires one { len ≤ 1 }
+    requires within { IsOneWithin at len (vec_len places.old) }
     requires stands { StandsIn P.PagePool pages.old places.old.items }
     requires fits { length (encoded item.now) ≤ MAX_ITEM_BYTES }
     requires puts { PutsAt (P.pages pages.old) places.old.items item.now at len }
@@ -260,9 +255,7 @@ fn take_out_among<P: PagePool>(
     stamp: i64,
     identifier: &str,
 ) -> Result<Option<Changed>, Fault>
-    requires within { at < vec_len places.old }
-    requires short { HoldsAt (λ place. length place.pages ≤ 1) places.old.items at }
-    requires belongs { BelongsAt places.old.items stamp identifier.now at }
+    requires place { IsPlaceFor (λ place. length place.pages ≤ 1) places.old.items (vec_len places.old) stamp identifier.now at }
     requires stands { StandsIn P.PagePool pages.old places.old.items }
     ensures item { TakesItemOut P.PagePool stamp identifier.now result places.old.items places.new.items pages.old pages.new }
     ensures back { IfOk result (λ changed. IfSome changed (λ some. HasWayBack some.at some.len
@@ -293,9 +286,7 @@ fn take_out_long<P: PagePool>(
     stamp: i64,
     identifier: &str,
 ) -> Result<Option<Changed>, Fault>
-    requires within { at < vec_len places.old }
-    requires long { HoldsAt (λ place. 1 < length place.pages) places.old.items at }
-    requires belongs { BelongsAt places.old.items stamp identifier.now at }
+    requires place { IsPlaceFor (λ place. 1 < length place.pages) places.old.items (vec_len places.old) stamp identifier.now at }
     requires stands { StandsIn P.PagePool pages.old places.old.items }
     ensures item { TakesItemOut P.PagePool stamp identifier.now result places.old.items places.new.items pages.old pages.new }
     ensures back { IfOk result (λ changed. IfSome changed (λ some. HasWayBack some.at some.len

@@ -14,15 +14,15 @@ put_alone-requires-clause-puts g c =
     let item : ItemState = c.args.item.now in
     let places : List PlaceState = c.args.places.now.items in
     let at = c.args.at in
-    let within : at < length places = omega (arith, c.requires.within, c.args.places.now.ok.0) in
+    let within : at < length places = omega (arith, c.requires.place.within, c.args.places.now.ok.0) in
     let place : PlaceState = get_or places at no_place in
     let here : c.index.result.now ≡ place = get_or_read places at c.index.result.now within c.index.ensures no_place in
     let fits : FitsSigned w64 c.stamp.result = record { sfits = c.stamp.type_inv } in
-    let one = lone pages place (placed-cut pages places at no_place within c.requires.stands.directory.placed).0 (c.requires.long no_place) in
+    let one = lone pages place (placed-cut pages places at no_place within c.requires.stands.directory.placed).0 (c.requires.place.passes no_place) in
     let text : c.as_str.result.now ≡ item.identifier = c.as_str.ensures.text ∙ c.identifier.ensures in
     let seen : c.order_to.result ≡ first_cmp place item.stamp item.identifier =
     c.order_to.ensures ∙ (λ i. first_cmp (here i) ((to_z-of_z w64 c.stamp.result fits ∙ c.stamp.ensures.stamp) i) (text i)) in
-    puts_behind pages places item at c.requires.stands.directory within c.requires.belongs one (sym seen ∙ c.in-Less.is)
+    puts_behind pages places item at c.requires.stands.directory within c.requires.place.belongs one (sym seen ∙ c.in-Less.is)
 
 pub put_alone-requires-in-Equal-clause-puts : goal.put_alone-requires-in-Equal-clause-puts
 put_alone-requires-in-Equal-clause-puts g c =
@@ -31,15 +31,15 @@ put_alone-requires-in-Equal-clause-puts g c =
     let item : ItemState = c.args.item.now in
     let places : List PlaceState = c.args.places.now.items in
     let at = c.args.at in
-    let within : at < length places = omega (arith, c.requires.within, c.args.places.now.ok.0) in
+    let within : at < length places = omega (arith, c.requires.place.within, c.args.places.now.ok.0) in
     let place : PlaceState = get_or places at no_place in
     let here : c.index.result.now ≡ place = get_or_read places at c.index.result.now within c.index.ensures no_place in
     let fits : FitsSigned w64 c.stamp.result = record { sfits = c.stamp.type_inv } in
-    let one = lone pages place (placed-cut pages places at no_place within c.requires.stands.directory.placed).0 (c.requires.long no_place) in
+    let one = lone pages place (placed-cut pages places at no_place within c.requires.stands.directory.placed).0 (c.requires.place.passes no_place) in
     let text : c.as_str.result.now ≡ item.identifier = c.as_str.ensures.text ∙ c.identifier.ensures in
     let seen : c.order_to.result ≡ first_cmp place item.stamp item.identifier =
     c.order_to.ensures ∙ (λ i. first_cmp (here i) ((to_z-of_z w64 c.stamp.result fits ∙ c.stamp.ensures.stamp) i) (text i)) in
-    puts_instead pages places item at c.requires.stands.directory within c.requires.belongs one (sym seen ∙ c.in-Equal.is)
+    puts_instead pages places item at c.requires.stands.directory within c.requires.place.belongs one (sym seen ∙ c.in-Equal.is)
 
 pub put_alone-requires-in-Greater-clause-puts : goal.put_alone-requires-in-Greater-clause-puts
 put_alone-requires-in-Greater-clause-puts g c =
@@ -48,12 +48,12 @@ put_alone-requires-in-Greater-clause-puts g c =
     let item : ItemState = c.args.item.now in
     let places : List PlaceState = c.args.places.now.items in
     let at = c.args.at in
-    let within : at < length places = omega (arith, c.requires.within, c.args.places.now.ok.0) in
+    let within : at < length places = omega (arith, c.requires.place.within, c.args.places.now.ok.0) in
     let place : PlaceState = get_or places at no_place in
     let here : c.index.result.now ≡ place = get_or_read places at c.index.result.now within c.index.ensures no_place in
     let fits : FitsSigned w64 c.stamp.result = record { sfits = c.stamp.type_inv } in
-    let one = lone pages place (placed-cut pages places at no_place within c.requires.stands.directory.placed).0 (c.requires.long no_place) in
+    let one = lone pages place (placed-cut pages places at no_place within c.requires.stands.directory.placed).0 (c.requires.place.passes no_place) in
     let text : c.as_str.result.now ≡ item.identifier = c.as_str.ensures.text ∙ c.identifier.ensures in
     let seen : c.order_to.result ≡ first_cmp place item.stamp item.identifier =
     c.order_to.ensures ∙ (λ i. first_cmp (here i) ((to_z-of_z w64 c.stamp.result fits ∙ c.stamp.ensures.stamp) i) (text i)) in
-    puts_before pages places item at c.requires.stands.directory within c.requires.belongs one (sym seen ∙ c.in-Greater.is)
+    puts_before pages places item at c.requires.stands.directory within c.requires.place.belongs one (sym seen ∙ c.in-Greater.is)

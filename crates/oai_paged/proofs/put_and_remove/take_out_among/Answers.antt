@@ -14,7 +14,7 @@ use Rattle.oai_paged.proofs.put_and_remove.take_out_among.Goals as goal
 pub cuts-cuts-requires-clause-size : goal.cuts-cuts-requires-clause-size
 cuts-cuts-requires-clause-size g c =
     let at = c.args.at in
-    let few = c.requires.short no_place in
+    let few = c.requires.place.passes no_place in
     let fits : fit_one c.in_ok-old.old ≡ true =
     c.in_ok-old.ensures.fits.fits no_place (omega (arith, few, ap (λ (ps : List PlaceState). length (get_or ps at no_place).pages) c.as_slice.ensures.value)) in
     let left = rw c.in-Some.is at c.in_ok-entries.ensures.one_page in
@@ -23,7 +23,7 @@ cuts-cuts-requires-clause-size g c =
 pub cuts-cuts-requires-clause-short : goal.cuts-cuts-requires-clause-short
 cuts-cuts-requires-clause-short g c =
     let at = c.args.at in
-    let few = c.requires.short no_place in
+    let few = c.requires.place.passes no_place in
     let fits : fit_one c.in_ok-old.old ≡ true =
     c.in_ok-old.ensures.fits.fits no_place (omega (arith, few, ap (λ (ps : List PlaceState). length (get_or ps at no_place).pages) c.as_slice.ensures.value)) in
     let left = rw c.in-Some.is at c.in_ok-entries.ensures.one_page in
@@ -38,18 +38,18 @@ change-requires-clause-may_stand g c =
     let before : List PlaceState = c.args.places.now.items in
     let old : List ItemState = c.in_ok-old.old in
     let at = c.args.at in
-    let within : at < length before = omega (arith, c.requires.within, c.args.places.now.ok.0) in
+    let within : at < length before = omega (arith, c.requires.place.within, c.args.places.now.ok.0) in
     let taken : IsRemoval stamp identifier old c.in_ok-entries.field-0 =
     subst (λ (z : ℤ). IsRemoval z identifier old c.in_ok-entries.field-0) (to_z-of_z w64 stamp c.ranges.stamp) c.in_ok-entries.ensures.removal in
     let removal : IsRemoval stamp identifier old (Some c.in-Some.entries) = subst (λ (o : Option (List ItemState)). IsRemoval stamp identifier old o) c.in-Some.is taken in
     let read : MayBeAt before at old = subst (λ (ps : List PlaceState). MayBeAt ps at old) c.as_slice.ensures.value c.in_ok-old.ensures.fits in
     let stands = stands_read G c.read_place.result before p c.read_place.new.pages c.requires.stands c.read_place.ensures.pages in
-    rw removal.1 (may_stand_without (G.pages c.read_place.new.pages) before stamp identifier at old stands.directory within c.requires.belongs read)
+    rw removal.1 (may_stand_without (G.pages c.read_place.new.pages) before stamp identifier at old stands.directory within c.requires.place.belongs read)
 
 pub returns-in_err-changed-in-Some-clause-pool : goal.returns-in_err-changed-in-Some-clause-pool
 returns-in_err-changed-in-Some-clause-pool g c =
     let at = c.args.at in
-    let few = c.requires.short no_place in
+    let few = c.requires.place.passes no_place in
     let fits : fit_one c.in_ok-old.old ≡ true =
     c.in_ok-old.ensures.fits.fits no_place (omega (arith, few, ap (λ (ps : List PlaceState). length (get_or ps at no_place).pages) c.as_slice.ensures.value)) in
     let left = rw c.in-Some.is at c.in_ok-entries.ensures.one_page in
@@ -65,7 +65,7 @@ returns-in_err-changed-in-Some-clause-pool g c =
 pub returns-in-Some-clause-pool : goal.returns-in-Some-clause-pool
 returns-in-Some-clause-pool g c =
     let at = c.args.at in
-    let few = c.requires.short no_place in
+    let few = c.requires.place.passes no_place in
     let fits : fit_one c.in_ok-old.old ≡ true =
     c.in_ok-old.ensures.fits.fits no_place (omega (arith, few, ap (λ (ps : List PlaceState). length (get_or ps at no_place).pages) c.as_slice.ensures.value)) in
     let left = rw c.in-Some.is at c.in_ok-entries.ensures.one_page in
@@ -86,7 +86,7 @@ returns-in-Some-clause-item g c =
     let before : List PlaceState = c.args.places.now.items in
     let old : List ItemState = c.in_ok-old.old in
     let at = c.args.at in
-    let within : at < length before = omega (arith, c.requires.within, c.args.places.now.ok.0) in
+    let within : at < length before = omega (arith, c.requires.place.within, c.args.places.now.ok.0) in
     let taken : IsRemoval stamp identifier old c.in_ok-entries.field-0 =
     subst (λ (z : ℤ). IsRemoval z identifier old c.in_ok-entries.field-0) (to_z-of_z w64 stamp c.ranges.stamp) c.in_ok-entries.ensures.removal in
     let removal : IsRemoval stamp identifier old (Some c.in-Some.entries) = subst (λ (o : Option (List ItemState)). IsRemoval stamp identifier old o) c.in-Some.is taken in
@@ -95,7 +95,7 @@ returns-in-Some-clause-item g c =
       list = λ honest.
           let held : old ≡ items_at (G.pages p) (get_or c.as_slice.result.now at no_place) = c.in_ok-old.ensures.items honest no_place in
           one_removed G c.read_place.result stamp identifier old c.in-Some.entries at changed.at changed.len changed.gone.items before c.change.new.places.items p c.read_place.new.pages c.change.new.pages
-          c.requires.stands c.read_place.ensures.pages within c.requires.belongs c.in_ok-changed-in-Some.ensures.ok (sym removal.0) removal.1
+          c.requires.stands c.read_place.ensures.pages within c.requires.place.belongs c.in_ok-changed-in-Some.ensures.ok (sym removal.0) removal.1
           (held ∙ ap (λ (ps : List PlaceState). items_at (G.pages p) (get_or ps at no_place)) c.as_slice.ensures.value);
       staged = search rules;
       none = search rules;
@@ -111,14 +111,14 @@ returns-clause-item g c =
     let before : List PlaceState = c.args.places.now.items in
     let old : List ItemState = c.in_ok-old.old in
     let at = c.args.at in
-    let within : at < length before = omega (arith, c.requires.within, c.args.places.now.ok.0) in
+    let within : at < length before = omega (arith, c.requires.place.within, c.args.places.now.ok.0) in
     let taken : IsRemoval stamp identifier old c.in_ok-entries.field-0 =
     subst (λ (z : ℤ). IsRemoval z identifier old c.in_ok-entries.field-0) (to_z-of_z w64 stamp c.ranges.stamp) c.in_ok-entries.ensures.removal in
     let removal : IsRemoval stamp identifier old None = subst (λ (o : Option (List ItemState)). IsRemoval stamp identifier old o) c.in-None.is taken in
     record {
       list = λ honest.
           let held : old ≡ items_at (G.pages p) (get_or c.as_slice.result.now at no_place) = c.in_ok-old.ensures.items honest no_place in
-          none_removed (G.pages p) (G.pages c.read_place.new.pages) stamp identifier old at before c.requires.stands.directory within c.requires.belongs removal
+          none_removed (G.pages p) (G.pages c.read_place.new.pages) stamp identifier old at before c.requires.stands.directory within c.requires.place.belongs removal
           (held ∙ ap (λ (ps : List PlaceState). items_at (G.pages p) (get_or ps at no_place)) c.as_slice.ensures.value) c.read_place.ensures.pages.same;
       staged = search rules;
       none = search rules;

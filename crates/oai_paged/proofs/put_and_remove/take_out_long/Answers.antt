@@ -23,16 +23,16 @@ returns-then-ne-clause-item g c =
     let at = c.args.at in
     let stamp : ℤ = c.args.stamp in
     let identifier : List ℕ = c.args.identifier.now in
-    let within : at < length places = omega (arith, c.requires.within, c.args.places.now.ok.0) in
+    let within : at < length places = omega (arith, c.requires.place.within, c.args.places.now.ok.0) in
     let place : PlaceState = get_or places at no_place in
     let here : c.index.result.now ≡ place = get_or_read places at c.index.result.now within c.index.ensures no_place in
-    let one = lone pages place (placed-cut pages places at no_place within c.requires.stands.directory.placed).0 (c.requires.long no_place) in
+    let one = lone pages place (placed-cut pages places at no_place within c.requires.stands.directory.placed).0 (c.requires.place.passes no_place) in
     let seen : c.order_to.result ≡ first_cmp place stamp identifier =
     c.order_to.ensures ∙ (λ i. first_cmp (here i) (to_z-of_z w64 stamp c.ranges.stamp i) identifier) in
     let other : is_eq (first_cmp place stamp identifier) ≡ false = ap is_eq (sym seen) ∙ unequal_from c.order_to.result (sym c.ne.ensures ∙ c.if-ne.true) in
     record {
-      list = λ honest. none_removed pages pages stamp identifier (items_at pages place) at places c.requires.stands.directory within c.requires.belongs
-          (lone_other pages places stamp identifier at c.requires.stands.directory within c.requires.belongs one other) refl refl;
+      list = λ honest. none_removed pages pages stamp identifier (items_at pages place) at places c.requires.stands.directory within c.requires.place.belongs
+          (lone_other pages places stamp identifier at c.requires.stands.directory within c.requires.place.belongs one other) refl refl;
       staged = search rules;
       none = search rules;
       err = search rules;
@@ -47,14 +47,14 @@ change-requires-clause-may_stand g c =
     let at = c.args.at in
     let stamp : ℤ = c.args.stamp in
     let identifier : List ℕ = c.args.identifier.now in
-    let within : at < length places = omega (arith, c.requires.within, c.args.places.now.ok.0) in
+    let within : at < length places = omega (arith, c.requires.place.within, c.args.places.now.ok.0) in
     let place : PlaceState = get_or places at no_place in
     let here : c.index.result.now ≡ place = get_or_read places at c.index.result.now within c.index.ensures no_place in
-    let one = lone pages place (placed-cut pages places at no_place within c.requires.stands.directory.placed).0 (c.requires.long no_place) in
+    let one = lone pages place (placed-cut pages places at no_place within c.requires.stands.directory.placed).0 (c.requires.place.passes no_place) in
     let seen : c.order_to.result ≡ first_cmp place stamp identifier =
     c.order_to.ensures ∙ (λ i. first_cmp (here i) (to_z-of_z w64 stamp c.ranges.stamp i) identifier) in
     let same : first_cmp place stamp identifier ≡ Equal = sym seen ∙ equal_from c.order_to.result (sym c.ne.ensures ∙ c.if-ne.false) in
-    subst (λ (es : List ItemState). MayStand pages places at 1 es) (sym c.new-none.ensures) (may_stand_left pages places stamp identifier at c.requires.stands.directory within c.requires.belongs one same)
+    subst (λ (es : List ItemState). MayStand pages places at 1 es) (sym c.new-none.ensures) (may_stand_left pages places stamp identifier at c.requires.stands.directory within c.requires.place.belongs one same)
 
 pub returns-in_err-changed-clause-pool : goal.returns-in_err-changed-clause-pool
 returns-in_err-changed-clause-pool g c =
@@ -71,10 +71,10 @@ returns-clause-item g c =
     let at = c.args.at in
     let stamp : ℤ = c.args.stamp in
     let identifier : List ℕ = c.args.identifier.now in
-    let within : at < length places = omega (arith, c.requires.within, c.args.places.now.ok.0) in
+    let within : at < length places = omega (arith, c.requires.place.within, c.args.places.now.ok.0) in
     let place : PlaceState = get_or places at no_place in
     let here : c.index.result.now ≡ place = get_or_read places at c.index.result.now within c.index.ensures no_place in
-    let one = lone pages place (placed-cut pages places at no_place within c.requires.stands.directory.placed).0 (c.requires.long no_place) in
+    let one = lone pages place (placed-cut pages places at no_place within c.requires.stands.directory.placed).0 (c.requires.place.passes no_place) in
     let seen : c.order_to.result ≡ first_cmp place stamp identifier =
     c.order_to.ensures ∙ (λ i. first_cmp (here i) (to_z-of_z w64 stamp c.ranges.stamp i) identifier) in
     let same : first_cmp place stamp identifier ≡ Equal = sym seen ∙ equal_from c.order_to.result (sym c.ne.ensures ∙ c.if-ne.false) in
@@ -82,7 +82,7 @@ returns-clause-item g c =
     let after : List PlaceState = c.change.new.places.items in
     let changed = c.in_ok-changed.changed in
     record {
-      list = λ honest. lone_removed G stamp identifier at changed.at changed.len changed.gone.items places after p q c.requires.stands within c.requires.belongs one same
+      list = λ honest. lone_removed G stamp identifier at changed.at changed.len changed.gone.items places after p q c.requires.stands within c.requires.place.belongs one same
           (subst (λ (es : List ItemState). IsDirectoryChanged G es at 1 changed.at changed.len changed.gone.items places after p q) c.new-none.ensures c.in_ok-changed.ensures.ok);
       staged = search rules;
       none = search rules;
