@@ -4,3 +4,4 @@ pub mod Answers
 pub mod Bodies
 pub mod Targets
 pub mod Redone
+pub mod Parts

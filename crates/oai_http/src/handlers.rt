@@ -1,11 +1,13 @@
-ghost use Rattle.std.specs.Prelude.{◌≡◌, ◌≤◌, ℤ, Bool, IfSome, IsTrue, None, OnOk, Result, length, max};
+ghost use Rattle.std.specs.Prelude.{◌≡◌, ◌≤◌, ◌++◌, ℕ, ℤ, Bool, IfSome, IsTrue, List, None, OnOk, Result, length, max};
 ghost use Rattle.oai_http.specs.Exchanges.{Asked, asked_by, call_at};
+ghost use Rattle.oai_http.specs.Parts.{PartState, as_part, restored_all};
 ghost use Rattle.oai_http.specs.Redone.{call_again, is_short_name, left_again};
 ghost use Rattle.oai_http.specs.declared.exchanges.Answer.{Answer as Given};
 ghost use Rattle.oai_http.specs.declared.exchanges.Call.{Call as Calls};
 ghost use Rattle.oai_http.specs.declared.handlers.SettleFault.{SettleFault as Unsettled};
 
 use crate::exchanges::{Answer, Exchange};
+use crate::parts::{Part, SaveFault, Sink};
 use crate::targets::Endpoint;
 use oai_item::Fault;
 use thiserror::Error;
@@ -87,6 +89,43 @@ pub trait Replayed: Handler {
         ensures redone { OnOk result (IsTrue (is_honest self.old)
             → kept self.new ≡ redone (kept self.old) (call_again moment performed.now)) }
         ensures honesty { is_honest self.new ≡ is_honest self.old };
+
+    /// What is kept once a part was restored behind those before it.
+    ghost restored: { Kept → PartState → Kept };
+
+    /// The parts of what is kept, in the order in which they can be restored; open lists have none.
+    ghost parts: { Kept → List PartState };
+
+    /// What is kept, with no list open, and with the number of each next list raised by so many.
+    ghost ended: { ℕ → Kept → Kept };
+
+    /// What a handler of the same repositories keeps as it begins.
+    ghost emptied: { Kept → Kept };
+
+    /// Restores a part behind those that were restored before. Any fault may come, and `Damaged` where the part does not fit: no
+    /// repository has its name, its bytes spell nothing, or the repository would not keep it.
+    fn restore(&mut self, part: &Part<'_>) -> Result<(), Fault>
+        ensures restored { OnOk result (IsTrue (is_honest self.old)
+            → kept self.new ≡ restored (kept self.old) (as_part part.now)) }
+        ensures honesty { is_honest self.new ≡ is_honest self.old };
+
+    /// Hands all parts to the sink, with the number of each next list raised by so many. The handler keeps what it kept.
+    fn save<S: Sink>(&mut self, raise: u32, sink: &mut S) -> Result<(), SaveFault>
+        ensures saved { OnOk result (IsTrue (is_honest self.old) → (before : List PartState) → S.has sink.old before
+            → S.has sink.new (before ++ parts (ended raise (kept self.old)))) }
+        ensures same { kept self.new ≡ kept self.old }
+        ensures honesty { is_honest self.new ≡ is_honest self.old };
+
+    /// What is saved can be restored.
+    ghost whole: { (handler : Self) (raise : ℕ) → IsTrue (is_honest handler)
+        → restored_all restored (emptied (kept handler)) (parts (ended raise (kept handler)))
+        ≡ ended raise (kept handler) };
+
+    /// A call leaves the repositories.
+    ghost same_redone: { (state : Kept) (call : Calls) → emptied (redone state call) ≡ emptied state };
+
+    /// A part that is restored leaves the repositories.
+    ghost same_restored: { (state : Kept) (part : PartState) → emptied (restored state part) ≡ emptied state };
 }
 
 /// A handler whose answers stand only once it has settled.
