@@ -14,3 +14,4 @@ pub mod Seen
 pub mod Views
 pub mod Indexing
 pub mod Purges
+pub mod Saved
