@@ -211,6 +211,13 @@ impl Lists {
         earliest(self.lists.as_slice(), now)
     }
 
+    /// The number that the next list gets; the last of 64 bits is given to none.
+    pub fn next_number(&self) -> u64
+        ensures { result ≡ self.now.next }
+    {
+        self.next
+    }
+
     /// How many lists are held. Lists that have ended and were not dropped yet are counted.
     pub fn len(&self) -> usize
         ensures count { result ≡ length self.now.lists }

@@ -1,13 +1,18 @@
--- What a purge reads and takes out, for the calls behind those of a repository: this repository's own.
+-- What a purge, and a read of all items, ask for, and what a purge takes out, for the calls behind those of a repository: this
+-- repository's own.
 use Rattle.std.specs.Prelude.{◌≡◌, ℤ, ◌-ℤ◌, pos, not, Bool, List, [], ◌∷◌, codes, Some, None}
 use Rattle.oai_time.specs.declared.text.TheConstants.{FIRST_SECOND}
 use Rattle.oai_item.specs.Item.{ItemState, has_record}
 use Rattle.oai_item.specs.Items.{item_named, without_at}
 use Rattle.oai_item.specs.Selection.{Filter}
 
--- what asks for the items of datestamps below the limit: each has a record in unqualified Dublin Core (OAI-PMH 2.0, section 2.5)
+-- what asks for the items of datestamps up to that one: each has a record in unqualified Dublin Core (OAI-PMH 2.0, section 2.5)
+abbrev pub until : ℤ → Filter
+until last = record { prefix = codes "oai_dc"; lower = FIRST_SECOND; upper = last; set = None }
+
+-- what asks for those of datestamps below the limit
 abbrev pub below : ℤ → Filter
-below limit = record { prefix = codes "oai_dc"; lower = FIRST_SECOND; upper = limit -ℤ pos 1; set = None }
+below limit = until (limit -ℤ pos 1)
 
 -- the item has such a record
 abbrev pub is_in_core : ItemState → Bool

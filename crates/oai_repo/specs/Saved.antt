@@ -1,8 +1,18 @@
 -- The parts of a repository's state, and the state that they make when they are restored one after the other. This repository's own.
-use Rattle.std.specs.Prelude.{ℕ, ℤ, ◌+◌, List, [], ◌∷◌, ◌++◌, map}
+use Rattle.std.specs.Prelude.{ℕ, ℤ, ◌+◌, Bool, true, false, ◌==◌, ◌&&◌, nat_lt, List, [], ◌∷◌, ◌++◌, length, map, Option, None, Some, is_none, Result, Ok, Err}
 use Rattle.oai_item.specs.Item.{ItemState}
-use Rattle.oai_repo.specs.Changes.{with_new}
+use Rattle.oai_item.specs.Items.{items_after}
+use Rattle.oai_item.specs.declared.faults.Fault.{Fault}
+use Rattle.oai_lists.specs.OpenLists.{Table}
+use Rattle.oai_repo.specs.Changes.{set_refusal, with_new}
+use Rattle.oai_repo.specs.Fields.{RepoFields}
+use Rattle.oai_repo.specs.Kept.{is_well_kept}
 use Rattle.oai_repo.specs.State.{NamedSet, RepoState}
+use Rattle.oai_repo.specs.declared.saved_parts.SavedPart.{SavedPart}
+use Rattle.oai_repo.specs.declared.saved_parts.SavedPart.TheVariants.{Begins, HasSet, HasItem}
+use Rattle.oai_settings.specs.Config.{Config, is_in_years}
+
+-- ---- the parts of a state
 
 -- a part: the clock, in seconds from 1970 on, and the number of the next list; or a set; or an item
 pub data Part : Type 0 where
@@ -10,11 +20,28 @@ pub data Part : Type 0 where
   has_named_set : NamedSet → Part
   has_item : ItemState → Part
 
+-- the part that is to be restored
+abbrev pub part_state : SavedPart → Part
+part_state (Begins clock next) = begins clock next
+part_state (HasSet spec name) = has_named_set (spec.now, name.now)
+part_state (HasItem item) = has_item item.now
+
 -- the parts of a state: the sets in order of addition, and the items in their order. Open lists have none
 abbrev pub parts_of : RepoState → List Part
 parts_of state =
     begins state.clock state.open_lists.next
     ∷ (map has_named_set state.holdings.sets ++ map has_item state.holdings.items)
+
+-- the state with no list open, and the number of the next list raised by so many
+abbrev pub ended : ℕ → RepoState → RepoState
+ended raise state = record state { open_lists = record { lists = []; next = state.open_lists.next + raise } }
+
+-- the items that stand behind that one, or all
+abbrev pub items_behind : Option ItemState → List ItemState → List ItemState
+items_behind None items = items
+items_behind (Some last) items = items_after last.stamp last.identifier items
+
+-- ---- what they make
 
 -- a state once a part was restored
 abbrev pub with_part : RepoState → Part → RepoState
@@ -27,6 +54,28 @@ abbrev pub with_parts : RepoState → List Part → RepoState
 with_parts state [] = state
 with_parts state (part ∷ parts) = with_parts (with_part state part) parts
 
--- the state with no list open, and the number of the next list raised by so many
-abbrev pub ended : ℕ → RepoState → RepoState
-ended raise state = record state { open_lists = record { lists = []; next = state.open_lists.next + raise } }
+-- ---- which part can be restored
+
+-- a repository may begin at a clock of the years 0001 to 9998, where no list is held
+abbrev pub may_begin : Table → ℤ → Bool
+may_begin table clock = length table.lists == 0 && is_in_years clock
+
+-- a set may be added where it is not refused
+abbrev pub may_have_set : List NamedSet → List ℕ → Bool
+may_have_set sets spec = is_none (set_refusal sets spec)
+
+-- an item may be added that the repository would keep, where it has so many, and fewer than it may have
+abbrev pub may_have_item : Config → List NamedSet → ℕ → ItemState → Bool
+may_have_item config sets count item = is_well_kept config sets item && nat_lt count config.items
+
+-- the part can be restored behind what is there
+abbrev pub is_restorable : RepoFields → Part → Bool
+is_restorable held (begins clock next) = may_begin held.table clock
+is_restorable held (has_named_set set) = may_have_set held.sets set.0
+is_restorable held (has_item item) = may_have_item held.config held.sets (length held.index.entries) item
+
+-- the fault of a call that restores a part, where the part can be restored; elsewhere it says nothing of the store
+abbrev pub fault_of_store : {A : Type 0} → Bool → Result A Fault → Result (Unit {0}) Fault
+fault_of_store false result = Ok tt
+fault_of_store true (Ok _) = Ok tt
+fault_of_store true (Err fault) = Err fault

@@ -15,6 +15,7 @@ mod purges;
 use crate::item_index::ItemIndex;
 use deletions::delete;
 use deposits::{Deposit, put_deposit};
+pub(crate) use deposits::{have_sets, is_among};
 use oai_catalogue::Versions;
 use oai_item::{Change, ChangeRefusal, Fault, Refusal};
 use oai_names::{SetFault, SetSpec, SetTree};
@@ -77,7 +78,7 @@ pub(crate) fn make_change<V: Versions>(
 
 /// Adds the set as the last one, or refuses it by the first cause.
 #[tactic(auto, unfolding(crate::specs::Changes::set_refusal))]
-fn add_set(sets: &mut SetTree, set: &SetSpec, name: &str) -> Result<(), Refusal>
+pub(crate) fn add_set(sets: &mut SetTree, set: &SetSpec, name: &str) -> Result<(), Refusal>
     ensures done { IsDone (set_refusal sets.old set.now) None sets.old
         (sets.old ++ (set.now, name.now) ∷ []) result sets.new }
     ensures added { OnOk result (sets.new ≡ sets.old ++ (set.now, name.now) ∷ []) }

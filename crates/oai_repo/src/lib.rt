@@ -11,6 +11,9 @@ mod records;
 mod repo;
 mod requests;
 mod responses;
+mod restores;
+mod saved_parts;
+mod saves;
 mod tokens;
 mod view;
 
@@ -19,3 +22,4 @@ pub use oai_item::Refusal;
 pub use oai_settings::RepoConfig;
 pub use repo::Repo;
 pub use responses::Reply;
+pub use saved_parts::SavedPart;

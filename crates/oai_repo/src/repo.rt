@@ -1,10 +1,13 @@
-ghost use Rattle.std.specs.Prelude.{◌≡◌, ◌≤◌, ◌≤ℤ◌, true, false, length, IfOk, IsTrue, OnErr, OnOk};
+ghost use Rattle.std.specs.Prelude.{◌≡◌, ◌≤◌, ◌≤ℤ◌, true, false, length, take, Err, IfOk, IsTrue, OnErr, OnOk};
+ghost use Rattle.std.specs.Option.{option_copied};
 ghost use Rattle.oai_args.specs.Pairs.{decoded_pairs};
 ghost use Rattle.oai_args.specs.Requests.{request_of};
-ghost use Rattle.oai_catalogue.specs.Calls.{Frees, Uses};
+ghost use Rattle.oai_catalogue.specs.Calls.{Frees, OnlyReads, Uses};
+ghost use Rattle.oai_item.specs.declared.faults.Fault.TheVariants as fault;
 ghost use Rattle.oai_settings.specs.Config.{is_in_years};
 ghost use Rattle.oai_repo.specs.Calls.{DropsEnded, IsAccepted, IsAsked, IsChanged, IsClockAt, IsLeftByStep, IsRefusedAt, OnRefused, changes_lists, fault_in, room_to_ask, room_to_change};
-ghost use Rattle.oai_repo.specs.Fields.{IsNew, Keeps, Owns, holdings_of, state_of};
+ghost use Rattle.oai_repo.specs.Fields.{IsNew, Keeps, Owns, holdings_of, state_of, stored_items};
+ghost use Rattle.oai_repo.specs.Saved.{fault_of_store, is_restorable, items_behind, part_state, with_part};
 ghost use Rattle.oai_repo.specs.State.{at_clock, moved};
 ghost use Rattle.oai_repo.specs.Tables.{IsAskedOf};
 
@@ -14,12 +17,15 @@ use crate::lists::drop_first_ended;
 use crate::passes::{may_change_lists, pass_query};
 use crate::requests::reply_to_query;
 use crate::responses::Reply;
+use crate::restores::{begin, restore_item, restore_set};
+use crate::saved_parts::SavedPart;
+use crate::saves::read_behind;
 use crate::view::RepoView;
 use oai_answers::Asked;
 use oai_catalogue::Versions;
-use oai_item::{Change, Fault, Refusal};
+use oai_item::{Change, Fault, Item, Refusal};
 use oai_lists::Lists;
-use oai_names::SetTree;
+use oai_names::{Sequence, SetTree};
 use oai_settings::RepoConfig;
 use oai_time::{Clock, stamp};
 use std::alloc::Global;
@@ -238,6 +244,76 @@ impl Repo {
             }
             Err(Refusal::Fault(fault)) => Err(Refusal::Fault(fault)),
         }
+    }
+
+    /// Restores a part of a saved state behind those that were restored before. `Damaged` where it does not fit: the
+    /// repository begins though a list is held, or with a clock that is not of the years 0001 to 9998; a set stands
+    /// there or has no parent there, or there are 10,000; the repository would not keep the item, or has as many
+    /// items as it may have. Otherwise any fault may come, and `TooManyPages` only of an item, and where the store may
+    /// lack room for one call. After each fault everything is as it was.
+    pub fn restore<V: Versions>(&mut self, store: &mut V, part: &SavedPart<'_>) -> Result<(), Fault>
+        requires { Owns (V.honest store.old) self.old (V.lists store.old) }
+        ensures restored { OnOk result (IsTrue (V.honest store.old)
+            → state_of self.new (V.lists store.new)
+            ≡ with_part (state_of self.old (V.lists store.old)) (part_state part.now)) }
+        ensures damaged { is_restorable self.old (part_state part.now) ≡ false
+            → result ≡ Err fault.Damaged }
+        ensures err { OnErr result ((self.new ≡ self.old)
+            × (V.lists store.new ≡ V.lists store.old)) }
+        ensures keeps { Keeps (V.honest store.old) self.old (V.lists store.old) self.new
+            (V.lists store.new) }
+        ensures store { Uses V.Versions 1
+            (fault_of_store (is_restorable self.old (part_state part.now)) result)
+            store.old store.new }
+    {
+        let (alloc, config) = (self.alloc, &self.config);
+        match part {
+            SavedPart::Begins { clock, next } => {
+                begin(
+                    alloc,
+                    config,
+                    &mut self.clock,
+                    &mut self.lists,
+                    *clock,
+                    *next,
+                )
+            }
+            SavedPart::HasSet { spec, name } => restore_set(&mut self.sets, spec, name),
+            SavedPart::HasItem { item } => {
+                restore_item(alloc, config, &self.sets, store, &mut self.index, item)
+            }
+        }
+    }
+
+    /// Of the items, in their order, those that stand behind `last`, whether or not it is one of them, or all where it
+    /// is None; at most `most` of them. Any fault but `TooManyPages` may come.
+    pub fn items_behind<V: Versions>(
+        &self,
+        store: &mut V,
+        last: Option<&Item>,
+        most: usize,
+    ) -> Result<Sequence<Item>, Fault>
+        requires { Owns (V.honest store.old) self.now (V.lists store.old) }
+        ensures items { IfOk result (λ items. IsTrue (V.honest store.old) → items
+            ≡ take most (items_behind (option_copied last.entry)
+            (stored_items self.now.index (V.lists store.old)))) }
+        ensures reads { OnlyReads V.Versions result store.old store.new }
+    {
+        read_behind(self.alloc, store, self.index.version(), last, most)
+    }
+
+    /// The sets, in order of addition.
+    pub fn sets(&self) -> &SetTree
+        ensures { result.now ≡ self.now.sets }
+    {
+        &self.sets
+    }
+
+    /// The number that the next list will have; the last of 64 bits is given to none.
+    pub fn next_list(&self) -> u64
+        ensures { result ≡ self.now.table.next }
+    {
+        self.lists.next_number()
     }
 
     /// Moves the clock to the moment, in seconds from 1970 on, drops the first of the lists that have ended,

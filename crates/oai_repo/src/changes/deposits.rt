@@ -159,7 +159,7 @@ fn item_refusal(
 }
 
 /// Whether each setSpec is that of a set.
-fn have_sets(tree: &SetTree, specs: &[SetSpec]) -> bool
+pub(crate) fn have_sets(tree: &SetTree, specs: &[SetSpec]) -> bool
     ensures { result ≡ list_all (has_set tree.now) specs.now }
 {
     specs.iter().all(|spec| tree.has(spec))
@@ -216,7 +216,7 @@ fn are_fields_of(format: &Format, fields: &[Field]) -> bool
 }
 
 /// Whether the name is one of these.
-fn is_among(names: &[Text], name: &str) -> bool
+pub(crate) fn is_among(names: &[Text], name: &str) -> bool
     ensures { result ≡ is_among names.now name.now }
 {
     names.iter().any(|other| other.as_str() == name)

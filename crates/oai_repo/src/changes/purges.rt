@@ -1,7 +1,6 @@
 //! Forgetting deleted items.
 ghost use Rattle.std.specs.Prelude.{◌≡◌, ◌+◌, ◌++◌, ◌≤◌, if◌then◌else◌, nat_lt, None, true, drop, filter, length, take, IfErr, IfOk, IfSome, IsSome, IsTrue, OnOk};
 ghost use Rattle.std.specs.List.{list_all};
-ghost use Rattle.oai_names.specs.Names.{may_be_prefix};
 ghost use Rattle.oai_time.specs.Bound.{IsWritableBound};
 ghost use Rattle.oai_time.specs.Stamp.{IsWritable};
 ghost use Rattle.oai_item.specs.declared.faults.Fault.TheVariants as fault;
@@ -17,10 +16,11 @@ ghost use Rattle.oai_repo.specs.Indexing.{IsDoneOn, Moves, StandsOn};
 
 use crate::changes::ChangeContext;
 use crate::item_index::ItemIndex;
+use crate::saves::asked_until;
 use oai_catalogue::{Filter, Versions};
 use oai_item::{ChangeRefusal, DeletedRecord, Fault, Item, Refusal};
-use oai_names::{NameFault, Prefix, Sequence};
-use oai_time::{Bound, FIRST_SECOND, Granularity, is_no_finer_than, lower, read_bound};
+use oai_names::Sequence;
+use oai_time::{Bound, Granularity, is_no_finer_than, lower, read_bound};
 use std::alloc::{AllocError, Global};
 
 /// How many items are read at once.
@@ -164,21 +164,7 @@ fn asked_below(alloc: Global, limit: i64) -> Result<Filter, Fault>
     ensures ok { IfOk result (λ asked. asked ≡ below limit) }
     ensures err { IfErr result (λ f. f ≡ fault.NoMemory) }
 {
-    let prefix = prefix_of(alloc, "oai_dc")?;
-    Ok(Filter::new(prefix, FIRST_SECOND, limit - 1, None))
-}
-
-/// The prefix of that text, which is one. The error is out of memory.
-fn prefix_of(alloc: Global, text: &str) -> Result<Prefix, Fault>
-    requires { may_be_prefix text.now ≡ true }
-    ensures ok { IfOk result (λ prefix. prefix ≡ text.now) }
-    ensures err { IfErr result (λ f. f ≡ fault.NoMemory) }
-{
-    match Prefix::read(alloc, text) {
-        Ok(prefix) => Ok(prefix),
-        Err(NameFault::NoMemory) => Err(Fault::NoMemory),
-        Err(_) => unreachable!(),
-    }
+    asked_until(alloc, limit - 1)
 }
 
 /// Puts the deleted ones of the items behind the others. The error is out of memory.

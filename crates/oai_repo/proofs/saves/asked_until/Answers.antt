@@ -1,7 +1,7 @@
 -- The prefix is one.
 use Rattle.std.proofs.Common.{refl}
 use Rattle.oai_names.specs.Names as names
-use Rattle.oai_repo.proofs.changes.purges.asked_below.Goals as goal
+use Rattle.oai_repo.proofs.saves.asked_until.Goals as goal
 
 pub prefix_of-requires : goal.prefix_of-requires
 unfolding names.is_prefix
