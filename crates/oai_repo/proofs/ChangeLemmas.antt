@@ -100,10 +100,10 @@ kept-made config stamp old asked (Err (refusal.Fault fault)) new made kept = rw 
 
 -- ---- the datestamps
 
-dated_at : (stamp : ℤ) → IsStamp stamp → (int_le (neg_ℤ (pos 62_167_219_200)) stamp && int_le stamp (pos 253_402_300_799)) ≡ true
+pub dated_at : (stamp : ℤ) → IsStamp stamp → (int_le (neg_ℤ (pos 62_167_219_200)) stamp && int_le stamp (pos 253_402_300_799)) ≡ true
 dated_at stamp is = grind (arith, ints, is.0, is.1)
 
-dated_new : (item : ItemState) (items : List ItemState) → has_writable_stamp item ≡ true → list_all has_writable_stamp items ≡ true → list_all has_writable_stamp (with_new item items) ≡ true
+pub dated_new : (item : ItemState) (items : List ItemState) → has_writable_stamp item ≡ true → list_all has_writable_stamp items ≡ true → list_all has_writable_stamp (with_new item items) ≡ true
 dated_new item items one all = all-placed has_writable_stamp item (without item.identifier items) one (well-without has_writable_stamp item.identifier items all)
 
 dated_buried : (stamp : ℤ) (found : Option ItemState) (items : List ItemState) → IsStamp stamp → list_all has_writable_stamp items ≡ true → list_all has_writable_stamp (with_tombstone stamp found items) ≡ true

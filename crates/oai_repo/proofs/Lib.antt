@@ -17,3 +17,5 @@ pub mod TokenLemmas
 pub mod WaitLemmas
 pub mod NeighbourLemmas
 pub mod PassLemmas
+pub mod RestoreLemmas
+pub mod SavedLemmas

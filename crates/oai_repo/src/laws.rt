@@ -1,11 +1,13 @@
-//! What is true of requests, in a law: an empty function whose contract is the statement.
-ghost use Rattle.std.specs.Prelude.{◌≡◌, ℤ, [], false};
+//! What is true of requests and of saved states, in laws: empty functions whose contracts are the statements.
+ghost use Rattle.std.specs.Prelude.{◌≡◌, ℕ, ℤ, [], false};
 ghost use Rattle.oai_args.specs.Asks.{AskOrError};
 ghost use Rattle.oai_args.specs.Pairs.{decoded_pairs};
 ghost use Rattle.oai_args.specs.Requests.{request_of};
 ghost use Rattle.oai_repo.specs.Calls.{changes_lists};
+ghost use Rattle.oai_repo.specs.Kept.{AreKept};
 ghost use Rattle.oai_repo.specs.Machine.{act_at, requesting};
-ghost use Rattle.oai_repo.specs.State.{RepoState, moved};
+ghost use Rattle.oai_repo.specs.Saved.{ended, parts_of, with_parts};
+ghost use Rattle.oai_repo.specs.State.{RepoState, moved, no_holdings};
 ghost use Rattle.oai_settings.specs.Config.{Config};
 ghost use Rattle.oai_time.specs.declared.granularity.Granularity.{Granularity};
 
@@ -18,4 +20,13 @@ pub fn tick_law()
         → (act_at config state moment (requesting request)).1 ≡ moved moment state }
     ensures bare { (granularity : Granularity)
         → changes_lists (request_of granularity (decoded_pairs [])) ≡ false }
+{}
+
+/// A state is restored from its parts: over one that holds nothing, whatever its clock and its lists, they make that
+/// state with no list open, and with the number of the next list that they give. A theorem, proved by an empty function.
+#[tactic(auto, using(crate::proofs::SavedLemmas::restored))]
+pub fn restore_law()
+    ensures { (config : Config) (state start : RepoState) (raise : ℕ)
+        → AreKept config state.holdings → start.holdings ≡ no_holdings
+        → with_parts start (parts_of (ended raise state)) ≡ ended raise state }
 {}

@@ -17,7 +17,7 @@ mod saves;
 mod tokens;
 mod view;
 
-pub use laws::tick_law;
+pub use laws::{restore_law, tick_law};
 pub use oai_item::Refusal;
 pub use oai_settings::RepoConfig;
 pub use repo::Repo;

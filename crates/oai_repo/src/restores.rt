@@ -3,6 +3,7 @@ ghost use Rattle.std.specs.Prelude.{◌≡◌, ◌≤◌, ◌++◌, ◌∷◌, [
 ghost use Rattle.std.specs.List.{list_all};
 ghost use Rattle.std.specs.Option.{option_copied};
 ghost use Rattle.oai_item.specs.Encoding.{encoded};
+ghost use Rattle.oai_item.specs.Item.{IsStamp};
 ghost use Rattle.oai_item.specs.Known.{are_fields_of, has_format, has_known_fields};
 ghost use Rattle.oai_item.specs.declared.faults.Fault.TheVariants as fault;
 ghost use Rattle.oai_item.specs.declared.sizes.TheConstants.{MAX_ITEM_BYTES};
@@ -115,7 +116,8 @@ pub(crate) fn restore_item<V: Versions>(
 
 /// Whether the repository would keep the item, and has fewer than it may have, where it has `count`.
 fn may_have_item(config: &RepoConfig, sets: &SetTree, count: u64, item: &Item) -> bool
-    ensures { result ≡ may_have_item config.now sets.now count item.now }
+    ensures may { result ≡ may_have_item config.now sets.now count item.now }
+    ensures stamped { IsStamp item.now.stamp }
 {
     is_well_kept(config, sets, item) && count < config.items()
 }
@@ -123,10 +125,11 @@ fn may_have_item(config: &RepoConfig, sets: &SetTree, count: u64, item: &Item) -
 /// Whether the repository would keep the item: it has a record in oai_dc, each of its records is of a format of the
 /// repository and has no field but that format's, its sets are there, and it is not too large.
 fn is_well_kept(config: &RepoConfig, sets: &SetTree, item: &Item) -> bool
-    ensures { result ≡ spec.is_well_kept config.now sets.now item.now }
+    ensures kept { result ≡ spec.is_well_kept config.now sets.now item.now }
+    ensures stamped { IsStamp item.now.stamp }
 {
-    item.has_record("oai_dc")
-        && have_formats(config.formats(), item.formats())
+    have_formats(config.formats(), item.formats())
+        && item.has_record("oai_dc")
         && have_known_fields(config.formats(), item.formats())
         && have_sets(sets, item.sets())
         && is_storable(item)
