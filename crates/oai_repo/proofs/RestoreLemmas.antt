@@ -1,5 +1,5 @@
 -- What a part that is restored leaves: items and sets that are as the repository keeps them, and the state with that part.
-use Rattle.std.proofs.Common.{◌≡◌, ◌∙◌, ◌+◌, ◌<◌, ◌≤◌, ℕ, ℤ, Bool, true, false, not, ◌&&◌, List, [], ◌∷◌, ◌++◌, length, Result, Ok, Err, OnOk, OnErr, IfOk, refl, sym, ap, subst, arith}
+use Rattle.std.proofs.Common.{◌≡◌, ◌∙◌, ◌<◌, ℕ, ℤ, Bool, true, false, ◌&&◌, List, [], ◌∷◌, ◌++◌, length, Result, Ok, Err, OnOk, OnErr, IfOk, refl, sym, ap, subst, arith}
 use Rattle.std.specs.Prelude.{filter, int_le, nat_lt}
 use Rattle.std.specs.List.{list_all}
 use Rattle.std.proofs.lemmas.Bool.{and_parts, cond-true}
@@ -7,7 +7,6 @@ use Rattle.std.proofs.lemmas.Bool.Decides.{nat_tests}
 use Rattle.oai_time.specs.declared.text.TheConstants.{FIRST_SECOND, LAST_SECOND}
 use Rattle.oai_item.specs.Item.{IsStamp, ItemState}
 use Rattle.oai_item.specs.Items.{items_after, without}
-use Rattle.oai_item.specs.Order.{place_cmp}
 use Rattle.oai_item.specs.Selection.{passes, selected}
 use Rattle.oai_item.specs.declared.faults.Fault.{Fault}
 use Rattle.oai_item.proofs.OrderLemmas.{all-placed, apart-changed, in_order-changed}

@@ -1,8 +1,7 @@
 -- The parts of a state, restored one after the other over one that holds nothing, make the state.
-use Rattle.std.proofs.Common.{◌≡◌, ◌∙◌, ℕ, ℤ, Bool, true, not, List, [], ◌∷◌, ◌++◌, map, refl, sym, ap, subst}
+use Rattle.std.proofs.Common.{◌≡◌, ◌∙◌, ℕ, ℤ, true, not, List, [], ◌∷◌, ◌++◌, map, refl, sym, ap}
 use Rattle.std.specs.List.{list_all}
 use Rattle.std.specs.Ordering.{is_lt}
-use Rattle.std.specs.Str.{bytes_eq}
 use Rattle.std.proofs.lemmas.Bool.{and_from, and_parts}
 use Rattle.std.proofs.lemmas.Cmp.{nat_list_eq_equiv}
 use Rattle.std.proofs.lemmas.List.{append_assoc, append-nil}
@@ -16,7 +15,7 @@ use Rattle.oai_names.proofs.Lists.{all-weaker, filter_all}
 use Rattle.oai_settings.specs.Config.{Config}
 use Rattle.oai_repo.specs.Changes.{with_new}
 use Rattle.oai_repo.specs.Kept.{AreKept}
-use Rattle.oai_repo.specs.Saved.{Part, ended, has_item, has_named_set, parts_of, with_part, with_parts}
+use Rattle.oai_repo.specs.Saved.{Part, ended, has_item, has_named_set, parts_of, with_parts}
 use Rattle.oai_repo.specs.State.{Holdings, NamedSet, OpenLists, RepoState, no_holdings}
 
 -- the state that holds these

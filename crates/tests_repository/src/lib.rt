@@ -27,6 +27,8 @@ mod purges;
 #[cfg(test)]
 mod repository;
 #[cfg(test)]
+mod restored;
+#[cfg(test)]
 mod samples;
 #[cfg(test)]
 mod transcripts;

@@ -1,5 +1,5 @@
 -- What asks for all datestamps selects all items, and all that stand behind one.
-use Rattle.std.proofs.Common.{◌≡◌, ◌∙◌, ℤ, pos, List, Option, None, Some, ap, sym, take, FitsSigned, IsTrue, w64}
+use Rattle.std.proofs.Common.{◌≡◌, ◌∙◌, pos, List, Option, ap, sym, take, FitsSigned, w64}
 use Rattle.std.proofs.lemmas.Int.{to_z-of_z}
 use Rattle.std.specs.Option.{option_copied}
 use Rattle.oai_item.specs.Item.{ItemState}

@@ -1,6 +1,4 @@
 -- Each item that the repository keeps has a record in oai_dc.
-use Rattle.std.proofs.Common.{ap}
-use Rattle.oai_catalogue.specs.Store.{list_at}
 use Rattle.oai_repo.specs.Fields.{stored_items}
 use Rattle.oai_repo.proofs.RestoreLemmas.{all_in_core}
 use Rattle.oai_repo.proofs.repo.Repo.items_behind.Goals as goal
