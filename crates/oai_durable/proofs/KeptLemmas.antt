@@ -37,8 +37,8 @@ refused_kept h j before moment asked answer after told same =
 -- the handler performed a message, and its record was added, if there is one
 pub performed_kept : {H J : Type 0} (h : Replaying H) (j : journal.Ghosts J) (before : Parts H J) (moment : ℤ) (asked : Asked) (answer : Answer) (performed : Option Performed) (after : Parts H J)
     → h.step before.handler moment asked answer after.handler
-    → (IsTrue (h.is_honest before.handler) → h.kept after.handler ≡ left_again h.redone (h.kept before.handler) moment performed)
-    → (IsTrue (h.is_honest before.handler) → answer.fault ≡ None → h.kept after.handler ≡ h.redone (h.kept before.handler) (call_at moment asked))
+    → (IsTrue (h.is_honest before.handler) → h.kept after.handler ≡ left_again h.leaving.redone (h.kept before.handler) moment performed)
+    → (IsTrue (h.is_honest before.handler) → answer.fault ≡ None → h.kept after.handler ≡ h.leaving.redone (h.kept before.handler) (call_at moment asked))
     → (IsTrue (h.is_honest before.handler) → answer.fault ≡ None → answer ≡ h.reply (h.kept before.handler) (call_at moment asked))
     → h.is_honest after.handler ≡ h.is_honest before.handler
     → ((entries : List Entry) (durable : ℕ) → j.holds before.journal entries durable → j.holds after.journal (entries ++ entries_of moment performed) durable)
@@ -48,15 +48,15 @@ performed_kept h j before moment asked answer performed after step left whole re
   honesty = honesty;
   kept = λ begun entries durable held.
       let own : List Entry = entries_of moment performed in
-      let is : IsTrue (h.is_honest before.handler) → h.kept after.handler ≡ redone_all h.redone begun (entries ++ own) = λ honest.
-      left honest ∙ left_redone h.redone (h.kept before.handler) moment performed
-      ∙ ap (λ (k : h.Kept). redone_all h.redone k own) (held.kept honest) ∙ sym (redone_append h.redone begun entries own) in
+      let is : IsTrue (h.is_honest before.handler) → h.kept after.handler ≡ redone_all h.leaving begun (entries ++ own) = λ honest.
+      left honest ∙ left_redone h.leaving (h.kept before.handler) moment performed
+      ∙ ap (λ (k : h.Kept). redone_all h.leaving k own) (held.kept honest) ∙ sym (redone_append h.leaving begun entries own) in
       record {
         own = own;
         one = few moment performed;
         held = record { records = holds entries durable held.records; kept = λ honest. is (sym honesty ∙ honest) };
         told = λ honest none. reply honest none ∙ ap (λ (k : h.Kept). h.reply k (call_at moment asked)) (held.kept honest);
-        left = λ honest none. sym (is honest) ∙ whole honest none ∙ ap (λ (k : h.Kept). h.redone k (call_at moment asked)) (held.kept honest);
+        left = λ honest none. sym (is honest) ∙ whole honest none ∙ ap (λ (k : h.Kept). h.leaving.redone k (call_at moment asked)) (held.kept honest);
       };
 } where
   few : (moment : ℤ) (p : Option Performed) → length (entries_of moment p) ≤ 1

@@ -3,3 +3,4 @@ pub mod KeptLemmas
 pub mod RedoneLemmas
 pub mod LifeLemmas
 pub mod ServedLemmas
+pub mod CheckpointLemmas

@@ -14,13 +14,14 @@ use Rattle.oai_serving.specs.declared.faults.ServeFault.{ServeFault}
 use Rattle.oai_serving.specs.declared.faults.ServeFault.TheVariants.{Clock, Unsettled, Wait}
 use Rattle.oai_durable.specs.Journaled.{IsExchange, IsHeld, IsSettled, Parts, Replaying}
 use Rattle.oai_durable.specs.Lives.{Exchanged, HavePlaces, records_in}
+use Rattle.oai_durable.specs.Records.{Leaving}
 use Rattle.oai_durable.specs.Served.{AreThose, EndsAs, IsLived, IsRemembered, LivesAs, told_by, told_to}
 
 -- messages that were served behind these records, as exchanges with their records
 pub record Goes {H J : Type 0} (h : Replaying H) (j : journal.Ghosts J) (begun : h.Kept) (before : List Entry) (durable : ℕ) (served : List Served) (new : Parts H J) : Type 0 where
   pub exchanges : List Exchanged
   pub those : AreThose exchanges served
-  pub places : HavePlaces h.redone h.reply begun before exchanges
+  pub places : HavePlaces h.leaving h.reply begun before exchanges
   pub held : IsHeld h j begun new (before ++ records_in exchanges) durable
   pub honest : IsTrue (h.is_honest new.handler)
 
@@ -30,11 +31,11 @@ goes_none h j begun before durable old held honest = record { exchanges = []; th
 
 -- ---- exchanges that follow others
 
-pub places_append : {K : Type 0} (redone : K → Call → K) (reply : K → Call → Answer) (begun : K) (before : List Entry) (es others : List Exchanged)
-    → HavePlaces redone reply begun before es → HavePlaces redone reply begun (before ++ records_in es) others → HavePlaces redone reply begun before (es ++ others)
-places_append redone reply begun before [] others first then = rw (append-nil before) at then
-places_append redone reply begun before (e ∷ es) others first then =
-    (first.0, places_append redone reply begun (before ++ e.own) es others first.1 (rw (append_assoc before e.own (records_in es)) then))
+pub places_append : {K : Type 0} (leaving : Leaving K) (reply : K → Call → Answer) (begun : K) (before : List Entry) (es others : List Exchanged)
+    → HavePlaces leaving reply begun before es → HavePlaces leaving reply begun (before ++ records_in es) others → HavePlaces leaving reply begun before (es ++ others)
+places_append leaving reply begun before [] others first then = rw (append-nil before) at then
+places_append leaving reply begun before (e ∷ es) others first then =
+    (first.0, places_append leaving reply begun (before ++ e.own) es others first.1 (rw (append_assoc before e.own (records_in es)) then))
 
 pub goes_then : {H J : Type 0} (h : Replaying H) (j : journal.Ghosts J) (begun : h.Kept) (before : List Entry) (durable then : ℕ) (served others : List Served) (mid new : Parts H J)
     (first : Goes h j begun before durable served mid) → Goes h j begun (before ++ records_in first.exchanges) then others new
@@ -46,7 +47,7 @@ goes_then h j begun before durable then served others mid new first more =
     record {
       exchanges = es ++ more.exchanges;
       those = map-append told_by es more.exchanges ∙ ap (λ xs. xs ++ map told_by more.exchanges) first.those ∙ ap (λ xs. map told_to served ++ xs) more.those ∙ sym (map-append told_to served others);
-      places = places_append h.redone h.reply begun before es more.exchanges first.places more.places;
+      places = places_append h.leaving h.reply begun before es more.exchanges first.places more.places;
       held = rw joined more.held;
       honest = more.honest;
     }
@@ -138,7 +139,7 @@ left_less less durable entries found low left = record { count = left.count; eno
 pub lives_as : {H J : Type 0} (h : Replaying H) (j : journal.Ghosts J)
     → ((journal : J) (entries : List Entry) (durable : ℕ) (found : List Entry) → j.holds journal entries durable → j.may_leave journal found → IsLeft durable entries found)
     → (begun : h.Kept) (found : List Entry) (first : Parts H J) (rounds : List (List Served)) (held : List Served) (left : List Entry)
-    → IsLived h j begun found first rounds held left → LivesAs h.redone h.reply begun found (served_in rounds) held left
+    → IsLived h j begun found first rounds held left → LivesAs h.leaving h.reply begun found (served_in rounds) held left
 lives_as h j law begun found first rounds held left lived =
     let before = goes_rounds h j begun found rounds first lived.settled lived.begins lived.honest lived.settles in
     let es : List Exchanged = before.goes.exchanges in
@@ -155,7 +156,7 @@ lives_as h j law begun found first rounds held left lived =
       answers = before.goes.those;
       others = behind.those;
       is = record {
-        places = places_append h.redone h.reply begun found es behind.exchanges before.goes.places behind.places;
+        places = places_append h.leaving h.reply begun found es behind.exchanges before.goes.places behind.places;
         leaves = left_as before.durable (length (found ++ records_in es)) entries (found ++ records_in (es ++ behind.exchanges)) left before.all joined is;
       };
     }
@@ -175,7 +176,7 @@ pub service_lives : {S H J : Type 0} (h : Replaying H) (j : journal.Ghosts J) (c
     → IsHeld h j begun old.handler found (length found)
     → IsTrue (h.is_honest old.handler.handler)
     → j.may_leave new.handler.journal left
-    → IsRemembered contents remaining h.redone h.reply begun found known later old new left
+    → IsRemembered contents remaining h.leaving h.reply begun found known later old new left
 service_lives h j contents remaining law begun found known later old new (Ok done) left service begins honest leaves = record {
   answered = served_in service.rounds;
   held = [];

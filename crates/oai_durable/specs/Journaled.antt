@@ -11,16 +11,16 @@ use Rattle.oai_http.specs.declared.targets.Endpoint.{Endpoint}
 use Rattle.oai_http.specs.declared.targets.Endpoint.TheVariants.{Deposits, Requests}
 use Rattle.oai_journal.specs.Records.{Entry}
 use Rattle.oai_journal.specs.declared.journals.Journal as journal
-use Rattle.oai_durable.specs.Records.{redone_all}
+use Rattle.oai_durable.specs.Records.{Leaving, redone_all}
 
 -- what is said of a handler whose exchanges can be performed again: what may be answered, what it keeps, whether its device gives back what was
--- written to it, what a call leaves, and what it is answered
+-- written to it, what calls and parts leave, and what a call is answered
 pub record Replaying (H : Type 0) : Type 1 where
   pub step : H → ℤ → Asked → Answer → H → Type 0
   pub Kept : Type 0
   pub kept : H → Kept
   pub is_honest : H → Bool
-  pub redone : Kept → Call → Kept
+  pub leaving : Leaving Kept
   pub reply : Kept → Call → Answer
 
 -- the handler, and the journal
@@ -31,7 +31,7 @@ pub record Parts (H J : Type 0) : Type 0 where
 -- these are the records of the journal, so many of them are durable, and to perform them again from that beginning gives what the handler keeps
 pub record IsHeld {H J : Type 0} (h : Replaying H) (j : journal.Ghosts J) (begun : h.Kept) (parts : Parts H J) (entries : List Entry) (durable : ℕ) : Type 0 where
   pub records : j.holds parts.journal entries durable
-  pub kept : IsTrue (h.is_honest parts.handler) → h.kept parts.handler ≡ redone_all h.redone begun entries
+  pub kept : IsTrue (h.is_honest parts.handler) → h.kept parts.handler ≡ redone_all h.leaving begun entries
 
 -- of a deposit that was not begun no line was done
 abbrev pub none_done : Option Endpoint → Option ℕ
@@ -56,9 +56,9 @@ pub record IsKept {H J : Type 0} (h : Replaying H) (j : journal.Ghosts J) (begun
   pub own : List Entry
   pub one : length own ≤ 1
   pub held : IsHeld h j begun after (entries ++ own) durable
-  pub told : IsTrue (h.is_honest before.handler) → answer.fault ≡ None → answer ≡ h.reply (redone_all h.redone begun entries) (call_at moment asked)
+  pub told : IsTrue (h.is_honest before.handler) → answer.fault ≡ None → answer ≡ h.reply (redone_all h.leaving begun entries) (call_at moment asked)
   pub left : IsTrue (h.is_honest before.handler) → answer.fault ≡ None
-      → redone_all h.redone begun (entries ++ own) ≡ h.redone (redone_all h.redone begun entries) (call_at moment asked)
+      → redone_all h.leaving begun (entries ++ own) ≡ h.leaving.redone (redone_all h.leaving begun entries) (call_at moment asked)
 
 -- what an exchange does, from whatever records it begins
 pub record IsExchange {H J : Type 0} (h : Replaying H) (j : journal.Ghosts J) (before : Parts H J) (moment : ℤ) (asked : Asked) (answer : Answer) (after : Parts H J) : Type 0 where

@@ -3,3 +3,4 @@ pub mod Journaled
 pub mod Recovered
 pub mod Lives
 pub mod Served
+pub mod Checkpoints

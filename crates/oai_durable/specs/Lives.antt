@@ -6,7 +6,7 @@ use Rattle.oai_http.specs.declared.exchanges.Answer.{Answer}
 use Rattle.oai_http.specs.declared.exchanges.Call.{Call}
 use Rattle.oai_journal.specs.Journals.{IsLeft}
 use Rattle.oai_journal.specs.Records.{Entry}
-use Rattle.oai_durable.specs.Records.{redone_all}
+use Rattle.oai_durable.specs.Records.{Leaving, redone_all}
 
 -- an exchange: what was asked at which moment, what it was answered, and its own record, where there is one
 pub record Exchanged : Type 0 where
@@ -17,14 +17,14 @@ pub record Exchanged : Type 0 where
 
 -- its place is behind these records: an answer without a fault is what they make of what was asked, and with its own record they leave what
 -- that leaves
-pub record HasPlace {K : Type 0} (redone : K → Call → K) (reply : K → Call → Answer) (begun : K) (before : List Entry) (e : Exchanged) : Type 0 where
-  pub told : e.answer.fault ≡ None → e.answer ≡ reply (redone_all redone begun before) (call_at e.moment e.asked)
-  pub left : e.answer.fault ≡ None → redone_all redone begun (before ++ e.own) ≡ redone (redone_all redone begun before) (call_at e.moment e.asked)
+pub record HasPlace {K : Type 0} (leaving : Leaving K) (reply : K → Call → Answer) (begun : K) (before : List Entry) (e : Exchanged) : Type 0 where
+  pub told : e.answer.fault ≡ None → e.answer ≡ reply (redone_all leaving begun before) (call_at e.moment e.asked)
+  pub left : e.answer.fault ≡ None → redone_all leaving begun (before ++ e.own) ≡ leaving.redone (redone_all leaving begun before) (call_at e.moment e.asked)
 
 -- exchanges, the first behind these records, and each further one behind those of the one before it
-abbrev pub HavePlaces : {K : Type 0} → (K → Call → K) → (K → Call → Answer) → K → List Entry → List Exchanged → Type 0
-HavePlaces redone reply begun before [] = Unit {0}
-HavePlaces redone reply begun before (e ∷ es) = HasPlace redone reply begun before e × HavePlaces redone reply begun (before ++ e.own) es
+abbrev pub HavePlaces : {K : Type 0} → Leaving K → (K → Call → Answer) → K → List Entry → List Exchanged → Type 0
+HavePlaces leaving reply begun before [] = Unit {0}
+HavePlaces leaving reply begun before (e ∷ es) = HasPlace leaving reply begun before e × HavePlaces leaving reply begun (before ++ e.own) es
 
 abbrev pub records_in : List Exchanged → List Entry
 records_in exchanges = flat_map (λ (e : Exchanged). e.own) exchanges
@@ -36,15 +36,15 @@ pub record Life : Type 0 where
 
 -- it begins in what those records give that were found; and what it leaves are all of these, those of the exchanges whose answers left, and the
 -- first so many of the others
-pub record IsLife {K : Type 0} (redone : K → Call → K) (reply : K → Call → Answer) (begun : K) (found : List Entry) (life : Life) (left : List Entry) : Type 0 where
-  pub places : HavePlaces redone reply begun found (life.answered ++ life.held)
+pub record IsLife {K : Type 0} (leaving : Leaving K) (reply : K → Call → Answer) (begun : K) (found : List Entry) (life : Life) (left : List Entry) : Type 0 where
+  pub places : HavePlaces leaving reply begun found (life.answered ++ life.held)
   pub leaves : IsLeft (length (found ++ records_in life.answered)) (found ++ records_in (life.answered ++ life.held)) left
 
 -- lives, each begun in what the one before it left
-abbrev pub AreLives : {K : Type 0} → (K → Call → K) → (K → Call → Answer) → K → List Entry → List Life → List Entry → Type 0
-AreLives redone reply begun found [] left = left ≡ found
-AreLives redone reply begun found (life ∷ lives) left =
-    (between : List Entry) × IsLife redone reply begun found life between × AreLives redone reply begun between lives left
+abbrev pub AreLives : {K : Type 0} → Leaving K → (K → Call → Answer) → K → List Entry → List Life → List Entry → Type 0
+AreLives leaving reply begun found [] left = left ≡ found
+AreLives leaving reply begun found (life ∷ lives) left =
+    (between : List Entry) × IsLife leaving reply begun found life between × AreLives leaving reply begun between lives left
 
 -- the exchanges whose answers left, over all lives
 abbrev pub answered_in : List Life → List Exchanged
@@ -52,9 +52,9 @@ answered_in lives = flat_map (λ (life : Life). life.answered) lives
 
 -- these exchanges have their places among the records, in order: each behind all that are before it, and its own record follows. What else stands
 -- among them was performed, and its answer held back
-abbrev pub AreAmong : {K : Type 0} → (K → Call → K) → (K → Call → Answer) → K → List Entry → List Exchanged → List Entry → Type 0
-AreAmong redone reply begun before [] records = (others : List Entry) × (records ≡ before ++ others)
-AreAmong redone reply begun before (e ∷ es) records =
+abbrev pub AreAmong : {K : Type 0} → Leaving K → (K → Call → Answer) → K → List Entry → List Exchanged → List Entry → Type 0
+AreAmong leaving reply begun before [] records = (others : List Entry) × (records ≡ before ++ others)
+AreAmong leaving reply begun before (e ∷ es) records =
     (unanswered : List Entry)
-    × HasPlace redone reply begun (before ++ unanswered) e
-    × AreAmong redone reply begun ((before ++ unanswered) ++ e.own) es records
+    × HasPlace leaving reply begun (before ++ unanswered) e
+    × AreAmong leaving reply begun ((before ++ unanswered) ++ e.own) es records

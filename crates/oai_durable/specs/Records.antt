@@ -1,14 +1,17 @@
--- What was performed, as records of a journal, and what these leave when they are performed again. This repository's own.
+-- What was performed, and parts of what is kept, as records of a journal; and what these leave when they are performed again. This repository's own.
 use Rattle.std.specs.Prelude.{ℕ, ℤ, max, length, List, [], ◌∷◌, Option, None, Some}
+use Rattle.oai_http.specs.Parts.{PartState}
 use Rattle.oai_http.specs.Redone.{own_call}
 use Rattle.oai_http.specs.declared.exchanges.Call.{Call}
 use Rattle.oai_http.specs.declared.exchanges.Exchange.{Exchange}
 use Rattle.oai_http.specs.declared.handlers.Performed.{Performed}
+use Rattle.oai_http.specs.declared.parts.PartKind.{PartKind}
+use Rattle.oai_http.specs.declared.parts.PartKind.TheVariants.{Begin as Begins, Item as HasItem, Set as HasSet}
 use Rattle.oai_http.specs.declared.targets.Endpoint.{Endpoint}
 use Rattle.oai_http.specs.declared.targets.Endpoint.TheVariants.{Deposits, Requests}
 use Rattle.oai_journal.specs.Records.{Entry}
 use Rattle.oai_journal.specs.declared.records.Kind.{Kind}
-use Rattle.oai_journal.specs.declared.records.Kind.TheVariants.{Deposit, Oai, Tick}
+use Rattle.oai_journal.specs.declared.records.Kind.TheVariants.{Begin, Deposit, Item, Oai, Set, Tick}
 
 -- a deposit, or a request; one without arguments only moves the clock, and is a tick
 abbrev pub kind_of : Endpoint → List ℕ → Kind
@@ -43,7 +46,41 @@ endpoint_of_kind other = Requests
 abbrev pub call_in : Entry → Call
 call_in entry = own_call entry.moment (endpoint_of_kind entry.kind) entry.name entry.body
 
--- what records leave that are performed one after the other
-abbrev pub redone_all : {K : Type 0} → (K → Call → K) → K → List Entry → K
-redone_all redone kept [] = kept
-redone_all redone kept (entry ∷ entries) = redone_all redone (redone kept (call_in entry)) entries
+-- the kind of the record of a part
+abbrev pub kind_of_part : PartKind → Kind
+kind_of_part Begins = Begin
+kind_of_part HasSet = Set
+kind_of_part HasItem = Item
+
+-- a part as a record
+abbrev pub entry_of_part : PartState → Entry
+entry_of_part part = record { moment = part.moment; kind = kind_of_part part.kind; name = part.name; body = part.bytes }
+
+-- what a record is a part about, if it is of a part
+abbrev pub part_kind : Kind → Option PartKind
+part_kind Begin = Some Begins
+part_kind Set = Some HasSet
+part_kind Item = Some HasItem
+part_kind other = None
+
+-- the part of which this is the record
+abbrev pub part_in : PartKind → Entry → PartState
+part_in kind entry = record { kind = kind; moment = entry.moment; name = entry.name; bytes = entry.body }
+
+-- what a call leaves that is performed again, and what a part leaves that is restored
+pub record Leaving (K : Type 0) : Type 0 where
+  pub redone : K → Call → K
+  pub restored : K → PartState → K
+
+-- what a record leaves: a part is restored, and all else is a call that is performed again
+abbrev pub left_as : {K : Type 0} → Leaving K → K → Entry → Option PartKind → K
+left_as leaving kept entry (Some kind) = leaving.restored kept (part_in kind entry)
+left_as leaving kept entry None = leaving.redone kept (call_in entry)
+
+abbrev pub left_by : {K : Type 0} → Leaving K → K → Entry → K
+left_by leaving kept entry = left_as leaving kept entry (part_kind entry.kind)
+
+-- what records leave, one after the other
+abbrev pub redone_all : {K : Type 0} → Leaving K → K → List Entry → K
+redone_all leaving kept [] = kept
+redone_all leaving kept (entry ∷ entries) = redone_all leaving (left_by leaving kept entry) entries

@@ -1,22 +1,21 @@
 -- A handler that performs the records of a journal again. This repository's own.
 use Rattle.std.specs.Prelude.{◌≡◌, ℕ, Bool, IsTrue, List, length}
-use Rattle.oai_http.specs.declared.exchanges.Call.{Call}
 use Rattle.oai_journal.specs.Changes.{IsUndamaged}
 use Rattle.oai_journal.specs.Records.{Entry}
 use Rattle.oai_journal.specs.Recovered.{HasRecovered, disk_of}
 use Rattle.oai_journal.specs.declared.recovery.Recovery.{Recovery}
-use Rattle.oai_durable.specs.Records.{redone_all}
+use Rattle.oai_durable.specs.Records.{Leaving, redone_all}
 
 -- these records were read, and the handler performed them again from that beginning
-pub record HasRedone {H K D : Type 0} (kept : H → K) (is_honest : H → Bool) (redone : K → Call → K) (seen : D → List ℕ) (may_leave : D → List ℕ → Type 0)
+pub record HasRedone {H K D : Type 0} (kept : H → K) (is_honest : H → Bool) (leaving : Leaving K) (seen : D → List ℕ) (may_leave : D → List ℕ → Type 0)
     (begun : K) (handler : H) (recovery : Recovery D) (first : Entry) (entries : List Entry) : Type 0 where
   pub read : HasRecovered seen may_leave recovery first entries
-  pub so : IsTrue (is_honest handler) → kept handler ≡ redone_all redone begun entries
+  pub so : IsTrue (is_honest handler) → kept handler ≡ redone_all leaving begun entries
 
 -- all records of the journal, so many, were read and performed again
-pub record IsRecovered {H K D : Type 0} (kept : H → K) (is_honest : H → Bool) (redone : K → Call → K) (seen : D → List ℕ) (may_leave : D → List ℕ → Type 0)
+pub record IsRecovered {H K D : Type 0} (kept : H → K) (is_honest : H → Bool) (leaving : Leaving K) (seen : D → List ℕ) (may_leave : D → List ℕ → Type 0)
     (begun : K) (handler : H) (recovery : Recovery D) (first : Entry) (count : ℕ) : Type 0 where
   pub entries : List Entry
   pub many : length entries ≡ count
-  pub has : HasRedone kept is_honest redone seen may_leave begun handler recovery first entries
+  pub has : HasRedone kept is_honest leaving seen may_leave begun handler recovery first entries
   pub undamaged : IsUndamaged (seen (disk_of recovery)) first entries

@@ -13,6 +13,7 @@ use Rattle.oai_serving.specs.Rounds.{AreSettled, World}
 use Rattle.oai_serving.specs.Tables.{AreLinksAnswered, AreLinksKept}
 use Rattle.oai_durable.specs.Journaled.{IsExchange, IsHeld, IsSettled, Parts, Replaying}
 use Rattle.oai_durable.specs.Lives.{Exchanged, IsLife, Life}
+use Rattle.oai_durable.specs.Records.{Leaving}
 
 -- what was asked at which moment, and what it was answered
 pub record Told : Type 0 where
@@ -48,19 +49,19 @@ pub record IsLived {H J : Type 0} (h : Replaying H) (j : journal.Ghosts J) (begu
   pub leaves : j.may_leave last.journal left
 
 -- the life whose answers left are those of the rounds that settled
-pub record LivesAs {K : Type 0} (redone : K → Call → K) (reply : K → Call → Answer) (begun : K) (found : List Entry) (answered held : List Served) (left : List Entry) : Type 0 where
+pub record LivesAs {K : Type 0} (leaving : Leaving K) (reply : K → Call → Answer) (begun : K) (found : List Entry) (answered held : List Served) (left : List Entry) : Type 0 where
   pub life : Life
   pub answers : AreThose life.answered answered
   pub others : AreThose life.held held
-  pub is : IsLife redone reply begun found life left
+  pub is : IsLife leaving reply begun found life left
 
 -- what a service leaves behind: of the messages that were served those whose answers left, each of which has its place among the records that a
 -- crash then leaves, and the others; and each client has the front of the answers to its own among the first
-pub record IsRemembered {S H J K : Type 0} (contents remaining : S → Option (List ℕ)) (redone : K → Call → K) (reply : K → Call → Answer) (begun : K) (found : List Entry)
+pub record IsRemembered {S H J K : Type 0} (contents remaining : S → Option (List ℕ)) (leaving : Leaving K) (reply : K → Call → Answer) (begun : K) (found : List Entry)
     (known later : Option (List S)) (old new : World S (Parts H J)) (left : List Entry) : Type 0 where
   pub answered : List Served
   pub held : List Served
-  pub lives : LivesAs redone reply begun found answered held left
+  pub lives : LivesAs leaving reply begun found answered held left
   pub streams : List S
   pub accepts : Accepts known later streams
   pub clients : (accepted : List S) (earlier : List Served) → old.last ≡ length accepted → AreLinksKept contents remaining accepted earlier old.links

@@ -60,7 +60,7 @@ impl<H: Replayed, J: Journal> Handler for Journaled<H, J> {
       Kept = H.Kept;
       kept = H.kept;
       is_honest = H.is_honest;
-      redone = H.redone;
+      leaving = record { redone = H.redone; restored = H.restored };
       reply = H.reply;
     }) J.Journal };
 

@@ -1,4 +1,5 @@
 //! What is so of every list of lives: theorems, each on a function with an empty body.
+ghost use Rattle.oai_durable.specs.Checkpoints.{AreStages, IsHistory, Stage};
 ghost use Rattle.oai_durable.specs.Lives.{AreAmong, AreLives, Life, answered_in};
 ghost use Rattle.oai_durable.specs.Journaled.{IsExchange, IsHeld, IsSettled, Parts};
 ghost use Rattle.oai_durable.specs.Served.{IsLived, IsRemembered, LivesAs};
@@ -6,7 +7,7 @@ ghost use Rattle.oai_front.specs.Runs.{Served};
 ghost use Rattle.oai_journal.specs.Records.{Entry};
 ghost use Rattle.oai_serving.specs.Rounds.{IsService, World, served_in};
 ghost use Rattle.oai_serving.specs.declared.faults.ServeFault.{ServeFault as Fault};
-ghost use Rattle.std.specs.Prelude.{[], IsTrue, List, Option, Result, length};
+ghost use Rattle.std.specs.Prelude.{◌≡◌, [], IsTrue, List, Option, Result, length};
 
 use oai_http::Replayed;
 use oai_journal::Journal;
@@ -17,8 +18,8 @@ use oai_serving::Stream;
 /// follows. All else in the list was performed, and its answer held back.
 pub fn restart_law<H: Replayed>()
     ensures { (begun : H.Kept) (lives : List Life) (left : List Entry)
-        → AreLives H.redone H.reply begun [] lives left
-        → AreAmong H.redone H.reply begun [] (answered_in lives) left }
+        → AreLives (record { redone = H.redone; restored = H.restored }) H.reply begun [] lives left
+        → AreAmong (record { redone = H.redone; restored = H.restored }) H.reply begun [] (answered_in lives) left }
 {}
 
 /// A server's life is such a life: rounds in which messages were served and the handler settled, whose answers left; and then
@@ -32,10 +33,10 @@ pub fn life_law<H: Replayed, J: Journal>()
           Kept = H.Kept;
           kept = H.kept;
           is_honest = H.is_honest;
-          redone = H.redone;
+          leaving = record { redone = H.redone; restored = H.restored };
           reply = H.reply;
         }) J.Journal begun found first rounds held left
-        → LivesAs H.redone H.reply begun found (served_in rounds) held left }
+        → LivesAs (record { redone = H.redone; restored = H.restored }) H.reply begun found (served_in rounds) held left }
 {}
 
 /// A service, as `Server::serve` promises it, is such a life, for its clients too: each has the front of the answers to its own messages among
@@ -48,7 +49,7 @@ pub fn service_law<S: Stream, H: Replayed, J: Journal>()
           Kept = H.Kept;
           kept = H.kept;
           is_honest = H.is_honest;
-          redone = H.redone;
+          leaving = record { redone = H.redone; restored = H.restored };
           reply = H.reply;
         }) J.Journal) (IsSettled J.Journal) S.contents S.remaining known later old
         result new
@@ -57,10 +58,33 @@ pub fn service_law<S: Stream, H: Replayed, J: Journal>()
           Kept = H.Kept;
           kept = H.kept;
           is_honest = H.is_honest;
-          redone = H.redone;
+          leaving = record { redone = H.redone; restored = H.restored };
           reply = H.reply;
         }) J.Journal begun old.handler found (length found)
         → IsTrue (H.is_honest old.handler.handler)
         → J.may_leave new.handler.journal left
-        → IsRemembered S.contents S.remaining H.redone H.reply begun found known later old new left }
+        → IsRemembered S.contents S.remaining (record { redone = H.redone; restored = H.restored }) H.reply begun found known later old new left }
+{}
+
+/// Lives, with checkpoints between them: all of them are one history, which leaves what the records leave that the last stage left. Every
+/// answer that left has its place in it, in order over all lives: without a fault it is what the history before it makes of what was asked, and
+/// its own record follows. All else in it was performed, and its answer held back; or it is a checkpoint, at which all lists ended and the number
+/// of each next list was raised. So a token is answered as before or refused, and no list number is given twice.
+pub fn stages_law<H: Replayed>()
+    ensures { (begun : H.Kept) (stages : List Stage) (left : List Entry)
+        → H.emptied begun ≡ begun
+        → AreStages (record {
+          leaving = record { redone = H.redone; restored = H.restored };
+          reply = H.reply;
+          parts = H.parts;
+          ended = H.ended;
+          emptied = H.emptied;
+        }) begun [] stages left
+        → IsHistory (record {
+          leaving = record { redone = H.redone; restored = H.restored };
+          reply = H.reply;
+          parts = H.parts;
+          ended = H.ended;
+          emptied = H.emptied;
+        }) begun stages left }
 {}

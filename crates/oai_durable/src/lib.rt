@@ -2,11 +2,13 @@
 //! from there.
 #![tactic(auto)]
 
+mod checkpoints;
 mod journaled;
 mod laws;
 mod records;
 mod recovery;
 
+pub use checkpoints::{CheckpointFault, checkpoint};
 pub use journaled::Journaled;
-pub use laws::{life_law, restart_law, service_law};
+pub use laws::{life_law, restart_law, service_law, stages_law};
 pub use recovery::{Progress, RecoverFault, recover, resume};

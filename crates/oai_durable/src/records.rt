@@ -1,12 +1,14 @@
-//! What was performed, as records of a journal.
+//! What was performed, and parts of what is kept, as records of a journal.
 ghost use Rattle.oai_durable.specs.Records as spec;
 ghost use Rattle.oai_journal.specs.Records.{as_entry};
+ghost use Rattle.oai_http.specs.Parts.{as_part};
 ghost use Rattle.oai_http.specs.Redone.{call_again, is_short_name};
 ghost use Rattle.oai_journal.specs.Records.{Entry};
 ghost use Rattle.oai_journal.specs.declared.records.TheConstants.{MAX_BODY};
-ghost use Rattle.std.specs.Prelude.{◌≡◌, ◌≤◌, ◌++◌, ◌∷◌, [], ℕ, IfSome, IsTrue, List, length};
+ghost use Rattle.std.specs.Option.{IfNone};
+ghost use Rattle.std.specs.Prelude.{◌≡◌, ◌≤◌, ◌++◌, ◌∷◌, [], ℕ, Some, IfSome, IsTrue, List, None, length};
 
-use oai_http::{Endpoint, Performed};
+use oai_http::{Endpoint, Part, PartKind, Performed};
 use oai_journal::{Journal, Kind, Record};
 
 /// What was performed at the moment, as a record: a deposit or a request, and a request without arguments as a tick.
@@ -64,6 +66,46 @@ pub(crate) fn performed_in<'a>(entry: &Record<'a>) -> Option<Performed<'a>>
     };
     Some(Performed {
         endpoint,
+        name: entry.name,
+        bytes: entry.body,
+    })
+}
+
+/// A part, as a record.
+pub(crate) fn record_of_part<'a>(part: &Part<'a>) -> Record<'a>
+    ensures { as_entry result ≡ spec.entry_of_part (as_part part.now) }
+{
+    let kind = match part.kind {
+        PartKind::Begin => Kind::Begin,
+        PartKind::Set => Kind::Set,
+        PartKind::Item => Kind::Item,
+    };
+    Record {
+        moment: part.moment,
+        kind,
+        name: part.name,
+        body: part.bytes,
+    }
+}
+
+/// The part of which this is the record; `None` where it is of no part.
+pub(crate) fn part_in<'a>(entry: &Record<'a>) -> Option<Part<'a>>
+    ensures part { IfSome result (λ p. (spec.part_kind entry.now.kind ≡ Some p.kind)
+        × (as_part p ≡ spec.part_in p.kind (as_entry entry.now))) }
+    ensures none { IfNone result (spec.part_kind entry.now.kind ≡ None) }
+{
+    let kind = match entry.kind {
+        Kind::Begin => PartKind::Begin,
+        Kind::Set => PartKind::Set,
+        Kind::Item => PartKind::Item,
+        Kind::Journal => return None,
+        Kind::Oai => return None,
+        Kind::Deposit => return None,
+        Kind::Tick => return None,
+    };
+    Some(Part {
+        kind,
+        moment: entry.moment,
         name: entry.name,
         bytes: entry.body,
     })

@@ -1,6 +1,6 @@
 //! The records of a journal, performed again.
 ghost use Rattle.oai_durable.specs.Journaled.{IsHeld};
-ghost use Rattle.oai_durable.specs.Records.{call_in};
+ghost use Rattle.oai_durable.specs.Records.{left_by};
 ghost use Rattle.oai_durable.specs.Recovered.{HasRedone, IsRecovered};
 ghost use Rattle.oai_journal.specs.Changes.{IsUndamaged};
 ghost use Rattle.oai_journal.specs.Records.{Entry, as_entry};
@@ -8,7 +8,7 @@ ghost use Rattle.oai_journal.specs.Recovered.{HasRecovered, current, disk_of};
 ghost use Rattle.std.specs.Prelude.{◌≡◌, ◌++◌, ◌∷◌, [], ℕ, Some, false, IfOk, IfSome, IsTrue, List, OnOk, length};
 
 use crate::journaled::Journaled;
-use crate::records::performed_in;
+use crate::records::{part_in, performed_in};
 use oai_http::Replayed;
 use oai_item::Fault;
 use oai_journal::{FileJournal, Journal, Record, Recovery, RecoveryFault};
@@ -22,8 +22,8 @@ pub enum RecoverFault {
     /// The journal could not be read on.
     #[error("{0}")]
     Journal(RecoveryFault),
-    /// The record is of a kind that is no exchange.
-    #[error("record {0}: it is no exchange")]
+    /// The record is of a kind that is neither an exchange nor a part.
+    #[error("record {0}: it is neither an exchange nor a part")]
     Kind(u64),
     /// A fault ended it.
     #[error("record {0}: performing it fails: {1}")]
@@ -36,8 +36,8 @@ pub trait Progress {
     fn note(&mut self, position: usize, len: usize, records: u64);
 }
 
-/// Performs the records of the journal behind its first one again, one by one, and answers how many they were. The
-/// recovery has begun. The journal is as it was, also after an error: one of the journal's own, or with the number of the record
+/// Performs the records of the journal behind its first one again, one by one, those of parts by restoring these, and answers how many they
+/// were. The recovery has begun. The journal is as it was, also after an error: one of the journal's own, or with the number of the record
 /// that could not be performed.
 pub fn recover<H: Replayed, D: Disk + Drop, P: Progress>(
     handler: &mut H,
@@ -46,7 +46,7 @@ pub fn recover<H: Replayed, D: Disk + Drop, P: Progress>(
 ) -> Result<u64, RecoverFault>
     ensures recovered { IfOk result (λ count. IsTrue (D.Disk.is_clean (disk_of recovery.new)) → (first : Entry)
         → HasRecovered D.Disk.seen D.Disk.may_leave recovery.old first []
-        → IsRecovered H.kept H.is_honest H.redone D.Disk.seen D.Disk.may_leave (H.kept handler.old) handler.new
+        → IsRecovered H.kept H.is_honest (record { redone = H.redone; restored = H.restored }) D.Disk.seen D.Disk.may_leave (H.kept handler.old) handler.new
         recovery.new first count) }
     ensures honesty { H.is_honest handler.new ≡ H.is_honest handler.old }
     ensures seen { D.Disk.seen (disk_of recovery.new) ≡ D.Disk.seen (disk_of recovery.old) }
@@ -69,13 +69,13 @@ pub fn resume<H: Replayed + Drop, D: Disk + Drop>(
     recovery: Recovery<D>,
 ) -> Option<Journaled<H, FileJournal<D>>>
     ensures { IfSome result (λ journaled. (begun : H.Kept) (first : Entry) (entries : List Entry)
-        → HasRedone H.kept H.is_honest H.redone D.Disk.seen D.Disk.may_leave begun handler recovery first entries
+        → HasRedone H.kept H.is_honest (record { redone = H.redone; restored = H.restored }) D.Disk.seen D.Disk.may_leave begun handler recovery first entries
         → IsHeld (record {
           step = H.step;
           Kept = H.Kept;
           kept = H.kept;
           is_honest = H.is_honest;
-          redone = H.redone;
+          leaving = record { redone = H.redone; restored = H.restored };
           reply = H.reply;
         }) ⟦<FileJournal<D> as Journal>⟧ begun journaled entries (length entries)) }
 {
@@ -85,7 +85,7 @@ pub fn resume<H: Replayed + Drop, D: Disk + Drop>(
     }
 }
 
-/// Reads the next record and performs it; false where there is none.
+/// Reads the next record and performs it, or restores its part; false where there is none.
 fn redo_next<H: Replayed, D: Disk + Drop>(
     handler: &mut H,
     recovery: &mut Recovery<D>,
@@ -93,13 +93,13 @@ fn redo_next<H: Replayed, D: Disk + Drop>(
 ) -> Result<bool, RecoverFault>
     ensures next { IfOk result (λ more. IsTrue more → IsTrue (D.Disk.is_clean (disk_of recovery.new))
         → (begun : H.Kept) (first : Entry) (entries : List Entry)
-        → HasRedone H.kept H.is_honest H.redone D.Disk.seen D.Disk.may_leave begun handler.old recovery.old first entries
-        → (e : Entry) × HasRedone H.kept H.is_honest H.redone D.Disk.seen D.Disk.may_leave begun handler.new
+        → HasRedone H.kept H.is_honest (record { redone = H.redone; restored = H.restored }) D.Disk.seen D.Disk.may_leave begun handler.old recovery.old first entries
+        → (e : Entry) × HasRedone H.kept H.is_honest (record { redone = H.redone; restored = H.restored }) D.Disk.seen D.Disk.may_leave begun handler.new
         recovery.new first (entries ++ e ∷ [])) }
     ensures end { IfOk result (λ more. more ≡ false → IsTrue (D.Disk.is_clean (disk_of recovery.new))
         → (begun : H.Kept) (first : Entry) (entries : List Entry)
-        → HasRedone H.kept H.is_honest H.redone D.Disk.seen D.Disk.may_leave begun handler.old recovery.old first entries
-        → HasRedone H.kept H.is_honest H.redone D.Disk.seen D.Disk.may_leave begun handler.new recovery.new first entries
+        → HasRedone H.kept H.is_honest (record { redone = H.redone; restored = H.restored }) D.Disk.seen D.Disk.may_leave begun handler.old recovery.old first entries
+        → HasRedone H.kept H.is_honest (record { redone = H.redone; restored = H.restored }) D.Disk.seen D.Disk.may_leave begun handler.new recovery.new first entries
         × IsUndamaged (D.Disk.seen (disk_of recovery.new)) first entries) }
     ensures honesty { H.is_honest handler.new ≡ H.is_honest handler.old }
     ensures seen { D.Disk.seen (disk_of recovery.new) ≡ D.Disk.seen (disk_of recovery.old) }
@@ -117,14 +117,14 @@ fn redo_next<H: Replayed, D: Disk + Drop>(
     }
 }
 
-/// Performs the record that was read last.
+/// Performs the record that was read last, or restores its part.
 fn redo_last<H: Replayed, D: Disk + Drop>(
     handler: &mut H,
     recovery: &Recovery<D>,
     number: u64,
 ) -> Result<(), RecoverFault>
     ensures redone { OnOk result ((e : Entry) → current recovery.now ≡ Some e → IsTrue (H.is_honest handler.old)
-        → H.kept handler.new ≡ H.redone (H.kept handler.old) (call_in e)) }
+        → H.kept handler.new ≡ left_by (record { redone = H.redone; restored = H.restored }) (H.kept handler.old) e) }
     ensures honesty { H.is_honest handler.new ≡ H.is_honest handler.old }
 {
     match recovery.record() {
@@ -133,21 +133,25 @@ fn redo_last<H: Replayed, D: Disk + Drop>(
     }
 }
 
-/// Performs a record.
+/// Performs a record, or restores its part.
 fn redo_entry<H: Replayed>(
     handler: &mut H,
     entry: &Record<'_>,
     number: u64,
 ) -> Result<(), RecoverFault>
     ensures redone { OnOk result (IsTrue (H.is_honest handler.old)
-        → H.kept handler.new ≡ H.redone (H.kept handler.old) (call_in (as_entry entry.now))) }
+        → H.kept handler.new ≡ left_by (record { redone = H.redone; restored = H.restored }) (H.kept handler.old) (as_entry entry.now)) }
     ensures honesty { H.is_honest handler.new ≡ H.is_honest handler.old }
 {
-    match performed_in(entry) {
-        Some(performed) => match handler.redo(entry.moment, &performed) {
-            Ok(()) => Ok(()),
-            Err(fault) => Err(RecoverFault::Performing(number, fault)),
+    let done = match part_in(entry) {
+        Some(part) => handler.restore(&part),
+        None => match performed_in(entry) {
+            Some(performed) => handler.redo(entry.moment, &performed),
+            None => return Err(RecoverFault::Kind(number)),
         },
-        None => Err(RecoverFault::Kind(number)),
+    };
+    match done {
+        Ok(()) => Ok(()),
+        Err(fault) => Err(RecoverFault::Performing(number, fault)),
     }
 }

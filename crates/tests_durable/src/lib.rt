@@ -4,10 +4,14 @@
 #[cfg(test)]
 mod archives;
 #[cfg(test)]
+mod checkpoints;
+#[cfg(test)]
 mod ends;
 #[cfg(test)]
 mod faults;
 #[cfg(test)]
 mod lives;
+#[cfg(test)]
+mod shelves;
 #[cfg(test)]
 mod written_lives;

@@ -12,4 +12,4 @@ invariant-loop-count g l =
     × ((c : List ℕ) → g.D.Disk.may_leave (disk_of l.recovery) c → g.D.Disk.may_leave (disk_of l.fn.recovery) c)
     × (IsTrue (g.D.Disk.is_clean (disk_of l.recovery)) → (first : Entry) → HasRecovered g.D.Disk.seen g.D.Disk.may_leave l.fn.recovery first []
     → (entries : List Entry) × (length entries ≡ l.count)
-    × HasRedone g.H.Replayed.kept g.H.Replayed.is_honest g.H.Replayed.redone g.D.Disk.seen g.D.Disk.may_leave (g.H.Replayed.kept l.fn.handler) l.handler l.recovery first entries)
+    × HasRedone g.H.Replayed.kept g.H.Replayed.is_honest (record { redone = g.H.Replayed.redone; restored = g.H.Replayed.restored }) g.D.Disk.seen g.D.Disk.may_leave (g.H.Replayed.kept l.fn.handler) l.handler l.recovery first entries)

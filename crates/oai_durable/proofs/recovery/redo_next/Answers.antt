@@ -6,7 +6,7 @@ pub returns-in-Ok-clause-next : goal.returns-in-Ok-clause-next
 returns-in-Ok-clause-next g c = λ more clean begun first entries had.
     let read = c.in-Ok-true.ensures.next clean first entries had.read c.in-Ok-true.field-0-test in (
       read.0,
-      next_redone g.H.Replayed.kept g.H.Replayed.is_honest g.H.Replayed.redone g.D.Disk.seen g.D.Disk.may_leave begun c.args.handler.now c.redo_last.new.handler
+      next_redone g.H.Replayed.kept g.H.Replayed.is_honest (record { redone = g.H.Replayed.redone; restored = g.H.Replayed.restored }) g.D.Disk.seen g.D.Disk.may_leave begun c.args.handler.now c.redo_last.new.handler
           c.args.recovery.now c.advance.new.self first entries read.0 had read.1 (c.in-Ok.ensures.redone read.0 read.2) c.redo_last.ensures.honesty,
     )
 

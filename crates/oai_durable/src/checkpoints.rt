@@ -1,0 +1,139 @@
+//! What a handler keeps, written into a journal part by part.
+ghost use Rattle.oai_durable.specs.Checkpoints.{HasSaved, HoldsCheckpoint};
+ghost use Rattle.oai_durable.specs.Records.{entry_of_part};
+ghost use Rattle.oai_http.specs.Parts.{PartState, as_part};
+ghost use Rattle.oai_journal.specs.Records.{Entry};
+ghost use Rattle.std.specs.Prelude.{◌≡◌, ◌++◌, ◌∷◌, [], ℕ, IfOk, IsTrue, List, OnOk, length};
+
+use crate::records::record_of_part;
+use oai_http::{Part, Replayed, SaveFault, Sink, SinkFault};
+use oai_item::Fault;
+use oai_journal::{Journal, JournalFault};
+use thiserror::Error;
+
+/// After so many bytes of records these are committed, so that they take no more memory.
+const GROUP_BYTES: usize = 1_048_576;
+
+/// The bytes that are counted for a record beside its body.
+const HEAD_BYTES: usize = 128;
+
+/// Why no checkpoint was written.
+#[derive(Clone, Copy, Debug, PartialEq, Eq, Error)]
+pub enum CheckpointFault {
+    /// What the handler keeps could not be read.
+    #[error("{0}")]
+    Reading(Fault),
+    /// A list number would not fit in 64 bits.
+    #[error("no list number is left")]
+    Numbers,
+    /// The journal could not be written, or a part is longer than a record may be.
+    #[error("{0}")]
+    Journal(JournalFault),
+}
+
+/// A journal that takes parts as records, and commits them in groups.
+#[derive(Drop)]
+struct JournalSink<J> {
+    journal: J,
+    /// The bytes of records that were added since the last commit.
+    waiting: usize,
+    /// Why no further part was taken.
+    fault: JournalFault,
+}
+
+impl<J: Journal> Sink for JournalSink<J> {
+    ghost has = { λ sink parts. HasSaved J.Journal sink.journal parts };
+
+    fn add(&mut self, part: &Part<'_>) -> Result<(), SinkFault> {
+        match self.take(part) {
+            Ok(()) => Ok(()),
+            Err(fault) => {
+                self.fault = fault;
+                Err(SinkFault)
+            }
+        }
+    }
+}
+
+impl<J: Journal> JournalSink<J> {
+    /// Adds the part as a record, behind a commit where enough bytes wait for one.
+    fn take(&mut self, part: &Part<'_>) -> Result<(), JournalFault>
+        ensures { OnOk result ((parts : List PartState) → HasSaved J.Journal self.old.journal parts
+            → HasSaved J.Journal self.new.journal (parts ++ as_part part.now ∷ [])) }
+    {
+        commit_group(&mut self.journal, &mut self.waiting)?;
+        add_part(&mut self.journal, part)?;
+        let bytes = part.bytes.len().saturating_add(HEAD_BYTES);
+        self.waiting = self.waiting.saturating_add(bytes);
+        Ok(())
+    }
+}
+
+/// Commits the records where so many bytes of them wait that they are a group; none wait then.
+fn commit_group<J: Journal>(journal: &mut J, waiting: &mut usize) -> Result<(), JournalFault>
+    ensures { OnOk result ((parts : List PartState) → HasSaved J.Journal journal.old parts
+        → HasSaved J.Journal journal.new parts) }
+{
+    if *waiting < GROUP_BYTES {
+        return Ok(());
+    }
+    *waiting = 0;
+    journal.commit()
+}
+
+/// Adds a part as a record behind the others. NoRoom where memory is refused, or no record can hold the part.
+fn add_part<J: Journal>(journal: &mut J, part: &Part<'_>) -> Result<(), JournalFault>
+    ensures { OnOk result ((entries : List Entry) (durable : ℕ) → J.holds journal.old entries durable
+        → J.holds journal.new (entries ++ entry_of_part (as_part part.now) ∷ []) durable) }
+{
+    let record = record_of_part(part);
+    if !record.is_fit() {
+        return Err(JournalFault::NoRoom);
+    }
+    journal.reserve(record.body.len())?;
+    journal.append(&record);
+    Ok(())
+}
+
+/// Writes a checkpoint: the records of all parts of what the handler keeps, with the number of each next list raised by so many,
+/// into a journal that has no record yet. All of them are durable then, and to a handler of the same repositories they give what this one
+/// keeps, but for the open lists, which have ended. The handler keeps what it kept, also after an error; the journal is dropped then.
+pub fn checkpoint<H: Replayed, J: Journal>(
+    handler: &mut H,
+    raise: u32,
+    journal: J,
+) -> Result<J, CheckpointFault>
+    ensures saved { IfOk result (λ written. IsTrue (H.is_honest handler.old) → (durable : ℕ) → J.holds journal [] durable
+        → HoldsCheckpoint (record {
+          leaving = record { redone = H.redone; restored = H.restored };
+          reply = H.reply;
+          parts = H.parts;
+          ended = H.ended;
+          emptied = H.emptied;
+        }) J.Journal (H.kept handler.old) raise written) }
+    ensures same { H.kept handler.new ≡ H.kept handler.old }
+    ensures honesty { H.is_honest handler.new ≡ H.is_honest handler.old }
+{
+    let mut sink = JournalSink {
+        journal,
+        waiting: 0,
+        fault: JournalFault::Failed,
+    };
+    match handler.save(raise, &mut sink) {
+        Ok(()) => committed(sink.journal),
+        Err(SaveFault::Reading(fault)) => Err(CheckpointFault::Reading(fault)),
+        Err(SaveFault::Numbers) => Err(CheckpointFault::Numbers),
+        Err(SaveFault::Sink(_)) => Err(CheckpointFault::Journal(sink.fault)),
+    }
+}
+
+/// The journal, with all its records durable.
+fn committed<J: Journal>(mut journal: J) -> Result<J, CheckpointFault>
+    ensures { IfOk result (λ written. (entries : List Entry) (durable : ℕ) → J.holds journal entries durable
+        → J.holds written entries (length entries)) }
+{
+    match journal.commit() {
+        Ok(()) => Ok(journal),
+        Err(fault) => Err(CheckpointFault::Journal(fault)),
+    }
+}

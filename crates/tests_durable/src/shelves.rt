@@ -1,0 +1,128 @@
+//! A handler of a few parts, which keeps what it restores as bytes.
+use oai_http::{
+    Answer, Done, Exchange, Handler, Part, PartKind, Performed, Replayed, SaveFault, Sink, Status,
+};
+use oai_item::Fault;
+use std::alloc::Global;
+
+/// A handler that saves these parts and then the fault, if there is one, and notes what it restores.
+#[derive(Drop)]
+pub(crate) struct Shelf<'a> {
+    alloc: Global,
+    parts: &'a [Part<'a>],
+    fault: Option<SaveFault>,
+    raise: u32,
+    notes: Vec<u8>,
+}
+
+impl<'a> Shelf<'a> {
+    /// A handler of these parts.
+    pub(crate) fn new(alloc: Global, parts: &'a [Part<'a>], fault: Option<SaveFault>) -> Shelf<'a> {
+        Shelf {
+            alloc,
+            parts,
+            fault,
+            raise: 0,
+            notes: Vec::new(alloc),
+        }
+    }
+
+    /// By how much the list numbers were raised that were saved last.
+    pub(crate) fn raise(&self) -> u32 {
+        self.raise
+    }
+
+    /// What was restored and performed again: of a part a letter, its moment in eight bytes, its name, a space, and its bytes with an LF.
+    pub(crate) fn notes(&self) -> &[u8] {
+        self.notes.as_slice()
+    }
+
+    /// Notes what was restored or performed again.
+    fn note(&mut self, moment: i64, pieces: [&[u8]; 3]) -> Result<(), Fault> {
+        let seconds = moment.to_be_bytes();
+        for piece in [pieces[0], &seconds, pieces[1], b" ", pieces[2], b"\n"] {
+            for byte in piece {
+                if self.notes.push(*byte).is_err() {
+                    return Err(Fault::NoMemory);
+                }
+            }
+        }
+        Ok(())
+    }
+}
+
+/// A letter for the kind of a part.
+fn letter_of(kind: PartKind) -> &'static [u8] {
+    match kind {
+        PartKind::Begin => b"B",
+        PartKind::Set => b"S",
+        PartKind::Item => b"I",
+    }
+}
+
+impl Handler for Shelf<'_> {
+    ghost step = { λ old moment asked answer new. Unit };
+
+    fn exchange(&mut self, _moment: i64, _exchange: &Exchange<'_>) -> Answer {
+        Answer::of_status(self.alloc, Status::NotFound)
+    }
+}
+
+impl Replayed for Shelf<'_> {
+    ghost use Rattle.oai_http.specs.Answers.{answered};
+    ghost use Rattle.oai_http.specs.declared.statuses.Status.TheVariants.{NotFound};
+    ghost use Rattle.std.specs.Prelude.{[], false, refl};
+
+    ghost Kept = { Unit };
+
+    ghost kept = { λ shelf. tt };
+
+    ghost is_honest = { λ shelf. false };
+
+    ghost redone = { λ kept call. kept };
+
+    ghost reply = { λ kept call. answered NotFound };
+
+    fn perform<'a>(&mut self, moment: i64, exchange: &Exchange<'a>) -> Done<'a> {
+        Done {
+            answer: self.exchange(moment, exchange),
+            performed: None,
+        }
+    }
+
+    fn redo(&mut self, moment: i64, performed: &Performed<'_>) -> Result<(), Fault> {
+        self.note(moment, [b"P", performed.name, performed.bytes])
+    }
+
+    ghost restored = { λ kept part. kept };
+
+    ghost parts = { λ kept. [] };
+
+    ghost ended = { λ raise kept. kept };
+
+    ghost emptied = { λ kept. kept };
+
+    fn restore(&mut self, part: &Part<'_>) -> Result<(), Fault> {
+        if part.bytes.is_empty() {
+            return Err(Fault::Damaged);
+        }
+        self.note(part.moment, [letter_of(part.kind), part.name, part.bytes])
+    }
+
+    fn save<S: Sink>(&mut self, raise: u32, sink: &mut S) -> Result<(), SaveFault> {
+        self.raise = raise;
+        for part in self.parts {
+            if let Err(fault) = sink.add(part) {
+                return Err(SaveFault::Sink(fault));
+            }
+        }
+        match self.fault {
+            Some(fault) => Err(fault),
+            None => Ok(()),
+        }
+    }
+
+    ghost same_redone = { λ kept call. refl };
+
+    ghost same_restored = { λ kept part. refl };
+}
