@@ -11,3 +11,6 @@ pub mod RoomLemmas
 pub mod TaskLemmas
 pub mod RedoLemmas
 pub mod AgainLemmas
+pub mod SavedLemmas
+pub mod PieceLemmas
+pub mod RestoreLemmas

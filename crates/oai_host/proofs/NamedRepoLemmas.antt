@@ -1,5 +1,5 @@
 -- One of many repositories changes, and the others stay as they were.
-use Rattle.std.proofs.Common.{◌≡◌, ◌∙◌, ℕ, zero, suc, Bool, true, false, eqb, List, [], ◌∷◌, ◌++◌, Option, None, Some, unwrap_or, slice_set, IsTrue, refl, sym, ap, subst}
+use Rattle.std.proofs.Common.{◌≡◌, ◌∙◌, ℕ, zero, suc, Bool, true, false, eqb, List, [], ◌∷◌, ◌++◌, Option, None, Some, unwrap_or, slice_set, IsTrue, refl, sym, ap, ap₂, subst}
 use Rattle.std.specs.List.{list_any, slice_get}
 use Rattle.std.specs.Str.{bytes_eq}
 use Rattle.std.proofs.lemmas.Bool.{cond-false, eqb-true, false_from_ne_true, or_from, or_left, or_parts, or_right}
@@ -79,6 +79,12 @@ module _ (old new : RepoFields) (before after : Lists) (kept : KeepsOthers (numb
         rest_steps call answer m n endpoint name others stand.1 apart.1 path parts.1,
       )
 
+  rest_same : (others : List NamedRepo) → AllStand others before → IsApart old others → repositories_of others after ≡ repositories_of others before
+  rest_same [] stand apart = refl
+  rest_same (x ∷ others) stand apart =
+      ap₂ (λ (s : RepoState) (rs : List Repository). record { name = x.name; config = x.repo.config; state = s } ∷ rs)
+      (state_same x.repo before after (same_lists x.repo stand.0 (apart_turned old x.repo apart.0))) (rest_same others stand.1 apart.1)
+
 -- ---- the one at a place
 
 apart_at : (a : RepoFields) (repos : List NamedRepo) (i : ℕ) (one : NamedRepo) → slice_get repos i ≡ Some one → IsApart a repos → AreApart a one.repo
@@ -151,6 +157,16 @@ module _ (one : NamedRepo) (new : RepoFields) (before after : Lists) (kept : Kee
         set_steps call answer m n endpoint repos i there stand.1 apart.1 parts.1 path step,
       )
 
+  set_repositories : (repos : List NamedRepo) (i : ℕ) → slice_get repos i ≡ Some one → AllStand repos before → AllApart repos
+      → repositories_of (slice_set repos i changed) after ≡ slice_set (repositories_of repos before) i (repository_of after changed)
+  set_repositories [] i there stand apart = nothing_there one there
+  set_repositories (x ∷ repos) zero there stand apart =
+      ap (λ (rs : List Repository). repository_of after changed ∷ rs)
+      (rest_same one.repo new before after kept repos stand.1 (subst (λ (y : NamedRepo). IsApart y.repo repos) (same_one x one there) apart.0))
+  set_repositories (x ∷ repos) (suc i) there stand apart =
+      ap₂ (λ (s : RepoState) (rs : List Repository). record { name = x.name; config = x.repo.config; state = s } ∷ rs)
+      (state_same x.repo before after (same_lists one.repo new before after kept x.repo stand.0 (apart_at x.repo repos i one there apart.0))) (set_repositories repos i there stand.1 apart.1)
+
 -- all of it
 pub repos_set : (was is : Bool) (repos : List NamedRepo) (i : ℕ) (one : NamedRepo) (new : RepoFields) (before after : Lists) → is ≡ was → slice_get repos i ≡ Some one → AreNamedRepos was repos before
     → Keeps was one.repo before new after → AreNamedRepos is (slice_set repos i (record { name = one.name; repo = new })) after
@@ -160,6 +176,10 @@ repos_set was is repos i one new before after same there old kept = record {
   held = λ honest. let then_too = subst (λ (b : Bool). IsTrue b) same honest in set_held one new before after kept.others repos i there old.stand old.apart (old.held then_too) (kept.held then_too);
   apart = set_apart one new before after kept.others repos i there old.stand old.apart;
 }
+
+pub repositories_set : (was : Bool) (repos : List NamedRepo) (i : ℕ) (one : NamedRepo) (new : RepoFields) (before after : Lists) → slice_get repos i ≡ Some one → AreNamedRepos was repos before → Keeps was one.repo before new after
+    → repositories_of (slice_set repos i (record { name = one.name; repo = new })) after ≡ slice_set (repositories_of repos before) i (repository_of after (record { name = one.name; repo = new }))
+repositories_set was repos i one new before after there old kept = set_repositories one new before after kept.others repos i there old.stand old.apart
 
 pub steps_set : (was : Bool) (call : Call) (answer : Answer) (m n : StoreState) (endpoint : Endpoint) (repos : List NamedRepo) (i : ℕ) (one : NamedRepo) (new : RepoFields) (before after : Lists) → slice_get repos i ≡ Some one → AreNamedRepos was repos before
     → Keeps was one.repo before new after → has_repeat (repo_names repos) ≡ false → path_of call.target ≡ front_of endpoint ++ one.name

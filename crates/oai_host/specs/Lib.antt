@@ -13,3 +13,6 @@ pub mod NamedRepos
 pub mod Props
 pub mod DepositLines
 pub mod Places
+pub mod Saved
+pub mod Emptied
+pub mod Saving

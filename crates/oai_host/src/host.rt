@@ -5,22 +5,25 @@ ghost use Rattle.oai_host.specs.NamedRepos.{AreNamedRepos, StandFor, repo_names}
 ghost use Rattle.oai_host.specs.Places.{IsRepoPlace, LeadsNowhere};
 ghost use Rattle.oai_host.specs.Props.{named_repo_props};
 ghost use Rattle.oai_host.specs.Redone.{IsPerformedAt, IsRecorded, IsRedone};
+ghost use Rattle.oai_host.specs.Saved.{emptied_in, ended_in, parts_in, restored_in};
+ghost use Rattle.oai_host.specs.Saving.{Takes};
 ghost use Rattle.oai_http.specs.Exchanges.{call_of};
+ghost use Rattle.oai_http.specs.Parts.{as_part, restored_all};
 ghost use Rattle.oai_http.specs.Targets as spec;
 ghost use Rattle.oai_http.specs.declared.statuses.Status.TheVariants as status;
 ghost use Rattle.oai_item.specs.declared.faults.Fault.TheVariants.{TooManyPages};
 ghost use Rattle.oai_settings.specs.Config.{is_repository_name};
 ghost use Rattle.std.specs.List.{list_all};
 ghost use Rattle.std.specs.Option.{IfNone, option_copied};
-ghost use Rattle.std.specs.Prelude.{IfErr, IfOk, IfSome, IsTrue, OnErr, if◌then◌else◌, length, map, true, ◌++◌, ◌+◌, ◌<◌, ◌≡◌, ◌≤◌};
+ghost use Rattle.std.specs.Prelude.{IfErr, IfOk, IfSome, IsTrue, OnErr, OnOk, if◌then◌else◌, length, map, true, ◌++◌, ◌+◌, ◌<◌, ◌≡◌, ◌≤◌};
 
 use crate::repositories::Repositories;
 use crate::routes::Routes;
 use oai_catalogue::Versions;
 use oai_config::Config;
 use oai_http::{
-    Answer, Call, Done, Endpoint, Exchange, Handler, Performed, Replayed, Status, is_rooted,
-    path_of,
+    Answer, Call, Done, Endpoint, Exchange, Handler, Part, Performed, Replayed, SaveFault, Sink,
+    Status, is_rooted, path_of,
 };
 use oai_item::Fault;
 use oai_names::Sequence;
@@ -137,6 +140,37 @@ impl<V: Versions + Drop> Host<V> {
         }
     }
 
+    /// Restores a part behind those that were restored before. Any fault may come, and `Damaged` where no repository has the
+    /// part's name, its bytes spell nothing, or the repository would not keep it. After a fault all repositories are as they
+    /// were.
+    pub fn restore(&mut self, part: &Part<'_>) -> Result<(), Fault>
+        ensures restored { OnOk result (IsTrue self.old.honest
+            → self.new.repositories ≡ restored_in self.old.repositories (as_part part.now)) }
+        ensures err { OnErr result (self.new.repositories ≡ self.old.repositories) }
+        ensures honesty { self.new.honest ≡ self.old.honest }
+    {
+        match self.repositories.place_named(part.name) {
+            Some(place) => self.repositories.restore(&mut self.store, place, part),
+            None => Err(Fault::Damaged),
+        }
+    }
+
+    /// Hands the parts of all repositories to the sink, with the number of each next list raised by so many. The
+    /// repositories stay as they are, and what was saved can be restored. The errors: `Reading` where the store fails or
+    /// memory is refused, `Numbers` where a list number would not fit in 64 bits, `Sink` where the sink takes no more.
+    pub fn save<S: Sink>(&mut self, raise: u32, sink: &mut S) -> Result<(), SaveFault>
+        ensures saved { OnOk result (IsTrue self.old.honest
+            → Takes S.has (parts_in (ended_in raise self.old.repositories)) sink.old sink.new) }
+        ensures whole { OnOk result (IsTrue self.old.honest
+            → restored_all restored_in (emptied_in self.old.repositories)
+            (parts_in (ended_in raise self.old.repositories))
+            ≡ ended_in raise self.old.repositories) }
+        ensures same { self.new.repositories ≡ self.old.repositories }
+        ensures honesty { self.new.honest ≡ self.old.honest }
+    {
+        self.repositories.save(&mut self.store, raise, sink)
+    }
+
     /// The store. The host's repositories are what its lists stand for, and its honesty, its failures and
     /// its room are those that are said of the host.
     pub fn versions(&self) -> &V
@@ -235,7 +269,9 @@ impl<V: Versions + Drop> Handler for Host<V> {
 impl<V: Versions + Drop> Replayed for Host<V> {
     ghost use Rattle.std.specs.Prelude.{List};
     ghost use Rattle.oai_host.specs.Hosts.{HostState, Repository};
+    ghost use Rattle.oai_host.specs.Emptied.{emptied_redone, emptied_restored};
     ghost use Rattle.oai_host.specs.Redone.{redone_all, reply_all};
+    ghost use Rattle.oai_host.specs.Saved.{emptied_in, ended_in, parts_in, restored_in};
 
     ghost Kept = { List Repository };
 
@@ -247,11 +283,31 @@ impl<V: Versions + Drop> Replayed for Host<V> {
 
     ghost reply = { reply_all };
 
+    ghost restored = { restored_in };
+
+    ghost parts = { parts_in };
+
+    ghost ended = { ended_in };
+
+    ghost emptied = { emptied_in };
+
+    ghost same_redone = { emptied_redone };
+
+    ghost same_restored = { emptied_restored };
+
     fn perform<'a>(&mut self, moment: i64, exchange: &Exchange<'a>) -> Done<'a> {
         self.perform_recorded(moment, exchange)
     }
 
     fn redo(&mut self, moment: i64, performed: &Performed<'_>) -> Result<(), Fault> {
         self.redo(moment, performed)
+    }
+
+    fn restore(&mut self, part: &Part<'_>) -> Result<(), Fault> {
+        self.restore(part)
+    }
+
+    fn save<S: Sink>(&mut self, raise: u32, sink: &mut S) -> Result<(), SaveFault> {
+        self.save(raise, sink)
     }
 }

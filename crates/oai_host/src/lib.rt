@@ -8,7 +8,9 @@ mod host;
 mod laws;
 mod records;
 mod repositories;
+mod restores;
 mod routes;
+mod saves;
 
 pub use host::Host;
 pub use laws::failures_law;

@@ -7,7 +7,10 @@ ghost use Rattle.oai_host.specs.Hosts.{AreSteps, begun};
 ghost use Rattle.oai_host.specs.NamedRepos.{AreNamedRepos, place_in, repo_names, repositories_of};
 ghost use Rattle.oai_host.specs.Places.{IsRepoPlace};
 ghost use Rattle.oai_host.specs.Redone.{AreLeftBy, AreRedone, IsNoLonger};
+ghost use Rattle.oai_host.specs.Saved.{restored_in};
+ghost use Rattle.oai_host.specs.Saving.{TakesAll};
 ghost use Rattle.oai_http.specs.Exchanges.{call_of};
+ghost use Rattle.oai_http.specs.Parts.{as_part};
 ghost use Rattle.oai_http.specs.Redone.{call_again};
 ghost use Rattle.oai_http.specs.Targets.{front_of, path_of};
 ghost use Rattle.oai_settings.specs.Config.{is_repository_name};
@@ -19,9 +22,11 @@ ghost use Rattle.std.specs.Str.{bytes_eq};
 
 use crate::dispatch::perform;
 use crate::records::{perform_recorded, redo};
+use crate::restores::restore;
+use crate::saves::save;
 use oai_catalogue::Versions;
 use oai_config::NamedConfig;
-use oai_http::{Answer, Endpoint, Exchange, Performed};
+use oai_http::{Answer, Endpoint, Exchange, Part, Performed, SaveFault, Sink};
 use oai_item::Fault;
 use oai_names::Text;
 use oai_repo::Repo;
@@ -202,6 +207,46 @@ impl Repositories {
             performed.endpoint,
             performed.bytes,
         )
+    }
+
+    /// Restores a part at the repository at the place. `Damaged` where the part does not fit; any other fault may come.
+    pub(crate) fn restore<V: Versions>(
+        &mut self,
+        store: &mut V,
+        place: usize,
+        part: &Part<'_>,
+    ) -> Result<(), Fault>
+        requires place { place_in (repo_names self.old) part.now.name.now ≡ Some place }
+        requires repos { AreNamedRepos (V.honest store.old) self.old (V.lists store.old) }
+        ensures restored { OnOk result (IsTrue (V.honest store.old)
+            → repositories_of self.new (V.lists store.new)
+            ≡ restored_in (repositories_of self.old (V.lists store.old)) (as_part part.now)) }
+        ensures err { OnErr result (repositories_of self.new (V.lists store.new)
+            ≡ repositories_of self.old (V.lists store.old)) }
+        ensures repos { AreNamedRepos (V.honest store.new) self.new (V.lists store.new) }
+        ensures honesty { V.honest store.new ≡ V.honest store.old }
+    {
+        let own = &mut self.repos[place].repo;
+        restore(self.alloc, own, store, part)
+    }
+
+    /// Hands all parts to the sink, with the number of each next list raised by so many.
+    pub(crate) fn save<V: Versions, S: Sink>(
+        &self,
+        store: &mut V,
+        raise: u32,
+        sink: &mut S,
+    ) -> Result<(), SaveFault>
+        requires { AreNamedRepos (V.honest store.old) self.now (V.lists store.old) }
+        ensures saved { OnOk result (IsTrue (V.honest store.old) → TakesAll S.has raise
+            (repositories_of self.now (V.lists store.old)) sink.old sink.new) }
+        ensures same { V.lists store.new ≡ V.lists store.old }
+        ensures honesty { V.honest store.new ≡ V.honest store.old }
+    {
+        for one in &self.repos {
+            save(self.alloc, one, store, raise, sink)?;
+        }
+        Ok(())
     }
 }
 

@@ -1,0 +1,134 @@
+//! A repository of a host, restored part by part.
+ghost use Rattle.oai_host.specs.Saving.{RestoresIn};
+ghost use Rattle.oai_http.specs.Parts.{as_part};
+ghost use Rattle.oai_http.specs.declared.parts.PartKind.TheVariants as kind;
+ghost use Rattle.oai_item.specs.Encoding.{Spells};
+ghost use Rattle.oai_names.specs.Sets.{may_be_set_spec};
+ghost use Rattle.oai_repo.specs.Fields.{Owns};
+ghost use Rattle.std.specs.Prelude.{IfOk, IfSome, decimal, true, ◌++◌, ◌∷◌, ◌≡◌};
+
+use itoa::Buffer;
+use oai_catalogue::Versions;
+use oai_http::{Part, PartKind};
+use oai_item::{DecodeFault, Fault, Item};
+use oai_names::{NameFault, SetSpec};
+use oai_repo::{Repo, SavedPart};
+use std::alloc::Global;
+
+/// Restores a part at the repository. `Damaged` where the part spells nothing, or the repository would not keep it. Any
+/// other fault may come. After a fault everything is as it was.
+pub(crate) fn restore<V: Versions>(
+    alloc: Global,
+    repo: &mut Repo,
+    store: &mut V,
+    part: &Part<'_>,
+) -> Result<(), Fault>
+    requires { Owns (V.honest store.old) repo.old (V.lists store.old) }
+    ensures { RestoresIn V.Versions (as_part part.now) result repo.old store.old repo.new store.new }
+{
+    match part.kind {
+        PartKind::Begin => restore_begin(repo, store, part),
+        PartKind::Set => restore_set(alloc, repo, store, part),
+        PartKind::Item => restore_item(alloc, repo, store, part),
+    }
+}
+
+/// Restores that the repository begins.
+fn restore_begin<V: Versions>(
+    repo: &mut Repo,
+    store: &mut V,
+    part: &Part<'_>,
+) -> Result<(), Fault>
+    requires kind { part.now.kind ≡ kind.Begin }
+    requires owns { Owns (V.honest store.old) repo.old (V.lists store.old) }
+    ensures { RestoresIn V.Versions (as_part part.now) result repo.old store.old repo.new store.new }
+{
+    let Some(next) = number_in(part.bytes) else {
+        return Err(Fault::Damaged);
+    };
+    let clock = part.moment;
+    repo.restore(store, &SavedPart::Begins { clock, next })
+}
+
+/// Restores a set.
+fn restore_set<V: Versions>(
+    alloc: Global,
+    repo: &mut Repo,
+    store: &mut V,
+    part: &Part<'_>,
+) -> Result<(), Fault>
+    requires kind { part.now.kind ≡ kind.Set }
+    requires owns { Owns (V.honest store.old) repo.old (V.lists store.old) }
+    ensures { RestoresIn V.Versions (as_part part.now) result repo.old store.old repo.new store.new }
+{
+    let Some((spec, name)) = set_in(part.bytes) else {
+        return Err(Fault::Damaged);
+    };
+    let spec = spec_in(alloc, spec)?;
+    repo.restore(store, &SavedPart::HasSet { spec: &spec, name })
+}
+
+/// Restores an item.
+fn restore_item<V: Versions>(
+    alloc: Global,
+    repo: &mut Repo,
+    store: &mut V,
+    part: &Part<'_>,
+) -> Result<(), Fault>
+    requires kind { part.now.kind ≡ kind.Item }
+    requires owns { Owns (V.honest store.old) repo.old (V.lists store.old) }
+    ensures { RestoresIn V.Versions (as_part part.now) result repo.old store.old repo.new store.new }
+{
+    let item = item_in(alloc, part.bytes)?;
+    if item.stamp() != part.moment {
+        return Err(Fault::Damaged);
+    }
+    repo.restore(store, &SavedPart::HasItem { item: &item })
+}
+
+/// The number below 2^64 that is spelled so, decimal without leading zeros.
+fn number_in(bytes: &[u8]) -> Option<u64>
+    ensures { IfSome result (λ n. bytes.now ≡ decimal n) }
+{
+    let text = str::from_utf8(bytes).ok()?;
+    let n = text.parse::<u64>().ok()?;
+    let mut digits = Buffer::new();
+    if digits.format(n) == text {
+        Some(n)
+    } else {
+        None
+    }
+}
+
+/// The setSpec and the name of the set that is spelled so: what stands in front of the first space, and what is behind it.
+fn set_in(bytes: &[u8]) -> Option<(&str, &str)>
+    ensures { IfSome result (λ set. bytes.now ≡ set.0.now ++ 32 ∷ set.1.now) }
+{
+    match str::from_utf8(bytes) {
+        Ok(text) => text.split_once(' '),
+        Err(_) => None,
+    }
+}
+
+/// The setSpec of that text; `Damaged` where it is none, and `NoMemory`.
+fn spec_in(alloc: Global, text: &str) -> Result<SetSpec, Fault>
+    ensures text { IfOk result (λ spec. spec ≡ text.now) }
+    ensures name { IfOk result (λ spec. may_be_set_spec spec ≡ true) }
+{
+    match SetSpec::read(alloc, text) {
+        Ok(spec) => Ok(spec),
+        Err(NameFault::NoMemory) => Err(Fault::NoMemory),
+        Err(_) => Err(Fault::Damaged),
+    }
+}
+
+/// The item that is spelled so; `Damaged` where none is, and `NoMemory`.
+fn item_in(alloc: Global, bytes: &[u8]) -> Result<Item, Fault>
+    ensures { IfOk result (λ item. Spells bytes.now item) }
+{
+    match Item::decode(alloc, bytes) {
+        Ok(item) => Ok(item),
+        Err(DecodeFault::NoMemory) => Err(Fault::NoMemory),
+        Err(DecodeFault::Damaged) => Err(Fault::Damaged),
+    }
+}
