@@ -3,11 +3,12 @@
 #![tactic(auto)]
 
 mod faults;
-mod json;
 mod lines;
 mod members;
 mod records;
+mod tokens;
+mod values;
 
 pub use faults::LineFault;
-pub use json::{elements_at, has_members, number_at, read_json, text_at};
 pub use lines::{read_line, shape_law};
+pub use values::{elements_at, has_members, number_at, read_json, text_at};

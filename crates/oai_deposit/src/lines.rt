@@ -13,9 +13,11 @@ ghost use Rattle.oai_deposit.specs.Readings.{FindsBy, Gives, passed};
 ghost use Rattle.oai_deposit.specs.Shapes.{ShapeLaw};
 
 use crate::faults::LineFault;
-use crate::json::{has_members, read_json};
 use crate::members::{command_text, texts_at};
 use crate::records::{have_xml_texts, records_at};
+use crate::tokens::{DepositTexts, read_deposit};
+use crate::values::{has_members, read_json};
+use json::Scratch;
 use oai_item::{Change, LineRefusal, Records, is_short_text};
 use oai_names::{Identifier, NameFault, Sequence, SetSpec, Text};
 use serde_json::Value;
@@ -28,6 +30,18 @@ use std::alloc::Global;
 /// Each text of the JSON value is copied at most once.
 #[tactic(auto, unfolding(crate::specs::Lines::line_of))]
 pub fn read_line(alloc: Global, line: &[u8]) -> Result<Change, LineFault>
+    ensures { Gives (json.TakesMemory line.now) result (lines.line_of line.now) }
+{
+    let mut scratch = Scratch::new(alloc);
+    match read_deposit(alloc, line, &mut scratch) {
+        Some(texts) => deposit_of_texts(alloc, texts),
+        None => read_any(alloc, line),
+    }
+}
+
+/// Reads a line of any command, in any order of its members, by the JSON value that it is.
+#[tactic(auto, unfolding(crate::specs::Lines::line_of))]
+fn read_any(alloc: Global, line: &[u8]) -> Result<Change, LineFault>
     ensures { Gives (json.TakesMemory line.now) result (lines.line_of line.now) }
 {
     match read_json(alloc, line)? {
@@ -71,6 +85,20 @@ fn deposit_of(alloc: Global, value: &Value) -> Result<Change, LineFault>
     let identifier = command_text(value, "deposit")?;
     let sets = texts_at(alloc, value, "sets")?;
     let records = records_at(alloc, value)?;
+    deposit_from(alloc, identifier, sets.as_slice(), records)
+}
+
+/// The deposit of the texts of a line that was read by its tokens.
+fn deposit_of_texts(alloc: Global, texts: DepositTexts<'_>) -> Result<Change, LineFault>
+    ensures { Gives (may_be_identifier texts.entry.identifier.now ≡ true) result
+        (lines.asked_change (lines.deposits texts.entry.identifier.now
+        (map (λ set. set.now) texts.entry.sets.items) texts.entry.records)) }
+{
+    let DepositTexts {
+        identifier,
+        sets,
+        records,
+    } = texts;
     deposit_from(alloc, identifier, sets.as_slice(), records)
 }
 
