@@ -2,6 +2,7 @@
 //! what a JSON value has, for whatever else is read from JSON.
 #![tactic(auto)]
 
+mod deposit_texts;
 mod faults;
 mod lines;
 mod members;

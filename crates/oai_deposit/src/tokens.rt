@@ -6,21 +6,14 @@ ghost use Rattle.json.specs.Token as token;
 ghost use Rattle.oai_item.specs.Item.{are_rising};
 ghost use Rattle.oai_deposit.specs.Tokens as tokens;
 
+use crate::deposit_texts::DepositTexts;
 use json::{Reader, Scratch, Token};
 use oai_item::{Field, Records};
 use oai_names::{Sequence, Text};
 use std::alloc::Global;
 
-/// The texts of a deposit: its identifier and its setSpecs as they stand in the line, and its records.
-#[derive(Drop)]
-pub(crate) struct DepositTexts<'a> {
-    /// What is to be the identifier.
-    pub(crate) identifier: &'a str,
-    /// What are to be the setSpecs.
-    pub(crate) sets: Vec<&'a str>,
-    /// The records, of any texts.
-    pub(crate) records: Records,
-}
+/// For how many fields of a record there is room at first, so that most records need no more.
+const USUAL_FIELDS: usize = 8;
 
 /// The texts of the deposit that the line is. `None` says nothing of the line: it may be a deposit that
 /// is written in another order, any other line, or memory was refused.
@@ -107,7 +100,7 @@ fn take_fields(alloc: Global, reader: &mut Reader<'_>) -> Option<Sequence<Field>
     ensures { IfSome result (λ fields. reader.old ≡ tokens.array_tokens tokens.field_tokens fields ++ reader.new) }
 {
     take_begin_array(reader)?;
-    let mut fields = Vec::new(alloc);
+    let mut fields = Vec::with_capacity(alloc, USUAL_FIELDS).ok()?;
     while !reader.take_end_array() {
         fields.push(take_field(alloc, reader)?).ok()?;
     }

@@ -6,5 +6,5 @@ use Rattle.oai_deposit.proofs.lines.read_line.Goals as goal
 pub returns-in-Some : goal.returns-in-Some
 returns-in-Some c =
     let is = c.in-Some.ensures in
-    line_gives c.args.line.now is.0 (may_be_identifier c.in-Some.texts.identifier.now ≡ true) c.deposit_of_texts.result is.1
-    (rw is.2 c.deposit_of_texts.ensures)
+    line_gives c.args.line.now is.0 (may_be_identifier c.in-Some.texts.identifier.now ≡ true) c.deposit_from.result is.1
+    (rw is.2 c.deposit_from.ensures)
