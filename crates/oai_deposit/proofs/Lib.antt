@@ -5,3 +5,4 @@ pub mod ReaderLemmas
 pub mod ReadingLemmas
 pub mod RecordLemmas
 pub mod ShapeLemmas
+pub mod TokenLemmas

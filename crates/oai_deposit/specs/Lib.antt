@@ -3,3 +3,4 @@ pub mod Readings
 pub mod Lines
 pub mod Shapes
 pub mod Calls
+pub mod Tokens

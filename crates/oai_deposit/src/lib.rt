@@ -2,12 +2,14 @@
 //! what a JSON value has, for whatever else is read from JSON.
 #![tactic(auto)]
 
+mod deposit_texts;
 mod faults;
-mod json;
 mod lines;
 mod members;
 mod records;
+mod tokens;
+mod values;
 
 pub use faults::LineFault;
-pub use json::{elements_at, has_members, number_at, read_json, text_at};
 pub use lines::{read_line, shape_law};
+pub use values::{elements_at, has_members, number_at, read_json, text_at};

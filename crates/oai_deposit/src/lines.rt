@@ -12,11 +12,14 @@ ghost use Rattle.oai_deposit.specs.Lines as lines;
 ghost use Rattle.oai_deposit.specs.Readings.{FindsBy, Gives, passed};
 ghost use Rattle.oai_deposit.specs.Shapes.{ShapeLaw};
 
+use crate::deposit_texts::DepositTexts;
 use crate::faults::LineFault;
-use crate::json::{has_members, read_json};
 use crate::members::{command_text, texts_at};
 use crate::records::{have_xml_texts, records_at};
-use oai_item::{Change, LineRefusal, Records, is_short_text};
+use crate::tokens::read_deposit;
+use crate::values::{has_members, read_json};
+use json::Scratch;
+use oai_item::{Change, LineRefusal, is_short_text};
 use oai_names::{Identifier, NameFault, Sequence, SetSpec, Text};
 use serde_json::Value;
 use std::alloc::Global;
@@ -25,9 +28,22 @@ use std::alloc::Global;
 /// members of a command. The errors, in this order: `BadJson`, `BadCommand`, `BadIdentifier`,
 /// `BadSetSpec`, `BadText`, each for the whole line before the next; and at any point `NoMemory`,
 /// but not for a line that is empty or not in UTF-8. Of two members of one name the last counts.
-/// Each text of the JSON value is copied at most once.
+/// A deposit with its members in the order `deposit`, `sets`, `records`, under prefixes that rise, is
+/// read with no JSON value made of it; each text of a line is copied from what was read at most once.
 #[tactic(auto, unfolding(crate::specs::Lines::line_of))]
 pub fn read_line(alloc: Global, line: &[u8]) -> Result<Change, LineFault>
+    ensures { Gives (json.TakesMemory line.now) result (lines.line_of line.now) }
+{
+    let mut scratch = Scratch::new(alloc);
+    match read_deposit(alloc, line, &mut scratch) {
+        Some(texts) => deposit_from(alloc, texts),
+        None => read_any(alloc, line),
+    }
+}
+
+/// Reads a line of any command, in any order of its members, by the JSON value that it is.
+#[tactic(auto, unfolding(crate::specs::Lines::line_of))]
+fn read_any(alloc: Global, line: &[u8]) -> Result<Change, LineFault>
     ensures { Gives (json.TakesMemory line.now) result (lines.line_of line.now) }
 {
     match read_json(alloc, line)? {
@@ -71,23 +87,28 @@ fn deposit_of(alloc: Global, value: &Value) -> Result<Change, LineFault>
     let identifier = command_text(value, "deposit")?;
     let sets = texts_at(alloc, value, "sets")?;
     let records = records_at(alloc, value)?;
-    deposit_from(alloc, identifier, sets.as_slice(), records)
+    let texts = DepositTexts {
+        identifier,
+        sets,
+        records,
+    };
+    deposit_from(alloc, texts)
 }
 
 /// The deposit of these texts.
 #[tactic(auto, unfolding(crate::specs::Lines::asked_change))]
-fn deposit_from(
-    alloc: Global,
-    identifier: &str,
-    sets: &[&str],
-    records: Records,
-) -> Result<Change, LineFault>
-    ensures { Gives (may_be_identifier identifier.now ≡ true) result
-        (lines.asked_change
-        (lines.deposits identifier.now (map (λ text. text.now) sets.now) records)) }
+fn deposit_from(alloc: Global, texts: DepositTexts<'_>) -> Result<Change, LineFault>
+    ensures { Gives (may_be_identifier texts.entry.identifier.now ≡ true) result
+        (lines.asked_change (lines.deposits texts.entry.identifier.now
+        (map (λ text. text.now) texts.entry.sets.items) texts.entry.records)) }
 {
+    let DepositTexts {
+        identifier,
+        sets,
+        records,
+    } = texts;
     let identifier = identifier_of(alloc, identifier)?;
-    let sets = set_specs_of(alloc, sets)?;
+    let sets = set_specs_of(alloc, sets.as_slice())?;
     if !have_xml_texts(records.as_slice()) {
         return Err(LineFault::Refused(LineRefusal::BadText));
     }

@@ -8,7 +8,7 @@ ghost use Rattle.oai_deposit.specs.Json as json;
 ghost use Rattle.oai_deposit.specs.Readings.{FindsBy};
 
 use crate::faults::LineFault;
-use crate::json::{elements_at, text_at};
+use crate::values::{elements_at, text_at};
 use oai_item::LineRefusal;
 use serde_json::Value;
 use std::alloc::Global;

@@ -10,8 +10,8 @@ ghost use Rattle.oai_deposit.specs.Lines as lines;
 ghost use Rattle.oai_deposit.specs.Readings.{Finds};
 
 use crate::faults::LineFault;
-use crate::json::elements_of;
 use crate::members::text_of;
+use crate::values::elements_of;
 use oai_item::{Field, LineRefusal, Records};
 use oai_names::{Sequence, Text, is_xml_text};
 use serde_json::Value;

@@ -45,8 +45,18 @@ fn new_set(alloc: Global, spec: &str, name: &str) -> Result<String, AllocError> 
     format!(in alloc; "{{\"set\":\"{spec}\",\"name\":\"{name}\"}}")
 }
 
-fn a_deposit() -> &'static str {
-    r#"{"sets":["b","a"],"records":{"x":[],"oai_dc":[["title","Grüße"]]},"deposit":"oai:x:1"}"#
+/// One deposit, written in several ways: its members in another order; in the usual one; with spaces and
+/// escapes; its prefixes falling; a prefix twice, of which the last counts; a member twice.
+fn one_deposit() -> [&'static str; 6] {
+    [
+        r#"{"sets":["b","a"],"records":{"x":[],"oai_dc":[["title","Grüße"]]},"deposit":"oai:x:1"}"#,
+        r#"{"deposit":"oai:x:1","sets":["b","a"],"records":{"oai_dc":[["title","Grüße"]],"x":[]}}"#,
+        r#" { "deposit" : "oai:\u0078:1", "sets" : [ "\u0062", "a" ],
+            "r\u0065cords" : { "oai\u005fdc" : [ [ "t\u0069tle", "Gr\u00fc\u00dfe" ] ], "x" : [ ] } } "#,
+        r#"{"deposit":"oai:x:1","sets":["b","a"],"records":{"x":[],"oai_dc":[["title","Grüße"]]}}"#,
+        r#"{"deposit":"oai:x:1","sets":["b","a"],"records":{"oai_dc":[],"oai_dc":[["title","Grüße"]],"x":[]}}"#,
+        r#"{"deposit":"-","sets":["b","a"],"records":{"oai_dc":[["title","Grüße"]],"x":[]},"deposit":"oai:x:1"}"#,
+    ]
 }
 
 /// The one field is the title `Grüße`.
@@ -83,10 +93,9 @@ fn assert_two_records(rt: &impl Abort, records: &[(Text, Sequence<Field>)]) {
     }
 }
 
-/// The sets are in the order of the line, the records in that of their prefixes.
-#[test]
-fn reads_a_deposit(rt: HostRuntime) {
-    let change = read_line(rt.alloc(), a_deposit().as_bytes()).expect(&rt, "read_line");
+/// The line is the deposit.
+fn assert_deposit(rt: &impl Abort, alloc: Global, line: &str) {
+    let change = read_line(alloc, line.as_bytes()).expect(rt, "read_line");
     let Change::Deposit {
         identifier,
         sets,
@@ -95,9 +104,17 @@ fn reads_a_deposit(rt: HostRuntime) {
     else {
         panic!(rt; "no deposit")
     };
-    assert_same(&rt, identifier.as_str(), "oai:x:1");
-    assert_b_and_a(&rt, sets.as_slice());
-    assert_two_records(&rt, records.as_slice());
+    assert_same_at(rt, identifier.as_str(), "oai:x:1", line);
+    assert_b_and_a(rt, sets.as_slice());
+    assert_two_records(rt, records.as_slice());
+}
+
+/// The sets are in the order of the line, the records in that of their prefixes, however it is written.
+#[test]
+fn reads_a_deposit(rt: HostRuntime) {
+    for line in one_deposit() {
+        assert_deposit(&rt, rt.alloc(), line);
+    }
 }
 
 #[test]
@@ -170,7 +187,15 @@ fn lines_and_answers() -> &'static str {
 {"deposit":"a:b","sets":["x","x:"],"records":{"x":[["a","\u0000"]]}} => refused 4 bad-set-spec
 {"deposit":"a:b","sets":[],"records":{"x":[["a","\u0000"]]}} => refused 5 bad-text
 {"deposit":"a:b","sets":["x"],"records":{"x":[["a","\u0000"]]}} => refused 5 bad-text
-{"deposit":"a:b","sets":[],"records":{"\u0000":[["\u0000","b"]]}} => read"#
+{"deposit":"a:b","sets":[],"records":{"\u0000":[["\u0000","b"]]}} => read
+{"deposit":"a:b","sets":[],"records":{}} => read
+{"deposit":"a:b","sets":[],"records":{}} x => refused 1 bad-json
+{"deposit":"a:b","sets":[],"records":{}}} => refused 1 bad-json
+{"deposit":"a:b","sets":[],"records":{},} => refused 1 bad-json
+{"deposit":"a:b","sets":["x" "y"],"records":{}} => refused 1 bad-json
+{"deposit":"a:b","sets":[],"records":{"x":[["a","b"]}} => refused 1 bad-json
+{"deposit":"a:b","sets":[],"records":{"x":[["a","b"],["c"]]}} => refused 2 bad-command
+{"deposit":"a:b","sets":[],"records":{"x":{}}} => refused 2 bad-command"#
 }
 
 #[test]

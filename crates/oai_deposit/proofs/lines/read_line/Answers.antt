@@ -1,9 +1,10 @@
-use Rattle.std.proofs.Common.{◌∙◌, ap}
-use Rattle.std.specs.Prelude.{option_map}
-use Rattle.serde_json.specs.View.{view}
+use Rattle.std.proofs.Common.{◌≡◌, true}
+use Rattle.oai_names.specs.Names.{may_be_identifier}
 use Rattle.oai_deposit.proofs.LineLemmas.{line_gives}
 use Rattle.oai_deposit.proofs.lines.read_line.Goals as goal
 
 pub returns-in-Some : goal.returns-in-Some
 returns-in-Some c =
-    line_gives c.args.line.now _ _ c.read_value.result (c.in_ok-value.ensures.ok ∙ ap (option_map view) c.in-Some.is) c.read_value.ensures
+    let is = c.in-Some.ensures in
+    line_gives c.args.line.now is.0 (may_be_identifier c.in-Some.texts.identifier.now ≡ true) c.deposit_from.result is.1
+    (rw is.2 c.deposit_from.ensures)

@@ -1,5 +1,5 @@
 use Rattle.oai_deposit.proofs.JsonLemmas.{json_in-Some, json_in-None, takes-text}
-use Rattle.oai_deposit.proofs.json.read_json.Goals as goal
+use Rattle.oai_deposit.proofs.values.read_json.Goals as goal
 
 pub returns-in_default-clause-ok : goal.returns-in_default-clause-ok
 returns-in_default-clause-ok c = json_in-None c.args.text.now (λ text. absurd (c.in_default.ensures.cases.0 text))

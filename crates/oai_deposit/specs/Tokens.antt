@@ -1,0 +1,49 @@
+-- The tokens of a deposit line whose members stand in the order deposit, sets, records. RFC 8259, sections 2, 4, 5 and 7.
+use Rattle.std.specs.Prelude.{◌≡◌, ℕ, ◌-◌, Bool, true, List, [], ◌∷◌, ◌++◌, length, slice_get, codes, Option, Some, None}
+use Rattle.std.specs.List.{flat_map}
+use Rattle.json.specs.Token.{Token}
+use Rattle.serde_json.specs.Data.{Data}
+use Rattle.oai_item.specs.declared.fields.Field.{Field}
+use Rattle.oai_item.specs.Item.{Metadata, is_before}
+use Rattle.oai_deposit.specs.Json.{json_in}
+use Rattle.oai_deposit.specs.Lines.{deposits, shape_of}
+
+-- the array of these elements, each of its tokens
+abbrev pub array_tokens : {A : Type 0} → (A → List Token) → List A → List Token
+array_tokens tokens elements = Token.begin_array ∷ (flat_map tokens elements ++ Token.end_array ∷ [])
+
+-- TEXT
+abbrev pub text_tokens : List ℕ → List Token
+text_tokens text = Token.string text ∷ []
+
+-- [NAME,TEXT]
+abbrev pub field_tokens : Field → List Token
+field_tokens field = array_tokens text_tokens (field.name ∷ field.text ∷ [])
+
+-- PREFIX:[[NAME,TEXT],..]
+abbrev pub record_tokens : Metadata → List Token
+record_tokens metadata = Token.key metadata.0 ∷ array_tokens field_tokens metadata.1
+
+-- {PREFIX:[[NAME,TEXT],..],..}
+abbrev pub records_tokens : List Metadata → List Token
+records_tokens records = Token.begin_object ∷ (flat_map record_tokens records ++ Token.end_object ∷ [])
+
+-- {"deposit":ID,"sets":[SPEC,..],"records":{PREFIX:[[NAME,TEXT],..],..}}
+abbrev pub deposit_tokens : List ℕ → List (List ℕ) → List Metadata → List Token
+deposit_tokens identifier sets records =
+    Token.begin_object ∷ Token.key (codes "deposit") ∷ Token.string identifier ∷ Token.key (codes "sets")
+    ∷ (array_tokens text_tokens sets ++ Token.key (codes "records") ∷ (records_tokens records ++ Token.end_object ∷ []))
+
+-- the record, where there is one, stands before the prefix, byte by byte
+abbrev pub is_none_or_before : Option Metadata → List ℕ → Bool
+is_none_or_before None prefix = true
+is_none_or_before (Some metadata) prefix = is_before metadata.0 prefix
+
+-- the last record does
+abbrev pub may_follow : List Metadata → List ℕ → Bool
+may_follow records prefix = is_none_or_before (slice_get records (length records - 1)) prefix
+
+-- the line is the deposit of these texts
+abbrev pub IsDepositLine : List ℕ → List ℕ → List (List ℕ) → List Metadata → Type 0
+IsDepositLine line identifier sets records =
+    (d : Data) × (json_in line ≡ Some d) × (shape_of d ≡ Some (deposits identifier sets records))

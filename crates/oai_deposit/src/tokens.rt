@@ -1,0 +1,171 @@
+//! Deposits that are read from the tokens of their line, with no JSON value made of it: those whose
+//! members stand in the order `deposit`, `sets`, `records`, under prefixes that rise.
+
+ghost use Rattle.std.specs.Prelude.{◌≡◌, ◌∷◌, ◌++◌, map, true, IfSome};
+ghost use Rattle.json.specs.Token as token;
+ghost use Rattle.oai_item.specs.Item.{are_rising};
+ghost use Rattle.oai_deposit.specs.Tokens as tokens;
+
+use crate::deposit_texts::DepositTexts;
+use json::{Reader, Scratch, Token};
+use oai_item::{Field, Records};
+use oai_names::{Sequence, Text};
+use std::alloc::Global;
+
+/// For how many fields of a record there is room at first, so that most records need no more.
+const USUAL_FIELDS: usize = 8;
+
+/// The texts of the deposit that the line is. `None` says nothing of the line: it may be a deposit that
+/// is written in another order, any other line, or memory was refused.
+pub(crate) fn read_deposit<'a>(
+    alloc: Global,
+    line: &'a [u8],
+    scratch: &'a mut Scratch,
+) -> Option<DepositTexts<'a>>
+    ensures { IfSome result (λ texts. tokens.IsDepositLine line.now
+        texts.identifier.now (map (λ set. set.now) texts.sets.items) texts.records) }
+{
+    let text = str::from_utf8(line).ok()?;
+    let mut reader = Reader::new(text, scratch).ok()?;
+    let texts = take_deposit(alloc, &mut reader)?;
+    if reader.next().is_some() {
+        return None;
+    }
+    Some(texts)
+}
+
+/// Takes the deposit that stands next.
+fn take_deposit<'a>(alloc: Global, reader: &mut Reader<'a>) -> Option<DepositTexts<'a>>
+    ensures { IfSome result (λ texts. reader.old
+        ≡ tokens.deposit_tokens texts.identifier.now (map (λ set. set.now) texts.sets.items) texts.records
+        ++ reader.new) }
+{
+    take_begin_object(reader)?;
+    take_key(reader, "deposit")?;
+    let identifier = take_text(reader)?;
+    take_key(reader, "sets")?;
+    let sets = take_texts(alloc, reader)?;
+    take_key(reader, "records")?;
+    let records = take_records(alloc, reader)?;
+    take_end_object(reader)?;
+    Some(DepositTexts {
+        identifier,
+        sets,
+        records,
+    })
+}
+
+/// Takes the array of strings that stands next.
+fn take_texts<'a>(alloc: Global, reader: &mut Reader<'a>) -> Option<Vec<&'a str>>
+    ensures { IfSome result (λ texts. reader.old
+        ≡ tokens.array_tokens tokens.text_tokens (map (λ text. text.now) texts.items) ++ reader.new) }
+{
+    take_begin_array(reader)?;
+    let mut texts = Vec::new(alloc);
+    while !reader.take_end_array() {
+        texts.push(take_text(reader)?).ok()?;
+    }
+    Some(texts)
+}
+
+/// Takes the object of records that stands next, whose prefixes rise.
+fn take_records(alloc: Global, reader: &mut Reader<'_>) -> Option<Records>
+    ensures { IfSome result (λ records. reader.old
+        ≡ tokens.records_tokens records ++ reader.new) }
+{
+    take_begin_object(reader)?;
+    let mut records = Vec::new(alloc);
+    while let Some(prefix) = reader.next_key().ok()? {
+        if !may_follow(records.as_slice(), prefix) {
+            return None;
+        }
+        let prefix = Text::new(alloc, prefix).ok()?;
+        records.push((prefix, take_fields(alloc, reader)?)).ok()?;
+    }
+    Some(Records::new(Sequence::new(records)))
+}
+
+/// Whether the prefix stands behind the last one.
+fn may_follow(records: &[(Text, Sequence<Field>)], prefix: &str) -> bool
+    ensures { result ≡ tokens.may_follow records.now prefix.now }
+{
+    match records.last() {
+        Some(last) => last.0.as_str() < prefix,
+        None => true,
+    }
+}
+
+/// Takes the array of fields that stands next.
+fn take_fields(alloc: Global, reader: &mut Reader<'_>) -> Option<Sequence<Field>>
+    ensures { IfSome result (λ fields. reader.old ≡ tokens.array_tokens tokens.field_tokens fields ++ reader.new) }
+{
+    take_begin_array(reader)?;
+    let mut fields = Vec::with_capacity(alloc, USUAL_FIELDS).ok()?;
+    while !reader.take_end_array() {
+        fields.push(take_field(alloc, reader)?).ok()?;
+    }
+    Some(Sequence::new(fields))
+}
+
+/// Takes the field `[NAME,TEXT]` that stands next.
+fn take_field(alloc: Global, reader: &mut Reader<'_>) -> Option<Field>
+    ensures { IfSome result (λ field. reader.old ≡ tokens.field_tokens field ++ reader.new) }
+{
+    take_begin_array(reader)?;
+    let name = Text::new(alloc, take_text(reader)?).ok()?;
+    let text = Text::new(alloc, take_text(reader)?).ok()?;
+    if !reader.take_end_array() {
+        return None;
+    }
+    Some(Field { name, text })
+}
+
+/// Takes the string that stands next.
+fn take_text<'a>(reader: &mut Reader<'a>) -> Option<&'a str>
+    ensures { IfSome result (λ text. reader.old ≡ token.Token.string text.now ∷ reader.new) }
+{
+    match reader.next()? {
+        Token::String(text) => Some(text),
+        _ => None,
+    }
+}
+
+/// Takes the name of a member that stands next, where it is this one.
+fn take_key(reader: &mut Reader<'_>, name: &str) -> Option<()>
+    ensures { IfSome result (λ _. reader.old ≡ token.Token.key name.now ∷ reader.new) }
+{
+    match reader.next()? {
+        Token::Key(key) if key == name => Some(()),
+        _ => None,
+    }
+}
+
+/// Takes the bracket that stands next and opens an array.
+fn take_begin_array(reader: &mut Reader<'_>) -> Option<()>
+    ensures { IfSome result (λ _. reader.old ≡ token.Token.begin_array ∷ reader.new) }
+{
+    match reader.next()? {
+        Token::BeginArray => Some(()),
+        _ => None,
+    }
+}
+
+/// Takes the brace that stands next and opens an object.
+fn take_begin_object(reader: &mut Reader<'_>) -> Option<()>
+    ensures { IfSome result (λ _. reader.old ≡ token.Token.begin_object ∷ reader.new) }
+{
+    match reader.next()? {
+        Token::BeginObject => Some(()),
+        _ => None,
+    }
+}
+
+/// Takes the brace that stands next and closes an object.
+fn take_end_object(reader: &mut Reader<'_>) -> Option<()>
+    ensures { IfSome result (λ _. reader.old ≡ token.Token.end_object ∷ reader.new) }
+{
+    match reader.next()? {
+        Token::EndObject => Some(()),
+        _ => None,
+    }
+}
