@@ -79,8 +79,6 @@ impl<H: Replayed> Replayed for Dated<H> {
         self.handler.save(raise, sink)
     }
 
-    ghost whole = { λ dated raise honest. H.whole dated.handler raise honest };
-
     ghost same_redone = { H.same_redone };
 
     ghost same_restored = { H.same_restored };

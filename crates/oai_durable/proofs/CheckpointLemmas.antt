@@ -1,5 +1,5 @@
 -- What the records of a checkpoint leave, and the history of lives between which checkpoints stand.
-use Rattle.std.proofs.Common.{◌≡◌, ◌∙◌, ℕ, ◌++◌, IsTrue, List, [], ◌∷◌, Option, None, Some, Result, Ok, Err, IfOk, length, map, refl, sym, ap}
+use Rattle.std.proofs.Common.{◌≡◌, ◌∙◌, ℕ, ◌++◌, List, [], ◌∷◌, Option, None, Some, Result, Ok, Err, IfOk, length, map, refl, sym, ap}
 use Rattle.std.specs.List.{flat_map}
 use Rattle.std.proofs.lemmas.List.{append-nil, append_assoc, map-append}
 use Rattle.std.proofs.lemmas.Grind.{flat_map-append}
@@ -10,7 +10,7 @@ use Rattle.oai_http.specs.declared.parts.PartKind.{PartKind}
 use Rattle.oai_http.specs.declared.parts.PartKind.TheVariants.{Begin, Item, Set}
 use Rattle.oai_journal.specs.Records.{Entry}
 use Rattle.oai_journal.specs.declared.journals.Journal as journal
-use Rattle.oai_durable.specs.Checkpoints.{AreIn, AreStages, Event, HasPlaceBehind, HasSaved, IsCheckpoint, IsHistory, IsWritten, Saving, Stage, after, after_all, answered_at, done, lists_ended, lived, raises_at, raises_by, records_of, saved}
+use Rattle.oai_durable.specs.Checkpoints.{AreIn, AreStages, Event, HasPlaceBehind, HasSaved, HoldsCheckpoint, IsCheckpoint, IsHistory, Saving, Stage, after, after_all, answered_at, done, lists_ended, lived, raises_at, raises_by, records_of, saved}
 use Rattle.oai_durable.specs.Lives.{Exchanged, HasPlace, HavePlaces, records_in}
 use Rattle.oai_durable.specs.Records.{Leaving, entry_of_part, kind_of_part, left_as, left_by, part_kind, redone_all}
 use Rattle.oai_durable.proofs.LifeLemmas.{life_left}
@@ -54,33 +54,39 @@ pub saved_more : {J : Type 0} (j : journal.Ghosts J) (before after' : J) (parts 
 saved_more j before after' parts part adds is = (is.0, rw (map-append entry_of_part parts (part ∷ [])) (adds (records_of parts) is.0 is.1))
 
 -- all that was saved is committed
-pub saved_written : {J F Honest : Type 0} (j : journal.Ghosts J) (before sink : J) (parts : List PartState) (result : Result J F)
-    → (Honest → HasSaved j before [] → HasSaved j sink parts)
+pub saved_written : {J K F Honest : Type 0} (s : Saving K) (j : journal.Ghosts J) (kept : K) (raise : ℕ) (before sink : J) (result : Result J F)
+    → (Honest → restored_all s.leaving.restored (s.emptied kept) (s.parts (s.ended raise kept)) ≡ s.ended raise kept)
+    → (Honest → HasSaved j before [] → HasSaved j sink (s.parts (s.ended raise kept)))
     → IfOk result (λ written. (entries : List Entry) (durable : ℕ) → j.holds sink entries durable → j.holds written entries (length entries))
-    → IfOk result (λ written. Honest → (durable : ℕ) → j.holds before [] durable → IsWritten j written parts)
-saved_written j before sink parts (Ok written) saves commits = λ honest durable holds.
+    → IfOk result (λ written. Honest → (durable : ℕ) → j.holds before [] durable → HoldsCheckpoint s j kept raise written)
+saved_written s j kept raise before sink (Ok written) whole saves commits = λ honest durable holds.
+    let parts : List PartState = s.parts (s.ended raise kept) in
     let is = saves honest (durable, holds) in
-    commits (records_of parts) is.0 is.1
-saved_written j before sink parts (Err fault) saves commits = tt
+    record {
+      records = records_of parts;
+      is = record { is = refl; leaves = redone_parts s.leaving (s.emptied kept) parts ∙ whole honest };
+      holds = commits (records_of parts) is.0 is.1;
+    }
+saved_written s j kept raise before sink (Err fault) whole saves commits = tt
 
 -- ---- histories
 
-pub after_append : {H : Type 0} (s : Saving H) (kept : s.Kept) (events others : List Event) → after_all s kept (events ++ others) ≡ after_all s (after_all s kept events) others
+pub after_append : {K : Type 0} (s : Saving K) (kept : K) (events others : List Event) → after_all s kept (events ++ others) ≡ after_all s (after_all s kept events) others
 after_append s kept [] others = refl
 after_append s kept (event ∷ events) others = after_append s (after s kept event) events others
 
 -- records that were done leave what they leave
-pub after_done : {H : Type 0} (s : Saving H) (kept : s.Kept) (entries : List Entry) → after_all s kept (map done entries) ≡ redone_all s.leaving kept entries
+pub after_done : {K : Type 0} (s : Saving K) (kept : K) (entries : List Entry) → after_all s kept (map done entries) ≡ redone_all s.leaving kept entries
 after_done s kept [] = refl
 after_done s kept (entry ∷ entries) = after_done s (left_by s.leaving kept entry) entries
 
 -- a history that leaves what records leave, and more records behind both
-pub after_more : {H : Type 0} (s : Saving H) (begun : s.Kept) (before : List Event) (found entries : List Entry)
+pub after_more : {K : Type 0} (s : Saving K) (begun : K) (before : List Event) (found entries : List Entry)
     → after_all s begun before ≡ redone_all s.leaving begun found
     → after_all s begun (before ++ map done entries) ≡ redone_all s.leaving begun (found ++ entries)
-after_more s begun before found entries same =
+after_more {K} s begun before found entries same =
     after_append s begun before (map done entries) ∙ after_done s (after_all s begun before) entries
-    ∙ ap (λ (k : s.Kept). redone_all s.leaving k entries) same ∙ sym (redone_append s.leaving begun found entries)
+    ∙ ap (λ (k : K). redone_all s.leaving k entries) same ∙ sym (redone_append s.leaving begun found entries)
 
 -- no list ends by records that were done
 pub none_raised : (entries : List Entry) → flat_map raises_by (map done entries) ≡ []
@@ -90,7 +96,7 @@ none_raised (entry ∷ entries) = none_raised entries
 -- ---- places in a history
 
 -- what stands between may be what was held back, or an end of all lists
-pub in_behind : {H : Type 0} (s : Saving H) (begun : s.Kept) (before others : List Event) (es : List Exchanged) (history : List Event)
+pub in_behind : {K : Type 0} (s : Saving K) (begun : K) (before others : List Event) (es : List Exchanged) (history : List Event)
     → AreIn s begun (before ++ others) es history → AreIn s begun before es history
 in_behind s begun before others [] history is = (others ++ is.0, is.1 ∙ append_assoc before others is.0)
 in_behind s begun before others (e ∷ es) history is =
@@ -98,16 +104,16 @@ in_behind s begun before others (e ∷ es) history is =
     (others ++ is.0, rw (← same) is.1, rw (← same) is.2)
 
 -- a place behind records is one behind the events that leave the same
-pub placed : {H : Type 0} (s : Saving H) (begun : s.Kept) (before : List Event) (found : List Entry) (e : Exchanged)
+pub placed : {K : Type 0} (s : Saving K) (begun : K) (before : List Event) (found : List Entry) (e : Exchanged)
     → after_all s begun before ≡ redone_all s.leaving begun found
     → HasPlace s.leaving s.reply begun found e → HasPlaceBehind s begun before e
-placed s begun before found e same place = record {
-  told = λ none. place.told none ∙ ap (λ (k : s.Kept). s.reply k (call_at e.moment e.asked)) (sym same);
-  left = λ none. after_more s begun before found e.own same ∙ place.left none ∙ ap (λ (k : s.Kept). s.leaving.redone k (call_at e.moment e.asked)) (sym same);
+placed {K} s begun before found e same place = record {
+  told = λ none. place.told none ∙ ap (λ (k : K). s.reply k (call_at e.moment e.asked)) (sym same);
+  left = λ none. after_more s begun before found e.own same ∙ place.left none ∙ ap (λ (k : K). s.leaving.redone k (call_at e.moment e.asked)) (sym same);
 }
 
 -- the exchanges of a life that were answered, where its history goes on
-pub in_life : {H : Type 0} (s : Saving H) (begun : s.Kept) (before : List Event) (found : List Entry) (answered held others : List Exchanged) (history : List Event)
+pub in_life : {K : Type 0} (s : Saving K) (begun : K) (before : List Event) (found : List Entry) (answered held others : List Exchanged) (history : List Event)
     → after_all s begun before ≡ redone_all s.leaving begun found
     → HavePlaces s.leaving s.reply begun found (answered ++ held)
     → AreIn s begun (before ++ map done (records_in answered)) others history
@@ -126,33 +132,24 @@ in_life s begun before found (e ∷ es) held others history same places is =
 -- ---- stages
 
 -- how a history goes on behind these events
-pub record GoesOn {H : Type 0} (s : Saving H) (begun : s.Kept) (before : List Event) (stages : List Stage) (left : List Entry) : Type 0 where
+pub record GoesOn {K : Type 0} (s : Saving K) (begun : K) (before : List Event) (stages : List Stage) (left : List Entry) : Type 0 where
   pub history : List Event
   pub leaves : after_all s begun history ≡ redone_all s.leaving begun left
   pub places : AreIn s begun before (flat_map answered_at stages) history
   pub ends : flat_map raises_by history ≡ flat_map raises_by before ++ flat_map raises_at stages
 
--- what is saved can be restored, and neither a call nor a part changes the repositories
-pub record IsWhole {H : Type 0} (s : Saving H) (emptied : s.Kept → s.Kept) : Type 0 where
-  pub whole : (handler : H) (raise : ℕ) → IsTrue (s.is_honest handler)
-      → restored_all s.leaving.restored (emptied (s.kept handler)) (s.parts (s.ended raise (s.kept handler))) ≡ s.ended raise (s.kept handler)
-  pub redone : (kept : s.Kept) (call : Call) → emptied (s.leaving.redone kept call) ≡ emptied kept
-  pub restored : (kept : s.Kept) (part : PartState) → emptied (s.leaving.restored kept part) ≡ emptied kept
+-- neither a call nor a part changes the repositories
+pub record AreSame {K : Type 0} (s : Saving K) : Type 0 where
+  pub redone : (kept : K) (call : Call) → s.emptied (s.leaving.redone kept call) ≡ s.emptied kept
+  pub restored : (kept : K) (part : PartState) → s.emptied (s.leaving.restored kept part) ≡ s.emptied kept
 
 -- a checkpoint leaves what was there, once all lists ended
-pub checkpoint_left : {H : Type 0} (s : Saving H) (emptied : s.Kept → s.Kept) (begun : s.Kept) (found : List Entry) (raise : ℕ) (left : List Entry)
-    → IsWhole s emptied → emptied begun ≡ begun → IsCheckpoint s begun found raise left
+pub checkpoint_left : {K : Type 0} (s : Saving K) (begun : K) (found : List Entry) (raise : ℕ) (left : List Entry)
+    → AreSame s → s.emptied begun ≡ begun → IsCheckpoint s (redone_all s.leaving begun found) raise left
     → redone_all s.leaving begun left ≡ s.ended raise (redone_all s.leaving begun found)
-checkpoint_left s emptied begun found raise left is_whole begins is =
-    let kept : s.Kept = s.kept is.handler in
-    let parts : List PartState = s.parts (s.ended raise kept) in
-    let first : emptied kept ≡ begun =
-    ap emptied is.keeps ∙ same_left s.leaving emptied is_whole.redone is_whole.restored begun found ∙ begins in
-    ap (λ (es : List Entry). redone_all s.leaving begun es) is.is
-    ∙ redone_parts s.leaving begun parts
-    ∙ ap (λ (k : s.Kept). restored_all s.leaving.restored k parts) (sym first)
-    ∙ is_whole.whole is.handler raise is.honest
-    ∙ ap (s.ended raise) is.keeps
+checkpoint_left s begun found raise left same begins is =
+    let first : s.emptied (redone_all s.leaving begun found) ≡ begun = same_left s.leaving s.emptied same.redone same.restored begun found ∙ begins in
+    ap (λ k. redone_all s.leaving k left) (sym first) ∙ is.leaves
 
 pub raised_more : (before others : List Event) → flat_map raises_by (before ++ others) ≡ flat_map raises_by before ++ flat_map raises_by others
 raised_more before others = flat_map-append raises_by before others
@@ -161,16 +158,16 @@ pub raised_done : (before : List Event) (entries : List Entry) → flat_map rais
 raised_done before entries =
     raised_more before (map done entries) ∙ ap (λ (ns : List ℕ). flat_map raises_by before ++ ns) (none_raised entries) ∙ append-nil (flat_map raises_by before)
 
-pub stages_go_on : {H : Type 0} (s : Saving H) (emptied : s.Kept → s.Kept) (begun : s.Kept) (before : List Event) (found : List Entry) (stages : List Stage) (left : List Entry)
-    → IsWhole s emptied → emptied begun ≡ begun → after_all s begun before ≡ redone_all s.leaving begun found
+pub stages_go_on : {K : Type 0} (s : Saving K) (begun : K) (before : List Event) (found : List Entry) (stages : List Stage) (left : List Entry)
+    → AreSame s → s.emptied begun ≡ begun → after_all s begun before ≡ redone_all s.leaving begun found
     → AreStages s begun found stages left → GoesOn s begun before stages left
-stages_go_on s emptied begun before found [] left is_whole begins same are = record {
+stages_go_on s begun before found [] left all_same begins same are = record {
   history = before;
   leaves = same ∙ ap (λ (es : List Entry). redone_all s.leaving begun es) (sym are);
   places = ([], sym (append-nil before));
   ends = sym (append-nil (flat_map raises_by before));
 }
-stages_go_on s emptied begun before found (lived life ∷ stages) left is_whole begins same are =
+stages_go_on s begun before found (lived life ∷ stages) left all_same begins same are =
     let between : List Entry = are.0 in
     let own : List Entry = records_in life.answered in
     let cut = life_left found between life are.1.leaves in
@@ -179,7 +176,7 @@ stages_go_on s emptied begun before found (lived life ∷ stages) left is_whole 
     let more = after_more s begun before found own same in
     let there : after_all s begun now ≡ redone_all s.leaving begun between =
     after_more s begun answered (found ++ own) cut.0 more ∙ ap (λ (es : List Entry). redone_all s.leaving begun es) (sym cut.1) in
-    let behind = stages_go_on s emptied begun now between stages left is_whole begins there are.2 in
+    let behind = stages_go_on s begun now between stages left all_same begins there are.2 in
     let raised : flat_map raises_by now ≡ flat_map raises_by before = raised_done answered cut.0 ∙ raised_done before own in
     record {
       history = behind.history;
@@ -188,12 +185,12 @@ stages_go_on s emptied begun before found (lived life ∷ stages) left is_whole 
           (in_behind s begun answered (map done cut.0) (flat_map answered_at stages) behind.history behind.places);
       ends = behind.ends ∙ ap (λ (ns : List ℕ). ns ++ flat_map raises_at stages) raised;
     }
-stages_go_on s emptied begun before found (saved raise ∷ stages) left is_whole begins same are =
+stages_go_on s begun before found (saved raise ∷ stages) left all_same begins same are =
     let between : List Entry = are.0 in
     let ending : List Event = lists_ended raise ∷ [] in
     let there : after_all s begun (before ++ ending) ≡ redone_all s.leaving begun between =
-    after_append s begun before ending ∙ ap (s.ended raise) same ∙ sym (checkpoint_left s emptied begun found raise between is_whole begins are.1) in
-    let behind = stages_go_on s emptied begun (before ++ ending) between stages left is_whole begins there are.2 in
+    after_append s begun before ending ∙ ap (s.ended raise) same ∙ sym (checkpoint_left s begun found raise between all_same begins are.1) in
+    let behind = stages_go_on s begun (before ++ ending) between stages left all_same begins there are.2 in
     let raised : flat_map raises_by (before ++ ending) ≡ flat_map raises_by before ++ (raise ∷ []) = raised_more before ending in
     record {
       history = behind.history;
@@ -202,8 +199,8 @@ stages_go_on s emptied begun before found (saved raise ∷ stages) left is_whole
       ends = behind.ends ∙ ap (λ (ns : List ℕ). ns ++ flat_map raises_at stages) raised ∙ append_assoc (flat_map raises_by before) (raise ∷ []) (flat_map raises_at stages);
     }
 
-pub stages_history : {H : Type 0} (s : Saving H) (emptied : s.Kept → s.Kept) (begun : s.Kept) (stages : List Stage) (left : List Entry)
-    → IsWhole s emptied → emptied begun ≡ begun → AreStages s begun [] stages left → IsHistory s begun stages left
-stages_history s emptied begun stages left is_whole begins are =
-    let goes = stages_go_on s emptied begun [] [] stages left is_whole begins refl are in
+pub stages_history : {K : Type 0} (s : Saving K) (begun : K) (stages : List Stage) (left : List Entry)
+    → AreSame s → s.emptied begun ≡ begun → AreStages s begun [] stages left → IsHistory s begun stages left
+stages_history s begun stages left all_same begins are =
+    let goes = stages_go_on s begun [] [] stages left all_same begins refl are in
     record { history = goes.history; leaves = goes.leaves; places = goes.places; ends = goes.ends }

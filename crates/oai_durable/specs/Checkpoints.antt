@@ -1,5 +1,5 @@
 -- Checkpoints: journals of the parts of what a handler keeps; and lives between which checkpoints stand. This repository's own.
-use Rattle.std.specs.Prelude.{◌≡◌, ℕ, Bool, IsTrue, List, [], ◌∷◌, ◌++◌, length, map, None}
+use Rattle.std.specs.Prelude.{◌≡◌, ℕ, List, [], ◌∷◌, ◌++◌, length, map, None}
 use Rattle.std.specs.List.{flat_map}
 use Rattle.oai_http.specs.Exchanges.{call_at}
 use Rattle.oai_http.specs.Parts.{PartState}
@@ -10,16 +10,14 @@ use Rattle.oai_journal.specs.declared.journals.Journal as journal
 use Rattle.oai_durable.specs.Lives.{Exchanged, IsLife, Life}
 use Rattle.oai_durable.specs.Records.{Leaving, entry_of_part, left_by, redone_all}
 
--- what is said of a handler that can be saved: what it keeps, whether its device gives back what was written to it, what calls and parts leave, what
--- a call is answered, the parts of what is kept, and what is kept once all lists ended and the number of each next list was raised by so many
-pub record Saving (H : Type 0) : Type 1 where
-  pub Kept : Type 0
-  pub kept : H → Kept
-  pub is_honest : H → Bool
-  pub leaving : Leaving Kept
-  pub reply : Kept → Call → Answer
-  pub parts : Kept → List PartState
-  pub ended : ℕ → Kept → Kept
+-- what is said of a handler that can be saved: what calls and parts leave, what a call is answered, the parts of what is kept, what is kept once all
+-- lists ended and the number of each next list was raised by so many, and what a handler of the same repositories keeps as it begins
+pub record Saving (K : Type 0) : Type 0 where
+  pub leaving : Leaving K
+  pub reply : K → Call → Answer
+  pub parts : K → List PartState
+  pub ended : ℕ → K → K
+  pub emptied : K → K
 
 -- the records of parts, in their order
 abbrev pub records_of : List PartState → List Entry
@@ -29,29 +27,29 @@ records_of parts = map entry_of_part parts
 abbrev pub HasSaved : {J : Type 0} → journal.Ghosts J → J → List PartState → Type 0
 HasSaved j journal' parts = (durable : ℕ) × j.holds journal' (records_of parts) durable
 
--- all of them are durable
-abbrev pub IsWritten : {J : Type 0} → journal.Ghosts J → J → List PartState → Type 0
-IsWritten j journal' parts = j.holds journal' (records_of parts) (length (records_of parts))
+-- a checkpoint of what is kept: the records of its parts, once all lists ended; and from what a handler of the same repositories keeps as it begins,
+-- they leave just that
+pub record IsCheckpoint {K : Type 0} (s : Saving K) (kept : K) (raise : ℕ) (records : List Entry) : Type 0 where
+  pub is : records ≡ records_of (s.parts (s.ended raise kept))
+  pub leaves : redone_all s.leaving (s.emptied kept) records ≡ s.ended raise kept
 
--- a checkpoint of the records that were found: some handler keeps what they leave, and what stands in their place are the records of the parts of
--- that, once all lists ended
-pub record IsCheckpoint {H : Type 0} (s : Saving H) (begun : s.Kept) (found : List Entry) (raise : ℕ) (left : List Entry) : Type 0 where
-  pub handler : H
-  pub honest : IsTrue (s.is_honest handler)
-  pub keeps : s.kept handler ≡ redone_all s.leaving begun found
-  pub is : left ≡ records_of (s.parts (s.ended raise (s.kept handler)))
+-- the journal holds a checkpoint of what is kept, and all of it is durable
+pub record HoldsCheckpoint {K J : Type 0} (s : Saving K) (j : journal.Ghosts J) (kept : K) (raise : ℕ) (journal' : J) : Type 0 where
+  pub records : List Entry
+  pub is : IsCheckpoint s kept raise records
+  pub holds : j.holds journal' records (length records)
 
--- a stage: a life, or a checkpoint that raises the numbers of the next lists by so many
+-- a stage: a life, or a checkpoint of what the records leave that were found, which raises the numbers of the next lists by so many
 pub data Stage : Type 0 where
   lived : Life → Stage
   saved : ℕ → Stage
 
-abbrev pub IsStage : {H : Type 0} (s : Saving H) → s.Kept → List Entry → Stage → List Entry → Type 0
+abbrev pub IsStage : {K : Type 0} (s : Saving K) → K → List Entry → Stage → List Entry → Type 0
 IsStage s begun found (lived life) left = IsLife s.leaving s.reply begun found life left
-IsStage s begun found (saved raise) left = IsCheckpoint s begun found raise left
+IsStage s begun found (saved raise) left = IsCheckpoint s (redone_all s.leaving begun found) raise left
 
 -- stages, each begun with the records that the one before it left
-abbrev pub AreStages : {H : Type 0} (s : Saving H) → s.Kept → List Entry → List Stage → List Entry → Type 0
+abbrev pub AreStages : {K : Type 0} (s : Saving K) → K → List Entry → List Stage → List Entry → Type 0
 AreStages s begun found [] left = left ≡ found
 AreStages s begun found (stage ∷ stages) left = (between : List Entry) × IsStage s begun found stage between × AreStages s begun between stages left
 
@@ -70,22 +68,22 @@ pub data Event : Type 0 where
   done : Entry → Event
   lists_ended : ℕ → Event
 
-abbrev pub after : {H : Type 0} (s : Saving H) → s.Kept → Event → s.Kept
+abbrev pub after : {K : Type 0} (s : Saving K) → K → Event → K
 after s kept (done entry) = left_by s.leaving kept entry
 after s kept (lists_ended raise) = s.ended raise kept
 
 -- what a history leaves
-abbrev pub after_all : {H : Type 0} (s : Saving H) → s.Kept → List Event → s.Kept
+abbrev pub after_all : {K : Type 0} (s : Saving K) → K → List Event → K
 after_all s kept [] = kept
 after_all s kept (event ∷ events) = after_all s (after s kept event) events
 
 -- its place is behind these events: an answer without a fault is what they make of what was asked, and with its own record they leave what that leaves
-pub record HasPlaceBehind {H : Type 0} (s : Saving H) (begun : s.Kept) (before : List Event) (e : Exchanged) : Type 0 where
+pub record HasPlaceBehind {K : Type 0} (s : Saving K) (begun : K) (before : List Event) (e : Exchanged) : Type 0 where
   pub told : e.answer.fault ≡ None → e.answer ≡ s.reply (after_all s begun before) (call_at e.moment e.asked)
   pub left : e.answer.fault ≡ None → after_all s begun (before ++ map done e.own) ≡ s.leaving.redone (after_all s begun before) (call_at e.moment e.asked)
 
 -- these exchanges have their places in the history, in order: each behind all that is before it, and its own record follows
-abbrev pub AreIn : {H : Type 0} (s : Saving H) → s.Kept → List Event → List Exchanged → List Event → Type 0
+abbrev pub AreIn : {K : Type 0} (s : Saving K) → K → List Event → List Exchanged → List Event → Type 0
 AreIn s begun before [] history = (others : List Event) × (history ≡ before ++ others)
 AreIn s begun before (e ∷ es) history =
     (unanswered : List Event)
@@ -99,7 +97,7 @@ raises_by (lists_ended raise) = raise ∷ []
 
 -- the stages are one history: it leaves what the records leave that the last of them left, every answer that left has its place in it, in order over
 -- all lives, and lists were ended in it by the checkpoints alone
-pub record IsHistory {H : Type 0} (s : Saving H) (begun : s.Kept) (stages : List Stage) (left : List Entry) : Type 0 where
+pub record IsHistory {K : Type 0} (s : Saving K) (begun : K) (stages : List Stage) (left : List Entry) : Type 0 where
   pub history : List Event
   pub leaves : after_all s begun history ≡ redone_all s.leaving begun left
   pub places : AreIn s begun [] (flat_map answered_at stages) history

@@ -1,5 +1,5 @@
 //! What a handler keeps, written into a journal part by part.
-ghost use Rattle.oai_durable.specs.Checkpoints.{HasSaved, IsWritten};
+ghost use Rattle.oai_durable.specs.Checkpoints.{HasSaved, HoldsCheckpoint};
 ghost use Rattle.oai_durable.specs.Records.{entry_of_part};
 ghost use Rattle.oai_http.specs.Parts.{PartState, as_part};
 ghost use Rattle.oai_journal.specs.Records.{Entry};
@@ -96,15 +96,21 @@ fn add_part<J: Journal>(journal: &mut J, part: &Part<'_>) -> Result<(), JournalF
 }
 
 /// Writes a checkpoint: the records of all parts of what the handler keeps, with the number of each next list raised by so many,
-/// into a journal that has no record yet. All of them are durable then. The handler keeps what it kept, also after an error; the
-/// journal is dropped then.
+/// into a journal that has no record yet. All of them are durable then, and to a handler of the same repositories they give what this one
+/// keeps, but for the open lists, which have ended. The handler keeps what it kept, also after an error; the journal is dropped then.
 pub fn checkpoint<H: Replayed, J: Journal>(
     handler: &mut H,
     raise: u32,
     journal: J,
 ) -> Result<J, CheckpointFault>
     ensures saved { IfOk result (λ written. IsTrue (H.is_honest handler.old) → (durable : ℕ) → J.holds journal [] durable
-        → IsWritten J.Journal written (H.parts (H.ended raise (H.kept handler.old)))) }
+        → HoldsCheckpoint (record {
+          leaving = record { redone = H.redone; restored = H.restored };
+          reply = H.reply;
+          parts = H.parts;
+          ended = H.ended;
+          emptied = H.emptied;
+        }) J.Journal (H.kept handler.old) raise written) }
     ensures same { H.kept handler.new ≡ H.kept handler.old }
     ensures honesty { H.is_honest handler.new ≡ H.is_honest handler.old }
 {

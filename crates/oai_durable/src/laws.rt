@@ -1,14 +1,13 @@
 //! What is so of every list of lives: theorems, each on a function with an empty body.
-ghost use Rattle.oai_durable.specs.Checkpoints.{AreStages, IsHistory, Stage, records_of};
+ghost use Rattle.oai_durable.specs.Checkpoints.{AreStages, IsHistory, Stage};
 ghost use Rattle.oai_durable.specs.Lives.{AreAmong, AreLives, Life, answered_in};
 ghost use Rattle.oai_durable.specs.Journaled.{IsExchange, IsHeld, IsSettled, Parts};
-ghost use Rattle.oai_durable.specs.Records.{redone_all};
 ghost use Rattle.oai_durable.specs.Served.{IsLived, IsRemembered, LivesAs};
 ghost use Rattle.oai_front.specs.Runs.{Served};
 ghost use Rattle.oai_journal.specs.Records.{Entry};
 ghost use Rattle.oai_serving.specs.Rounds.{IsService, World, served_in};
 ghost use Rattle.oai_serving.specs.declared.faults.ServeFault.{ServeFault as Fault};
-ghost use Rattle.std.specs.Prelude.{◌≡◌, [], ℕ, IsTrue, List, Option, Result, length};
+ghost use Rattle.std.specs.Prelude.{◌≡◌, [], IsTrue, List, Option, Result, length};
 
 use oai_http::Replayed;
 use oai_journal::Journal;
@@ -67,14 +66,6 @@ pub fn service_law<S: Stream, H: Replayed, J: Journal>()
         → IsRemembered S.contents S.remaining (record { redone = H.redone; restored = H.restored }) H.reply begun found known later old new left }
 {}
 
-/// The records of a checkpoint, from what a handler of the same repositories keeps as it begins, leave what was kept, but for the
-/// open lists, which have ended; and the number of each next list is raised by so many.
-pub fn checkpoint_law<H: Replayed>()
-    ensures { (handler : H) (raise : ℕ) → IsTrue (H.is_honest handler)
-        → redone_all (record { redone = H.redone; restored = H.restored }) (H.emptied (H.kept handler))
-        (records_of (H.parts (H.ended raise (H.kept handler)))) ≡ H.ended raise (H.kept handler) }
-{}
-
 /// Lives, with checkpoints between them: all of them are one history, which leaves what the records leave that the last stage left. Every
 /// answer that left has its place in it, in order over all lives: without a fault it is what the history before it makes of what was asked, and
 /// its own record follows. All else in it was performed, and its answer held back; or it is a checkpoint, at which all lists ended and the number
@@ -83,21 +74,17 @@ pub fn stages_law<H: Replayed>()
     ensures { (begun : H.Kept) (stages : List Stage) (left : List Entry)
         → H.emptied begun ≡ begun
         → AreStages (record {
-          Kept = H.Kept;
-          kept = H.kept;
-          is_honest = H.is_honest;
           leaving = record { redone = H.redone; restored = H.restored };
           reply = H.reply;
           parts = H.parts;
           ended = H.ended;
+          emptied = H.emptied;
         }) begun [] stages left
         → IsHistory (record {
-          Kept = H.Kept;
-          kept = H.kept;
-          is_honest = H.is_honest;
           leaving = record { redone = H.redone; restored = H.restored };
           reply = H.reply;
           parts = H.parts;
           ended = H.ended;
+          emptied = H.emptied;
         }) begun stages left }
 {}

@@ -22,8 +22,8 @@ pub enum RecoverFault {
     /// The journal could not be read on.
     #[error("{0}")]
     Journal(RecoveryFault),
-    /// The record is neither of an exchange nor of a part.
-    #[error("record {0}: it is no exchange")]
+    /// The record is of a kind that is neither an exchange nor a part.
+    #[error("record {0}: it is neither an exchange nor a part")]
     Kind(u64),
     /// A fault ended it.
     #[error("record {0}: performing it fails: {1}")]

@@ -109,17 +109,16 @@ pub trait Replayed: Handler {
             → kept self.new ≡ restored (kept self.old) (as_part part.now)) }
         ensures honesty { is_honest self.new ≡ is_honest self.old };
 
-    /// Hands all parts to the sink, with the number of each next list raised by so many. The handler keeps what it kept.
+    /// Hands all parts to the sink, with the number of each next list raised by so many. The handler keeps what it kept, and
+    /// what was saved can be restored.
     fn save<S: Sink>(&mut self, raise: u32, sink: &mut S) -> Result<(), SaveFault>
         ensures saved { OnOk result (IsTrue (is_honest self.old) → (before : List PartState) → S.has sink.old before
             → S.has sink.new (before ++ parts (ended raise (kept self.old)))) }
+        ensures whole { OnOk result (IsTrue (is_honest self.old)
+            → restored_all restored (emptied (kept self.old)) (parts (ended raise (kept self.old)))
+            ≡ ended raise (kept self.old)) }
         ensures same { kept self.new ≡ kept self.old }
         ensures honesty { is_honest self.new ≡ is_honest self.old };
-
-    /// What is saved can be restored.
-    ghost whole: { (handler : Self) (raise : ℕ) → IsTrue (is_honest handler)
-        → restored_all restored (emptied (kept handler)) (parts (ended raise (kept handler)))
-        ≡ ended raise (kept handler) };
 
     /// A call leaves the repositories.
     ghost same_redone: { (state : Kept) (call : Calls) → emptied (redone state call) ≡ emptied state };

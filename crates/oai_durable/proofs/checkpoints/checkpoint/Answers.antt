@@ -5,5 +5,11 @@ use Rattle.oai_durable.proofs.checkpoints.checkpoint.Goals as goal
 
 pub returns-in-Ok-clause-saved : goal.returns-in-Ok-clause-saved
 returns-in-Ok-clause-saved g c =
-    saved_written g.J.Journal c.args.journal c.save.new.sink.journal (g.H.Replayed.parts (g.H.Replayed.ended c.args.raise (g.H.Replayed.kept c.args.handler.now))) c.committed.result
-    (λ honest before. c.in-Ok.ensures.saved honest [] before) c.committed.ensures
+    saved_written (record {
+      leaving = record { redone = g.H.Replayed.redone; restored = g.H.Replayed.restored };
+      reply = g.H.Replayed.reply;
+      parts = g.H.Replayed.parts;
+      ended = g.H.Replayed.ended;
+      emptied = g.H.Replayed.emptied;
+    }) g.J.Journal (g.H.Replayed.kept c.args.handler.now) c.args.raise c.args.journal c.save.new.sink.journal c.committed.result
+    c.in-Ok.ensures.whole (λ honest before. c.in-Ok.ensures.saved honest [] before) c.committed.ensures
