@@ -6,7 +6,8 @@ is started again on its folder; and then are compared: what its journal holds wi
 was acknowledged of it and with a model (fuzz_model.py) that performed the journal's records, and each part of a list that a token was handed out
 for with the part that was given before, and with the model's. No list number may be given twice. The journal has to be found good beside the
 server, and all of its records behind it. Every third round it is started on a copy of its folder first, in which the bytes behind the gate that
-ends the journal are cut or overwritten: it has to find the same records there.
+ends the journal are cut or overwritten: it has to find the same records there. Before every second start `PROGRAM checkpoint CONFIG FOLDER` is
+called, and half of the times killed somewhere in between: the journal is then as it was, or a checkpoint, at which all lists have ended.
 
 It writes its seed to standard error, each difference, and at its end how many kills there were and how many differences; its status is 0 where there are none.
 """
@@ -31,6 +32,8 @@ PATIENCE = 60
 CLIENTS = 6
 # After how many kills a new folder is begun, so that a start does not take ever longer.
 ROUNDS = 25
+# By how much `checkpoint` raises the number of each next list.
+RAISE = 1_000_000
 CHUNK = 3
 OPEN, CLOSED = b"+&", b"-"
 VARYING = re.compile(r"<responseDate>[^<]*</responseDate>| expirationDate=\"[^\"]*\"")
@@ -90,6 +93,15 @@ class Journal:
     def __init__(self, path):
         self.path, self.at, self.known = path, 0, b""
 
+    def was_replaced(self):
+        """Whether another file stands in the place of the one that was read; it is then read from its beginning."""
+        with open(self.path, "rb") as file:
+            held = file.read(self.at)
+        if held == self.known:
+            return False
+        self.at, self.known = 0, b""
+        return True
+
     def read_on(self):
         """The records that came since, as tuples of a moment, a kind, a name and a body; None where those of before are others now."""
         with open(self.path, "rb") as file:
@@ -101,7 +113,7 @@ class Journal:
             end = held.index(b"\n", self.at)
             moment, kind, name, length, _ = held[self.at + 1 : end].decode().split(" ")
             body = held[end + 1 : end + 1 + int(length)]
-            records.append((int(moment), kind, name, body.decode()))
+            records.append((int(moment), kind, name, body.decode(errors="replace")))
             self.at = end + 2 + int(length)
         self.known = held[: self.at]
         return records
@@ -353,6 +365,44 @@ def verified(program, folder, known):
     return int(found[1]), int(found[2])
 
 
+def save(program, config, folder, chance):
+    """Calls `checkpoint`, which is killed somewhere in between half of the times."""
+    called = subprocess.Popen([program, "checkpoint", config, folder], stdout=subprocess.PIPE, stderr=subprocess.PIPE, text=True)
+    if chance.random() < 0.5:
+        time.sleep(chance.random() * chance.choice([0.01, 0.05, 0.2]))
+        called.send_signal(signal.SIGKILL)
+    said, errors = called.communicate()
+    return called.returncode, said, errors
+
+
+def end_lists(model, known):
+    """Lets all lists end, as a checkpoint does: no token of before is answered, and no number of before is given again."""
+    for repository in model.repositories.values():
+        repository.lists.clear()
+        repository.next += RAISE
+    known.parts.clear()
+
+
+def compare_saved(program, config, folder, known, model, journal, performed, chance):
+    """Calls `checkpoint`; how many records the journal then has."""
+    status, said, errors = save(program, config, folder, chance)
+    if not journal.was_replaced():
+        if status == 0:
+            known.differ("checkpoint: the journal is as it was")
+        return performed
+    records = journal.read_on()
+    count = len(records) - 1
+    if status == 0 and said != f"ok {count} {journal.at}\n":
+        known.differ(f"checkpoint: {said!r} {errors!r} where {count} records and {journal.at} bytes are")
+    if verified(program, folder, known) != (count, journal.at):
+        known.differ(f"verify does not find the {count} records of a checkpoint")
+    items = [it for it in records if it[1] == "item"]
+    if len(items) != sum(len(it.items) for it in model.repositories.values()):
+        known.differ(f"a checkpoint has {len(items)} items")
+    end_lists(model, known)
+    return count
+
+
 def attack(server, known, serial, chance, look):
     """Lets clients send until the server is killed; `look` is called meanwhile."""
     clients = [Client(server, known, it, serial + it) for it in range(CLIENTS)]
@@ -383,6 +433,8 @@ def rounds(program, config, folder, count, chance, known):
         find_acknowledged(known, records)
         if number % 3 == 0:
             compare_torn(program, config, folder, known, journal, chance, performed)
+        if number % 2 == 1:
+            performed = compare_saved(program, config, folder, known, model, journal, performed, chance)
         server = Server(program, config, folder)
         if server.port is None:
             known.differ(f"no start: {server.errors()!r}")

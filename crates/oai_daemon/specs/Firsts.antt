@@ -1,5 +1,8 @@
 -- The first record of a journal. This repository's own.
-use Rattle.std.specs.Prelude.{ℕ, List, ◌++◌, ◌∷◌, codes}
+use Rattle.std.specs.Prelude.{◌≡◌, ◌⊎◌, ◌≤◌, ℕ, List, ◌++◌, ◌∷◌, codes, Some}
+use Rattle.serde_json.specs.Data.{Data, Members, depth, null, object, put}
+use Rattle.serde_json.specs.Read.{max_depth, read}
+use Rattle.oai_deposit.specs.Json.{json_in}
 
 -- its name
 abbrev pub program : List ℕ
@@ -8,3 +11,26 @@ program = codes "oaihostd"
 -- its body: the version, a line end, and the bytes of the configuration
 abbrev pub first_body : List ℕ → List ℕ
 first_body config = codes "1" ++ 10 ∷ config
+
+-- a configuration without its cache: null stands in its place
+abbrev pub but_cache : Members → Data
+but_cache members = object (put (codes "cache") null members)
+
+-- two values are equal, as far as they nest no deeper than is read
+abbrev pub AreSame : Data → Data → Type 0
+AreSame d e = depth d ≤ max_depth → depth e ≤ max_depth → d ≡ e
+
+-- two configurations are the same, or JSON objects that are equal but for how many pages the cache has
+abbrev pub IsSameConfig : List ℕ → List ℕ → Type 0
+IsSameConfig config other =
+    (config ≡ other)
+    ⊎ ((ms ns : Members) × (json_in config ≡ Some (object ms)) × (json_in other ≡ Some (object ns)) × AreSame (but_cache ms) (but_cache ns))
+
+-- the first record of a journal has this program's name, its version, and the configuration, but for how many pages the cache has
+abbrev pub IsOf : List ℕ → List ℕ → List ℕ → Type 0
+IsOf name body text = (name ≡ program) × (config : List ℕ) × (body ≡ first_body config) × IsSameConfig config text
+
+-- the text is a JSON object, and this is what is written for it without its cache, from which it is read back
+abbrev pub IsWrittenFor : List ℕ → List ℕ → Type 0
+IsWrittenFor text written =
+    (ms : Members) × (json_in text ≡ Some (object ms)) × (depth (but_cache ms) ≤ max_depth → read written ≡ Some (but_cache ms))

@@ -1,3 +1,4 @@
 pub mod Firsts
 pub mod Notes
 pub mod Stops
+pub mod Archives

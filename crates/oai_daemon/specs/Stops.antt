@@ -1,12 +1,14 @@
 -- What a server says where it stops, and with which status it ends. This repository's own.
-use Rattle.std.specs.Prelude.{ℕ, ℤ, List, ◌++◌, codes, decimal, pos}
+use Rattle.std.specs.Prelude.{ℕ, ℤ, List, ◌++◌, codes, decimal, pos, string_bytes}
 use Rattle.oai_cli.specs.Stops as other
 use Rattle.oai_item.specs.declared.faults.Fault.{Fault}
 use Rattle.oai_item.specs.declared.faults.Fault.TheVariants.{Damaged as IsDamaged, Device, NoMemory, TooManyPages}
 use Rattle.oai_time.specs.Clock.{tick}
 use Rattle.oai_time.specs.TimeTexts.{second_text}
 use Rattle.oai_daemon.specs.declared.stop.Stop.{Stop}
-use Rattle.oai_daemon.specs.declared.stop.Stop.TheVariants.{CannotOpen, CannotWrite, Common, Damaged, InUse, Jumped, NotOurs, OfVersion, OtherConfig, Performing, Usage}
+use Rattle.oai_daemon.specs.declared.stop.Stop.TheVariants.{CannotOpen, CannotWrite, Common, Damaged, InUse, Jumped, NotOurs, NoRepository, OfVersion, OtherConfig, Performing, Usage}
+use Rattle.oai_daemon.specs.declared.stop.Aspect.{Aspect}
+use Rattle.oai_daemon.specs.declared.stop.Aspect.TheVariants.{Contents, Deleted, Earliest, Granularity, Name}
 
 -- a fault, in words
 abbrev pub fault_text : Fault → List ℕ
@@ -22,8 +24,19 @@ performing_fails = codes ": performing it fails: "
 abbrev pub jump_text : ℤ → List ℕ
 jump_text second = second_text (tick (pos 0) second)
 
+-- what of a repository has to stay as it is, in a word
+abbrev pub aspect_word : Aspect → List ℕ
+aspect_word Name = codes "name"
+aspect_word Granularity = codes "granularity"
+aspect_word Earliest = codes "earliestDatestamp"
+aspect_word Deleted = codes "deletedRecord"
+aspect_word Contents = codes "sets and items"
+
+unfoldable pub config_differs : List ℕ
+config_differs = codes "config: differs from the journal: repository "
+
 abbrev pub stop_text : Stop → List ℕ
-stop_text Usage = codes "usage: oaihostd serve CONFIG PORT FOLDER | verify FOLDER"
+stop_text Usage = codes "usage: oaihostd serve CONFIG PORT FOLDER | verify FOLDER | dump FOLDER NAME | checkpoint CONFIG FOLDER"
 stop_text (Common cause) = other.stop_text cause
 stop_text CannotOpen = codes "folder: cannot open"
 stop_text InUse = codes "folder: in use"
@@ -33,7 +46,8 @@ stop_text (Damaged at) = codes "journal: damaged at byte " ++ decimal at
 stop_text (Performing number fault) = codes "journal: record " ++ decimal number ++ performing_fails ++ fault_text fault
 stop_text CannotWrite = codes "journal: cannot write"
 stop_text (Jumped second) = codes "clock: jumped to " ++ jump_text second
-stop_text (OtherConfig at) = codes "config: differs from the journal: at byte " ++ decimal at
+stop_text (OtherConfig difference) = config_differs ++ (string_bytes difference.repository ++ (codes ": " ++ aspect_word difference.aspect))
+stop_text NoRepository = codes "dump: no such repository"
 
 -- 2 where the arguments or the configuration do not serve, and 1 for all else
 abbrev pub status_of : Stop → ℕ
@@ -47,4 +61,5 @@ status_of (Damaged at) = 1
 status_of (Performing number fault) = 1
 status_of CannotWrite = 1
 status_of (Jumped second) = 1
-status_of (OtherConfig at) = 2
+status_of (OtherConfig difference) = 2
+status_of NoRepository = 2

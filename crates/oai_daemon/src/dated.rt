@@ -1,14 +1,19 @@
-//! A handler, and when it performed something again last, or began from a checkpoint.
+//! A handler, and what is to be known of the records that it performs again.
 use oai_http::{
-    Answer, Done, Exchange, Handler, Part, PartKind, Performed, Replayed, SaveFault, Sink,
+    Answer, Done, Endpoint, Exchange, Handler, Part, PartKind, Performed, Replayed, SaveFault, Sink,
 };
 use oai_item::Fault;
 
-/// A handler, and the moment of what it performed again last; before that the latest clock with which a repository began.
+/// A handler, and what is to be known of the records that it performs again.
 #[derive(Drop)]
 pub(crate) struct Dated<H> {
     pub(crate) handler: H,
+    /// The latest moment of them, in seconds from 1970 on.
     pub(crate) last: Option<i64>,
+    /// The latest moment of those up to the last that may have begun or continued a list.
+    pub(crate) listed: Option<i64>,
+    /// How many bytes the parts of a checkpoint have.
+    pub(crate) saved: usize,
 }
 
 impl<H> Dated<H> {
@@ -17,6 +22,8 @@ impl<H> Dated<H> {
         Dated {
             handler,
             last: None,
+            listed: None,
+            saved: 0,
         }
     }
 }
@@ -45,7 +52,10 @@ impl<H: Replayed> Replayed for Dated<H> {
     }
 
     fn redo(&mut self, moment: i64, performed: &Performed<'_>) -> Result<(), Fault> {
-        self.last = Some(moment);
+        self.last = later(self.last, moment);
+        if !performed.bytes.is_empty() && performed.endpoint == Endpoint::Requests {
+            self.listed = self.last;
+        }
         self.handler.redo(moment, performed)
     }
 
@@ -58,7 +68,10 @@ impl<H: Replayed> Replayed for Dated<H> {
     ghost emptied = { H.emptied };
 
     fn restore(&mut self, part: &Part<'_>) -> Result<(), Fault> {
-        self.last = latest(self.last, part);
+        if part.kind == PartKind::Begin {
+            self.last = later(self.last, part.moment);
+        }
+        self.saved = self.saved.saturating_add(part.bytes.len());
         self.handler.restore(part)
     }
 
@@ -71,11 +84,10 @@ impl<H: Replayed> Replayed for Dated<H> {
     ghost same_restored = { H.same_restored };
 }
 
-/// The later one of a moment and the clock with which a repository begins; the moment where the part is not the beginning of one.
-fn latest(last: Option<i64>, part: &Part<'_>) -> Option<i64> {
-    match (part.kind, last) {
-        (PartKind::Begin, Some(moment)) => Some(moment.max(part.moment)),
-        (PartKind::Begin, None) => Some(part.moment),
-        _ => last,
+/// The later one of two moments, of which there may be only one.
+fn later(last: Option<i64>, moment: i64) -> Option<i64> {
+    match last {
+        Some(before) => Some(before.max(moment)),
+        None => Some(moment),
     }
 }

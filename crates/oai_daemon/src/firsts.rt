@@ -1,10 +1,12 @@
 //! The first record of a journal: the program, the version, and the configuration.
-ghost use Rattle.std.specs.Prelude.{◌≡◌, IfOk, OnOk};
-ghost use Rattle.oai_daemon.specs.Firsts.{first_body, program};
+ghost use Rattle.std.specs.Prelude.{◌≡◌, IfOk, IfSome, IsTrue, OnOk, string_bytes};
+ghost use Rattle.oai_daemon.specs.Firsts.{IsOf, IsSameConfig, IsWrittenFor, first_body, program};
 
 use crate::stop::Stop;
 use oai_cli::read_number;
+use oai_deposit::read_json;
 use oai_journal::Record;
+use serde_json::{Value, put};
 use std::alloc::{AllocError, Global};
 
 /// The name in the first record.
@@ -26,15 +28,40 @@ pub(crate) fn write_first(alloc: Global, text: &[u8]) -> Result<Vec<u8>, AllocEr
     Ok(body)
 }
 
-/// Whether the first record is of this program and of that configuration. The errors are `NotOurs`, `OfVersion` and
-/// `OtherConfig`.
-pub(crate) fn check_first(first: &Record<'_>, text: &[u8]) -> Result<(), Stop>
-    ensures name { OnOk result (first.now.name.now ≡ program) }
-    ensures body { OnOk result (first.now.body.now ≡ first_body text.now) }
+/// Whether the first record is of the configuration in the text, but for how many pages the cache has. The errors are `NotOurs` and
+/// `OfVersion`, where the record is none of this program, or of another version of it, and `NoMemory`.
+pub(crate) fn is_of(alloc: Global, first: &Record<'_>, text: &[u8]) -> Result<bool, Stop>
+    ensures { IfOk result (λ same. IsTrue same → IsOf first.now.name.now first.now.body.now text.now) }
 {
     match config_of(first) {
-        Ok(config) => check_config(config, text),
+        Ok(config) => Ok(is_same(alloc, config, text)?),
         Err(stop) => Err(stop),
+    }
+}
+
+/// Whether two configurations are the same but for how many pages the cache has. The error is out of memory.
+fn is_same(alloc: Global, config: &[u8], text: &[u8]) -> Result<bool, AllocError>
+    ensures { IfOk result (λ same. IsTrue same → IsSameConfig config.now text.now) }
+{
+    if config == text {
+        return Ok(true);
+    }
+    match (without_cache(alloc, config)?, without_cache(alloc, text)?) {
+        (Some(one), Some(other)) => Ok(one == other),
+        _ => Ok(false),
+    }
+}
+
+/// The configuration as compact JSON, with null as its member `cache`; `None` where it is no object. The error is out of memory.
+fn without_cache(alloc: Global, config: &[u8]) -> Result<Option<String>, AllocError>
+    ensures { IfOk result (λ found. IfSome found (λ written. IsWrittenFor config.now (string_bytes written))) }
+{
+    match read_json(alloc, config)? {
+        Some(Value::Object(mut members)) => {
+            put(&mut members, alloc, "cache", Value::Null)?;
+            Ok(Some(Value::Object(members).to_string(alloc)?))
+        }
+        _ => Ok(None),
     }
 }
 
@@ -64,22 +91,4 @@ fn stop_of_version(body: &[u8]) -> Stop {
 /// The version before the first line end.
 fn version_in(body: &[u8]) -> Option<u64> {
     read_number(body.split(|b| *b == b'\n').next()?)
-}
-
-/// Whether the configuration is the text. The error is `OtherConfig`, with the first byte of the text that is another one.
-fn check_config(config: &[u8], text: &[u8]) -> Result<(), Stop>
-    ensures { OnOk result (config.now ≡ text.now) }
-{
-    if config != text {
-        return Err(Stop::OtherConfig(common_len(config, text)));
-    }
-    Ok(())
-}
-
-/// How many bytes two texts have in common, from the first on.
-fn common_len(one: &[u8], other: &[u8]) -> usize {
-    one.iter()
-        .zip(other.iter())
-        .take_while(|pair| pair.0 == pair.1)
-        .count()
 }

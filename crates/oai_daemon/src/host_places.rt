@@ -182,6 +182,10 @@ impl Place for HostPlace<'_> {
         self.sync("..")
     }
 
+    fn open_begun(&mut self) -> Result<FileFrom<Wary>, Stop> {
+        self.disk("journal.new", Wary)
+    }
+
     fn open_journal(&mut self) -> Result<FileFrom<Wary>, Stop> {
         self.disk("journal", Wary)
     }

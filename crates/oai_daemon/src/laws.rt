@@ -1,15 +1,18 @@
 //! What is so of every archive that this program serves, over all its lives: a theorem, on a function with an empty body.
-ghost use Rattle.oai_durable.specs.Lives.{AreAmong, AreLives, Life, answered_in};
+ghost use Rattle.oai_daemon.specs.Archives.{archive};
+ghost use Rattle.oai_durable.specs.Checkpoints.{AreStages, IsHistory, Stage};
 ghost use Rattle.oai_host.specs.Hosts.{Repository};
-ghost use Rattle.oai_host.specs.Redone.{redone_all, reply_all};
+ghost use Rattle.oai_host.specs.Saved.{emptied_in};
 ghost use Rattle.oai_journal.specs.Records.{Entry};
-ghost use Rattle.std.specs.Prelude.{[], List};
+ghost use Rattle.std.specs.Prelude.{◌≡◌, [], List};
 
-/// `restart_law` of a host of repositories: what the last of any number of its lives left is one list of records, in which every
-/// answer that left has its place, in order over all lives. Without a fault it is what the repository whose it is would answer
-/// alone, after the records before it, and its own record follows; all else in the list was performed, and its answer held back.
+/// `stages_law` of a host of repositories. Any number of lives, with checkpoints between them, is one history, which leaves the states that the
+/// last journal leaves. Every answer that left has its place in it, in order over all lives: without a fault it is what the repository whose it is
+/// would answer alone, after what stands before it, and its own record follows. All else in it was performed, and its answer held back; or it is a
+/// checkpoint, at which all lists ended and the number of each next list was raised.
 pub fn archive_law()
-    ensures { (begun : List Repository) (lives : List Life) (left : List Entry)
-        → AreLives redone_all reply_all begun [] lives left
-        → AreAmong redone_all reply_all begun [] (answered_in lives) left }
+    ensures { (begun : List Repository) (stages : List Stage) (left : List Entry)
+        → emptied_in begun ≡ begun
+        → AreStages archive begun [] stages left
+        → IsHistory archive begun stages left }
 {}

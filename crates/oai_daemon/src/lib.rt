@@ -2,8 +2,11 @@
 //! ports and streams are those of a `Place`; `HostPlace` has them of the system.
 #![tactic(auto)]
 
+mod checkpoints;
 mod clocks;
 mod dated;
+mod differences;
+mod dumps;
 mod firsts;
 mod host_places;
 mod journals;
@@ -12,16 +15,19 @@ mod notes;
 mod places;
 mod read_files;
 mod recoveries;
+mod renewals;
 mod service;
 mod stop;
 mod verify;
 mod watched;
 
+pub use dumps::dump_repository;
 pub use host_places::HostPlace;
 pub use laws::archive_law;
 pub use notes::Note;
 pub use places::Place;
 pub use read_files::ReadFile;
+pub use checkpoints::checkpoint_folder;
 pub use service::serve;
-pub use stop::Stop;
+pub use stop::{Aspect, Difference, Stop};
 pub use verify::verify_journal;

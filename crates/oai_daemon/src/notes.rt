@@ -16,6 +16,8 @@ pub enum Note {
     /// The clock is at that second, from 1970 on, more than 366 days ahead of the last record, whose second is the other, or more than an hour
     /// behind it.
     Clock(i64, i64),
+    /// The archive goes on with another configuration, and its open lists have ended.
+    OtherConfig,
     /// So many exchanges were answered 500 (Internal Server Error) for that fault.
     Failed(u64, Fault),
 }
@@ -41,6 +43,7 @@ impl fmt::Display for Note {
                 let behind = last_record();
                 write!(f, "clock: at {}{behind}{}", Second(*now), Second(*last))
             }
+            Note::OtherConfig => write!(f, "config: another one: the open lists have ended"),
             Note::Failed(count, fault) => {
                 let cause = fault_word(*fault);
                 write!(f, "answered 500: {count} times: {cause}")

@@ -5,8 +5,8 @@ use oai_device::PageDevice;
 use oai_serving::{Sockets, Stream};
 use sqlite_disk::Disk;
 
-/// A folder, a port, and the streams on which a server says what it does. Each call is made once at most, in the order in
-/// which they stand here.
+/// A folder, a port, and the streams on which a server says what it does. The calls are made in the order in which they stand here; where a
+/// journal is replaced by a checkpoint, those from `begin_journal` to `empty_pages` are made again.
 pub trait Place {
     /// The disk of the journal.
     type Disk: Disk + Drop;
@@ -33,6 +33,9 @@ pub trait Place {
 
     /// Makes the journal that was begun, and is written, the folder's.
     fn keep_journal(&mut self) -> Result<(), Stop>;
+
+    /// The disk of the journal that was begun and written, to be read back.
+    fn open_begun(&mut self) -> Result<Self::Disk, Stop>;
 
     /// The disk of the folder's journal.
     fn open_journal(&mut self) -> Result<Self::Disk, Stop>;

@@ -43,14 +43,14 @@ pub(crate) fn recover_all<P: Place, H: Replayed + Drop, C: Clock>(
     clock: &C,
     handler: H,
     recovery: &mut Recovery<P::Disk>,
-) -> Result<H, Stop> {
+) -> Result<Dated<H>, Stop> {
     let begun = second_of(clock);
     let mut dated = Dated::new(handler);
     let records = recover_dated(place, clock, &mut dated, recovery)?;
     let seconds = second_of(clock).saturating_sub(begun);
     place.tell(Note::Recovered(records, recovery.position(), seconds));
     tell_clock(place, moment_of(clock)?, dated.last);
-    Ok(dated.handler)
+    Ok(dated)
 }
 
 /// Performs again what the journal has behind its first record; how many records that are.
@@ -81,7 +81,7 @@ fn is_far(moment: i64, last: i64) -> bool {
 }
 
 /// Why the server stops, where the recovery failed.
-fn stop_of_recovery(fault: RecoverFault) -> Stop {
+pub(crate) fn stop_of_recovery(fault: RecoverFault) -> Stop {
     match fault {
         RecoverFault::Journal(fault) => stop_of_reading(fault),
         RecoverFault::Kind(_) => Stop::NotOurs,

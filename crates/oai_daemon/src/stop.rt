@@ -12,7 +12,7 @@ use std::error::Error;
 use std::fmt;
 
 /// Why the server stopped.
-#[derive(Clone, Copy, Debug, PartialEq, Eq)]
+#[derive(Debug, PartialEq, Eq, Drop)]
 pub enum Stop {
     /// It was called with other arguments than it takes.
     Usage,
@@ -34,15 +34,56 @@ pub enum Stop {
     CannotWrite,
     /// The system's clock jumped to that second, from 1970 on.
     Jumped(i64),
-    /// The configuration is another one than the journal's, from that byte on.
-    OtherConfig(usize),
+    /// The configuration is another one than the journal's, and the archive cannot go on with it.
+    OtherConfig(Difference),
+    /// The archive has no repository of the name.
+    NoRepository,
+}
+
+/// Why an archive cannot go on with another configuration.
+#[derive(Debug, PartialEq, Eq, Drop)]
+pub struct Difference {
+    /// The name of a repository of the journal.
+    pub repository: String,
+    /// What of it is the first that does not serve.
+    pub aspect: Aspect,
+}
+
+/// What of a repository has to stay as it is in another configuration.
+#[derive(Clone, Copy, Debug, PartialEq, Eq)]
+pub enum Aspect {
+    /// That there is one of its name.
+    Name,
+    /// Its granularity.
+    Granularity,
+    /// Its earliestDatestamp.
+    Earliest,
+    /// Its deletedRecord.
+    Deleted,
+    /// That its formats and limits allow each set and each item.
+    Contents,
+}
+
+impl Aspect {
+    /// The word for it.
+    pub fn word(self) -> &'static str
+        ensures { result.now ≡ spec.aspect_word self }
+    {
+        match self {
+            Aspect::Name => "name",
+            Aspect::Granularity => "granularity",
+            Aspect::Earliest => "earliestDatestamp",
+            Aspect::Deleted => "deletedRecord",
+            Aspect::Contents => "sets and items",
+        }
+    }
 }
 
 impl Stop {
     /// The program's exit status: 2 where the arguments are wrong, or the configuration cannot be read, has a fault, or
     /// is not the journal's, and 1 for each other cause.
-    pub fn status(self) -> u8
-        ensures { result ≡ spec.status_of self }
+    pub fn status(&self) -> u8
+        ensures { result ≡ spec.status_of self.now }
     {
         match self {
             Stop::Usage => 2,
@@ -56,6 +97,7 @@ impl Stop {
             Stop::CannotWrite => 1,
             Stop::Jumped(_) => 1,
             Stop::OtherConfig(_) => 2,
+            Stop::NoRepository => 2,
         }
     }
 }
@@ -87,7 +129,7 @@ impl fmt::Display for Stop {
         match self {
             Stop::Usage => write!(
                 f,
-                "usage: oaihostd serve CONFIG PORT FOLDER | verify FOLDER"
+                "usage: oaihostd serve CONFIG PORT FOLDER | verify FOLDER | dump FOLDER NAME | checkpoint CONFIG FOLDER"
             ),
             Stop::Common(cause) => write!(f, "{cause}"),
             Stop::CannotOpen => write!(f, "folder: cannot open"),
@@ -101,12 +143,25 @@ impl fmt::Display for Stop {
             }
             Stop::CannotWrite => write!(f, "journal: cannot write"),
             Stop::Jumped(second) => write!(f, "clock: jumped to {}", Second(*second)),
-            Stop::OtherConfig(at) => write!(f, "config: differs from the journal: at byte {at}"),
+            Stop::OtherConfig(difference) => {
+                let name = difference.repository.as_str();
+                let (differs, word) = (config_differs(), difference.aspect.word());
+                write!(f, "{differs}{name}: {word}")
+            }
+            Stop::NoRepository => write!(f, "dump: no such repository"),
         }
     }
 }
 
 impl Error for Stop {}
+
+/// What stands before the name of a repository that differs.
+#[tactic(auto, unfolding(crate::specs::Stops::config_differs))]
+fn config_differs() -> &'static str
+    ensures { result.now ≡ spec.config_differs }
+{
+    "config: differs from the journal: repository "
+}
 
 /// What stands between the number of a record and the fault that ended it.
 #[tactic(auto, unfolding(crate::specs::Stops::performing_fails))]

@@ -6,10 +6,12 @@ ghost use Rattle.std.specs.Process.{exit_status};
 ghost use Rattle.oai_daemon.specs.Stops as spec;
 
 use oai_cli::{Stop as Other, read_file, read_number};
-use oai_daemon::{HostPlace, ReadFile, Stop, serve, verify_journal};
+use oai_daemon::{
+    HostPlace, ReadFile, Stop, checkpoint_folder, dump_repository, serve, verify_journal,
+};
 use std::env;
 use std::fs::File;
-use std::io::{self, ErrorKind};
+use std::io::{self, BufWriter, ErrorKind};
 use std::process::ExitCode;
 use std::rt::{Env, Files};
 
@@ -20,6 +22,10 @@ enum Command {
     Serve(String, u16, String),
     /// To read the journal in a folder to its end.
     Verify(String),
+    /// To write what the repository of a name holds, by the journal in a folder, as deposit lines.
+    Dump(String, String),
+    /// To replace the journal in a folder by a checkpoint, with the configuration in a file.
+    Checkpoint(String, String),
 }
 
 fn main(rt: HostRuntime) -> ExitCode {
@@ -28,6 +34,10 @@ fn main(rt: HostRuntime) -> ExitCode {
             run_serve(&rt, path.as_str(), port, folder.as_str())
         }
         Ok(Command::Verify(folder)) => run_verify(&rt, folder.as_str()),
+        Ok(Command::Dump(folder, name)) => run_dump(&rt, folder.as_str(), name.as_str()),
+        Ok(Command::Checkpoint(path, folder)) => {
+            run_checkpoint(&rt, path.as_str(), folder.as_str())
+        }
         Err(stop) => Err(stop),
     };
     match done {
@@ -51,6 +61,7 @@ fn called_for(rt: &(impl Env + AllocGlobal)) -> Result<Command, Stop> {
         (Some(word), Some(path), Some(port), Some(folder), None) => {
             to_serve(word.as_str(), path, port.as_bytes(), folder)
         }
+        (Some(word), Some(path), Some(other), None, None) => of_two(word.as_str(), path, other),
         (Some(word), Some(folder), None, None, None) => to_verify(word.as_str(), folder),
         _ => Err(Stop::Usage),
     }
@@ -60,6 +71,15 @@ fn called_for(rt: &(impl Env + AllocGlobal)) -> Result<Command, Stop> {
 fn to_serve(word: &str, path: String, port: &[u8], folder: String) -> Result<Command, Stop> {
     match (word, read_port(port)) {
         ("serve", Some(port)) => Ok(Command::Serve(path, port, folder)),
+        _ => Err(Stop::Usage),
+    }
+}
+
+/// The command to write what a repository holds, or to replace a journal by a checkpoint.
+fn of_two(word: &str, first: String, second: String) -> Result<Command, Stop> {
+    match word {
+        "dump" => Ok(Command::Dump(first, second)),
+        "checkpoint" => Ok(Command::Checkpoint(first, second)),
         _ => Err(Stop::Usage),
     }
 }
@@ -88,15 +108,41 @@ fn run_verify(
     rt: &(impl Files<File = File> + Print + AllocGlobal),
     folder: &str,
 ) -> Result<(), Stop> {
-    let path = format!(in rt.alloc(); "{folder}/journal")?;
-    let file = match File::open(rt, path.as_str()) {
-        Ok(file) => file,
-        Err(error) if error.kind() == ErrorKind::OutOfMemory => {
-            return Err(Stop::Common(Other::NoMemory));
-        }
-        Err(_) => return Err(Stop::CannotOpen),
+    let journal = open_to_read(rt, folder)?;
+    verify_journal(rt.alloc(), journal, &mut io::writer(rt))
+}
+
+/// Writes what the repository of that name holds, by the journal in the folder.
+fn run_dump(
+    rt: &(impl Files<File = File> + Print + AllocGlobal),
+    folder: &str,
+    name: &str,
+) -> Result<(), Stop> {
+    let journal = open_to_read(rt, folder)?;
+    let Ok(mut writer) = BufWriter::new(rt.alloc(), io::writer(rt)) else {
+        return Err(Stop::Common(Other::NoMemory));
     };
-    verify_journal(rt.alloc(), ReadFile::new(file), &mut io::writer(rt))
+    dump_repository(rt.alloc(), journal, name, &mut writer)
+}
+
+/// The journal in the folder, to be read.
+fn open_to_read(
+    rt: &(impl Files<File = File> + AllocGlobal),
+    folder: &str,
+) -> Result<ReadFile, Stop> {
+    let path = format!(in rt.alloc(); "{folder}/journal")?;
+    match File::open(rt, path.as_str()) {
+        Ok(file) => Ok(ReadFile::new(file)),
+        Err(error) if error.kind() == ErrorKind::OutOfMemory => Err(Stop::Common(Other::NoMemory)),
+        Err(_) => Err(Stop::CannotOpen),
+    }
+}
+
+/// Replaces the journal in the folder by a checkpoint, with the configuration in the file.
+fn run_checkpoint(rt: &HostRuntime, path: &str, folder: &str) -> Result<(), Stop> {
+    let text = read_file(rt, path)?;
+    let mut place = HostPlace::new(rt, folder, 0);
+    checkpoint_folder(rt.alloc(), &mut place, rt, &text, &mut io::writer(rt))
 }
 
 /// Says on standard error why the program stopped. Where that cannot be said its status still says something.

@@ -157,6 +157,11 @@ impl Place for MemoryPlace {
         self.call("keep")
     }
 
+    fn open_begun(&mut self) -> Result<Memory, Stop> {
+        self.call("begun")?;
+        self.journal()
+    }
+
     fn open_journal(&mut self) -> Result<Memory, Stop> {
         self.call("open")?;
         self.journal()
@@ -176,6 +181,7 @@ impl Place for MemoryPlace {
             Note::Recovering(_, _, _) => drop(self.call("recovering")),
             Note::Recovered(_, _, _) => drop(self.call("recovered")),
             Note::Clock(_, _) => drop(self.call("clock")),
+            Note::OtherConfig => drop(self.call("other")),
             Note::Failed(_, _) => drop(self.call("failed")),
         }
     }

@@ -1,7 +1,8 @@
-use Rattle.std.proofs.Common.{[]}
-use Rattle.oai_durable.proofs.LifeLemmas.{lives_among}
-use Rattle.oai_host.specs.Redone.{redone_all, reply_all}
+use Rattle.oai_durable.proofs.CheckpointLemmas.{stages_history}
+use Rattle.oai_host.specs.Emptied.{emptied_redone, emptied_restored}
+use Rattle.oai_daemon.specs.Archives.{archive}
 use Rattle.oai_daemon.proofs.laws.archive_law.Goals as goal
 
 pub returns : goal.returns
-returns c = λ begun lives left are. lives_among redone_all reply_all begun [] lives left are
+returns c = λ begun stages left begins are.
+    stages_history archive begun stages left (record { redone = emptied_redone; restored = emptied_restored }) begins are

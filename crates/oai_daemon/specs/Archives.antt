@@ -1,0 +1,17 @@
+-- What the hosts of an archive keep, over all its lives. This repository's own.
+use Rattle.std.specs.Prelude.{List}
+use Rattle.oai_durable.specs.Checkpoints.{Saving}
+use Rattle.oai_host.specs.Hosts.{Repository}
+use Rattle.oai_host.specs.Redone.{redone_all, reply_all}
+use Rattle.oai_host.specs.Saved.{emptied_in, ended_in, parts_in, restored_in}
+
+-- the states of the repositories: what calls and parts leave of them, what a call is answered, which parts they have, and what they are once all lists
+-- ended, and as they begin
+abbrev pub archive : Saving (List Repository)
+archive = record {
+  leaving = record { redone = redone_all; restored = restored_in };
+  reply = reply_all;
+  parts = parts_in;
+  ended = ended_in;
+  emptied = emptied_in;
+}

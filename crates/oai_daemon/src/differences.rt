@@ -1,0 +1,46 @@
+//! What two configurations of one archive have to have in common.
+use crate::stop::{Aspect, Difference, Stop};
+use oai_cli::config_in;
+use oai_config::NamedConfig;
+use oai_settings::RepoConfig;
+use std::alloc::Global;
+
+/// Whether an archive of the one configuration may go on with the other, as far as the two texts tell: it has a repository of the name of
+/// each of the journal's, with its granularity, earliestDatestamp and deletedRecord. The error is the first difference in the order of the
+/// journal's repositories; or out of memory.
+pub(crate) fn check_differences(alloc: Global, before: &[u8], text: &[u8]) -> Result<(), Stop> {
+    let old = config_in(alloc, before)?.into_repositories();
+    let new = config_in(alloc, text)?.into_repositories();
+    for repository in old.as_slice() {
+        if let Some(aspect) = difference(repository, new.as_slice()) {
+            return Err(Stop::OtherConfig(Difference {
+                repository: String::from_str(alloc, repository.name.as_str())?,
+                aspect,
+            }));
+        }
+    }
+    Ok(())
+}
+
+/// What of the repository does not serve among the others: the first of its aspects.
+fn difference(repository: &NamedConfig, others: &[NamedConfig]) -> Option<Aspect> {
+    let name = repository.name.as_str();
+    match others.iter().find(|other| other.name.as_str() == name) {
+        Some(other) => difference_of(&repository.config, &other.config),
+        None => Some(Aspect::Name),
+    }
+}
+
+/// The first aspect in which they differ, of those that may not change.
+fn difference_of(one: &RepoConfig, other: &RepoConfig) -> Option<Aspect> {
+    if one.granularity() != other.granularity() {
+        return Some(Aspect::Granularity);
+    }
+    if one.earliest() != other.earliest() {
+        return Some(Aspect::Earliest);
+    }
+    if one.deleted() != other.deleted() {
+        return Some(Aspect::Deleted);
+    }
+    None
+}

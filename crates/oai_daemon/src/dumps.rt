@@ -1,0 +1,154 @@
+//! What a repository of an archive holds, as deposit lines.
+use crate::journals::{begin_reading, config_text};
+use crate::recoveries::stop_of_recovery;
+use crate::renewals::Silent;
+use crate::stop::Stop;
+use oai_cli::{Stop as Other, config_in, host_on};
+use oai_device::MemoryDevice;
+use oai_durable::recover;
+use oai_dump::{deletion_line, deposit_line, set_line};
+use oai_http::{Part, PartKind, Replayed, SaveFault, Sink, SinkFault};
+use oai_item::{DecodeFault, Fault, Item};
+use oai_names::SetSpec;
+use sqlite_disk::Disk;
+use std::alloc::Global;
+use std::io::Write;
+
+/// Writes the sets and the items of the repository of that name as deposit lines, in an order in which they can be deposited: the sets in
+/// the order in which they were added, and the items in their order, a deleted one as its deposit and its deletion. The journal on the disk
+/// is performed again with its pages in memory, and not written to. The errors are those of `verify_journal`, `Performing`,
+/// and `NoRepository`, before which nothing is written.
+pub fn dump_repository<D: Disk + Drop, W: Write>(
+    alloc: Global,
+    disk: D,
+    name: &str,
+    writer: &mut W,
+) -> Result<(), Stop> {
+    let mut recovery = begin_reading(alloc, disk)?;
+    let text = config_text(alloc, &recovery)?;
+    check_name(alloc, &text, name)?;
+    let mut host = host_on(alloc, config_in(alloc, &text)?, MemoryDevice::new(alloc))?;
+    match recover(&mut host, &mut recovery, &mut Silent) {
+        Ok(_) => {}
+        Err(fault) => return Err(stop_of_recovery(fault)),
+    }
+    drop(recovery);
+    let mut lines = Lines {
+        alloc,
+        name: name.as_bytes(),
+        writer,
+        stop: None,
+    };
+    let saved = host.save(0, &mut lines);
+    finish(saved, lines)
+}
+
+/// Whether the configuration in the text has a repository of that name. The error is `NoRepository`, or out of memory.
+fn check_name(alloc: Global, text: &[u8], name: &str) -> Result<(), Stop> {
+    let repositories = config_in(alloc, text)?.into_repositories();
+    if repositories.as_slice().iter().any(|it| it.name.as_str() == name) {
+        return Ok(());
+    }
+    Err(Stop::NoRepository)
+}
+
+/// Ends the lines, once all parts were saved, or were not.
+fn finish<W: Write>(saved: Result<(), SaveFault>, lines: Lines<'_, W>) -> Result<(), Stop> {
+    match saved {
+        Ok(()) => {}
+        Err(SaveFault::Reading(fault)) => return Err(stop_of_fault(fault)),
+        Err(_) => return Err(lines.stop.unwrap_or(Stop::Common(Other::OutputFault))),
+    }
+    match lines.writer.flush() {
+        Ok(()) => Ok(()),
+        Err(_) => Err(Stop::Common(Other::OutputFault)),
+    }
+}
+
+/// Why the items could not be read.
+fn stop_of_fault(fault: Fault) -> Stop {
+    match fault {
+        Fault::NoMemory => Stop::Common(Other::NoMemory),
+        _ => Stop::Common(Other::DeviceFault),
+    }
+}
+
+/// What writes the parts of one repository as deposit lines.
+#[derive(Drop)]
+struct Lines<'a, W> {
+    alloc: Global,
+    /// The name of the repository.
+    name: &'a [u8],
+    writer: &'a mut W,
+    /// Why no further part was written.
+    stop: Option<Stop>,
+}
+
+impl<W: Write> Sink for Lines<'_, W> {
+    ghost use Rattle.std.specs.Prelude.{⊤};
+
+    ghost has = { λ _ _. ⊤ };
+
+    fn add(&mut self, part: &Part<'_>) -> Result<(), SinkFault> {
+        if part.name != self.name {
+            return Ok(());
+        }
+        match self.write_part(part) {
+            Ok(()) => Ok(()),
+            Err(stop) => {
+                self.stop = Some(stop);
+                Err(SinkFault)
+            }
+        }
+    }
+}
+
+impl<W: Write> Lines<'_, W> {
+    /// Writes the lines of a part.
+    fn write_part(&mut self, part: &Part<'_>) -> Result<(), Stop> {
+        match part.kind {
+            PartKind::Begin => Ok(()),
+            PartKind::Set => self.write_set(part.bytes),
+            PartKind::Item => self.write_item(part.bytes),
+        }
+    }
+
+    /// Writes the line of a set, by its setSpec, a space, and its name.
+    fn write_set(&mut self, bytes: &[u8]) -> Result<(), Stop> {
+        let Ok(text) = str::from_utf8(bytes) else {
+            return Err(Stop::NotOurs);
+        };
+        let Some((spec, name)) = text.split_once(' ') else {
+            return Err(Stop::NotOurs);
+        };
+        let Ok(spec) = SetSpec::new(self.alloc, spec) else {
+            return Err(Stop::NotOurs);
+        };
+        let line = set_line(self.alloc, &spec, name)?;
+        self.write_line(&line)
+    }
+
+    /// Writes the lines of an item, by its spelling: its deposit, and of a deleted one its deletion.
+    fn write_item(&mut self, bytes: &[u8]) -> Result<(), Stop> {
+        let item = match Item::decode(self.alloc, bytes) {
+            Ok(item) => item,
+            Err(DecodeFault::NoMemory) => return Err(Stop::Common(Other::NoMemory)),
+            Err(_) => return Err(Stop::NotOurs),
+        };
+        let line = deposit_line(self.alloc, &item)?;
+        self.write_line(&line)?;
+        if item.is_live() {
+            return Ok(());
+        }
+        let line = deletion_line(self.alloc, item.identifier())?;
+        self.write_line(&line)
+    }
+
+    /// Writes a line and its end.
+    fn write_line(&mut self, line: &str) -> Result<(), Stop> {
+        match writeln!(self.writer, "{line}") {
+            Ok(()) => Ok(()),
+            Err(_) => Err(Stop::Common(Other::OutputFault)),
+        }
+    }
+}
