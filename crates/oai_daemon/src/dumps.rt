@@ -5,8 +5,8 @@ use crate::renewals::Silent;
 use crate::stop::Stop;
 use oai_cli::{Stop as Other, config_in, host_on};
 use oai_device::MemoryDevice;
-use oai_durable::recover;
 use oai_dump::{deletion_line, deposit_line, set_line};
+use oai_durable::recover;
 use oai_http::{Part, PartKind, Replayed, SaveFault, Sink, SinkFault};
 use oai_item::{DecodeFault, Fault, Item};
 use oai_names::SetSpec;
@@ -46,7 +46,11 @@ pub fn dump_repository<D: Disk + Drop, W: Write>(
 /// Whether the configuration in the text has a repository of that name. The error is `NoRepository`, or out of memory.
 fn check_name(alloc: Global, text: &[u8], name: &str) -> Result<(), Stop> {
     let repositories = config_in(alloc, text)?.into_repositories();
-    if repositories.as_slice().iter().any(|it| it.name.as_str() == name) {
+    if repositories
+        .as_slice()
+        .iter()
+        .any(|it| it.name.as_str() == name)
+    {
         return Ok(());
     }
     Err(Stop::NoRepository)

@@ -21,13 +21,13 @@ mod stop;
 mod verify;
 mod watched;
 
+pub use checkpoints::checkpoint_folder;
 pub use dumps::dump_repository;
 pub use host_places::HostPlace;
 pub use laws::archive_law;
 pub use notes::Note;
 pub use places::Place;
 pub use read_files::ReadFile;
-pub use checkpoints::checkpoint_folder;
 pub use service::serve;
 pub use stop::{Aspect, Difference, Stop};
 pub use verify::verify_journal;

@@ -70,6 +70,7 @@ pub(crate) fn keep_checkpoint<P: Place>(
 }
 
 /// A progress of which nothing is said.
+#[derive(Drop)]
 pub(crate) struct Silent;
 
 impl Progress for Silent {

@@ -43,7 +43,7 @@ pub fn serve<P: Place, C: Clock>(
     let port = place.listen()?;
     let recovery = open_journal(alloc, place, clock, text)?;
     let mut started = recovered_host(alloc, place, clock, text, recovery)?;
-    if is_due(alloc, clock, text, &started)? {
+    if is_due::<P, C>(alloc, clock, text, &started)? {
         let (recovery, mut recovered) = started;
         write_checkpoint(alloc, place, clock, text, &mut recovered.handler, 0)?;
         drop(recovered);

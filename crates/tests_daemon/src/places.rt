@@ -36,6 +36,8 @@ pub(crate) struct MemoryPlace {
     /// The name and the body of the first record of the journal.
     pub(crate) name: &'static [u8],
     pub(crate) body: &'static [u8],
+    /// Another body in its place, if there is one.
+    pub(crate) other: Option<String>,
     /// The moment of a tick of the repository behind the first record, if there is one.
     pub(crate) tick: Option<i64>,
     /// How many times its port can be waited for.
@@ -52,6 +54,7 @@ impl MemoryPlace {
             found: true,
             name: b"oaihostd",
             body: first_body(),
+            other: None,
             tick: None,
             rounds: 0,
         })
@@ -79,7 +82,10 @@ impl MemoryPlace {
             moment: 1_704_067_200,
             kind: Kind::Journal,
             name: self.name,
-            body: self.body,
+            body: match &self.other {
+                Some(other) => other.as_bytes(),
+                None => self.body,
+            },
         };
         if !first.is_fit() {
             return Err(Stop::NotOurs);

@@ -2,7 +2,8 @@
 use crate::clocks::Standing;
 use crate::places::{MemoryPlace, configuration};
 use oai_cli::Stop as Other;
-use oai_daemon::{Stop, serve};
+use oai_daemon::{Aspect, Difference, Stop, serve};
+use std::alloc::Global;
 use std::panic::Expect;
 use std::process::Abort;
 
@@ -52,13 +53,10 @@ fn faults_at_each_step(rt: HostRuntime) {
     }
 }
 
-/// Another configuration, another program, another version.
+/// Another program, another version.
 #[test]
 fn other_journals(rt: HostRuntime) {
     let begun = "lock listen find open ";
-    let mut place = MemoryPlace::new(rt.alloc(), 100).expect(&rt, "place");
-    place.body = b"1\n{\"base\":\"https://host.example\"}";
-    assert_start(&rt, &mut place, Stop::OtherConfig(13), begun);
     let mut place = MemoryPlace::new(rt.alloc(), 100).expect(&rt, "place");
     place.name = b"other";
     assert_start(&rt, &mut place, Stop::NotOurs, begun);
@@ -68,6 +66,88 @@ fn other_journals(rt: HostRuntime) {
     let mut place = MemoryPlace::new(rt.alloc(), 100).expect(&rt, "place");
     place.body = b"{}";
     assert_start(&rt, &mut place, Stop::NotOurs, begun);
+}
+
+/// A journal of a configuration whose repository has that name, that number of pages in the cache, granularity and title.
+fn body_of(
+    alloc: Global,
+    name: &str,
+    cache: u32,
+    granularity: &str,
+    title: &str,
+) -> Option<String> {
+    let earliest = if granularity == "days" {
+        "2024-01-01"
+    } else {
+        "2024-01-01T00:00:00Z"
+    };
+    let first = format!(in alloc;
+        "1\n{{\"cache\": {cache}, \"base\":\"http://host.example\",\"repositories\":[{{\"name\":\"{name}\","
+    ).ok()?;
+    let second = format!(in alloc;
+        "{first}\"repositoryName\":\"{title}\",\"adminEmail\":[\"a@host.example\"],"
+    ).ok()?;
+    let third = format!(in alloc;
+        "{second}\"earliestDatestamp\":\"{earliest}\",\"deletedRecord\":\"persistent\","
+    ).ok()?;
+    format!(in alloc;
+        "{third}\"granularity\":\"{granularity}\",\"chunk\":2,\"lifetime\":60,\"lists\":1,\"items\":100,\"formats\":[]}}]}}"
+    ).ok()
+}
+
+/// A start on a journal of that configuration ends so, behind these calls.
+fn assert_other(rt: &impl Abort, alloc: Global, body: Option<String>, wanted: Stop, calls: &str) {
+    let body = body.expect(rt, "memory");
+    let mut place = MemoryPlace::new(alloc, 100).expect(rt, "place");
+    place.other = Some(body);
+    assert_start(rt, &mut place, wanted, calls);
+}
+
+/// That the server cannot go on with another aspect of the repository.
+fn differs(alloc: Global, repository: &str, aspect: Aspect) -> Option<Stop> {
+    let repository = String::from_str(alloc, repository).ok()?;
+    Some(Stop::OtherConfig(Difference { repository, aspect }))
+}
+
+/// Another order of members and another cache are the same configuration; with another name for people the server goes on by a checkpoint; and
+/// with a repository that is missing, or has another granularity, it does not.
+#[test]
+fn other_configurations(rt: HostRuntime) {
+    let alloc = rt.alloc();
+    let waits = Stop::Common(Other::SocketFault);
+    assert_other(
+        &rt,
+        alloc,
+        body_of(alloc, "a", 7, "seconds", "A"),
+        waits,
+        FOUND,
+    );
+    let waits = Stop::Common(Other::SocketFault);
+    let by_a_checkpoint =
+        "lock listen find open open pages recovered begin begun pages keep other open pages recovered announce ";
+    assert_other(
+        &rt,
+        alloc,
+        body_of(alloc, "a", 1, "seconds", "B"),
+        waits,
+        by_a_checkpoint,
+    );
+    let stop = differs(alloc, "b", Aspect::Name).expect(&rt, "memory");
+    assert_other(
+        &rt,
+        alloc,
+        body_of(alloc, "b", 1, "seconds", "A"),
+        stop,
+        "lock listen find open open ",
+    );
+    let stop = differs(alloc, "a", Aspect::Granularity).expect(&rt, "memory");
+    assert_other(
+        &rt,
+        alloc,
+        body_of(alloc, "a", 1, "days", "A"),
+        stop,
+        "lock listen find open open ",
+    );
 }
 
 /// A configuration that is none stops it before anything is opened.

@@ -1,6 +1,6 @@
 //! What a server says where it stops, and with which status.
 use oai_cli::Stop as Other;
-use oai_daemon::{Note, Stop};
+use oai_daemon::{Aspect, Difference, Note, Stop};
 use oai_item::Fault;
 use std::alloc::Global;
 use std::fmt::Display;
@@ -8,7 +8,7 @@ use std::panic::Expect;
 use std::process::Abort;
 
 /// The value is shown so.
-fn assert_shown<T: Display + Drop>(rt: &impl Abort, alloc: Global, value: T, wanted: &str) {
+fn assert_shown<T: Display + Drop>(rt: &impl Abort, alloc: Global, value: &T, wanted: &str) {
     assert_eq!(rt;
         value.to_string(alloc).expect(rt, "memory").as_str(),
         wanted
@@ -17,7 +17,7 @@ fn assert_shown<T: Display + Drop>(rt: &impl Abort, alloc: Global, value: T, wan
 
 /// The stop has that text and that status.
 fn assert_stop(rt: &impl Abort, alloc: Global, stop: Stop, text: &str, status: u8) {
-    assert_shown(rt, alloc, stop, text);
+    assert_shown(rt, alloc, &stop, text);
     assert_eq!(rt; stop.status(), status);
 }
 
@@ -28,15 +28,46 @@ fn arguments_and_configurations(rt: HostRuntime) {
         &rt,
         alloc,
         Stop::Usage,
-        "usage: oaihostd serve CONFIG PORT FOLDER | verify FOLDER",
+        "usage: oaihostd serve CONFIG PORT FOLDER | verify FOLDER | dump FOLDER NAME | checkpoint CONFIG FOLDER",
         2,
     );
     let unread = Stop::Common(Other::CannotRead);
     assert_stop(&rt, alloc, unread, "config: cannot read", 2);
-    let differs = "config: differs from the journal: at byte 7";
-    assert_stop(&rt, alloc, Stop::OtherConfig(7), differs, 2);
+    let unknown = "dump: no such repository";
+    assert_stop(&rt, alloc, Stop::NoRepository, unknown, 2);
     let refused = Stop::Common(Other::NoMemory);
     assert_stop(&rt, alloc, refused, "out of memory", 1);
+}
+
+/// A configuration that an archive cannot go on with is told by the first aspect that differs.
+#[test]
+fn other_configurations(rt: HostRuntime) {
+    for (aspect, text) in [
+        (
+            Aspect::Name,
+            "config: differs from the journal: repository a: name",
+        ),
+        (
+            Aspect::Granularity,
+            "config: differs from the journal: repository a: granularity",
+        ),
+        (
+            Aspect::Earliest,
+            "config: differs from the journal: repository a: earliestDatestamp",
+        ),
+        (
+            Aspect::Deleted,
+            "config: differs from the journal: repository a: deletedRecord",
+        ),
+        (
+            Aspect::Contents,
+            "config: differs from the journal: repository a: sets and items",
+        ),
+    ] {
+        let repository = String::from_str(rt.alloc(), "a").expect(&rt, "memory");
+        let stop = Stop::OtherConfig(Difference { repository, aspect });
+        assert_stop(&rt, rt.alloc(), stop, text, 2);
+    }
 }
 
 #[test]
@@ -78,11 +109,13 @@ fn journals(rt: HostRuntime) {
 fn notes(rt: HostRuntime) {
     let alloc = rt.alloc();
     let on = "recovering: 100 of 975 bytes, 7 records";
-    assert_shown(&rt, alloc, Note::Recovering(100, 975, 7), on);
+    assert_shown(&rt, alloc, &Note::Recovering(100, 975, 7), on);
     let done = "recovered: 7 records, 975 bytes, 2 s";
-    assert_shown(&rt, alloc, Note::Recovered(7, 975, 2), done);
+    assert_shown(&rt, alloc, &Note::Recovered(7, 975, 2), done);
     let far = "clock: at 2024-01-02T00:00:01Z, and the last record is of 2024-01-01T00:00:00Z";
-    assert_shown(&rt, alloc, Note::Clock(1_704_153_601, 1_704_067_200), far);
+    assert_shown(&rt, alloc, &Note::Clock(1_704_153_601, 1_704_067_200), far);
+    let other = "config: another one: the open lists have ended";
+    assert_shown(&rt, alloc, &Note::OtherConfig, other);
     let failed = "answered 500: 3 times: the device failed";
-    assert_shown(&rt, alloc, Note::Failed(3, Fault::Device), failed);
+    assert_shown(&rt, alloc, &Note::Failed(3, Fault::Device), failed);
 }
