@@ -96,7 +96,7 @@ class Source:
         self.write()
         environment = os.environ | {
             "ITEMS": f"{self.folder}/items.jsonl", "SETS": f"{self.folder}/sets.json",
-            "LIMIT": str(LIMIT), "TEMPLATES": "scripts/mirror-source",
+            "LIMIT": str(LIMIT), "TEMPLATES": os.path.abspath("scripts/mirror-source"),
         }  # fmt: skip
         command = ["starman", "--host", "127.0.0.1", "--port", str(self.port), "--workers", "1", "scripts/mirror-source/app.psgi"]
         with open(f"{self.folder}/log", "ab") as log:
@@ -134,8 +134,8 @@ class Target:
         """How often each item was deposited, and deleted, since this was asked last."""
         deposits, deletions = collections.Counter(), collections.Counter()
         for _, kind, _, body in self.journal.read_on() or []:
-            for line in body.splitlines() if kind == "deposit" else []:
-                command = json.loads(line)
+            for line in body.split("\n") if kind == "deposit" else []:
+                command = json.loads(line) if line else {}
                 deposits.update([command["deposit"]] if "deposit" in command else [])
                 deletions.update([command["delete"]] if "delete" in command else [])
         return deposits, deletions
@@ -285,7 +285,8 @@ class Trial:
 
     def by_identifier(self, base, prefix):
         with tempfile.TemporaryDirectory() as folder:
-            return {it["identifier"]: as_compared(it) for it in harvested(base, "ListRecords", folder, metadataPrefix=prefix)}
+            records = harvested(base, "ListRecords", folder, metadataPrefix=prefix)
+        return {it.get("identifier"): as_compared(it) for it in records if "error" not in it}
 
     def compare_written(self, what, prefix, ours):
         """Compares the target with the items as they were written, without a harvest of the source."""
@@ -347,6 +348,7 @@ def whole(trial, what, *cuts, fails=False):
     trial.compare(what)
     trial.performed(what, *items_of(trial.source))
     trial.refusals(what, len(NO_URIS))
+    trial.equal(f"{what}: the cuts", [], trial.to_target.cuts)
     trial.equal(f"{what}: the progress", True, f"of {len(trial.source.items)} records" in seen)
     return printed
 
@@ -401,13 +403,17 @@ def check_source(trial):
 
 
 def check_target(trial):
-    """The target is killed in the middle of a deposit. The first messages are handed on."""
+    """The target is killed in the middle of a deposit. The first message is handed on."""
     post = b"POST "
     for what, cut in {"within a message": cut_request, "before its answer": drop_answer}.items():
         for restart in (True, False):
-            cuts = [(post, lambda request, relay: relay.answer(request)) for _ in range(2)]
-            cuts.append((post, lambda request, relay, cut=cut, restart=restart: cut(trial.target, restart)(request, relay)))
-            whole(trial, f"the target is killed {what}" + (", and started" if restart else ""), *cuts, fails=not restart)
+            whole(
+                trial,
+                f"the target is killed {what}" + (", and started" if restart else ""),
+                (post, lambda request, relay: relay.answer(request)),
+                (post, lambda request, relay, cut=cut, restart=restart: cut(trial.target, restart)(request, relay)),
+                fails=not restart,
+            )
 
 
 def main():

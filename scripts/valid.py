@@ -41,6 +41,32 @@ ODD_QUERIES = [
     "verb=ListMetadataFormats&identifier=:",
 ]
 
+# Texts of the documents of the example, each with one in its place by which the document is invalid.
+EXAMPLE = "examples/first-steps.expected"
+SPOILED = [
+    ("<responseDate>2024-01-01T00:00:00Z</responseDate>", ""),
+    ("<responseDate>2024-01-01T00:00:00Z", "<responseDate>2024-01-01"),
+    (' verb="Identify"', ' verb="identify"'),
+    ("<baseURL>http://host.example/oai/a</baseURL>", ""),
+    ("<protocolVersion>2.0", "<protocolVersion>1.1"),
+    ("<adminEmail>a@host.example", "<adminEmail>a"),
+    ("<deletedRecord>persistent", "<deletedRecord>yes"),
+    ("<granularity>YYYY-MM-DDThh:mm:ssZ", "<granularity>seconds"),
+    ("<metadataPrefix>jnl", "<metadataPrefix>j n"),
+    ("<setSpec>letters", "<setSpec>letters:"),
+    ("<identifier>oai:a:1</identifier>", ""),
+    ("<identifier>oai:a:1", "<identifier>oai:a:%"),
+    ("<datestamp>2024-01-01T00:01:00Z", "<datestamp>2024-02-30T00:01:00Z"),
+    ('status="deleted"', 'status="gone"'),
+    ('<dc:title>A &amp; B &lt; "C" é</dc:title>', "<dc:headline/>"),
+    ("<volume>7</volume>", "<issue>7</issue>"),
+    ('code="idDoesNotExist"', 'code="notFound"'),
+    ("</error></OAI-PMH>", "</error><ListSets/></OAI-PMH>"),
+    ('expirationDate="2024-01-01T00:05:00Z"', 'expirationDate="2024-01-01"'),
+    ('completeListSize="3"', 'completeListSize="0"'),
+    ('cursor="0"', 'cursor="-1"'),
+]
+
 
 def refused(paths):
     """The documents among these that the schema refuses, each with what xmllint says of it."""
@@ -138,6 +164,23 @@ def check_interop(count):
     return harvest.differences
 
 
+def check_schema():
+    """That the schema refuses the documents of the example where one text is spoiled, and none as they are: how often it does not."""
+    with open(EXAMPLE, "rb") as it:
+        documents = [document.decode() for document in DOCUMENT.findall(it.read())]
+    wrong = 0
+    with tempfile.TemporaryDirectory(prefix="valid-") as folder:
+        for number, (old, new) in enumerate([("", "")] * len(documents) + SPOILED):
+            document = documents[number] if not old else next(it for it in documents if old in it)
+            with open(f"{folder}/{number}.xml", "w", encoding="utf-8", newline="") as it:
+                it.write(document.replace(old, new, 1))
+            if bool(refused([it.name])) != bool(old):
+                wrong += 1
+                print(f"THE SCHEMA {'takes' if old else 'refuses'}: {new or document}", flush=True)
+    print(f"schema: {len(documents)} documents and {len(SPOILED)} that are spoiled, {wrong} taken for the other", flush=True)
+    return wrong
+
+
 def check_asked(count, what, settings, text):
     """The documents that `ask` answers to these lines."""
     with tempfile.TemporaryDirectory(prefix="valid-") as folder:
@@ -171,13 +214,14 @@ def check_odd(count):
 def main():
     scripts, lines, seed = (int(it) for it in sys.argv[1:])
     count = Count()
+    differences = check_schema()
     check_odd(count)
     check_fuzz(count, scripts, lines, seed)
-    differences = check_interop(count)
+    differences += check_interop(count)
     print("documents: " + ", ".join(f"{name}: {number}" for name, number in count.documents.items()))
     print("refused by the schema: " + ", ".join(f"{name}: {count.classes[name]}" for name in CLASSES))
     if differences:
-        print(f"{differences} differences in the harvests of interop")
+        print(f"{differences} differences in the harvests of interop, or documents that the schema takes for the other")
     print(f"{sum(count.documents.values())} documents, {count.outside} refused outside the four classes")
     return 1 if count.outside or differences else 0
 
