@@ -7,11 +7,13 @@ import pty
 import random
 import re
 import signal
+import socket
 import subprocess
 import sys
 import tempfile
 import threading
 import time
+from concurrent.futures import ThreadPoolExecutor
 
 from generated import DUBLIN_CORE, JOURNAL, any_fields, configuration, plain_text
 from interop import moved, shown, stamp_now
@@ -46,8 +48,6 @@ NAMES = {
 
 # Identifiers behind `oai:source.example:` that are no URIs.
 NO_URIS = ["a b", "é1", "x^2"]
-
-NOTHING = collections.Counter()
 
 
 class Source:
@@ -98,7 +98,7 @@ class Source:
             "ITEMS": f"{self.folder}/items.jsonl", "SETS": f"{self.folder}/sets.json",
             "LIMIT": str(LIMIT), "TEMPLATES": os.path.abspath("scripts/mirror-source"),
         }  # fmt: skip
-        command = ["starman", "--host", "127.0.0.1", "--port", str(self.port), "--workers", "1", "scripts/mirror-source/app.psgi"]
+        command = ["starman", "--host", "127.0.0.1", "--port", str(self.port), "--workers", "2", "scripts/mirror-source/app.psgi"]
         with open(f"{self.folder}/log", "ab") as log:
             self.process = subprocess.Popen(command, env=environment, stdout=log, stderr=log, start_new_session=True)
         wait_for(self.port)
@@ -142,16 +142,12 @@ class Target:
 
 
 def free_port():
-    import socket
-
     with socket.create_server(("127.0.0.1", 0)) as it:
         return it.getsockname()[1]
 
 
 def wait_for(port):
     """Waits until a server listens there."""
-    import socket
-
     for _ in range(100):
         try:
             socket.create_connection(("127.0.0.1", port), timeout=60).close()
@@ -271,8 +267,11 @@ class Trial:
     def compare(self, what):
         """Harvests both and compares: each record in each format, and the sets."""
         bases = [f"http://127.0.0.1:{self.source.port}/oai", f"http://127.0.0.1:{self.target.port}/oai/archive"]
+        asked = [(base, prefix) for prefix in PREFIXES for base in bases]
+        with ThreadPoolExecutor() as pool:
+            found = dict(zip(asked, pool.map(self.by_identifier, *zip(*asked))))
         for prefix in PREFIXES:
-            theirs, ours = [self.by_identifier(base, prefix) for base in bases]
+            theirs, ours = [found[base, prefix] for base in bases]
             for it in NO_URIS:
                 theirs.pop(uri(it), None)
             self.equal(f"{what}: the identifiers in {prefix}", sorted(theirs), sorted(ours))
@@ -304,8 +303,8 @@ class Trial:
         deposits, deletions = self.target.performed()
         for it in NO_URIS:
             deposits.pop(uri(it), None)
-        self.equal(f"{what}: what was deposited", collections.Counter(uri(it) for it in deposited) - NOTHING, deposits)
-        self.equal(f"{what}: what was deleted", collections.Counter(uri(it) for it in deleted) - NOTHING, deletions)
+        self.equal(f"{what}: what was deposited", collections.Counter(uri(it) for it in deposited), deposits)
+        self.equal(f"{what}: what was deleted", collections.Counter(uri(it) for it in deleted), deletions)
 
     def refusals(self, what, count):
         """The identifiers that are no URIs stand in the file of what was refused, with the reason."""
@@ -416,19 +415,22 @@ def check_target(trial):
             )
 
 
+PARTS = {"moves": check_moves, "source": check_source, "target": check_target}
+
+
 def main():
-    if ITEMS < 1000:
-        sys.exit("mirror-trial: ITEMS is to be at least 1000")
+    parts = sys.argv[1:] or list(PARTS)
+    if ITEMS < 1000 or not set(parts) <= set(PARTS):
+        sys.exit(f"mirror-trial: ITEMS is to be at least 1000, and each part one of {', '.join(PARTS)}")
     with tempfile.TemporaryDirectory(prefix="mirror-trial-") as folder:
         trial = Trial(folder)
         try:
-            check_moves(trial)
-            check_source(trial)
-            check_target(trial)
+            for it in parts:
+                PARTS[it](trial)
         finally:
             trial.source.kill()
             trial.target.kill()
-    print(f"mirror-trial: {len(trial.source.items)} items: {trial.runs} runs, {trial.differences} differences")
+    print(f"mirror-trial: {' '.join(parts)}: {len(trial.source.items)} items: {trial.runs} runs, {trial.differences} differences")
     return 1 if trial.differences else 0
 
 
