@@ -2,6 +2,7 @@
 use Rattle.std.specs.Prelude.{◌≡◌, ◌≢◌, ◌⊎◌, ℕ, List, [], ◌++◌, length, codes, decimal, Result, Ok, Err}
 use Rattle.oai_config.specs.Configs.{HostConfig}
 use Rattle.oai_config.specs.Reading.{IsRead}
+use Rattle.oai_config.specs.Warnings.{warnings_of}
 use Rattle.oai_config.specs.declared.faults.ReadFault.TheVariants as fault
 use Rattle.oai_cli.specs.declared.stop.Stop.{Stop}
 use Rattle.oai_cli.specs.declared.stop.Stop.TheVariants.{BadConfig, CannotRead, NoMemory, OutputFault}
@@ -11,6 +12,10 @@ abbrev pub IsConfigIn : List ℕ → Result HostConfig Stop → Type 0
 IsConfigIn text (Ok config) = IsRead text (Ok config)
 IsConfigIn text (Err (BadConfig cause)) = IsRead text (Err cause) × (cause ≢ fault.NoMemory)
 IsConfigIn text (Err stop) = stop ≡ NoMemory
+
+-- these are the warnings of the configuration in the text
+abbrev pub AreWarningsIn : List ℕ → List ℕ → Type 0
+AreWarningsIn text warnings = (config : HostConfig) × IsRead text (Ok config) × (warnings ≡ warnings_of config)
 
 -- a text could not be read, or memory was refused
 abbrev pub IsConfigurationUnread : Stop → Type 0

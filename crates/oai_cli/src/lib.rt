@@ -14,7 +14,9 @@ mod trace;
 
 pub use ask::answers::write_answer;
 pub use ask::ask_lines;
-pub use input::configurations::{check_config, config_in, host_over, read_config, read_file};
+pub use input::configurations::{
+    check_config, config_in, host_over, read_config, read_file, warnings_in,
+};
 pub use input::parts::read_number;
 pub use laws::{limit_law, line_law};
 pub use pages::{empty_file, host_on};

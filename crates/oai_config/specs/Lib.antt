@@ -5,3 +5,4 @@ pub mod Written
 pub mod Causes
 pub mod Reading
 pub mod ReadingWork
+pub mod Warnings

@@ -93,6 +93,13 @@ impl Config {
         self.cache
     }
 
+    /// The repositories, in the order of the text.
+    pub fn repositories(&self) -> &[NamedConfig]
+        ensures { result.now ≡ self.now.repositories }
+    {
+        self.repositories.as_slice()
+    }
+
     /// The repositories, in the order of the text. It takes no memory.
     pub fn into_repositories(self) -> Sequence<NamedConfig>
         ensures repositories { result ≡ self.repositories }

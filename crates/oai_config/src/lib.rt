@@ -8,7 +8,9 @@ mod formats;
 mod host_settings;
 mod members;
 mod repositories;
+mod warnings;
 
 pub use config::{Config, NamedConfig};
 pub use faults::{ReadFault, fault_law};
 pub use host_settings::shape_law;
+pub use warnings::write_warnings;

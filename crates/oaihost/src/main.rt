@@ -7,7 +7,7 @@ ghost use Rattle.oai_cli.specs.Stops as spec;
 
 use oai_cli::{
     MAX_CONNECTIONS, Stop, ask_lines, check_config, empty_file, host_on, read_config, read_file,
-    read_number, serve_port, trace_lines,
+    read_number, serve_port, trace_lines, warnings_in,
 };
 use oai_device::{FileDevice, MemoryDevice};
 use oai_front::Front;
@@ -104,10 +104,15 @@ fn command_named(word: &str, path: String) -> Result<Command, Stop> {
     }
 }
 
-/// Writes how many repositories the configuration has.
-fn run_check(rt: &(impl Files + Print + AllocGlobal), path: &str) -> Result<(), Stop> {
+/// Writes how many repositories the configuration has, and says on standard error what of it makes documents invalid
+/// or is of no use to a harvester. That this cannot be said ends nothing.
+fn run_check(rt: &(impl Files + Print + Eprint + AllocGlobal), path: &str) -> Result<(), Stop> {
     let text = read_file(rt, path)?;
-    check_config(rt.alloc(), &text, &mut io::writer(rt))
+    check_config(rt.alloc(), &text, &mut io::writer(rt))?;
+    if let Ok(warnings) = warnings_in(rt.alloc(), &text) {
+        let _ = eprint!(rt; "{warnings}");
+    }
+    Ok(())
 }
 
 /// Performs the exchanges of standard input on the repositories of the configuration.

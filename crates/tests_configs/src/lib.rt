@@ -13,5 +13,7 @@ mod faults;
 mod samples;
 #[cfg(test)]
 mod settings;
+#[cfg(test)]
+mod warnings;
 
 pub use answers::answer_to;

@@ -1,6 +1,7 @@
 //! The configuration that the program is called with, and the host that it describes.
-ghost use Rattle.std.specs.Prelude.{◌≡◌, map, IfErr, IfOk, IfSome, OnOk, ◌≤◌, ◌+◌, length};
+ghost use Rattle.std.specs.Prelude.{◌≡◌, map, Err, IfErr, IfOk, IfSome, OnOk, ◌≤◌, ◌+◌, length};
 ghost use Rattle.std.specs.Io.KnownBytes.{Appends};
+ghost use Rattle.std.specs.String.{string_bytes};
 ghost use Rattle.oai_host.specs.Hosts.{begun};
 ghost use Rattle.oai_config.specs.Reading.{IsRead};
 ghost use Rattle.oai_cli.specs.Configurations as spec;
@@ -9,6 +10,7 @@ ghost use Rattle.oai_cli.specs.declared.stop.Stop.TheVariants.{NoMemory, OutputF
 use crate::input::limits::{MAX_READS, READ_BYTES};
 use crate::stop::Stop;
 use oai_catalogue::Versions;
+use oai_config::write_warnings;
 use oai_host::{Config, Host, ReadFault};
 use std::alloc::Global;
 use std::fs;
@@ -42,6 +44,24 @@ pub fn config_in(alloc: Global, text: &[u8]) -> Result<Config, Stop>
         Ok(config) => Ok(config),
         Err(ReadFault::NoMemory) => Err(Stop::NoMemory),
         Err(fault) => Err(Stop::BadConfig(fault)),
+    }
+}
+
+/// The warnings of the configuration in the text, each a line: what makes documents invalid, or is of no use to a
+/// harvester. The errors are `BadConfig`, with the fault that `Config::read` returns, and `NoMemory`.
+pub fn warnings_in(alloc: Global, text: &[u8]) -> Result<String, Stop>
+    ensures warnings { IfOk result (λ warnings. spec.AreWarningsIn text.now
+        (string_bytes warnings)) }
+    ensures err { IfErr result (λ stop. spec.IsConfigIn text.now (Err stop)) }
+{
+    let config = match config_in(alloc, text) {
+        Ok(config) => config,
+        Err(stop) => return Err(stop),
+    };
+    let mut warnings = String::new(alloc);
+    match write_warnings(&config, &mut warnings) {
+        Ok(()) => Ok(warnings),
+        Err(_) => Err(Stop::NoMemory),
     }
 }
 
