@@ -249,8 +249,8 @@ impl Repo {
     /// Restores a part of a saved state behind those that were restored before. `Damaged` where it does not fit: the
     /// repository begins though a list is held, or with a clock that is not of the years 0001 to 9998; a set stands
     /// there or has no parent there, or there are 10,000; the repository would not keep the item, or has as many
-    /// items as it may have. Otherwise any fault may come, and `TooManyPages` only of an item, and where the store may
-    /// lack room for one call. After each fault everything is as it was.
+    /// items as it may have. Otherwise any fault may come, `Damaged` only where the store gives other items than were put
+    /// into it, and `TooManyPages` only where it may lack room for one call. After each fault everything is as it was.
     pub fn restore<V: Versions>(&mut self, store: &mut V, part: &SavedPart<'_>) -> Result<(), Fault>
         requires { Owns (V.honest store.old) self.old (V.lists store.old) }
         ensures restored { OnOk result (IsTrue (V.honest store.old)
