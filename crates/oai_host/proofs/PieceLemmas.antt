@@ -1,5 +1,5 @@
 -- Items that are read piece by piece, each behind the last item of the one before.
-use Rattle.std.proofs.Common.{◌≡◌, ◌∙◌, inl, inr, ℕ, ℤ, pos, ◌+◌, ◌-◌, ◌<◌, ◌≤◌, suc, zero, arith, Bool, true, false, cond, List, [], ◌∷◌, ◌++◌, length, take, drop, get_or, map, Option, Some, refl, sym, ap, subst, length-take, length-drop, take-append-drop}
+use Rattle.std.proofs.Common.{◌≡◌, ◌∙◌, inl, inr, ℕ, ℤ, pos, ◌+◌, ◌-◌, ◌<◌, ◌≤◌, arith, true, cond, List, [], ◌∷◌, ◌++◌, length, take, drop, get_or, map, Option, Some, refl, sym, ap, subst, length-take, length-drop, take-append-drop}
 use Rattle.std.specs.List.{HoldsAt}
 use Rattle.std.specs.Ordering.{int_eq}
 use Rattle.std.specs.Prelude.{nat_lt}
@@ -105,10 +105,10 @@ piece_behind all piece start some most last order is many ends below = elim (cas
       let inside : some - 1 < length piece = omega (arith, many, exact) in
       let here : (d : ItemState) → get_or all at d ≡ x =
       λ d.
-          sym (get_or-drop start all (some - 1) d) ∙ sym (get_or-take some (drop start all) (some - 1) d low)
-          ∙ ap (λ (ys : List ItemState). get_or ys (some - 1) d) (sym is)
-          ∙ get_or_default piece (some - 1) d any_item inside
-          ∙ ap (λ (k : ℕ). get_or piece k any_item) (sym index)
+      sym (get_or-drop start all (some - 1) d) ∙ sym (get_or-take some (drop start all) (some - 1) d low)
+      ∙ ap (λ (ys : List ItemState). get_or ys (some - 1) d) (sym is)
+      ∙ get_or_default piece (some - 1) d any_item inside
+      ∙ ap (λ (k : ℕ). get_or piece k any_item) (sym index)
       in
       let upto : at + 1 ≡ start + some = omega (arith, many) in
       ap (λ (o : Option ItemState). items_behind o all) (ends any_item (omega (arith, exact, many)))

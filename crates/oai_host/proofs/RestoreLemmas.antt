@@ -1,5 +1,5 @@
 -- A part that was read is restored at the repository of its name, and the others stay as they were.
-use Rattle.std.proofs.Common.{◌≡◌, ◌∙◌, ◌<◌, ℕ, suc, zero, arith, Bool, true, false, cond, List, [], ◌∷◌, get_or, length, slice_set, Option, None, Some, Result, Ok, Err, OnErr, OnOk, IsTrue, refl, sym, ap, ap₂, subst, map}
+use Rattle.std.proofs.Common.{◌≡◌, ◌∙◌, ◌<◌, ℕ, suc, zero, arith, Bool, true, false, List, [], ◌∷◌, get_or, length, slice_set, Some, Result, Ok, Err, OnErr, OnOk, IsTrue, refl, sym, ap, ap₂, subst, map}
 use Rattle.std.specs.List.{list_any, slice_get}
 use Rattle.std.specs.Str.{bytes_eq}
 use Rattle.std.proofs.lemmas.Bool.{cond-false, cond-true, or_parts}
@@ -90,7 +90,7 @@ restored_set was part repos i one new before after there is old kept state =
     let made : repository_of after (record { name = one.name; repo = new }) ≡ restored_at part (repository_of before one) =
     ap₂ (λ (c : Config) (s : RepoState). record { name = one.name; config = c; state = s }) kept.config state
     ∙ sym (cond-true (bytes_eq one.name part.name) (record { name = one.name; config = one.repo.config; state = with_read (state_of one.repo before) (part_in part) }) (repository_of before one)
-        (subst (λ (n : List ℕ). bytes_eq one.name n ≡ true) is (bytes_same one.name)))
+    (subst (λ (n : List ℕ). bytes_eq one.name n ≡ true) is (bytes_same one.name)))
     in
     repositories_set was repos i one new before after there old kept
     ∙ ap (slice_set (repositories_of repos before) i) made

@@ -1,6 +1,6 @@
 -- A part that is spelled is read back, and the parts of repositories make them again. A part changes the repository of its name alone, so
 -- what all parts make of a repository is what its own make of it.
-use Rattle.std.proofs.Common.{◌≡◌, ◌∙◌, inl, inr, ℕ, ℤ, ◌+◌, ◌<◌, ◌^◌, suc, zero, arith, Bool, true, false, not, ◌&&◌, cond, decimal, List, [], ◌∷◌, ◌++◌, append_assoc, length, take, drop, get_or, map, Option, None, Some, Result, Ok, Err, OnOk, refl, sym, ap, ap₂, subst, eqb, add-one}
+use Rattle.std.proofs.Common.{◌≡◌, ◌∙◌, inl, inr, ℕ, ℤ, ◌+◌, ◌<◌, suc, arith, Bool, true, false, not, decimal, List, [], ◌∷◌, ◌++◌, append_assoc, length, take, drop, get_or, map, Option, None, Some, Result, Ok, Err, OnOk, refl, sym, ap, ap₂, subst, eqb, add-one}
 use Rattle.std.specs.List.{AllByRecursion, after_first, before_first, list_all, list_any, onto_first, position_or_len, slice_split}
 use Rattle.std.specs.Ordering.{int_eq}
 use Rattle.std.specs.Str.{bytes_eq}
@@ -27,7 +27,7 @@ use Rattle.oai_http.specs.declared.parts.PartKind.{PartKind}
 use Rattle.oai_http.proofs.TargetLemmas.{bytes_same, bytes_turned}
 use Rattle.oai_host.specs.Hosts.{Repository}
 use Rattle.oai_host.specs.NamedRepos.{AllHeld, repo_names, repositories_of, repository_of}
-use Rattle.oai_host.specs.Saved.{bytes_of, emptied_at, emptied_in, ended_at, ended_in, has_spelling, if_spelled, is_space, kind_of, moment_of, part_from, part_in, parts_at, parts_in, restored_at, restored_in, spelled_part, with_read}
+use Rattle.oai_host.specs.Saved.{bytes_of, emptied_at, emptied_in, ended_at, ended_in, has_spelling, if_spelled, is_space, kind_of, moment_of, part_in, parts_at, parts_in, restored_at, restored_in, spelled_part, with_read}
 use Rattle.oai_host.specs.Saving.{CanBeRead, Takes, TakesAll, TakesParts}
 use Rattle.oai_host.specs.declared.repositories.NamedRepo.{NamedRepo}
 

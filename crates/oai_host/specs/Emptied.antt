@@ -1,5 +1,5 @@
 -- No definition: calls, and parts that are restored, leave which repositories there are. By this a host is shown to be `Replayed`.
-use Rattle.std.proofs.Common.{◌≡◌, ℕ, Bool, true, false, cond, List, [], ◌∷◌, ap₂, refl}
+use Rattle.std.proofs.Common.{◌≡◌, Bool, true, false, cond, List, [], ◌∷◌, ap₂, refl}
 use Rattle.std.specs.Str.{bytes_eq}
 use Rattle.oai_repo.specs.State.{RepoState}
 use Rattle.oai_http.specs.Parts.{PartState}

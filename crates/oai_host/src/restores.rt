@@ -34,11 +34,7 @@ pub(crate) fn restore<V: Versions>(
 }
 
 /// Restores that the repository begins.
-fn restore_begin<V: Versions>(
-    repo: &mut Repo,
-    store: &mut V,
-    part: &Part<'_>,
-) -> Result<(), Fault>
+fn restore_begin<V: Versions>(repo: &mut Repo, store: &mut V, part: &Part<'_>) -> Result<(), Fault>
     requires kind { part.now.kind ≡ kind.Begin }
     requires owns { Owns (V.honest store.old) repo.old (V.lists store.old) }
     ensures { RestoresIn V.Versions (as_part part.now) result repo.old store.old repo.new store.new }

@@ -18,10 +18,14 @@ mod many_sets;
 #[cfg(test)]
 mod pages;
 #[cfg(test)]
+mod part_lists;
+#[cfg(test)]
 mod refusals;
 #[cfg(test)]
 mod refused_memory;
 #[cfg(test)]
 mod sample_host;
+#[cfg(test)]
+mod saved;
 #[cfg(test)]
 mod transcripts;

@@ -17,4 +17,4 @@ returns-clause-saved g c =
     (subst (λ (n : List ℕ). TakesParts g.S.Sink.has n repo.clock (begins repo.clock (repo.table.next + c.args.raise) ∷ []) c.args.sink.now c.save_beginning.new.sink) name c.in_ok-save_beginning.ensures)
     (subst (λ (n : List ℕ). TakesParts g.S.Sink.has n repo.clock (map has_named_set repo.sets) c.save_beginning.new.sink c.save_sets.new.sink) name c.in_ok-save_sets.ensures)
     (subst (λ (n : List ℕ). OnOk c.save_items.result (IsTrue (V.honest c.args.store.now) → TakesParts g.S.Sink.has n repo.clock (map has_item (stored_items repo.index (V.lists c.args.store.now))) c.save_sets.new.sink c.save_items.new.sink)) name
-        c.save_items.ensures.saved)
+    c.save_items.ensures.saved)

@@ -37,9 +37,9 @@ loop-start-preserved g c =
     let next_is : next ≡ next_start at.start some (length piece) most = c.after_piece-start.ensures.read ∙ ap (λ (n : ℕ). next_start at.start some n most) c.len.ensures in
     let read : IsTrue (V.honest c.args.store.now) → piece ≡ take some (drop at.start items) =
     λ honest.
-        c.in-Ok.ensures.items (at.invariant.honesty ∙ honest)
-        ∙ ap₂ (λ (last : Option ItemState) (lists : Lists). take some (items_behind last (stored_items repo.index lists))) c.as_ref.ensures.value at.invariant.same
-        ∙ ap (take some) (at.invariant.behind honest c.loop-start-test.true)
+    c.in-Ok.ensures.items (at.invariant.honesty ∙ honest)
+    ∙ ap₂ (λ (last : Option ItemState) (lists : Lists). take some (items_behind last (stored_items repo.index lists))) c.as_ref.ensures.value at.invariant.same
+    ∙ ap (take some) (at.invariant.behind honest c.loop-start-test.true)
     in
     record {
       most = at.invariant.most;
@@ -57,9 +57,9 @@ loop-start-preserved g c =
 pub returns-clause-saved : goal.returns-clause-saved
 returns-clause-saved g c =
     λ honest.
-        let repo = c.args.repo.now in
-        let items : List ItemState = stored_items repo.index (g.V.Versions.lists c.args.store.now) in
-        let kept = (c.requires.held honest).indexed.kept in
-        let few : length items ≤ c.items-most.result = subst (λ (n : ℕ). length items ≤ n) (sym c.loop-start.invariant.most) kept.few in
-        subst (λ (xs : List ItemState). TakesParts g.S.Sink.has c.args.name.now repo.clock (map has_item xs) c.args.sink.now c.loop-start.sink)
-        (pieces_end items c.loop-start.start c.items-most.result few c.loop-start-test.false) (c.loop-start.invariant.taken honest)
+    let repo = c.args.repo.now in
+    let items : List ItemState = stored_items repo.index (g.V.Versions.lists c.args.store.now) in
+    let kept = (c.requires.held honest).indexed.kept in
+    let few : length items ≤ c.items-most.result = subst (λ (n : ℕ). length items ≤ n) (sym c.loop-start.invariant.most) kept.few in
+    subst (λ (xs : List ItemState). TakesParts g.S.Sink.has c.args.name.now repo.clock (map has_item xs) c.args.sink.now c.loop-start.sink)
+    (pieces_end items c.loop-start.start c.items-most.result few c.loop-start-test.false) (c.loop-start.invariant.taken honest)

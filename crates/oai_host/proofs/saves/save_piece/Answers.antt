@@ -14,11 +14,11 @@ loop-item-init g c = λ clock. parts_none g.S.Sink.has c.args.name.now clock c.a
 pub loop-item-preserved : goal.loop-item-preserved
 loop-item-preserved g c =
     λ clock.
-        parts_more g.S.Sink.has has_item c.args.name.now clock c.args.items.now c.loop-item.item-index c.item-item.result c.args.sink.now c.loop-item.sink c.save_item.new.sink
-        c.loop-item-test.true c.item-item.is (c.loop-item.invariant clock) (c.in_ok-save_item.ensures clock)
+    parts_more g.S.Sink.has has_item c.args.name.now clock c.args.items.now c.loop-item.item-index c.item-item.result c.args.sink.now c.loop-item.sink c.save_item.new.sink
+    c.loop-item-test.true c.item-item.is (c.loop-item.invariant clock) (c.in_ok-save_item.ensures clock)
 
 pub returns : goal.returns
 returns g c =
     λ clock.
-        subst (λ (xs : List ItemState). TakesParts g.S.Sink.has c.args.name.now clock (map has_item xs) c.args.sink.now c.loop-item.sink)
-        (take_long c.args.items.now c.loop-item.item-index c.loop-item-test.false) (c.loop-item.invariant clock)
+    subst (λ (xs : List ItemState). TakesParts g.S.Sink.has c.args.name.now clock (map has_item xs) c.args.sink.now c.loop-item.sink)
+    (take_long c.args.items.now c.loop-item.item-index c.loop-item-test.false) (c.loop-item.invariant clock)

@@ -1,7 +1,4 @@
 -- The repository of the name restores the part; or there is none.
-use Rattle.std.proofs.Common.{◌≡◌, ◌∙◌, ap}
-use Rattle.oai_host.specs.NamedRepos.{AreNamedRepos}
-use Rattle.oai_host.specs.Props.{named_repo_props}
 use Rattle.oai_host.proofs.host.Host.restore.Goals as goal
 
 pub place_named-requires : goal.place_named-requires

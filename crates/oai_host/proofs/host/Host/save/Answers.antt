@@ -1,5 +1,5 @@
 -- What all repositories handed over makes them again.
-use Rattle.std.proofs.Common.{◌≡◌, ◌∙◌, IsTrue, ap}
+use Rattle.std.proofs.Common.{◌≡◌, IsTrue}
 use Rattle.oai_http.specs.Parts.{restored_all}
 use Rattle.oai_host.specs.NamedRepos.{repositories_of}
 use Rattle.oai_host.specs.Saved.{emptied_in, ended_in, parts_in, restored_in}
@@ -17,7 +17,7 @@ returns-clause-saved g c =
     let honest = IsTrue (V.honest host.store) in
     rw (← c.self.view_is)
     (on_ok (honest → TakesAll has c.args.raise rs c.args.sink.now c.save.new.sink) (honest → Takes has (parts_in (ended_in c.args.raise rs)) c.args.sink.now c.save.new.sink) c.save.result
-        (λ saved sure. (saved sure).taken) c.save.ensures.saved)
+    (λ saved sure. (saved sure).taken) c.save.ensures.saved)
 
 pub returns-clause-whole : goal.returns-clause-whole
 returns-clause-whole g c =
@@ -30,4 +30,4 @@ returns-clause-whole g c =
     let raise = c.args.raise in
     rw (← c.self.view_is)
     (on_ok (honest → TakesAll has raise rs c.args.sink.now c.save.new.sink) (honest → restored_all restored_in (emptied_in rs) (parts_in (ended_in raise rs)) ≡ ended_in raise rs) c.save.result
-        (λ saved sure. whole_back raise host.repositories lists host.repos.named.distinct (host.repos.held sure) (saved sure).readable) c.save.ensures.saved)
+    (λ saved sure. whole_back raise host.repositories lists host.repos.named.distinct (host.repos.held sure) (saved sure).readable) c.save.ensures.saved)

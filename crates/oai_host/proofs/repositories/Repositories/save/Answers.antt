@@ -56,8 +56,8 @@ loop-one-preserved g c =
 pub returns-clause-saved : goal.returns-clause-saved
 returns-clause-saved g c =
     λ honest.
-        let repos : List NamedRepo = c.args.self.now in
-        let i = c.loop-one.one-index in
-        let end : length repos ≤ i = subst (λ (xs : List NamedRepo). length xs ≤ i) c.loop-one.invariant.items c.loop-one-test.false in
-        subst (λ (xs : List NamedRepo). TakesAll g.S.Sink.has c.args.raise (repositories_of xs (g.V.Versions.lists c.args.store.now)) c.args.sink.now c.loop-one.sink) (take_long repos i end)
-        (c.loop-one.invariant.saved honest)
+    let repos : List NamedRepo = c.args.self.now in
+    let i = c.loop-one.one-index in
+    let end : length repos ≤ i = subst (λ (xs : List NamedRepo). length xs ≤ i) c.loop-one.invariant.items c.loop-one-test.false in
+    subst (λ (xs : List NamedRepo). TakesAll g.S.Sink.has c.args.raise (repositories_of xs (g.V.Versions.lists c.args.store.now)) c.args.sink.now c.loop-one.sink) (take_long repos i end)
+    (c.loop-one.invariant.saved honest)
