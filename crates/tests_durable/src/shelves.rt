@@ -37,17 +37,24 @@ impl<'a> Shelf<'a> {
         self.notes.as_slice()
     }
 
-    /// Notes what was restored or performed again.
-    fn note(&mut self, moment: i64, pieces: [&[u8]; 3]) -> Result<(), Fault> {
-        let seconds = moment.to_be_bytes();
-        for piece in [pieces[0], &seconds, pieces[1], b" ", pieces[2], b"\n"] {
-            for byte in piece {
-                if self.notes.push(*byte).is_err() {
-                    return Err(Fault::NoMemory);
-                }
+    /// Adds bytes to the notes.
+    fn put(&mut self, bytes: &[u8]) -> Result<(), Fault> {
+        for byte in bytes {
+            if self.notes.push(*byte).is_err() {
+                return Err(Fault::NoMemory);
             }
         }
         Ok(())
+    }
+
+    /// Notes what was restored or performed again.
+    fn note(&mut self, letter: &[u8], moment: i64, name: &[u8], bytes: &[u8]) -> Result<(), Fault> {
+        self.put(letter)?;
+        self.put(&moment.to_be_bytes())?;
+        self.put(name)?;
+        self.put(b" ")?;
+        self.put(bytes)?;
+        self.put(b"\n")
     }
 }
 
@@ -91,7 +98,7 @@ impl Replayed for Shelf<'_> {
     }
 
     fn redo(&mut self, moment: i64, performed: &Performed<'_>) -> Result<(), Fault> {
-        self.note(moment, [b"P", performed.name, performed.bytes])
+        self.note(b"P", moment, performed.name, performed.bytes)
     }
 
     ghost restored = { λ kept part. kept };
@@ -106,7 +113,7 @@ impl Replayed for Shelf<'_> {
         if part.bytes.is_empty() {
             return Err(Fault::Damaged);
         }
-        self.note(part.moment, [letter_of(part.kind), part.name, part.bytes])
+        self.note(letter_of(part.kind), part.moment, part.name, part.bytes)
     }
 
     fn save<S: Sink>(&mut self, raise: u32, sink: &mut S) -> Result<(), SaveFault> {
