@@ -5,7 +5,7 @@ use Rattle.std.specs.List.{AllByRecursion}
 use Rattle.std.proofs.lemmas.List.Elements.{Contains-append_cases}
 use Rattle.std.proofs.lemmas.List.Sums.{sum_by-cons}
 use Rattle.std.proofs.lemmas.Option.{none-some}
-use Rattle.oai_catalogue.specs.Store.{list_at}
+use Rattle.oai_catalogue.specs.Store.{Lists, list_at}
 use Rattle.oai_item.specs.Item.{ItemState}
 use Rattle.oai_pool.specs.Counts.{count_of, used_of}
 use Rattle.oai_pool.specs.Names.{times}
@@ -13,12 +13,14 @@ use Rattle.oai_pool.specs.declared.pools.TheConstants.{MAX_PAGES}
 use Rattle.oai_paged.specs.Directory.{IsDirectory}
 use Rattle.oai_paged.specs.Places.{IsSoundPlace, Pages, PlaceState, items_at, items_on, named_in, page_numbers}
 use Rattle.oai_paged.specs.Shelves.{AreShelved, Directories, StandsOnPages, calls_left, directory_at, items_below, lists_on, most_of, named_at, named_by_all}
+use Rattle.oai_paged.specs.Versions.{AreShared, Shelves, Versions, directories_named, number_at, places_of}
 use Rattle.oai_paged.proofs.FewLemmas.{used_few}
 use Rattle.oai_paged.proofs.NameLemmas.{named_in-cons, named_own, times-append, times-nil}
 use Rattle.oai_paged.proofs.PlaceLemmas.{items_on-cons, items_on-nil}
 use Rattle.oai_paged.proofs.RoomLemmas.{most_of-le}
 use Rattle.oai_paged.proofs.ShelfLemmas.{shelved_named}
 use Rattle.oai_paged.proofs.SlotLemmas.{sum-all, sum-first}
+use Rattle.oai_paged.proofs.VersionLemmas.{list_named, lists-named, sum-shared}
 
 -- ---- how many pages
 
@@ -92,15 +94,18 @@ no_directory : (pages : Pages) (slot : Option (List PlaceState)) → option_map 
 no_directory pages None h = refl
 no_directory pages (Some places) h = absurd (none-some (items_on pages places) (sym h))
 
-pub used_below : (counts : List ℕ) (pages : Pages) (slots : Directories) (limit : ℕ) → AreShelved counts pages slots
-    → ((v : ℕ) → limit ≤ v → lists_on pages slots v ≡ None)
-    → used_of counts ≤ 65 * items_below limit (lists_on pages slots)
-used_below counts pages slots limit h empty =
+pub used_below : (counts : List ℕ) (pages : Pages) (versions : Versions) (shelves : Shelves) (limit : ℕ)
+    → AreShelved counts pages (places_of shelves) → AreShared versions shelves
+    → ((v : ℕ) → limit ≤ v → lists_on pages (directories_named versions shelves) v ≡ None)
+    → used_of counts ≤ 65 * items_below limit (lists_on pages (directories_named versions shelves))
+used_below counts pages versions shelves limit h s empty =
+    let slots = places_of shelves in
+    let named = directories_named versions shelves in
     let used : used_of counts ≤ length (all_numbers slots) = used_few counts (all_numbers slots)
     (λ n. let all = times-all n slots in let counted = h.counted n in omega (arith, all, counted)) in
-    let whole : sum_by (items_in_slot pages) slots ≡ sum_by (items_in_slot pages) (take limit slots) = sum-all (items_in_slot pages) refl
-    limit slots (λ v above. no_directory pages (directory_at slots v) (empty v above)) in
-    omega (arith, used, whole, all-le pages slots h.directories, first-le pages slots limit)
+    let whole : sum_by (items_in_slot pages) named ≡ sum_by (items_in_slot pages) (take limit named) = sum-all (items_in_slot pages) refl
+    limit named (λ v above. no_directory pages (directory_at named v) (empty v above)) in
+    omega (arith, used, whole, all-le pages slots h.directories, sum-shared (items_in_slot pages) refl shelves versions s, first-le pages named limit)
 
 -- ---- where each item stands
 
@@ -143,9 +148,17 @@ held_in counts pages slots v item h (Some places) is among =
       among = held.among;
     }
 
-pub held : (counts : List ℕ) (pages : Pages) (slots : Directories) (v : ℕ) (item : ItemState) → AreShelved counts pages slots
-    → Contains (list_at (lists_on pages slots) v) item → StandsOnPages counts pages item
-held counts pages slots v item h among = held_in counts pages slots v item h (directory_at slots v) refl among
+held_by : (counts : List ℕ) (pages : Pages) (shelves : Shelves) (item : ItemState) → AreShelved counts pages (places_of shelves)
+    → (o : Option ℕ) → Contains (unwrap_or (list_named (lists_on pages (places_of shelves)) o) []) item → StandsOnPages counts pages item
+held_by counts pages shelves item h None among = absurd (let within = among.1 in omega (arith, within))
+held_by counts pages shelves item h (Some d) among = held_in counts pages (places_of shelves) d item h (directory_at (places_of shelves) d) refl among
+
+pub held : (counts : List ℕ) (pages : Pages) (versions : Versions) (shelves : Shelves) (v : ℕ) (item : ItemState)
+    → AreShelved counts pages (places_of shelves)
+    → Contains (list_at (lists_on pages (directories_named versions shelves)) v) item → StandsOnPages counts pages item
+held counts pages versions shelves v item h among =
+    held_by counts pages shelves item h (number_at versions v)
+    (subst (λ (lists : Lists). Contains (list_at lists v) item) (lists-named pages versions shelves) among)
 
 -- ---- a store of no version
 

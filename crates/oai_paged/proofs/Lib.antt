@@ -10,6 +10,8 @@ mod WindowLemmas
 mod RecountLemmas
 mod SlotLemmas
 mod ShelfLemmas
+mod VersionLemmas
+mod StoreLemmas
 mod RoomLemmas
 mod FewLemmas
 mod HeldLemmas

@@ -1,17 +1,18 @@
 -- How much room a store has left after its calls.
-use Rattle.std.proofs.Common.{◌≡◌, ◌+◌, ◌-◌, ◌/◌, ◌<◌, ◌≤◌, ℕ, suc, zero, List, [], ◌∷◌, min, Result, arith}
+use Rattle.std.proofs.Common.{◌≡◌, ◌+◌, ◌-◌, ◌/◌, ◌<◌, ◌≤◌, ℕ, suc, zero, List, [], ◌∷◌, min, Result, arith, subst, sym}
 use Rattle.std.specs.Prelude.{Ok, Err}
 use Rattle.std.proofs.lemmas.Result.{IfErr-weaker}
-use Rattle.oai_catalogue.specs.Store.{NeedsRoom}
+use Rattle.oai_catalogue.specs.Store.{IsCounted, IsHonest, NeedsRoom}
 use Rattle.oai_item.specs.declared.faults.Fault.{Fault}
 use Rattle.oai_item.specs.declared.faults.Fault.TheVariants.{TooManyPages}
 use Rattle.oai_pool.specs.Counts.{count_of}
 use Rattle.oai_pool.specs.declared.pools.PagePool.{Ghosts}
 use Rattle.oai_pool.specs.declared.pools.TheConstants.{MAX_PAGES}
-use Rattle.oai_paged.specs.Calls.{Changes, Renames, RunsOut}
+use Rattle.oai_paged.specs.Calls.{Changes, IsShareFault, Renames, RunsOut}
 use Rattle.oai_paged.specs.Places.{PlaceState, named_in}
 use Rattle.oai_paged.specs.Shelves.{calls_left, most_of}
 use Rattle.oai_paged.proofs.NameLemmas.{named_in-nil}
+use Rattle.oai_paged.proofs.RecountLemmas.{not_damaged, not_device, only_full}
 
 -- ---- the greatest count
 
@@ -61,33 +62,34 @@ calls_left-few a numbers counts few less = few_left a MAX_PAGES (most_of counts)
 -- ---- by the calls of a pool
 
 module _ {P A : Type 0} (g : Ghosts P) where
-  -- a change names each page once more at most
-  change_names : (numbers : ℕ) (result : Result A Fault) (before after : List PlaceState) (p q : P)
+  -- a change of a directory, behind a copy of it that names its pages once more
+  copied_names : (numbers : ℕ) (result : Result A Fault) (before after : List PlaceState) (first p q : P) → ((n : ℕ) → named_in before n ≤ 1)
+      → ((n : ℕ) → count_of (g.counts p) n ≤ count_of (g.counts first) n + named_in before n)
       → Changes g numbers result before after p q
-      → (n : ℕ) → count_of (g.counts q) n ≤ count_of (g.counts p) n + 1
-  change_names numbers (Ok x) before after p q changes n = omega (arith, changes.names.counts n, changes.directory.once n)
-  change_names numbers (Err x) before after p q changes n = omega (arith, changes.err.names.counts n, named_in-nil n)
+      → (n : ℕ) → count_of (g.counts q) n ≤ count_of (g.counts first) n + 1
+  copied_names numbers (Ok x) before after first p q once names changes n =
+      omega (arith, changes.names.counts n, changes.directory.once n, names n)
+  copied_names numbers (Err x) before after first p q once names changes n =
+      omega (arith, changes.err.names.counts n, named_in-nil n, names n, once n)
 
-  pub change_room : (numbers : ℕ) (result : Result A Fault) (before after : List PlaceState) (p q : P) → numbers ≤ 68
+  pub copied_room : (numbers : ℕ) (result : Result A Fault) (before after : List PlaceState) (first p q : P) → numbers ≤ 68
+      → g.room first ≤ g.room p → ((n : ℕ) → named_in before n ≤ 1)
+      → ((n : ℕ) → count_of (g.counts p) n ≤ count_of (g.counts first) n + named_in before n)
       → Changes g numbers result before after p q
-      → NeedsRoom 1 result (calls_left (g.room p) (g.counts p)) (calls_left (g.room q) (g.counts q))
-  change_room numbers result before after p q few changes = record {
+      → NeedsRoom 1 result (calls_left (g.room first) (g.counts first)) (calls_left (g.room q) (g.counts q))
+  copied_room numbers result before after first p q few room once names changes = record {
     enough = IfErr-weaker result (λ fault. fault ≡ TooManyPages → g.room p < numbers)
-        (λ fault. fault ≡ TooManyPages → calls_left (g.room p) (g.counts p) < 1)
-        (λ fault less is. calls_left-few (g.room p) numbers (g.counts p) few (less is)) changes.pool.room.enough;
-    used = calls_left-less (g.room p) (g.room q) numbers (g.counts p) (g.counts q) few changes.pool.room.used
-        (change_names numbers result before after p q changes);
+        (λ fault. fault ≡ TooManyPages → calls_left (g.room first) (g.counts first) < 1)
+        (λ fault less is. calls_left-few (g.room first) numbers (g.counts first) few (let short = less is in omega (arith, room, short)))
+        changes.pool.room.enough;
+    used = calls_left-less (g.room first) (g.room q) numbers (g.counts first) (g.counts q) few
+        (let used = changes.pool.room.used in omega (arith, room, used))
+        (copied_names numbers result before after first p q once names changes);
   }
 
 -- ---- by names given and dropped
 
 module _ {P : Type 0} (g : Ghosts P) where
-  pub shared_left : (places : List PlaceState) (p q : P) → ((n : ℕ) → named_in places n ≤ 1) → Renames g [] places p q → g.room p ≤ g.room q
-      → calls_left (g.room p) (g.counts p) ≤ calls_left (g.room q) (g.counts q) + 1
-  shared_left places p q once names room =
-      calls_left-less (g.room p) (g.room q) 0 (g.counts p) (g.counts q) (omega arith) (omega (arith, room))
-      (λ n. omega (arith, names.counts n, named_in-nil n, once n))
-
   pub kept_left : (p q : P) → Renames g [] [] p q → g.room p ≤ g.room q
       → calls_left (g.room p) (g.counts p) ≤ calls_left (g.room q) (g.counts q)
   kept_left p q names room = calls_left-same (g.room p) (g.room q) (g.counts p) (g.counts q) room
@@ -101,3 +103,24 @@ module _ {P : Type 0} (g : Ghosts P) where
   pub runs_out_left : (places : List PlaceState) (p : P) → RunsOut g places p → calls_left (g.room p) (g.counts p) < 1
   runs_out_left places p out = let most = out.2 in none_left (g.room p) MAX_PAGES (most_of (g.counts p))
       (omega (arith, most, count_of-le-most (g.counts p) out.0))
+
+-- ---- where a copy of a directory was refused
+
+module _ {P A : Type 0} (g : Ghosts P) (result : Result A Fault) (cause : Fault) (is : result ≡ Err cause) (places : List PlaceState) (p q : P)
+    (fault : IsShareFault (RunsOut g places p) cause) where
+  pub refused_room : Renames g [] [] p q → g.room p ≤ g.room q
+      → NeedsRoom 1 result (calls_left (g.room p) (g.counts p)) (calls_left (g.room q) (g.counts q))
+  refused_room names room =
+      let less = kept_left g p q names room in
+      subst (λ (r : Result A Fault). NeedsRoom 1 r (calls_left (g.room p) (g.counts p)) (calls_left (g.room q) (g.counts q))) (sym is)
+      record { enough = λ full. runs_out_left g places p (only_full _ _ fault full); used = omega (arith, less) }
+
+  pub refused_count : g.failures q ≡ g.failures p → IsCounted result (g.failures p) (g.failures q)
+  refused_count count =
+      subst (λ (r : Result A Fault). IsCounted r (g.failures p) (g.failures q)) (sym is)
+      record { count = omega (arith, count); device = λ failed. absurd (not_device _ _ fault failed) }
+
+  pub refused_honest : g.honest q ≡ g.honest p → IsHonest result (g.honest p) (g.honest q)
+  refused_honest same =
+      subst (λ (r : Result A Fault). IsHonest r (g.honest p) (g.honest q)) (sym is)
+      record { same = same; damaged = λ damage. absurd (not_damaged _ _ fault damage) }

@@ -1,10 +1,8 @@
 -- The directories of a store after one of them changed.
 use Rattle.std.proofs.Common.{◌≡◌, ◌≢◌, ◌∙◌, ◌+◌, ◌<◌, ◌≤◌, ℕ, eqb, List, [], Option, None, Some, Result, OnErr, OnOk, unwrap_or, true, refl, sym, ap, subst, arith, inl, inr}
-use Rattle.std.specs.Prelude.{Ok, Err, length, option_map, slice_set}
-use Rattle.std.proofs.lemmas.Bool.{cases_Bool, cases_eq, cases_lt, cond-false, cond-true, eqb-false, eqb-true}
-use Rattle.std.proofs.lemmas.List.{get_or-set_other, get_or-set_same, get_or_past}
+use Rattle.std.specs.Prelude.{Ok, Err, option_map}
+use Rattle.std.proofs.lemmas.Bool.{cases_Bool, cases_eq, cond-false, cond-true, eqb-false, eqb-true}
 use Rattle.std.proofs.lemmas.Option.{none-some, same_Some}
-use Rattle.slab.specs.Slab.{Slab, Updates, get}
 use Rattle.oai_catalogue.specs.Store.{AreInOrder, ChangesOnly, Lists, list_at, with_list, without_list}
 use Rattle.oai_catalogue.proofs.ListsLemmas.{same_lists}
 use Rattle.oai_item.specs.Item.{ItemState}
@@ -155,19 +153,18 @@ module _ {P : Type 0} (g : Ghosts P) (v : ℕ) (old new : Directories) (p q : P)
 
 module _ {P : Type 0} (g : Ghosts P) where
   -- one more, under a number that was not in use
-  pub turn_put_in : (first mid new : Slab (List PlaceState)) (v : ℕ) (places : List PlaceState) (p q : P) → mid.slots ≡ first.slots
-      → get mid v ≡ None → Updates mid new v (Some places)
-      → Renames g [] places p q → IsDirectory (g.pages q) places → Turns g v first.slots new.slots p q
-  turn_put_in first mid new v places p q same vacant updates names own =
-      let was : directory_at first.slots v ≡ None = sym (ap (λ (slots : Directories). directory_at slots v) same) ∙ vacant in
+  pub turn_put_in : (old new : Directories) (v : ℕ) (places : List PlaceState) (p q : P) → AreBut v old new
+      → directory_at old v ≡ None → directory_at new v ≡ Some places
+      → Renames g [] places p q → IsDirectory (g.pages q) places → Turns g v old new p q
+  turn_put_in old new v places p q others vacant now names own =
       record {
-        others = λ w apart. updates.others w apart ∙ ap (λ (slots : Directories). directory_at slots w) same;
+        others = others;
         counts = λ n.
-            let before : named_at n (directory_at first.slots v) ≡ 0 = ap (named_at n) was in
-            let after : named_at n (directory_at new.slots v) ≡ named_in places n = ap (named_at n) updates.changed in
+            let before : named_at n (directory_at old v) ≡ 0 = ap (named_at n) vacant in
+            let after : named_at n (directory_at new v) ≡ named_in places n = ap (named_at n) now in
             omega (arith, before, after, names.counts n, named_in-nil n);
         kept = λ n below. names.kept n (let none = named_in-nil n in omega (arith, none, below));
-        own = λ other is. subst (IsDirectory (g.pages q)) (same_Some places other (sym updates.changed ∙ is)) own;
+        own = λ other is. subst (IsDirectory (g.pages q)) (same_Some places other (sym now ∙ is)) own;
       }
 
   -- another in the place of one
@@ -188,20 +185,20 @@ module _ {P : Type 0} (g : Ghosts P) where
       }
 
   -- one less
-  pub turn_taken_out : (old new : Slab (List PlaceState)) (v : ℕ) (before : List PlaceState) (p q : P) → get old v ≡ Some before
-      → Updates old new v None
-      → Renames g before [] p q → Turns g v old.slots new.slots p q
-  turn_taken_out old new v before p q was updates names =
+  pub turn_taken_out : (old new : Directories) (v : ℕ) (before : List PlaceState) (p q : P) → AreBut v old new
+      → directory_at old v ≡ Some before → directory_at new v ≡ None
+      → Renames g before [] p q → Turns g v old new p q
+  turn_taken_out old new v before p q others was gone names =
       record {
-        others = updates.others;
+        others = others;
         counts = λ n.
-            let named_before : named_at n (directory_at old.slots v) ≡ named_in before n = ap (named_at n) was in
-            let named_after : named_at n (directory_at new.slots v) ≡ 0 = ap (named_at n) updates.changed in
+            let named_before : named_at n (directory_at old v) ≡ named_in before n = ap (named_at n) was in
+            let named_after : named_at n (directory_at new v) ≡ 0 = ap (named_at n) gone in
             omega (arith, named_before, named_after, names.counts n, named_in-nil n);
         kept = λ n below.
-            let named_before : named_at n (directory_at old.slots v) ≡ named_in before n = ap (named_at n) was in
+            let named_before : named_at n (directory_at old v) ≡ named_in before n = ap (named_at n) was in
             names.kept n (omega (arith, named_before, below));
-        own = λ other is. absurd (none-some other (sym updates.changed ∙ is));
+        own = λ other is. absurd (none-some other (sym gone ∙ is));
       }
 
   -- the same one, over pages of which those that are named are as they were
@@ -233,34 +230,6 @@ module _ {P : Type 0} (g : Ghosts P) where
   }
 
 module _ {P : Type 0} (g : Ghosts P) where
-  -- ---- the same slots, over pages of which those that are named are as they were
-
-  pub shelved_kept : (old new : Directories) (p q : P) → AreShelved (g.counts p) (g.pages p) old → new ≡ old → Renames g [] [] p q
-      → AreShelved (g.counts q) (g.pages q) new
-  shelved_kept old new p q h same names =
-      subst (λ (slots : Directories). AreShelved (g.counts q) (g.pages q) slots) (sym same)
-      record {
-        counted = λ n. omega (arith, names.counts n, named_in-nil n, h.counted n);
-        directories = λ v places is. directory_kept (g.pages p) (g.pages q) places (h.directories v places is)
-            (λ n named. names.kept n (let none = named_in-nil n in let most = shelved_named (g.counts p) (g.pages p) old h v places is n in
-            omega (arith, none, most, named)));
-      }
-
-  list_kept : (old : Directories) (p q : P) → AreShelved (g.counts p) (g.pages p) old → Renames g [] [] p q
-      → (v : ℕ) (o : Option (List PlaceState)) → directory_at old v ≡ o
-      → option_map (items_on (g.pages q)) o ≡ option_map (items_on (g.pages p)) o
-  list_kept old p q h names v None is = refl
-  list_kept old p q h names v (Some places) is =
-      ap Some (items_on-same (g.pages p) (g.pages q) places (h.directories v places is).placed
-      (λ n named. names.kept n (let none = named_in-nil n in let most = shelved_named (g.counts p) (g.pages p) old h v places is n in omega
-      (arith, none, most, named))))
-
-  pub lists_kept : (old new : Directories) (p q : P) → AreShelved (g.counts p) (g.pages p) old → new ≡ old → Renames g [] [] p q
-      → lists_on (g.pages q) new ≡ lists_on (g.pages p) old
-  lists_kept old new p q h same names =
-      ap (λ (slots : Directories). lists_on (g.pages q) slots) same
-      ∙ same_lists (lists_on (g.pages q) old) (lists_on (g.pages p) old) (λ v. list_kept old p q h names v (directory_at old v) refl)
-
   -- ---- a directory whose pages are named once more, under a number that was not in use
 
   still_kept : (old : Directories) (v : ℕ) (places : List PlaceState) (p q : P) → AreShelved (g.counts p) (g.pages p) old
@@ -270,28 +239,24 @@ module _ {P : Type 0} (g : Ghosts P) where
       names.kept n (let none = named_in-nil n in let most = shelved_named (g.counts p) (g.pages p) old h v places is n in omega
       (arith, none, most, named))
 
-  pub turn_frozen : (first mid new : Slab (List PlaceState)) (v w : ℕ) (places : List PlaceState) (p q : P)
-      → AreShelved (g.counts p) (g.pages p) first.slots → mid.slots ≡ first.slots
-      → get mid v ≡ Some places → get mid w ≡ None → Updates mid new w (Some places) → Renames g [] places p q
-      → Turns g w first.slots new.slots p q
-  turn_frozen first mid new v w places p q h same stands vacant updates names =
-      let is : directory_at first.slots v ≡ Some places = sym (ap (λ (slots : Directories). directory_at slots v) same) ∙ stands in
-      turn_put_in g first mid new w places p q same vacant updates names
-      (directory_kept (g.pages p) (g.pages q) places (h.directories v places is) (still_kept first.slots v places p q h is names))
+  pub turn_copied : (old new : Directories) (v w : ℕ) (places : List PlaceState) (p q : P)
+      → AreShelved (g.counts p) (g.pages p) old → AreBut w old new
+      → directory_at old v ≡ Some places → directory_at old w ≡ None → directory_at new w ≡ Some places → Renames g [] places p q
+      → Turns g w old new p q
+  turn_copied old new v w places p q h others stands vacant now names =
+      turn_put_in g old new w places p q others vacant now names
+      (directory_kept (g.pages p) (g.pages q) places (h.directories v places stands) (still_kept old v places p q h stands names))
 
-  pub frozen_lists : (first mid new : Slab (List PlaceState)) (v w : ℕ) (places : List PlaceState) (p q : P)
-      → AreShelved (g.counts p) (g.pages p) first.slots → mid.slots ≡ first.slots
-      → get mid v ≡ Some places → get mid w ≡ None → Updates mid new w (Some places) → Renames g [] places p q
-      → lists_on (g.pages q) new.slots ≡ with_list w (list_at (lists_on (g.pages p) first.slots) v) (lists_on (g.pages p) first.slots)
-  frozen_lists first mid new v w places p q h same stands vacant updates names =
-      let is : directory_at first.slots v ≡ Some places = sym (ap (λ (slots : Directories). directory_at slots v) same) ∙ stands in
-      let items : items_on (g.pages q) places ≡ list_at (lists_on (g.pages p) first.slots) v
-      = items_on-same (g.pages p) (g.pages q) places (h.directories v places is).placed
-      (still_kept first.slots v places p q h is names)
-      ∙ sym (list_of (g.pages p) first.slots v places is) in
-      turned_lists g w first.slots new.slots p q h (turn_frozen first mid new v w places p q h same stands vacant updates names) places
-      updates.changed
-      ∙ ap (λ (own : List ItemState). with_list w own (lists_on (g.pages p) first.slots)) items
+  pub copied_lists : (old new : Directories) (v w : ℕ) (places : List PlaceState) (p q : P)
+      → AreShelved (g.counts p) (g.pages p) old → AreBut w old new
+      → directory_at old v ≡ Some places → directory_at old w ≡ None → directory_at new w ≡ Some places → Renames g [] places p q
+      → lists_on (g.pages q) new ≡ with_list w (list_at (lists_on (g.pages p) old) v) (lists_on (g.pages p) old)
+  copied_lists old new v w places p q h others stands vacant now names =
+      let items : items_on (g.pages q) places ≡ list_at (lists_on (g.pages p) old) v
+      = items_on-same (g.pages p) (g.pages q) places (h.directories v places stands).placed (still_kept old v places p q h stands names)
+      ∙ sym (list_of (g.pages p) old v places stands) in
+      turned_lists g w old new p q h (turn_copied old new v w places p q h others stands vacant now names) places now
+      ∙ ap (λ (own : List ItemState). with_list w own (lists_on (g.pages p) old)) items
 
 -- ---- a directory that is as it was
 
@@ -363,29 +328,3 @@ module _ {P A : Type 0} (g : Ghosts P) (numbers v : ℕ) (old new : Directories)
     err = unchanged_lists g v old new before after p q h others was now changes.err.places changes.err.names;
     rising = tt;
   }
-
--- ---- the slots with another directory in the place of one
-
-set_within : (slots : Directories) (v : ℕ) (before : List PlaceState) → directory_at slots v ≡ Some before → v < length slots
-set_within slots v before was =
-    elim (cases_lt v (length slots)) [
-      | inl within ↦ within
-      | inr past ↦ absurd (none-some before (sym (get_or_past slots v None past) ∙ was))
-    ]
-
-module _ {P A : Type 0} (g : Ghosts P) (numbers v : ℕ) (slots : Directories) (before after : List PlaceState) (p q : P)
-    (h : AreShelved (g.counts p) (g.pages p) slots)
-    (was : directory_at slots v ≡ Some before) where
-  pub set_shelved : (result : Result A Fault) → Changes g numbers result before after p q
-      → AreShelved (g.counts q) (g.pages q) (slice_set slots v (Some after))
-  set_shelved result changes =
-      change_shelved g numbers v slots (slice_set slots v (Some after)) before after p q h
-      (λ w apart. get_or-set_other slots v w (Some after) None apart) was
-      (get_or-set_same slots v (Some after) None (set_within slots v before was)) result changes
-
-  pub set_turned : (result : Result A Fault) → Changes g numbers result before after p q
-      → AreTurned v result (lists_on (g.pages p) slots) (lists_on (g.pages q) (slice_set slots v (Some after)))
-  set_turned result changes =
-      change_turned g numbers v slots (slice_set slots v (Some after)) before after p q h
-      (λ w apart. get_or-set_other slots v w (Some after) None apart) was
-      (get_or-set_same slots v (Some after) None (set_within slots v before was)) result changes

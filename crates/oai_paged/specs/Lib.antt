@@ -6,6 +6,7 @@ pub mod Places
 pub mod Searches
 pub mod Parts
 pub mod Sums
+pub mod Versions
 pub mod Directory
 pub mod Calls
 pub mod Recounts

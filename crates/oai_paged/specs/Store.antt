@@ -1,12 +1,35 @@
 -- What is seen of a store of versions over a pool.
+use Rattle.std.specs.Prelude.{◌≡◌, ◌+◌, ◌≤◌, ℕ, List, [], Option, Some, unwrap_or}
+use Rattle.oai_pool.specs.Counts.{count_of}
 use Rattle.oai_pool.specs.declared.pools.PagePool.{Ghosts}
-use Rattle.oai_paged.specs.Shelves.{Directories}
+use Rattle.oai_paged.specs.Places.{PlaceState, named_in}
+use Rattle.oai_paged.specs.Shelves.{Directories, directory_at}
+use Rattle.oai_paged.specs.Versions.{directories_named, names_of, number_at}
 use Rattle.oai_paged.specs.declared.store.VersionsOver.{VersionsOver}
 
--- its pool
-abbrev pub pool_of : {P : Type 0} {g : Ghosts P} → VersionsOver P g → P
-pool_of store = store.pool
+module _ {P : Type 0} {g : Ghosts P} where
+  -- its pool
+  abbrev pub pool_of : VersionsOver P g → P
+  pool_of store = store.pool
 
--- the directory at each number
-abbrev pub directories_of : {P : Type 0} {g : Ghosts P} → VersionsOver P g → Directories
-directories_of store = store.directories.slots
+  -- the directory that each version names
+  abbrev pub directories_of : VersionsOver P g → Directories
+  directories_of store = directories_named store.versions.slots store.directories.slots
+
+  -- the places of a version
+  abbrev pub places_at : VersionsOver P g → ℕ → List PlaceState
+  places_at store v = unwrap_or (directory_at (directories_of store) v) []
+
+  -- the number of the directory that a version names
+  abbrev pub named_by : VersionsOver P g → ℕ → Option ℕ
+  named_by store v = number_at store.versions.slots v
+
+  -- how many versions name a directory
+  abbrev pub named_times : VersionsOver P g → ℕ → ℕ
+  named_times store number = names_of number store.versions.slots
+
+-- the version alone names the directory of that number, and no page is named more often than before but by that
+pub record IsOwn {P : Type 0} {g : Ghosts P} (v number : ℕ) (old new : VersionsOver P g) : Type 0 where
+  pub named : named_by new v ≡ Some number
+  pub alone : named_times new number ≡ 1
+  pub pages : (n : ℕ) → count_of (g.counts (pool_of new)) n ≤ count_of (g.counts (pool_of old)) n + named_in (places_at new v) n

@@ -1,51 +1,81 @@
-ghost use Rattle.std.specs.Prelude.{◌≡◌, []};
+ghost use Rattle.std.specs.Prelude.{◌≡◌, ◌<◌, ◌≤◌, ℕ, [], OnErr, OnOk, IfErr, IfOk};
+ghost use Rattle.oai_pool.specs.Counts.{count_of};
+ghost use Rattle.oai_paged.specs.Calls.{FreesPages, IsShareFault, Renames, RunsOut};
+ghost use Rattle.oai_paged.specs.Places.{named_in};
 ghost use Rattle.oai_paged.specs.Props.{group_props};
 ghost use Rattle.oai_paged.specs.Sums.{AreGroups};
 
 use crate::groups::Groups;
+use crate::names::share_all;
 use crate::places::SharedPlace;
+use oai_item::Fault;
+use oai_pool::PagePool;
 use std::alloc::Global;
 use std::marker::Model;
 
-/// The places of the items of one version, in the order of the items.
+/// The places of the items of the versions that name it, in the order of the items.
 #[derive(Drop)]
 pub(crate) struct Directory {
     pub(crate) places: Vec<SharedPlace>,
     /// What is known of places that follow one another.
     pub(crate) groups: Groups,
+    /// How many versions name it.
+    pub(crate) versions: usize,
     ghost sound: { AreGroups places.items groups } by { Prim.hlevel group_props },
 }
 
 impl Model for Directory {
-    ghost use Rattle.std.specs.Prelude.{List};
-    ghost use Rattle.oai_paged.specs.Places.{PlaceState};
+    ghost use Rattle.oai_paged.specs.Versions.{DirectoryState};
 
-    ghost Value = { List PlaceState };
+    ghost Value = { DirectoryState };
 
-    ghost view = { λ d. d.places.items };
+    ghost view = { λ d. record { places = d.places.items; versions = d.versions } };
 }
 
 impl Directory {
-    /// The directory of no items. It takes no memory.
+    /// The directory of no items, which one version names. It takes no memory.
     pub(crate) fn new(alloc: Global) -> Directory
-        ensures { result ≡ [] }
+        ensures { result ≡ record { places = []; versions = 1 } }
     {
         Directory {
             places: Vec::new(alloc),
             groups: Groups::new(alloc),
+            versions: 1,
+        }
+    }
+
+    /// A copy, which one version names. The pages of its places, which are named, and none by two of them, are each named once more. `NoMemory`;
+    /// `TooManyPages`, where one is named 4,294,967,295 times. Each is then named as often as before.
+    pub(crate) fn copy<P: PagePool>(&self, alloc: Global, pages: &mut P) -> Result<Directory, Fault>
+        requires named { (n : ℕ) → named_in self.now.places n ≤ count_of (P.counts pages.old) n }
+        requires once { (n : ℕ) → named_in self.now.places n ≤ 1 }
+        ensures copy { IfOk result (λ copy. copy ≡ record { places = self.now.places; versions = 1 }) }
+        ensures names { OnOk result (Renames P.PagePool [] self.now.places pages.old pages.new) }
+        ensures undone { OnErr result (Renames P.PagePool [] [] pages.old pages.new) }
+        ensures fault { IfErr result (λ cause. IsShareFault (RunsOut P.PagePool self.now.places pages.old) cause) }
+        ensures pool { FreesPages P.PagePool pages.old pages.new }
+    {
+        let groups = self.groups.copy(alloc);
+        match share_all(alloc, pages, self.places.as_slice()) {
+            Ok(places) => Ok(Directory {
+                places,
+                groups,
+                versions: 1,
+            }),
+            Err(fault) => Err(fault),
         }
     }
 
     /// The places.
     pub(crate) fn places(&self) -> &[SharedPlace]
-        ensures { result.now ≡ self.now }
+        ensures { result.now ≡ self.now.places }
     {
         self.places.as_slice()
     }
 
     /// The groups of its places.
     pub(crate) fn groups(&self) -> &Groups
-        ensures { AreGroups self.now result.now }
+        ensures { AreGroups self.now.places result.now }
     {
         &self.groups
     }

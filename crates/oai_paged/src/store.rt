@@ -1,14 +1,16 @@
-ghost use Rattle.std.specs.Prelude.{◌≡◌, ◌≢◌, ◌+◌, ◌*◌, ◌/◌, ◌≤◌, ◌<◌, ℕ, List, [], None, Some, IsTrue, IfErr, IfOk, OnErr, OnOk, option_copied, length};
+ghost use Rattle.std.specs.Prelude.{◌≡◌, ◌≢◌, ◌+◌, ◌*◌, ◌/◌, ◌≤◌, ◌<◌, ℕ, List, [], None, Some, IsSome, IsTrue, IfErr, IfOk, OnErr, OnOk, option_copied, length};
 ghost use Rattle.std.specs.List.{Contains};
 ghost use Rattle.oai_catalogue.specs.Store.{list_at, no_lists};
 ghost use Rattle.oai_item.specs.Item.{ItemState};
 ghost use Rattle.oai_pool.specs.Counts.{used_of};
 ghost use Rattle.oai_pool.specs.declared.pools.TheConstants.{MAX_PAGES};
+ghost use Rattle.oai_paged.specs.Calls.{FreesPages, IsShareFault, Renames, RunsOut};
 ghost use Rattle.oai_paged.specs.Props.{shelved_props};
-ghost use Rattle.oai_paged.specs.Shelves.{AreShelved, StandsOnPages, calls_left, items_below};
+ghost use Rattle.oai_paged.specs.Shelves.{AreShelved, StandsOnPages, calls_left, directory_at, items_below, lists_on};
+ghost use Rattle.oai_paged.specs.Versions.{AreShared, places_in, places_of, shelf_at};
 
 use crate::directories::Directory;
-use crate::names::{drop_all, share_all};
+use crate::names::drop_all;
 use crate::put_and_remove::{put, remove, replace};
 use crate::reading::{count, find, part, part_after};
 use oai_catalogue::{Filter, Versions};
@@ -23,9 +25,9 @@ use std::alloc::Global;
 /// A store of versions over a pool of pages on a device.
 pub type PagedVersions<D> = VersionsOver<Pool<D>>;
 
-/// A store of versions over the pages of a pool. A version is a directory of the pages that its items stand on. A frozen version
-/// names the pages of the version that it was made of. A change writes no page again: it adds new pages for those that it changes,
-/// and frees the old ones where no other version names them.
+/// A store of versions over the pages of a pool. A version names a directory of the pages that its items stand on; a frozen version
+/// names that of the version that it was made of. A change of a version whose directory others name too is made in a copy, which names the same
+/// pages. A change writes no page again: it adds new pages for those that it changes, and frees the old ones where no other directory names them.
 #[derive(Drop)]
 pub struct VersionsOver<P: PagePool + Drop> {
     alloc: Global,
@@ -33,7 +35,10 @@ pub struct VersionsOver<P: PagePool + Drop> {
     /// The setSpecs of the sets that the places count.
     names: SetNames,
     directories: Slab<Directory>,
-    ghost shelved: { AreShelved (P.counts pool) (P.pages pool) directories.slots } by { Prim.hlevel shelved_props },
+    /// The number of the directory that each version names.
+    versions: Slab<usize>,
+    ghost shelved: { AreShelved (P.counts pool) (P.pages pool) (places_of directories.slots) } by { Prim.hlevel shelved_props },
+    ghost shared: { AreShared versions.slots directories.slots } by { Prim.hlevel shelved_props },
 }
 
 impl<P: PagePool + Drop> Versions for VersionsOver<P> {
@@ -49,27 +54,27 @@ impl<P: PagePool + Drop> Versions for VersionsOver<P> {
     ghost room = { λ s. calls_left (P.room (pool_of s)) (P.counts (pool_of s)) };
 
     fn fresh(&mut self) -> Result<u64, Fault> {
+        self.versions.reserve(1)?;
         self.directories.reserve(1)?;
-        Ok(self.directories.insert_reserved(Directory::new(self.alloc)) as u64)
+        let number = self.directories.insert_reserved(Directory::new(self.alloc));
+        Ok(self.versions.insert_reserved(number) as u64)
     }
 
     fn freeze(&mut self, v: u64) -> Result<u64, Fault> {
-        self.directories.reserve(1)?;
-        let Some(directory) = self.directories.get(v as usize) else {
+        let number = self.number_of(v);
+        self.versions.reserve(1)?;
+        let Some(directory) = self.directories.get_mut(number) else {
             unreachable!()
         };
-        let groups = directory.groups().copy(self.alloc);
-        match share_all(self.alloc, &mut self.pool, directory.places()) {
-            Ok(places) => Ok(
-                self.directories
-                    .insert_reserved(Directory { places, groups }) as u64,
-            ),
-            Err(fault) => Err(fault),
-        }
+        // No more versions name a directory than there is room for, so the count fits.
+        prove!(directory.versions < self.versions.capacity());
+        directory.versions += 1;
+        Ok(self.versions.insert_reserved(number) as u64)
     }
 
     fn put(&mut self, v: u64, item: &Item) -> Result<(), Fault> {
-        let Some(directory) = self.directories.get_mut(v as usize) else {
+        let number = self.own(v)?;
+        let Some(directory) = self.directories.get_mut(number) else {
             unreachable!()
         };
         put(
@@ -83,7 +88,8 @@ impl<P: PagePool + Drop> Versions for VersionsOver<P> {
     }
 
     fn remove(&mut self, v: u64, stamp: i64, identifier: &Identifier) -> Result<bool, Fault> {
-        let Some(directory) = self.directories.get_mut(v as usize) else {
+        let number = self.own(v)?;
+        let Some(directory) = self.directories.get_mut(number) else {
             unreachable!()
         };
         let places = &mut directory.places;
@@ -105,7 +111,8 @@ impl<P: PagePool + Drop> Versions for VersionsOver<P> {
         identifier: &Identifier,
         item: &Item,
     ) -> Result<bool, Fault> {
-        let Some(directory) = self.directories.get_mut(v as usize) else {
+        let number = self.own(v)?;
+        let Some(directory) = self.directories.get_mut(number) else {
             unreachable!()
         };
         let places = &mut directory.places;
@@ -122,7 +129,8 @@ impl<P: PagePool + Drop> Versions for VersionsOver<P> {
     }
 
     fn find(&mut self, v: u64, stamp: i64, identifier: &Identifier) -> Result<Option<Item>, Fault> {
-        let Some(directory) = self.directories.get(v as usize) else {
+        let number = self.number_of(v);
+        let Some(directory) = self.directories.get(number) else {
             unreachable!()
         };
         find(
@@ -135,7 +143,8 @@ impl<P: PagePool + Drop> Versions for VersionsOver<P> {
     }
 
     fn count(&mut self, v: u64, filter: &Filter) -> Result<usize, Fault> {
-        let Some(directory) = self.directories.get_mut(v as usize) else {
+        let number = self.number_of(v);
+        let Some(directory) = self.directories.get_mut(number) else {
             unreachable!()
         };
         directory.tend(self.alloc);
@@ -155,7 +164,8 @@ impl<P: PagePool + Drop> Versions for VersionsOver<P> {
         skip: usize,
         most: usize,
     ) -> Result<Sequence<Item>, Fault> {
-        let Some(directory) = self.directories.get_mut(v as usize) else {
+        let number = self.number_of(v);
+        let Some(directory) = self.directories.get_mut(number) else {
             unreachable!()
         };
         directory.tend(self.alloc);
@@ -178,7 +188,8 @@ impl<P: PagePool + Drop> Versions for VersionsOver<P> {
         identifier: &Identifier,
         most: usize,
     ) -> Result<Sequence<Item>, Fault> {
-        let Some(directory) = self.directories.get(v as usize) else {
+        let number = self.number_of(v);
+        let Some(directory) = self.directories.get(number) else {
             unreachable!()
         };
         let places = directory.places();
@@ -196,14 +207,22 @@ impl<P: PagePool + Drop> Versions for VersionsOver<P> {
     }
 
     fn release(&mut self, v: u64) {
-        if let Some(directory) = self.directories.try_remove(v as usize) {
-            drop_all(&mut self.pool, directory.places);
+        let number = self.number_of(v);
+        self.versions.remove(v as usize);
+        let Some(directory) = self.directories.get_mut(number) else {
+            unreachable!()
+        };
+        directory.versions -= 1;
+        if directory.versions > 0 {
+            return;
         }
+        let directory = self.directories.remove(number);
+        drop_all(&mut self.pool, directory.places);
     }
 }
 
 impl<P: PagePool + Drop> VersionsOver<P> {
-    ghost use Rattle.oai_paged.specs.Store.{directories_of, pool_of};
+    ghost use Rattle.oai_paged.specs.Store.{IsOwn, directories_of, named_by, named_times, places_at, pool_of};
 
     /// A store without versions, over a pool in which no page is named. It takes no memory. It has room for one call for each 68 pages that the
     /// pool has room for.
@@ -221,6 +240,7 @@ impl<P: PagePool + Drop> VersionsOver<P> {
             pool,
             names: SetNames::new(alloc),
             directories: Slab::new(alloc),
+            versions: Slab::new(alloc),
         }
     }
 
@@ -236,5 +256,62 @@ impl<P: PagePool + Drop> VersionsOver<P> {
             → StandsOnPages (P.counts result.now) (P.pages result.now) item }
     {
         &self.pool
+    }
+
+    /// The number of the directory that the version names.
+    fn number_of(&self, v: u64) -> usize
+        requires { IsSome (lists_on (P.pages (pool_of self.now)) (directories_of self.now) v) }
+        ensures named { named_by self.now v ≡ Some result }
+        ensures stands { IsSome (shelf_at self.now.directories.slots result) }
+        ensures places { directory_at (directories_of self.now) v ≡ places_in (shelf_at self.now.directories.slots result) }
+    {
+        let Some(number) = self.versions.get(v as usize) else {
+            unreachable!()
+        };
+        *number
+    }
+
+    /// The number of the directory that the version names. Where others name it too, a copy of it is made, which the version then names alone. Any
+    /// fault of `Directory::copy`; each version then names the directory that it named.
+    fn own(&mut self, v: u64) -> Result<usize, Fault>
+        requires { IsSome (lists_on (P.pages (pool_of self.old)) (directories_of self.old) v) }
+        ensures own { IfOk result (λ number. IsOwn v number self.old self.new) }
+        ensures lists { lists_on (P.pages (pool_of self.new)) (directories_of self.new) ≡ lists_on (P.pages (pool_of self.old)) (directories_of self.old) }
+        ensures undone { OnErr result (Renames P.PagePool [] [] (pool_of self.old) (pool_of self.new)) }
+        ensures fault { IfErr result (λ cause. IsShareFault (RunsOut P.PagePool (places_at self.old v) (pool_of self.old)) cause) }
+        ensures pool { FreesPages P.PagePool (pool_of self.old) (pool_of self.new) }
+    {
+        let number = self.number_of(v);
+        let Some(directory) = self.directories.get(number) else {
+            unreachable!()
+        };
+        if directory.versions == 1 {
+            return Ok(number);
+        }
+        self.move_to_copy(v, number)
+    }
+
+    /// Has the version name a copy of the directory of that number, which it names now and others too. Any fault of `Directory::copy`; each version then
+    /// names the directory that it named.
+    fn move_to_copy(&mut self, v: u64, number: usize) -> Result<usize, Fault>
+        requires named { named_by self.old v ≡ Some number }
+        requires shared { 1 < named_times self.old number }
+        ensures own { IfOk result (λ number. IsOwn v number self.old self.new) }
+        ensures lists { lists_on (P.pages (pool_of self.new)) (directories_of self.new) ≡ lists_on (P.pages (pool_of self.old)) (directories_of self.old) }
+        ensures undone { OnErr result (Renames P.PagePool [] [] (pool_of self.old) (pool_of self.new)) }
+        ensures fault { IfErr result (λ cause. IsShareFault (RunsOut P.PagePool (places_at self.old v) (pool_of self.old)) cause) }
+        ensures pool { FreesPages P.PagePool (pool_of self.old) (pool_of self.new) }
+    {
+        self.directories.reserve(1)?;
+        let Some(directory) = self.directories.get_mut(number) else {
+            unreachable!()
+        };
+        let copy = directory.copy(self.alloc, &mut self.pool)?;
+        directory.versions -= 1;
+        let own = self.directories.insert_reserved(copy);
+        if let Some(named) = self.versions.get_mut(v as usize) {
+            *named = own;
+        }
+        Ok(own)
     }
 }

@@ -1,35 +1,51 @@
-use Rattle.std.proofs.Common.{◌≡◌, ◌∙◌, ◌≤◌, List, Some, length, subst, sym}
+use Rattle.std.proofs.Common.{◌≡◌, ◌∙◌, ◌≤◌, List, Some, length, ap, subst, sym}
+use Rattle.std.specs.Prelude.{slice_set}
 use Rattle.oai_pool.specs.declared.pools.TheConstants.{MAX_PAGES}
 use Rattle.oai_paged.specs.Directory.{StandsIn}
 use Rattle.oai_paged.specs.Places.{PlaceState}
-use Rattle.oai_paged.specs.Shelves.{directory_at}
-use Rattle.oai_paged.specs.Sums.{AreGroups}
+use Rattle.oai_paged.specs.Versions.{DirectoryState, shelf_at}
 use Rattle.oai_paged.proofs.FewLemmas.{few_places}
-use Rattle.oai_paged.proofs.ShelfLemmas.{on_ok, shelved_in_order, shelved_stands}
+use Rattle.oai_paged.proofs.ShelfLemmas.{on_ok}
+use Rattle.oai_paged.proofs.StoreLemmas.{lists_by, read_names, store_in_order, store_stands, stored_again}
 use Rattle.oai_paged.proofs.store.VersionsOverVersions.count.Goals as goal
 
 pub count-requires-clause-stands : goal.count-requires-clause-stands
 count-requires-clause-stands g c =
     let G = g.P.PagePool in
     let self = c.args.self.now in
-    let found : Some c.in-Some.directory.now ≡ directory_at self.directories.slots c.args.v = c.in-Some.ensures.value in
-    subst (λ (places : List PlaceState). StandsIn G self.pool places) (sym (c.places.ensures ∙ c.tend.ensures))
-    (shelved_stands G self.directories.slots c.args.v c.in-Some.directory.now self.pool self.shelved (sym found))
-
-pub count-requires-clause-groups : goal.count-requires-clause-groups
-count-requires-clause-groups g c = subst (λ (places : List PlaceState). AreGroups places c.groups.result.now) (sym c.places.ensures) c.groups.ensures
+    let number = c.number_of-number.result in
+    let was : DirectoryState = c.in-Some.directory.now in
+    let stood : shelf_at self.directories.slots number ≡ Some was = sym c.in-Some.ensures.value in
+    let places : c.places.result.now ≡ was.places = c.places.ensures ∙ ap (λ (directory : DirectoryState). directory.places) c.tend.ensures in
+    subst (λ (places : List PlaceState). StandsIn G self.pool places) (sym places)
+    (store_stands G self.directories.slots number was self.pool self.shelved stood)
 
 pub count-requires-clause-few : goal.count-requires-clause-few
 count-requires-clause-few g c =
     let G = g.P.PagePool in
     let self = c.args.self.now in
-    let found : Some c.in-Some.directory.now ≡ directory_at self.directories.slots c.args.v = c.in-Some.ensures.value in
-    subst (λ (places : List PlaceState). length places ≤ MAX_PAGES) (sym (c.places.ensures ∙ c.tend.ensures))
-    (few_places G self.pool c.in-Some.directory.now (g.met.P.PagePool.limited self.pool)
-    (shelved_stands G self.directories.slots c.args.v c.in-Some.directory.now self.pool self.shelved (sym found)))
+    let number = c.number_of-number.result in
+    let was : DirectoryState = c.in-Some.directory.now in
+    let stood : shelf_at self.directories.slots number ≡ Some was = sym c.in-Some.ensures.value in
+    let places : c.places.result.now ≡ was.places = c.places.ensures ∙ ap (λ (directory : DirectoryState). directory.places) c.tend.ensures in
+    subst (λ (places : List PlaceState). length places ≤ MAX_PAGES) (sym places)
+    (few_places G self.pool was.places (g.met.P.PagePool.limited self.pool) (store_stands G self.directories.slots number was self.pool self.shelved stood))
+
+pub returns-clause-same : goal.returns-clause-same
+returns-clause-same g c =
+    let G = g.P.PagePool in
+    let self = c.args.self.now in
+    let number = c.number_of-number.result in
+    let was : DirectoryState = c.in-Some.directory.now in
+    let stood : shelf_at self.directories.slots number ≡ Some was = sym c.in-Some.ensures.value in
+    let q = c.count.new.pages in
+    subst (λ (directory : DirectoryState). lists_by (G.pages q) self.versions.slots (slice_set self.directories.slots number (Some directory))
+    ≡ lists_by (G.pages self.pool) self.versions.slots self.directories.slots) (sym c.tend.ensures)
+    (stored_again G self.versions.slots self.directories.slots number was self.pool q self.shelved self.shared stood
+    (read_names G c.count.result self.pool q c.count.ensures.pages)).lists
 
 pub returns-clause-rising : goal.returns-clause-rising
 returns-clause-rising g c =
     let self = c.args.self.now in
-    on_ok c.count.result (shelved_in_order (g.P.PagePool.counts self.pool) (g.P.PagePool.pages self.pool) self.directories.slots
+    on_ok c.count.result (store_in_order (g.P.PagePool.counts self.pool) (g.P.PagePool.pages self.pool) self.versions.slots self.directories.slots
     self.shelved)

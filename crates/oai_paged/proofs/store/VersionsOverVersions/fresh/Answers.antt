@@ -1,50 +1,46 @@
-use Rattle.std.proofs.Common.{◌≡◌, ◌∙◌, [], ap}
-use Rattle.oai_catalogue.specs.Store.{with_list}
-use Rattle.oai_paged.specs.Shelves.{lists_on}
-use Rattle.oai_paged.proofs.PlaceLemmas.{items_on-nil}
-use Rattle.oai_paged.proofs.RecountLemmas.{recounts_none, renames_none}
-use Rattle.oai_paged.proofs.ShelfLemmas.{directory_of_none, shelved_in_order, turn_put_in, turned_lists, turned_shelved}
+use Rattle.std.proofs.Common.{ap}
+use Rattle.oai_paged.proofs.StoreLemmas.{store_in_order, stored_fresh}
+use Rattle.oai_paged.proofs.VersionLemmas.{puts_in}
 use Rattle.oai_paged.proofs.store.VersionsOverVersions.fresh.Goals as goal
 
 pub invariant_of-self-2 : goal.invariant_of-self-2
 invariant_of-self-2 g c =
     let G = g.P.PagePool in
     let self = c.args.self.now in
-    let p = self.pool in
-    let same : c.reserve.new.self.slots ≡ self.directories.slots = ap (λ s. s.slots) c.reserve.ensures.rest_kept in
-    let updates = rw c.new.ensures at c.insert_reserved.ensures.updates in
-    record {
-      shelved = turned_shelved G c.insert_reserved.result self.directories.slots c.insert_reserved.new.self.slots p p self.shelved
-          (turn_put_in G self.directories c.reserve.new.self c.insert_reserved.new.self c.insert_reserved.result [] p p same
-          c.insert_reserved.ensures.was_vacant updates
-          (renames_none G p p (recounts_none G p)) (directory_of_none (G.pages p)));
-    }
+    let versions = puts_in self.versions c.reserve.new.self c.insert_reserved.new.self c.insert_reserved.result c.insert_reserved-number.result
+    (ap (λ s. s.slots) c.reserve.ensures.rest_kept) c.insert_reserved.ensures.was_vacant c.insert_reserved.ensures.updates in
+    let shelves = puts_in self.directories c.reserve-2.new.self c.insert_reserved-number.new.self c.insert_reserved-number.result c.new.result
+    (ap (λ s. s.slots) c.reserve-2.ensures.rest_kept) c.insert_reserved-number.ensures.was_vacant c.insert_reserved-number.ensures.updates in
+    let stored = stored_fresh G c.insert_reserved.result self.versions.slots c.insert_reserved.new.self.slots self.directories.slots
+    c.insert_reserved-number.new.self.slots self.pool self.shelved self.shared versions.others c.insert_reserved-number.result c.new.result
+    c.new.ensures shelves.others versions.vacant versions.stands shelves.vacant shelves.stands in
+    record { shelved = stored.shelved; shared = stored.shared }
 
 pub returns-clause-ok : goal.returns-clause-ok
 returns-clause-ok g c =
     let G = g.P.PagePool in
     let self = c.args.self.now in
-    let p = self.pool in
-    let same : c.reserve.new.self.slots ≡ self.directories.slots = ap (λ s. s.slots) c.reserve.ensures.rest_kept in
-    let updates = rw c.new.ensures at c.insert_reserved.ensures.updates in
-    turned_lists G c.insert_reserved.result self.directories.slots c.insert_reserved.new.self.slots p p self.shelved
-    (turn_put_in G self.directories c.reserve.new.self c.insert_reserved.new.self c.insert_reserved.result [] p p same
-    c.insert_reserved.ensures.was_vacant updates
-    (renames_none G p p (recounts_none G p)) (directory_of_none (G.pages p))) [] updates.changed
-    ∙ ap (λ items. with_list c.insert_reserved.result items (lists_on (G.pages p) self.directories.slots)) (items_on-nil (G.pages p))
+    let versions = puts_in self.versions c.reserve.new.self c.insert_reserved.new.self c.insert_reserved.result c.insert_reserved-number.result
+    (ap (λ s. s.slots) c.reserve.ensures.rest_kept) c.insert_reserved.ensures.was_vacant c.insert_reserved.ensures.updates in
+    let shelves = puts_in self.directories c.reserve-2.new.self c.insert_reserved-number.new.self c.insert_reserved-number.result c.new.result
+    (ap (λ s. s.slots) c.reserve-2.ensures.rest_kept) c.insert_reserved-number.ensures.was_vacant c.insert_reserved-number.ensures.updates in
+    let stored = stored_fresh G c.insert_reserved.result self.versions.slots c.insert_reserved.new.self.slots self.directories.slots
+    c.insert_reserved-number.new.self.slots self.pool self.shelved self.shared versions.others c.insert_reserved-number.result c.new.result
+    c.new.ensures shelves.others versions.vacant versions.stands shelves.vacant shelves.stands in
+    stored.lists
 
 pub returns-clause-rising : goal.returns-clause-rising
 returns-clause-rising g c =
     let G = g.P.PagePool in
     let self = c.args.self.now in
-    let p = self.pool in
-    let same : c.reserve.new.self.slots ≡ self.directories.slots = ap (λ s. s.slots) c.reserve.ensures.rest_kept in
-    let updates = rw c.new.ensures at c.insert_reserved.ensures.updates in
-    let shelved = turned_shelved G c.insert_reserved.result self.directories.slots c.insert_reserved.new.self.slots p p self.shelved
-    (turn_put_in G self.directories c.reserve.new.self c.insert_reserved.new.self c.insert_reserved.result [] p p same
-    c.insert_reserved.ensures.was_vacant updates
-    (renames_none G p p (recounts_none G p)) (directory_of_none (G.pages p))) in (
-      shelved_in_order (G.counts p) (G.pages p) self.directories.slots self.shelved,
-      shelved_in_order (G.counts p) (G.pages p)
-          c.insert_reserved.new.self.slots shelved,
+    let versions = puts_in self.versions c.reserve.new.self c.insert_reserved.new.self c.insert_reserved.result c.insert_reserved-number.result
+    (ap (λ s. s.slots) c.reserve.ensures.rest_kept) c.insert_reserved.ensures.was_vacant c.insert_reserved.ensures.updates in
+    let shelves = puts_in self.directories c.reserve-2.new.self c.insert_reserved-number.new.self c.insert_reserved-number.result c.new.result
+    (ap (λ s. s.slots) c.reserve-2.ensures.rest_kept) c.insert_reserved-number.ensures.was_vacant c.insert_reserved-number.ensures.updates in
+    let stored = stored_fresh G c.insert_reserved.result self.versions.slots c.insert_reserved.new.self.slots self.directories.slots
+    c.insert_reserved-number.new.self.slots self.pool self.shelved self.shared versions.others c.insert_reserved-number.result c.new.result
+    c.new.ensures shelves.others versions.vacant versions.stands shelves.vacant shelves.stands in (
+      store_in_order (G.counts self.pool) (G.pages self.pool) self.versions.slots self.directories.slots self.shelved,
+      store_in_order (G.counts self.pool) (G.pages self.pool) c.insert_reserved.new.self.slots c.insert_reserved-number.new.self.slots
+          stored.shelved,
     )

@@ -1,24 +1,38 @@
-use Rattle.std.proofs.Common.{◌≡◌, ◌∙◌, List, Some, subst, sym}
+use Rattle.std.proofs.Common.{◌≡◌, ◌∙◌, List, Some, ap, subst, sym}
+use Rattle.std.specs.Prelude.{slice_set}
 use Rattle.oai_paged.specs.Directory.{StandsIn}
 use Rattle.oai_paged.specs.Places.{PlaceState}
-use Rattle.oai_paged.specs.Shelves.{directory_at}
-use Rattle.oai_paged.specs.Sums.{AreGroups}
-use Rattle.oai_paged.proofs.ShelfLemmas.{on_ok, shelved_in_order, shelved_stands}
+use Rattle.oai_paged.specs.Versions.{DirectoryState, shelf_at}
+use Rattle.oai_paged.proofs.ShelfLemmas.{on_ok}
+use Rattle.oai_paged.proofs.StoreLemmas.{lists_by, read_names, store_in_order, store_stands, stored_again}
 use Rattle.oai_paged.proofs.store.VersionsOverVersions.part.Goals as goal
 
 pub part-requires-clause-stands : goal.part-requires-clause-stands
 part-requires-clause-stands g c =
     let G = g.P.PagePool in
     let self = c.args.self.now in
-    let found : Some c.in-Some.directory.now ≡ directory_at self.directories.slots c.args.v = c.in-Some.ensures.value in
-    subst (λ (places : List PlaceState). StandsIn G self.pool places) (sym (c.places.ensures ∙ c.tend.ensures))
-    (shelved_stands G self.directories.slots c.args.v c.in-Some.directory.now self.pool self.shelved (sym found))
+    let number = c.number_of-number.result in
+    let was : DirectoryState = c.in-Some.directory.now in
+    let stood : shelf_at self.directories.slots number ≡ Some was = sym c.in-Some.ensures.value in
+    let places : c.places.result.now ≡ was.places = c.places.ensures ∙ ap (λ (directory : DirectoryState). directory.places) c.tend.ensures in
+    subst (λ (places : List PlaceState). StandsIn G self.pool places) (sym places)
+    (store_stands G self.directories.slots number was self.pool self.shelved stood)
 
-pub part-requires-clause-groups : goal.part-requires-clause-groups
-part-requires-clause-groups g c = subst (λ (places : List PlaceState). AreGroups places c.groups.result.now) (sym c.places.ensures) c.groups.ensures
+pub returns-clause-same : goal.returns-clause-same
+returns-clause-same g c =
+    let G = g.P.PagePool in
+    let self = c.args.self.now in
+    let number = c.number_of-number.result in
+    let was : DirectoryState = c.in-Some.directory.now in
+    let stood : shelf_at self.directories.slots number ≡ Some was = sym c.in-Some.ensures.value in
+    let q = c.part.new.pages in
+    subst (λ (directory : DirectoryState). lists_by (G.pages q) self.versions.slots (slice_set self.directories.slots number (Some directory))
+    ≡ lists_by (G.pages self.pool) self.versions.slots self.directories.slots) (sym c.tend.ensures)
+    (stored_again G self.versions.slots self.directories.slots number was self.pool q self.shelved self.shared stood
+    (read_names G c.part.result self.pool q c.part.ensures.pages)).lists
 
 pub returns-clause-rising : goal.returns-clause-rising
 returns-clause-rising g c =
     let self = c.args.self.now in
-    on_ok c.part.result (shelved_in_order (g.P.PagePool.counts self.pool) (g.P.PagePool.pages self.pool) self.directories.slots
+    on_ok c.part.result (store_in_order (g.P.PagePool.counts self.pool) (g.P.PagePool.pages self.pool) self.versions.slots self.directories.slots
     self.shelved)

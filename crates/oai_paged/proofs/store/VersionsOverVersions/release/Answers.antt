@@ -1,77 +1,171 @@
-use Rattle.std.proofs.Common.{◌≡◌, ◌∙◌, List, [], Some, ap, sym}
+use Rattle.std.proofs.Common.{◌≡◌, ◌∙◌, ◌-◌, ◌≤◌, ℕ, List, [], Some, ap, arith, refl, subst, sym}
+use Rattle.std.specs.Prelude.{slice_set}
+use Rattle.std.proofs.lemmas.Option.{same_Some}
+use Rattle.oai_pool.specs.Counts.{count_of}
 use Rattle.oai_paged.specs.Calls.{Renames}
-use Rattle.oai_paged.specs.Places.{PlaceState}
-use Rattle.oai_paged.specs.Shelves.{directory_at}
+use Rattle.oai_paged.specs.Places.{PlaceState, named_in}
+use Rattle.oai_paged.specs.Versions.{DirectoryState, shelf_at}
 use Rattle.oai_paged.proofs.RoomLemmas.{dropped_left}
-use Rattle.oai_paged.proofs.ShelfLemmas.{removed_lists, shelved_in_order, shelved_named, turn_taken_out, turned_shelved}
+use Rattle.oai_paged.proofs.StoreLemmas.{set_but, set_stands, store_in_order, store_stands, stored_less, stored_none}
 use Rattle.oai_paged.proofs.store.VersionsOverVersions.release.Goals as goal
-
-pub drop_all-requires : goal.drop_all-requires
-drop_all-requires g c =
-    let G = g.P.PagePool in
-    let self = c.args.self.now in
-    let places : List PlaceState = c.directory.inside.places.items in
-    let was : directory_at self.directories.slots c.args.v ≡ Some places = sym c.try_remove.ensures.value ∙ c.in-Some.is
-    ∙ ap Some (cc (c.directory.view_is)) in
-    (shelved_named (G.counts self.pool) (G.pages self.pool) self.directories.slots self.shelved c.args.v
-    places was)
 
 pub invariant_of-self : goal.invariant_of-self
 invariant_of-self g c =
     let G = g.P.PagePool in
     let self = c.args.self.now in
-    let p = self.pool in
-    let q = c.drop_all.new.pages in
-    let places : List PlaceState = c.directory.inside.places.items in
-    let was : directory_at self.directories.slots c.args.v ≡ Some places = sym c.try_remove.ensures.value ∙ c.in-Some.is
-    ∙ ap Some (cc (c.directory.view_is)) in
-    let names : Renames G places [] p q = c.drop_all.ensures.names in
-    record {
-      shelved = turned_shelved G c.args.v self.directories.slots c.try_remove.new.self.slots p q self.shelved
-          (turn_taken_out G self.directories c.try_remove.new.self c.args.v places p q was c.in-Some.ensures.updates names);
-    }
+    let number = c.number_of-number.result in
+    let was : DirectoryState = record { places = c.directory.inside.places.items; versions = c.directory.inside.versions } in
+    let left : DirectoryState = record { places = c.directory.inside.places.items; versions = c.directory.inside.versions - 1 } in
+    let found : Some c.in-Some.directory.now ≡ shelf_at self.directories.slots number = c.in-Some.ensures.value in
+    let stood : shelf_at self.directories.slots number ≡ Some was = sym found ∙ ap Some (cc (c.directory.view_is)) in
+    let more = c.if-directory-gt0.true in
+    let stored = stored_less G c.args.v self.versions.slots c.remove.new.self.slots self.directories.slots
+    (slice_set self.directories.slots number (Some left)) self.pool self.shelved self.shared c.remove.ensures.updates.others number was left
+    (set_but self.directories.slots number left) stood (set_stands self.directories.slots number was left stood) refl (omega (arith, more))
+    (omega (arith, more)) c.number_of-number.ensures.named c.remove.ensures.updates.changed in
+    record { shelved = stored.shelved; shared = stored.shared }
 
-pub returns-in-Some-clause-ok : goal.returns-in-Some-clause-ok
-returns-in-Some-clause-ok g c =
+pub returns-then-directory-gt0-clause-ok : goal.returns-then-directory-gt0-clause-ok
+returns-then-directory-gt0-clause-ok g c =
     let G = g.P.PagePool in
     let self = c.args.self.now in
-    let p = self.pool in
-    let q = c.drop_all.new.pages in
-    let places : List PlaceState = c.directory.inside.places.items in
-    let was : directory_at self.directories.slots c.args.v ≡ Some places = sym c.try_remove.ensures.value ∙ c.in-Some.is
-    ∙ ap Some (cc (c.directory.view_is)) in
-    let names : Renames G places [] p q = c.drop_all.ensures.names in
-    removed_lists G c.args.v self.directories.slots c.try_remove.new.self.slots p q self.shelved
-    (turn_taken_out G self.directories c.try_remove.new.self c.args.v places p q was c.in-Some.ensures.updates names)
-    c.in-Some.ensures.updates.changed
+    let number = c.number_of-number.result in
+    let was : DirectoryState = record { places = c.directory.inside.places.items; versions = c.directory.inside.versions } in
+    let left : DirectoryState = record { places = c.directory.inside.places.items; versions = c.directory.inside.versions - 1 } in
+    let found : Some c.in-Some.directory.now ≡ shelf_at self.directories.slots number = c.in-Some.ensures.value in
+    let stood : shelf_at self.directories.slots number ≡ Some was = sym found ∙ ap Some (cc (c.directory.view_is)) in
+    let more = c.if-directory-gt0.true in
+    let stored = stored_less G c.args.v self.versions.slots c.remove.new.self.slots self.directories.slots
+    (slice_set self.directories.slots number (Some left)) self.pool self.shelved self.shared c.remove.ensures.updates.others number was left
+    (set_but self.directories.slots number left) stood (set_stands self.directories.slots number was left stood) refl (omega (arith, more))
+    (omega (arith, more)) c.number_of-number.ensures.named c.remove.ensures.updates.changed in
+    stored.lists
 
-pub returns-in-Some-clause-rising : goal.returns-in-Some-clause-rising
-returns-in-Some-clause-rising g c =
+pub returns-then-directory-gt0-clause-rising : goal.returns-then-directory-gt0-clause-rising
+returns-then-directory-gt0-clause-rising g c =
     let G = g.P.PagePool in
     let self = c.args.self.now in
-    let p = self.pool in
-    let q = c.drop_all.new.pages in
-    let places : List PlaceState = c.directory.inside.places.items in
-    let was : directory_at self.directories.slots c.args.v ≡ Some places = sym c.try_remove.ensures.value ∙ c.in-Some.is
-    ∙ ap Some (cc (c.directory.view_is)) in
-    let names : Renames G places [] p q = c.drop_all.ensures.names in
-    let shelved = turned_shelved G c.args.v self.directories.slots c.try_remove.new.self.slots p q self.shelved
-    (turn_taken_out G self.directories c.try_remove.new.self c.args.v places p q was c.in-Some.ensures.updates names)
-    in (
-      shelved_in_order (G.counts p) (G.pages p) self.directories.slots self.shelved,
-      shelved_in_order (G.counts q) (G.pages q)
-          c.try_remove.new.self.slots shelved,
+    let number = c.number_of-number.result in
+    let was : DirectoryState = record { places = c.directory.inside.places.items; versions = c.directory.inside.versions } in
+    let left : DirectoryState = record { places = c.directory.inside.places.items; versions = c.directory.inside.versions - 1 } in
+    let found : Some c.in-Some.directory.now ≡ shelf_at self.directories.slots number = c.in-Some.ensures.value in
+    let stood : shelf_at self.directories.slots number ≡ Some was = sym found ∙ ap Some (cc (c.directory.view_is)) in
+    let more = c.if-directory-gt0.true in
+    let stored = stored_less G c.args.v self.versions.slots c.remove.new.self.slots self.directories.slots
+    (slice_set self.directories.slots number (Some left)) self.pool self.shelved self.shared c.remove.ensures.updates.others number was left
+    (set_but self.directories.slots number left) stood (set_stands self.directories.slots number was left stood) refl (omega (arith, more))
+    (omega (arith, more)) c.number_of-number.ensures.named c.remove.ensures.updates.changed in (
+      store_in_order (G.counts self.pool) (G.pages self.pool) self.versions.slots self.directories.slots self.shelved,
+      store_in_order (G.counts self.pool) (G.pages self.pool) c.remove.new.self.slots
+          (slice_set self.directories.slots number (Some left)) stored.shelved,
     )
 
-pub returns-in-Some-clause-store : goal.returns-in-Some-clause-store
-returns-in-Some-clause-store g c =
+pub drop_all-requires : goal.drop_all-requires
+drop_all-requires g c =
+    let G = g.P.PagePool in
+    let self = c.args.self.now in
+    let number = c.number_of-number.result in
+    let was : DirectoryState = record { places = c.directory.inside.places.items; versions = c.directory.inside.versions } in
+    let left : DirectoryState = record { places = c.directory.inside.places.items; versions = c.directory.inside.versions - 1 } in
+    let found : Some c.in-Some.directory.now ≡ shelf_at self.directories.slots number = c.in-Some.ensures.value in
+    let stood : shelf_at self.directories.slots number ≡ Some was = sym found ∙ ap Some (cc (c.directory.view_is)) in
+    let stands = set_stands self.directories.slots number was left stood in
+    let out : Some c.remove-directory.result ≡ Some left = sym c.remove-directory.ensures.value ∙ stands in
+    let shown : record { places = c.directory-2.inside.places.items; versions = c.directory-2.inside.versions } ≡ c.remove-directory.result
+    = cc (c.directory-2.view_is) in
+    let same : c.directory-2.inside.places.items ≡ was.places = ap (λ (directory : DirectoryState). directory.places)
+    (shown ∙ same_Some c.remove-directory.result left out) in
+    subst (λ (places : List PlaceState). (n : ℕ) → named_in places n ≤ count_of (G.counts self.pool) n) (sym same)
+    (store_stands G self.directories.slots number was self.pool self.shelved stood).named
+
+pub invariant_of-self-2 : goal.invariant_of-self-2
+invariant_of-self-2 g c =
+    let G = g.P.PagePool in
+    let self = c.args.self.now in
+    let number = c.number_of-number.result in
+    let was : DirectoryState = record { places = c.directory.inside.places.items; versions = c.directory.inside.versions } in
+    let left : DirectoryState = record { places = c.directory.inside.places.items; versions = c.directory.inside.versions - 1 } in
+    let found : Some c.in-Some.directory.now ≡ shelf_at self.directories.slots number = c.in-Some.ensures.value in
+    let stood : shelf_at self.directories.slots number ≡ Some was = sym found ∙ ap Some (cc (c.directory.view_is)) in
+    let stands = set_stands self.directories.slots number was left stood in
+    let out : Some c.remove-directory.result ≡ Some left = sym c.remove-directory.ensures.value ∙ stands in
+    let shown : record { places = c.directory-2.inside.places.items; versions = c.directory-2.inside.versions } ≡ c.remove-directory.result
+    = cc (c.directory-2.view_is) in
+    let same : c.directory-2.inside.places.items ≡ was.places = ap (λ (directory : DirectoryState). directory.places)
+    (shown ∙ same_Some c.remove-directory.result left out) in
+    let last = c.if-directory-gt0.false in
+    let some = self.shared.named number was stood in
+    let names : Renames G was.places [] self.pool c.drop_all.new.pages = subst (λ (places : List PlaceState). Renames G places [] self.pool
+    c.drop_all.new.pages) same c.drop_all.ensures.names in
+    let stored = stored_none G c.args.v self.versions.slots c.remove.new.self.slots self.directories.slots c.remove-directory.new.self.slots
+    self.pool self.shelved self.shared c.remove.ensures.updates.others number was c.drop_all.new.pages
+    (λ e apart. c.remove-directory.ensures.updates.others e apart ∙ set_but self.directories.slots number left e apart) stood
+    (omega (arith, last, some)) c.remove-directory.ensures.updates.changed c.number_of-number.ensures.named c.remove.ensures.updates.changed
+    names in
+    record { shelved = stored.shelved; shared = stored.shared }
+
+pub returns-clause-ok : goal.returns-clause-ok
+returns-clause-ok g c =
+    let G = g.P.PagePool in
+    let self = c.args.self.now in
+    let number = c.number_of-number.result in
+    let was : DirectoryState = record { places = c.directory.inside.places.items; versions = c.directory.inside.versions } in
+    let left : DirectoryState = record { places = c.directory.inside.places.items; versions = c.directory.inside.versions - 1 } in
+    let found : Some c.in-Some.directory.now ≡ shelf_at self.directories.slots number = c.in-Some.ensures.value in
+    let stood : shelf_at self.directories.slots number ≡ Some was = sym found ∙ ap Some (cc (c.directory.view_is)) in
+    let stands = set_stands self.directories.slots number was left stood in
+    let out : Some c.remove-directory.result ≡ Some left = sym c.remove-directory.ensures.value ∙ stands in
+    let shown : record { places = c.directory-2.inside.places.items; versions = c.directory-2.inside.versions } ≡ c.remove-directory.result
+    = cc (c.directory-2.view_is) in
+    let same : c.directory-2.inside.places.items ≡ was.places = ap (λ (directory : DirectoryState). directory.places)
+    (shown ∙ same_Some c.remove-directory.result left out) in
+    let last = c.if-directory-gt0.false in
+    let some = self.shared.named number was stood in
+    let names : Renames G was.places [] self.pool c.drop_all.new.pages = subst (λ (places : List PlaceState). Renames G places [] self.pool
+    c.drop_all.new.pages) same c.drop_all.ensures.names in
+    let stored = stored_none G c.args.v self.versions.slots c.remove.new.self.slots self.directories.slots c.remove-directory.new.self.slots
+    self.pool self.shelved self.shared c.remove.ensures.updates.others number was c.drop_all.new.pages
+    (λ e apart. c.remove-directory.ensures.updates.others e apart ∙ set_but self.directories.slots number left e apart) stood
+    (omega (arith, last, some)) c.remove-directory.ensures.updates.changed c.number_of-number.ensures.named c.remove.ensures.updates.changed
+    names in
+    stored.lists
+
+pub returns-clause-rising : goal.returns-clause-rising
+returns-clause-rising g c =
+    let G = g.P.PagePool in
+    let self = c.args.self.now in
+    let number = c.number_of-number.result in
+    let was : DirectoryState = record { places = c.directory.inside.places.items; versions = c.directory.inside.versions } in
+    let left : DirectoryState = record { places = c.directory.inside.places.items; versions = c.directory.inside.versions - 1 } in
+    let found : Some c.in-Some.directory.now ≡ shelf_at self.directories.slots number = c.in-Some.ensures.value in
+    let stood : shelf_at self.directories.slots number ≡ Some was = sym found ∙ ap Some (cc (c.directory.view_is)) in
+    let stands = set_stands self.directories.slots number was left stood in
+    let out : Some c.remove-directory.result ≡ Some left = sym c.remove-directory.ensures.value ∙ stands in
+    let shown : record { places = c.directory-2.inside.places.items; versions = c.directory-2.inside.versions } ≡ c.remove-directory.result
+    = cc (c.directory-2.view_is) in
+    let same : c.directory-2.inside.places.items ≡ was.places = ap (λ (directory : DirectoryState). directory.places)
+    (shown ∙ same_Some c.remove-directory.result left out) in
+    let last = c.if-directory-gt0.false in
+    let some = self.shared.named number was stood in
+    let names : Renames G was.places [] self.pool c.drop_all.new.pages = subst (λ (places : List PlaceState). Renames G places [] self.pool
+    c.drop_all.new.pages) same c.drop_all.ensures.names in
+    let stored = stored_none G c.args.v self.versions.slots c.remove.new.self.slots self.directories.slots c.remove-directory.new.self.slots
+    self.pool self.shelved self.shared c.remove.ensures.updates.others number was c.drop_all.new.pages
+    (λ e apart. c.remove-directory.ensures.updates.others e apart ∙ set_but self.directories.slots number left e apart) stood
+    (omega (arith, last, some)) c.remove-directory.ensures.updates.changed c.number_of-number.ensures.named c.remove.ensures.updates.changed
+    names in (
+      store_in_order (G.counts self.pool) (G.pages self.pool) self.versions.slots self.directories.slots self.shelved,
+      store_in_order (G.counts c.drop_all.new.pages) (G.pages c.drop_all.new.pages) c.remove.new.self.slots
+          c.remove-directory.new.self.slots stored.shelved,
+    )
+
+pub returns-clause-store : goal.returns-clause-store
+returns-clause-store g c =
     let G = g.P.PagePool in
     let p = c.args.self.now.pool in
     let q = c.drop_all.new.pages in
-    let places : List PlaceState = c.directory.inside.places.items in
-    let names : Renames G places [] p q = c.drop_all.ensures.names in
     record {
-      room = dropped_left G places p q names c.drop_all.ensures.pool.room;
+      room = dropped_left G c.directory-2.inside.places.items p q c.drop_all.ensures.names c.drop_all.ensures.pool.room;
       count = c.drop_all.ensures.pool.count;
       honesty = c.drop_all.ensures.pool.honesty;
     }
