@@ -1,8 +1,7 @@
 -- The directories of a store after one of them changed.
 use Rattle.std.proofs.Common.{◌≡◌, ◌≢◌, ◌∙◌, ◌+◌, ◌<◌, ◌≤◌, ℕ, eqb, List, [], Option, None, Some, Result, OnErr, OnOk, unwrap_or, true, refl, sym, ap, subst, arith, inl, inr}
-use Rattle.std.specs.Prelude.{Ok, Err, length, option_map, slice_set}
-use Rattle.std.proofs.lemmas.Bool.{cases_Bool, cases_eq, cases_lt, cond-false, cond-true, eqb-false, eqb-true}
-use Rattle.std.proofs.lemmas.List.{get_or-set_other, get_or-set_same, get_or_past}
+use Rattle.std.specs.Prelude.{Ok, Err, option_map}
+use Rattle.std.proofs.lemmas.Bool.{cases_Bool, cases_eq, cond-false, cond-true, eqb-false, eqb-true}
 use Rattle.std.proofs.lemmas.Option.{none-some, same_Some}
 use Rattle.oai_catalogue.specs.Store.{AreInOrder, ChangesOnly, Lists, list_at, with_list, without_list}
 use Rattle.oai_catalogue.proofs.ListsLemmas.{same_lists}

@@ -1,5 +1,5 @@
 -- What the calls of a store do to its versions and to the directories that they name.
-use Rattle.std.proofs.Common.{◌≡◌, ◌≢◌, ◌∙◌, ◌+◌, ◌<◌, ◌≤◌, ℕ, List, [], Option, None, Some, IsSome, Result, OnOk, IfOk, refl, sym, ap, subst, arith, inl, inr}
+use Rattle.std.proofs.Common.{◌≡◌, ◌≢◌, ◌∙◌, ◌+◌, ◌<◌, ℕ, List, [], Option, None, Some, IsSome, Result, OnOk, IfOk, refl, sym, ap, subst, arith, inl, inr}
 use Rattle.std.specs.Prelude.{Ok, Err, unwrap_or, option_map, slice_set, length}
 use Rattle.std.proofs.lemmas.Bool.{cases_lt}
 use Rattle.std.proofs.lemmas.List.{get_or-set_other, get_or-set_same, get_or_past}
@@ -12,12 +12,12 @@ use Rattle.oai_pool.specs.declared.pools.PagePool.{Ghosts}
 use Rattle.oai_paged.specs.Calls.{Changes, ReadsPages, Renames}
 use Rattle.oai_paged.specs.Directory.{StandsIn}
 use Rattle.oai_paged.specs.Places.{Pages, PlaceState, items_on, named_in}
-use Rattle.oai_paged.specs.Shelves.{AreShelved, Directories, directory_at, lists_on}
+use Rattle.oai_paged.specs.Shelves.{AreShelved, directory_at, lists_on}
 use Rattle.oai_paged.specs.Versions.{AreShared, DirectoryState, Shelves, Versions, directories_named, names_of, number_at, places_in, places_of, shelf_at, told_at}
 use Rattle.oai_paged.proofs.PlaceLemmas.{items_on-nil}
 use Rattle.oai_paged.proofs.RecountLemmas.{recounts_none, renames_none}
 use Rattle.oai_paged.proofs.ShelfLemmas.{AreBut, AreTurned, Turns, change_shelved, change_turned, copied_lists, directory_of_none, list_of, removed_lists, shelved_in_order, shelved_stands, turn_copied, turn_kept, turn_put_in, turn_taken_out, turned_lists, turned_shelved, unchanged_lists}
-use Rattle.oai_paged.proofs.VersionLemmas.{NameBut, StandBut, list_named, lists-named, lists_fresh, lists_less, lists_more, lists_moved, lists_named, lists_none, named_in_order, named_list, named_turned, places-at, places-some, shared_changed, shared_less, shared_more, shared_moved, shared_none, told_of, vacant_unnamed}
+use Rattle.oai_paged.proofs.VersionLemmas.{NameBut, StandBut, lists-named, lists_fresh, lists_less, lists_more, lists_moved, lists_named, lists_none, named_in_order, named_list, named_turned, places-at, places-some, shared_changed, shared_less, shared_more, shared_moved, shared_none, told_of, vacant_unnamed}
 
 places_but : (d : ℕ) (before after : Shelves) → StandBut d before after → AreBut d (places_of before) (places_of after)
 places_but d before after stand e apart = places-at after e ∙ ap places_in (stand e apart) ∙ sym (places-at before e)
@@ -122,12 +122,12 @@ module _ {P : Type 0} (g : Ghosts P) where
         let one : made.versions ≡ 1 = ap (λ (directory : DirectoryState). directory.versions) is in
         let pages = g.pages p in
         let turn : Turns g d (places_of before) (places_of after) p p = turn_put_in g (places_of before) (places_of after) d [] p p
-            (places_but d before after stand) (places_none before d vacant) (places-some after d made stands ∙ ap Some empty) (no_names p)
-            (directory_of_none pages) in
+        (places_but d before after stand) (places_none before d vacant) (places-some after d made stands ∙ ap Some empty) (no_names p)
+        (directory_of_none pages) in
         let first = lists_on pages (places_of before) in
         let last = lists_on pages (places_of after) in
         let made_list : last ≡ with_list d [] first = turned_lists g d (places_of before) (places_of after) p p h turn [] (places-some after d made stands ∙ ap Some empty)
-            ∙ ap (λ (items : List ItemState). with_list d items first) (items_on-nil pages) in
+        ∙ ap (λ (items : List ItemState). with_list d items first) (items_on-nil pages) in
         let none : told_at (shelf_at before d) ≡ 0 = ap told_at vacant in
         record {
           shelved = turned_shelved g d (places_of before) (places_of after) p p h turn;
@@ -175,7 +175,7 @@ module _ {P : Type 0} (g : Ghosts P) where
         → AreStored new after q (without_list k (lists_by (g.pages p) old before))
     stored_none d was q stand stood one left own gone names =
         let turn : Turns g d (places_of before) (places_of after) p q = turn_taken_out g (places_of before) (places_of after) d was.places p q
-            (places_but d before after stand) (places-some before d was stood) (places_none after d left) names in
+        (places_but d before after stand) (places-some before d was stood) (places_none after d left) names in
         let told : told_at (shelf_at before d) ≡ 1 = ap told_at stood ∙ one in
         record {
           shelved = turned_shelved g d (places_of before) (places_of after) p q h turn;
@@ -206,9 +206,9 @@ module _ {P : Type 0} (g : Ghosts P) where
         let turn : Turns g e (places_of mid) (places_of after) p q = turn_copied g (places_of mid) (places_of after) d e was.places p q between beside shelf empty copy names in
         let earlier = same_lists_on before mid d was left p p h first stood stays same (no_names p) in
         let moved : lists_on (g.pages q) (places_of after)
-            ≡ with_list e (list_at (lists_on (g.pages p) (places_of before)) d) (lists_on (g.pages p) (places_of before))
-            = copied_lists g (places_of mid) (places_of after) d e was.places p q between beside shelf empty copy names
-            ∙ ap (λ (lists : Lists). with_list e (list_at lists d) lists) earlier in
+        ≡ with_list e (list_at (lists_on (g.pages p) (places_of before)) d) (lists_on (g.pages p) (places_of before))
+        = copied_lists g (places_of mid) (places_of after) d e was.places p q between beside shelf empty copy names
+        ∙ ap (λ (lists : Lists). with_list e (list_at lists d) lists) earlier in
         record {
           shelved = turned_shelved g e (places_of mid) (places_of after) p q between turn;
           shared = shared_moved k old new before after s others d e left made own named free still (omega (arith, less, told)) some stands one

@@ -1,10 +1,10 @@
 -- Versions that name directories, and the lists that they stand for.
-use Rattle.std.proofs.Common.{◌≡◌, ◌≢◌, ◌∙◌, ◌+◌, ◌<◌, ◌≤◌, ℕ, suc, zero, cond, eqb, List, [], ◌∷◌, Option, None, Some, IsSome, Result, OnErr, OnOk, unwrap_or, map, get_or, set, true, refl, sym, ap, subst, arith, inl, inr}
+use Rattle.std.proofs.Common.{◌≡◌, ◌≢◌, ◌∙◌, ◌+◌, ◌<◌, ◌≤◌, ℕ, suc, zero, cond, eqb, List, [], ◌∷◌, Option, None, Some, IsSome, Result, unwrap_or, map, get_or, set, true, refl, sym, ap, subst, arith, inl, inr}
 use Rattle.std.specs.Prelude.{Ok, Err, is_some, count_by, length, option_map, sum_by}
 use Rattle.std.proofs.lemmas.Bool.{cases_Bool, cases_eq, cases_lt, cond-false, cond-true, eq-eqb, eqb-false, eqb-true, ne_eqb}
 use Rattle.std.proofs.lemmas.List.{get_or-set_other, get_or-set_same, get_or_past}
 use Rattle.std.proofs.lemmas.List.Sums.{sum_by-cons}
-use Rattle.std.proofs.lemmas.Option.{none-some, same_Some}
+use Rattle.std.proofs.lemmas.Option.{none-some}
 use Rattle.slab.specs.Slab.{Slab, Updates, get}
 use Rattle.oai_catalogue.specs.Store.{AreInOrder, ChangesOnly, Lists, list_at, with_list, without_list}
 use Rattle.oai_catalogue.proofs.ListsLemmas.{same_lists}
@@ -12,7 +12,7 @@ use Rattle.oai_item.specs.Item.{ItemState}
 use Rattle.oai_item.specs.Order.{are_in_order}
 use Rattle.oai_item.specs.declared.faults.Fault.{Fault}
 use Rattle.oai_paged.specs.Places.{Pages, PlaceState, items_on}
-use Rattle.oai_paged.specs.Shelves.{Directories, directory_at, lists_on}
+use Rattle.oai_paged.specs.Shelves.{directory_at, lists_on}
 use Rattle.oai_paged.specs.Versions.{AreShared, DirectoryState, Shelves, Versions, directories_named, directory_named, names_at, names_of, number_at, places_in, places_of, shelf_at, told_at}
 use Rattle.oai_paged.proofs.ShelfLemmas.{AreTurned}
 use Rattle.oai_paged.proofs.SlotLemmas.{sum-changed, sum-part, sum-two}
@@ -197,8 +197,8 @@ module _ (k : ℕ) (old new : Versions) (before after : Shelves) (h : AreShared 
         omega (arith, told, none, one, more))
         (λ e apart. ap (names_at e) was ∙ sym (ap (names_at e) is ∙ names_at-other e d apart))
         (λ other still.
-            let same : other.versions ≡ directory.versions = ap told_at (sym still ∙ stands) in
-            omega (arith, same, more))
+        let same : other.versions ≡ directory.versions = ap told_at (sym still ∙ stands) in
+        omega (arith, same, more))
 
     -- a version that named it is in use no more
     pub shared_less : (directory : DirectoryState) → number_at old k ≡ Some d → number_at new k ≡ None → shelf_at after d ≡ Some directory
@@ -211,8 +211,8 @@ module _ (k : ℕ) (old new : Versions) (before after : Shelves) (h : AreShared 
         omega (arith, told, none, one, less))
         (λ e apart. ap (names_at e) was ∙ names_at-other e d apart ∙ sym (ap (names_at e) is))
         (λ other still.
-            let same : other.versions ≡ directory.versions = ap told_at (sym still ∙ stands) in
-            omega (arith, same, some))
+        let same : other.versions ≡ directory.versions = ap told_at (sym still ∙ stands) in
+        omega (arith, same, some))
 
     -- the one version that named it is in use no more, and neither is it
     pub shared_none : number_at old k ≡ Some d → number_at new k ≡ None → shelf_at after d ≡ None → told_at (shelf_at before d) ≡ 1 → AreShared new after
@@ -232,7 +232,7 @@ module _ (k : ℕ) (old new : Versions) (before after : Shelves) (h : AreShared 
       → ((x : ℕ) → x ≢ d → x ≢ e → shelf_at after x ≡ shelf_at before x) → AreShared new after
   shared_moved d e left made was is vacant less told some stands one stand =
       let apart : d ≢ e = λ same.
-          (let none : told_at (shelf_at before d) ≡ 0 = ap told_at (ap (shelf_at before) same ∙ vacant) in omega (arith, none, told)) in
+      (let none : told_at (shelf_at before d) ≡ 0 = ap told_at (ap (shelf_at before) same ∙ vacant) in omega (arith, none, told)) in
       shared_step
       (λ x. elim (cases_eq x d) [
         | inl same ↦
@@ -258,18 +258,18 @@ module _ (k : ℕ) (old new : Versions) (before after : Shelves) (h : AreShared 
             ]
       ])
       (λ x directory there.
-          elim (cases_eq x d) [
-            | inl same ↦
-                let versions : directory.versions ≡ left.versions = ap told_at (sym there ∙ ap (shelf_at after) same ∙ less) in
-                omega (arith, versions, some)
-            | inr beside ↦
-                elim (cases_eq x e) [
-                  | inl same ↦
-                      let versions : directory.versions ≡ made.versions = ap told_at (sym there ∙ ap (shelf_at after) same ∙ stands) in
-                      omega (arith, versions, one)
-                  | inr far ↦ h.named x directory (sym (stand x beside far) ∙ there)
-                ]
-          ])
+      elim (cases_eq x d) [
+        | inl same ↦
+            let versions : directory.versions ≡ left.versions = ap told_at (sym there ∙ ap (shelf_at after) same ∙ less) in
+            omega (arith, versions, some)
+        | inr beside ↦
+            elim (cases_eq x e) [
+              | inl same ↦
+                  let versions : directory.versions ≡ made.versions = ap told_at (sym there ∙ ap (shelf_at after) same ∙ stands) in
+                  omega (arith, versions, one)
+              | inr far ↦ h.named x directory (sym (stand x beside far) ∙ there)
+            ]
+      ])
 
 -- one directory has other places
 pub shared_changed : (versions : Versions) (before after : Shelves) (d : ℕ) (was is : DirectoryState) → AreShared versions before
@@ -280,9 +280,9 @@ shared_changed versions before after d was is h stand stood stands same =
     (omega (arith, told))
     (λ e apart. refl)
     (λ other still.
-        let equal : other.versions ≡ is.versions = ap told_at (sym still ∙ stands) in
-        let some = h.named d was stood in
-        omega (arith, equal, same, some))
+    let equal : other.versions ≡ is.versions = ap told_at (sym still ∙ stands) in
+    let some = h.named d was stood in
+    omega (arith, equal, same, some))
 
 -- ---- the lists of versions, by those of directories
 
@@ -358,7 +358,7 @@ module _ (k : ℕ) (old new : Versions) (others : NameBut k old new) where
       with_is (lists_named last new) (lists_named first old) k items
       (named_list last new k d named ∙ ap (λ (lists : Lists). lists d) is ∙ own_with first d items)
       (λ w apart. ap (list_named last) (others w apart) ∙ ap (λ (lists : Lists). list_named lists (number_at old w)) is
-          ∙ beside_with first d items (number_at old w) (unnamed d old none w))
+      ∙ beside_with first d items (number_at old w) (unnamed d old none w))
 
   -- of a directory that another version names
   pub lists_more : (lists : Lists) (v d : ℕ) → IsSome (lists d) → number_at old v ≡ Some d → number_at new k ≡ Some d
@@ -380,7 +380,7 @@ module _ (k : ℕ) (old new : Versions) (others : NameBut k old new) where
   lists_none first last d is one was gone =
       without_is (lists_named last new) (lists_named first old) k (ap (list_named last) gone)
       (λ w apart. ap (list_named last) (others w apart) ∙ ap (λ (lists : Lists). list_named lists (number_at old w)) is
-          ∙ beside_without first d (number_at old w) (lone d k old one was w apart))
+      ∙ beside_without first d (number_at old w) (lone d k old one was w apart))
 
   -- of a copy of the directory
   pub lists_moved : (first last : Lists) (d e : ℕ) → last ≡ with_list e (list_at first d) first → IsSome (first d) → names_of e old ≡ 0
@@ -405,7 +405,7 @@ module _ (versions : Versions) (v d : ℕ) (one : names_of d versions ≡ 1) (na
       (named_list last versions v d named ∙ ap (λ (lists : Lists). lists d) only ∙ own_with first d (list_at last d)
       ∙ ap (λ (o : Option (List ItemState)). Some (unwrap_or o [])) (sym (named_list last versions v d named)))
       (λ w apart. ap (λ (lists : Lists). list_named lists (number_at versions w)) only
-          ∙ beside_with first d (list_at last d) (number_at versions w) (lone d v versions one named w apart))
+      ∙ beside_with first d (list_at last d) (number_at versions w) (lone d v versions one named w apart))
 
   pub named_turned : {A : Type 0} (result : Result A Fault) (first last : Lists) → AreTurned d result first last
       → AreTurned v result (lists_named first versions) (lists_named last versions)
@@ -450,8 +450,11 @@ module _ {X : Type 0} (f : Option X → ℕ) (none : f None ≡ 0) where
       ]) in
       omega (arith, all)
   sum-named (None ∷ versions) xs g le named =
-      omega (arith, sum_by-cons (weight g) None versions,
-      sum-named versions xs g le (λ d some. let own = named d some in omega (arith, own, sum_by-cons (names_at d) None versions)))
+      omega (
+        arith,
+        sum_by-cons (weight g) None versions,
+        sum-named versions xs g le (λ d some. let own = named d some in omega (arith, own, sum_by-cons (names_at d) None versions)),
+      )
   sum-named (Some e ∷ versions) xs g le named =
       let gone : f (get_or (set xs e None) e None) ≡ 0 = ap f (emptied e xs) ∙ none in
       let changed = sum-changed f none e xs (set xs e None) (λ j apart. get_or-set_other xs e j None None apart) in
@@ -502,5 +505,5 @@ module _ (f : Option (List PlaceState) → ℕ) (none : f None ≡ 0) (shelves :
   sum-shared versions h =
       let named = sum-named f none versions (places_of shelves) (λ d. f (directory_at (places_of shelves) d)) (λ d. omega arith)
       (λ d some. some_named versions h d (shelf_at shelves d) refl
-          (let same : f (directory_at (places_of shelves) d) ≡ f (places_in (shelf_at shelves d)) = ap f (places-at shelves d) in omega (arith, same, some))) in
+      (let same : f (directory_at (places_of shelves) d) ≡ f (places_in (shelf_at shelves d)) = ap f (places-at shelves d) in omega (arith, same, some))) in
       omega (arith, named, sum-map versions)

@@ -46,11 +46,7 @@ impl Directory {
 
     /// A copy, which one version names. The pages of its places, which are named, and none by two of them, are each named once more. `NoMemory`;
     /// `TooManyPages`, where one is named 4,294,967,295 times. Each is then named as often as before.
-    pub(crate) fn copy<P: PagePool>(
-        &self,
-        alloc: Global,
-        pages: &mut P,
-    ) -> Result<Directory, Fault>
+    pub(crate) fn copy<P: PagePool>(&self, alloc: Global, pages: &mut P) -> Result<Directory, Fault>
         requires named { (n : ℕ) → named_in self.now.places n ≤ count_of (P.counts pages.old) n }
         requires once { (n : ℕ) → named_in self.now.places n ≤ 1 }
         ensures copy { IfOk result (λ copy. copy ≡ record { places = self.now.places; versions = 1 }) }

@@ -56,9 +56,7 @@ impl<P: PagePool + Drop> Versions for VersionsOver<P> {
     fn fresh(&mut self) -> Result<u64, Fault> {
         self.versions.reserve(1)?;
         self.directories.reserve(1)?;
-        let number = self
-            .directories
-            .insert_reserved(Directory::new(self.alloc));
+        let number = self.directories.insert_reserved(Directory::new(self.alloc));
         Ok(self.versions.insert_reserved(number) as u64)
     }
 

@@ -1,4 +1,4 @@
-use Rattle.std.proofs.Common.{◌≡◌, ◌∙◌, List, subst, sym}
+use Rattle.std.proofs.Common.{◌∙◌, List, subst, sym}
 use Rattle.oai_paged.specs.Places.{PlaceState}
 use Rattle.oai_paged.specs.Sums.{AreGroups}
 use Rattle.oai_paged.proofs.directories.Directory.copy.Goals as goal

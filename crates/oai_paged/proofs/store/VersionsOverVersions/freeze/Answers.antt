@@ -70,8 +70,7 @@ returns-clause-rising g c =
     let stored = stored_more G c.insert_reserved.result self.versions.slots c.insert_reserved.new.self.slots self.directories.slots
     (slice_set self.directories.slots number (Some more)) self.pool self.shelved self.shared versions.others number was more
     (set_but self.directories.slots number more) stood (set_stands self.directories.slots number was more stood) refl c.args.v refl
-    c.number_of-number.ensures.named versions.vacant versions.stands in
-    (
+    c.number_of-number.ensures.named versions.vacant versions.stands in (
       store_in_order (G.counts self.pool) (G.pages self.pool) self.versions.slots self.directories.slots self.shelved,
       store_in_order (G.counts self.pool) (G.pages self.pool) c.insert_reserved.new.self.slots
           (slice_set self.directories.slots number (Some more)) stored.shelved,

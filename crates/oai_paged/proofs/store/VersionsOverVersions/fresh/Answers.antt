@@ -1,4 +1,4 @@
-use Rattle.std.proofs.Common.{◌≡◌, ap}
+use Rattle.std.proofs.Common.{ap}
 use Rattle.oai_paged.proofs.StoreLemmas.{store_in_order, stored_fresh}
 use Rattle.oai_paged.proofs.VersionLemmas.{puts_in}
 use Rattle.oai_paged.proofs.store.VersionsOverVersions.fresh.Goals as goal
@@ -39,8 +39,7 @@ returns-clause-rising g c =
     (ap (λ s. s.slots) c.reserve-2.ensures.rest_kept) c.insert_reserved-number.ensures.was_vacant c.insert_reserved-number.ensures.updates in
     let stored = stored_fresh G c.insert_reserved.result self.versions.slots c.insert_reserved.new.self.slots self.directories.slots
     c.insert_reserved-number.new.self.slots self.pool self.shelved self.shared versions.others c.insert_reserved-number.result c.new.result
-    c.new.ensures shelves.others versions.vacant versions.stands shelves.vacant shelves.stands in
-    (
+    c.new.ensures shelves.others versions.vacant versions.stands shelves.vacant shelves.stands in (
       store_in_order (G.counts self.pool) (G.pages self.pool) self.versions.slots self.directories.slots self.shelved,
       store_in_order (G.counts self.pool) (G.pages self.pool) c.insert_reserved.new.self.slots c.insert_reserved-number.new.self.slots
           stored.shelved,

@@ -1,5 +1,5 @@
 use Rattle.std.proofs.Common.{◌≡◌, ◌∙◌, ℕ, Bool, List, Some, Err, ap, arith, refl, rules, subst, sym}
-use Rattle.std.specs.Prelude.{IsTrue, slice_set}
+use Rattle.std.specs.Prelude.{slice_set}
 use Rattle.oai_catalogue.specs.Store.{IsCounted, IsHonest, Lists, list_at}
 use Rattle.oai_item.specs.Item.{ItemState}
 use Rattle.oai_item.specs.Items.{with_item}

@@ -54,8 +54,7 @@ returns-then-directory-gt0-clause-rising g c =
     let stored = stored_less G c.args.v self.versions.slots c.remove.new.self.slots self.directories.slots
     (slice_set self.directories.slots number (Some left)) self.pool self.shelved self.shared c.remove.ensures.updates.others number was left
     (set_but self.directories.slots number left) stood (set_stands self.directories.slots number was left stood) refl (omega (arith, more))
-    (omega (arith, more)) c.number_of-number.ensures.named c.remove.ensures.updates.changed in
-    (
+    (omega (arith, more)) c.number_of-number.ensures.named c.remove.ensures.updates.changed in (
       store_in_order (G.counts self.pool) (G.pages self.pool) self.versions.slots self.directories.slots self.shelved,
       store_in_order (G.counts self.pool) (G.pages self.pool) c.remove.new.self.slots
           (slice_set self.directories.slots number (Some left)) stored.shelved,
@@ -154,8 +153,7 @@ returns-clause-rising g c =
     self.pool self.shelved self.shared c.remove.ensures.updates.others number was c.drop_all.new.pages
     (λ e apart. c.remove-directory.ensures.updates.others e apart ∙ set_but self.directories.slots number left e apart) stood
     (omega (arith, last, some)) c.remove-directory.ensures.updates.changed c.number_of-number.ensures.named c.remove.ensures.updates.changed
-    names in
-    (
+    names in (
       store_in_order (G.counts self.pool) (G.pages self.pool) self.versions.slots self.directories.slots self.shelved,
       store_in_order (G.counts c.drop_all.new.pages) (G.pages c.drop_all.new.pages) c.remove.new.self.slots
           c.remove-directory.new.self.slots stored.shelved,

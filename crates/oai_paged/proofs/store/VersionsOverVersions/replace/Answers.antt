@@ -1,9 +1,7 @@
 use Rattle.std.proofs.Common.{◌≡◌, ◌∙◌, ℕ, Bool, FitsSigned, List, Some, Err, ap, arith, refl, rules, subst, sym, w64}
 use Rattle.std.proofs.lemmas.Int.{to_z-of_z}
-use Rattle.std.specs.Prelude.{IfOk, IsTrue, is_some, slice_set}
+use Rattle.std.specs.Prelude.{slice_set}
 use Rattle.oai_catalogue.specs.Store.{IsCounted, IsHonest, Lists, list_at}
-use Rattle.oai_item.specs.Item.{ItemState}
-use Rattle.oai_item.specs.Items.{with_item, without_at, item_at}
 use Rattle.oai_paged.specs.Places.{PlaceState, items_on, named_in}
 use Rattle.oai_paged.specs.Store.{places_at}
 use Rattle.oai_paged.specs.Versions.{DirectoryState, shelf_at}
