@@ -1,8 +1,8 @@
 #!/usr/bin/env python3
 """Writes docs/CONTRACTS.md from the sources: scripts/contracts.py; to standard output instead: scripts/contracts.py -.
 
-An entry is a law, or a public function that the crate exports and whose clauses cite relations of specs/ (their names begin with a capital): its
-name, the first sentence of its doc comment, and these relations, behind those of a file the file.
+An entry is a law, or a public function that the crate exports and whose clauses cite relations of specs/ (their names begin with
+a verb, as `IsAsked` and `Keeps` do): its name, the first sentence of its doc comment, and these relations, behind those of a file the file.
 """
 
 import collections
@@ -15,12 +15,13 @@ TOP = pathlib.Path(__file__).resolve().parent.parent
 PAGE = TOP / "docs/CONTRACTS.md"
 HEAD = """# Contracts
 
-Written by `scripts/contracts.py` from the sources; do not edit. Of each crate: its laws, and the functions that it exports
-and whose clauses cite relations of `specs/`, each with the first sentence of its doc comment and these relations, as
-`Word` (File). The file is the crate's own where no other crate is named.
+Written by `scripts/contracts.py` from the sources; do not edit. Of each crate: its laws, and the functions that it
+exports and whose clauses cite relations of `specs/`, each with the first sentence of its doc comment and these
+relations, as `Word` (File). The file is the crate's own where no other crate is named.
 """
 USE = re.compile(r"ghost use Rattle\.(oai_\w+)\.specs\.(\w+)\.\{([^}]*)\}")
 OWNER = re.compile(r"^(?:impl(?:<[^{]*?>)? (?:(?!.* for )(\w+))|pub trait (\w+))", re.MULTILINE)
+RELATION = re.compile(r"^(?:Is|Are|Has|Have|Was|Can|Does|Uses|[A-Z][a-z]+[^aeiou]s)(?:[A-Z]\w*)?$")
 FUNCTION = re.compile(r"((?:^ *///.*\n)+)(?:^ *#\[.*\n)*^( *)(?:pub )?fn (\w+)", re.MULTILINE)
 
 
@@ -84,7 +85,7 @@ def entries(crate, path):
         word.strip().split(" as ")[0]: (home, module)
         for home, module, words in USE.findall(text)
         for word in words.split(",")
-        if re.match(r"^[A-Z]\w*$", word.strip())
+        if RELATION.match(word.strip())
     }
     for found in FUNCTION.finditer(text):
         doc, indent, name = found.groups()
@@ -105,7 +106,7 @@ def page():
     for crate in crates():
         found = [entry for path in sorted((TOP / "crates" / crate / "src").rglob("*.rt")) for entry in entries(crate, path)]
         if found:
-            text.append(f"## {crate}\n")
+            text.append(f"## {crate}")
             for entry in found:
                 text.append(textwrap.fill(entry, 120, initial_indent="- ", subsequent_indent="  ", break_long_words=False, break_on_hyphens=False))
             text.append("")

@@ -172,17 +172,19 @@ def check_cell(place, cell):
 
 
 def check_testing():
-    """A file of a crate with tests stands in a row that begins with the crate; a crate of tests is named."""
+    """A crate of tests is named, and its entry names each of its files."""
     page = (TOP / "docs/TESTING.md").read_text()
+    entries = re.findall(r"^- (?:.*\n)(?:  .*\n)*", page, re.MULTILINE)
     for folder in sorted((TOP / "crates").glob("tests_*/src")):
         crate = folder.parent.name
         if f"`{crate}`" not in page:
             problem(f"docs/TESTING.md: nothing of {crate}")
         if not any("#[test]" in file.read_text() for file in folder.glob("*.rt")):
             continue
+        entry = next((entry for entry in entries if entry.startswith(f"- `{crate}`")), "")
         for file in sorted(folder.glob("*.rt")):
-            if file.name not in ("lib.rt", "assertions.rt") and not re.search(rf"^\| `{crate}` \|.*`{file.name}`", page, re.MULTILINE):
-                problem(f"docs/TESTING.md: no row of {crate} names {file.name}")
+            if file.name not in ("lib.rt", "assertions.rt") and f"`{file.name}`" not in entry:
+                problem(f"docs/TESTING.md: the entry of {crate} does not name {file.name}")
 
 
 def main():
