@@ -2,7 +2,7 @@
 """Writes docs/CONTRACTS.md from the sources: scripts/contracts.py; to standard output instead: scripts/contracts.py -.
 
 An entry is a law, or a public function that the crate exports and whose clauses cite relations of specs/ (their names begin with
-a verb, as `IsAsked` and `Keeps` do): its name, the first sentence of its doc comment, and these relations, behind those of a file the file.
+a verb, as `IsAsked` and `Keeps` do): its name, of a law the first sentence of its doc comment, and these relations, behind those of a file the file.
 """
 
 import collections
@@ -15,9 +15,9 @@ TOP = pathlib.Path(__file__).resolve().parent.parent
 PAGE = TOP / "docs/CONTRACTS.md"
 HEAD = """# Contracts
 
-Written by `scripts/contracts.py` from the sources; do not edit. Of each crate: its laws, and the functions that it
-exports and whose clauses cite relations of `specs/`, each with the first sentence of its doc comment and these
-relations, as `Word` (File). The file is the crate's own where no other crate is named.
+Written by `scripts/contracts.py` from the sources; do not edit. Of each crate: its laws, each with the first sentence
+of its doc comment, and the functions that it exports and whose clauses cite relations of `specs/`, with these relations,
+as `Word` (File). The file is the crate's own where no other crate is named. What a function does stands at it in `src/`.
 """
 USE = re.compile(r"ghost use Rattle\.(oai_\w+)\.specs\.(\w+)\.\{([^}]*)\}")
 OWNER = re.compile(r"^(?:impl(?:<[^{]*?>)? (?:(?!.* for )(\w+))|pub trait (\w+))", re.MULTILINE)
@@ -98,7 +98,8 @@ def entries(crate, path):
         words = words_in(clauses_of(text, found.end()), known, crate)
         if words or name.endswith("_law"):
             called = f"{owner}::{name}" if owner else name
-            yield f"`{called}`: {first_sentence(doc)}." + (f" {words}." if words else "")
+            is_law = name.endswith("_law")
+            yield f"`{called}`: " + (f"{first_sentence(doc)}." if is_law else "") + (f" {words}." if words and is_law else words)
 
 
 def page():
