@@ -16,8 +16,8 @@ PAGE = TOP / "docs/CONTRACTS.md"
 HEAD = """# Contracts
 
 Written by `scripts/contracts.py` from the sources; do not edit. Of each crate: its laws, each with the first sentence
-of its doc comment, and the functions that it exports and whose clauses cite relations of `specs/`, with these relations,
-as `Word` (File). The file is the crate's own where no other crate is named. What a function does stands at it in `src/`.
+of its doc comment, and the functions that it exports whose clauses cite relations of `specs/`, with these relations,
+as `Word` (File). The file is the crate's own where no other crate is named. What a function does is in its doc comment.
 """
 USE = re.compile(r"ghost use Rattle\.(oai_\w+)\.specs\.(\w+)\.\{([^}]*)\}")
 OWNER = re.compile(r"^(?:impl(?:<[^{]*?>)? (?:(?!.* for )(\w+))|pub trait (\w+))", re.MULTILINE)
