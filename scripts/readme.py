@@ -7,9 +7,10 @@ has one. Every link of a page to a file of this repository leads to one, and to 
 whose text is names in backquotes leads to a file that defines each of them. In docs/THEOREMS.md a row of the table of what is proved names
 functions of a crate's src/, then definitions of specs/, and a file of one of these crates. There, and in the tables of docs/ARCHITECTURE.md, each
 definition stands in the file that is named before it, and each other word in backquotes is a word of src/ or specs/. docs/CONTRACTS.md is as
-scripts/contracts.py writes it. docs/TESTING.md names each file of tests in an entry of its crate.
+scripts/contracts.py writes it. No sentence stands in two of CONFIGURATION, OPERATIONS and PROTOCOL. docs/TESTING.md names each file of tests in an entry of its crate.
 """
 
+import collections
 import pathlib
 import re
 import subprocess
@@ -24,6 +25,7 @@ WORDS = {
     if file.suffix in (".rt", ".antt")
     for word in re.findall(r"\w+", file.read_text())
 }
+USERS = ["docs/CONFIGURATION.md", "docs/OPERATIONS.md", "docs/PROTOCOL.md"]
 LINES = {"README.md": 110, "docs/ARCHITECTURE.md": 250, "docs/DECISIONS.md": 200}
 ALL_LINES, COLUMNS, CRATE_LINES = 3000, 120, 40
 problems = []
@@ -171,6 +173,26 @@ def check_cell(place, cell):
                 problem(f"{place}: no file of src/ or specs/ has the word {word}")
 
 
+def sentences(path):
+    """The sentences of a page's prose that have eight words or more."""
+    text = re.sub(r"^```.*?^```|^    [^\n]*$|^[|#][^\n]*$", "\n\n", (TOP / path).read_text(), flags=re.MULTILINE | re.DOTALL)
+    for paragraph in re.split(r"\n\s*\n|\n *- ", text):
+        for sentence in re.split(r"(?<=[.:;]) ", " ".join(paragraph.split())):
+            if len(sentence.split()) >= 8:
+                yield sentence
+
+
+def check_sentences():
+    """No sentence stands in two of the pages of USERS."""
+    homes = collections.defaultdict(set)
+    for path in USERS:
+        for sentence in sentences(path):
+            homes[sentence.lower()].add(path)
+    for sentence, paths in homes.items():
+        if len(paths) > 1:
+            problem(f"{' and '.join(sorted(paths))}: both have '{sentence}'")
+
+
 def check_testing():
     """A crate of tests is named, and its entry names each of its files."""
     page = (TOP / "docs/TESTING.md").read_text()
@@ -197,6 +219,7 @@ def main():
     check_architecture()
     check_theorems()
     check_contracts()
+    check_sentences()
     check_testing()
     for text in problems:
         print(text)
