@@ -19,10 +19,10 @@ def title_field(text):
     return ["title", text]
 
 
-def look_around(reader):
-    """The first screen; then a repository is chosen, and its three documents are read."""
+def choose_repository(reader):
+    """The first screen, on which a repository is chosen; and then another one."""
     reader.go()
-    seen = reader.expect("the first screen", "Choose a repository", "5 repositories")
+    reader.expect("the first screen", "Choose a repository", "5 repositories")
     reader.orderly("the first screen")
     names = reader.browser.run("return [...document.querySelectorAll('#content li')].map((it) => it.textContent)")
     reader.check("repositories", names, ["Journal of Sets journal", f"{STEAL} hostile", "Library of Ten Thousand Sets many", "Theses theses", "Short Lists short"])
@@ -37,6 +37,14 @@ def look_around(reader):
     reader.reach("#repository", backwards=True)
     reader.browser.press("J")
     reader.enter("#choose button")
+    reader.expect("the first one", "Journal of Sets", "")
+
+
+def look_around(reader):
+    """Identify, the formats and the sets of a repository; and the records of a set."""
+    reader.go()
+    reader.expect("the first screen", "Choose a repository", "5 repositories")
+    reader.enter("#content a", "Journal of Sets")
     seen = reader.expect("Identify", "Journal of Sets", "")
     reader.check("Identify: the focus", reader.browser.run("return document.activeElement.id"), "title")
     reader.check("Identify", seen["terms"], [
@@ -328,6 +336,12 @@ def unfold_depths(reader):
     reader.check("the width of the sets", reader.browser.run("return document.scrollingElement.scrollWidth"), reader.width)
 
 
+NARROW = [
+    ("", "Choose a repository"), ("#/journal", "Journal of Sets"), ("#/journal?verb=ListMetadataFormats", "Formats"), ("#/journal?verb=ListSets", "Sets"),
+    ("#/hostile?verb=ListRecords&metadataPrefix=oai_dc", "Records"), ("#/many?verb=ListSets", "Sets"), ("#/theses?verb=ListSets", "No sets"),
+]
+
+
 def read_narrow(reader):
     """All of it in a window of 360 points, in light and in dark colours."""
     reader.width = 360
@@ -342,12 +356,6 @@ def read_narrow(reader):
             unfold_depths(reader)
     reader.browser.window(1200, 900)
     reader.width = 1200
-
-
-NARROW = [
-    ("", "Choose a repository"), ("#/journal", "Journal of Sets"), ("#/journal?verb=ListMetadataFormats", "Formats"), ("#/journal?verb=ListSets", "Sets"),
-    ("#/hostile?verb=ListRecords&metadataPrefix=oai_dc", "Records"), ("#/many?verb=ListSets", "Sets"), ("#/theses?verb=ListSets", "No sets"),
-]
 
 
 def take_pictures(reader):
@@ -372,38 +380,37 @@ def check_pages(reader):
         reader.check("the lines of docs/OPERATIONS.md", re.sub("^    ", "", shown, flags=re.M), (TOP / "web/nginx.conf").read_text())
 
 
+def go_through(reader, archive, stamp):
+    """All of it; `stamp` is the datestamp of the journal's items."""
+    choose_repository(reader)
+    look_around(reader)
+    read_one(reader, stamp)
+    read_headers(reader, stamp)
+    read_errors(reader)
+    read_parts(reader, stamp)
+    read_busy(reader, archive)
+    read_while_down(reader, archive)
+    read_hostile(reader)
+    read_many(reader)
+    read_narrow(reader)
+    network(reader)
+    read_console(reader)
+    try_policy(reader)
+    check_pages(reader)
+    reader.check("what had the focus unseen", reader.unseen, [])
+
+
 def main():
-    with tempfile.TemporaryDirectory() as folder:
-        archive = Archive(folder)
-        browser = None
-        try:
-            stamps = {name: archive.deposit(name, lines) for name, lines in DEPOSITS.items()}
-            browser = Browser(HOST)
+    with tempfile.TemporaryDirectory() as folder, Archive(folder) as archive:
+        stamps = {name: archive.deposit(name, lines) for name, lines in DEPOSITS.items()}
+        with Browser(HOST) as browser:
             browser.window(1200, 900)
             browser.scheme("light")
             reader = Reader(browser, archive.origin)
             if "pictures" in sys.argv[1:]:
                 take_pictures(reader)
             else:
-                look_around(reader)
-                read_one(reader, stamps["journal"])
-                read_headers(reader, stamps["journal"])
-                read_errors(reader)
-                read_parts(reader, stamps["journal"])
-                read_busy(reader, archive)
-                read_while_down(reader, archive)
-                read_hostile(reader)
-                read_many(reader)
-                read_narrow(reader)
-                network(reader)
-                read_console(reader)
-                try_policy(reader)
-                check_pages(reader)
-                reader.check("what had the focus unseen", reader.unseen, [])
-        finally:
-            if browser:
-                browser.close()
-            archive.close()
+                go_through(reader, archive, stamps["journal"])
     print(f"{reader.checked} checked, {reader.differ} differ")
     sys.exit(reader.differ != 0)
 

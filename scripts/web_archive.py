@@ -132,7 +132,10 @@ class Archive:
     def proxy(self, *arguments):
         subprocess.run(["nginx", "-p", str(self.folder), "-c", "nginx.conf", "-e", "error.log", *arguments], check=True)
 
-    def close(self):
+    def __enter__(self):
+        return self
+
+    def __exit__(self, *_):
         """Ends both."""
         self.proxy("-s", "stop")
         self.kill()

@@ -43,7 +43,10 @@ class Browser:
         except urllib.error.HTTPError as refused:
             raise RuntimeError(json.load(refused)["value"]["message"]) from refused
 
-    def close(self):
+    def __enter__(self):
+        return self
+
+    def __exit__(self, *_):
         """Ends the browser."""
         try:
             self.send("DELETE", "")

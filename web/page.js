@@ -72,7 +72,6 @@ function showView(view, isFirst) {
     page("content").replaceChildren(...view.body);
     if (!isFirst) {
         page("title").focus();
-        scrollTo(0, 0);
     }
 }
 
@@ -154,7 +153,7 @@ function askForm(form, first) {
 
 /** Reads which repositories there are: of each of `repositories` in repositories.json its `name` and its `repositoryName`. */
 async function readRepositories() {
-    const answer = await fetch("repositories.json");
+    const answer = await fetch("repositories.json", { cache: "no-cache" });
     const read = await answer.json();
     repositories = read.repositories.map(({ name, repositoryName }) => ({ name: String(name), repositoryName: String(repositoryName || name) }));
     const options = repositories.map(({ name, repositoryName }) => element("option", { value: name }, `${repositoryName} (${name})`));
