@@ -268,7 +268,10 @@ def try_all(trial, folder):
 def main():
     trial = Trial()
     with tempfile.TemporaryDirectory() as folder:
-        try_all(trial, folder)
+        try:
+            try_all(trial, folder)
+        except RuntimeError as fault:
+            trial.check("the trial goes on", str(fault), None)
     print(f"{trial.checked} checked, {trial.differ} differ")
     sys.exit(trial.differ != 0)
 

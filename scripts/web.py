@@ -48,8 +48,8 @@ def look_around(reader):
     seen = reader.expect("Identify", "Journal of Sets", "")
     reader.check("Identify: the focus", reader.browser.run("return document.activeElement.id"), "title")
     reader.check("Identify", seen["terms"], [
-        ["Base URL", f"https://{HOST}/oai/journal"], ["Responsible", f"journal@{HOST}"], ["Protocol", "OAI-PMH 2.0"],
-        ["Earliest datestamp", "2024-01-01T00:00:00Z"], ["Datestamps count", "seconds"],
+        ["Base URL", f"https://{HOST}/oai/journal"], ["Administrator", f"journal@{HOST}"], ["Protocol", "OAI-PMH 2.0"],
+        ["Earliest datestamp", "2024-01-01T00:00:00Z"], ["Granularity", "seconds"],
         ["Deleted records", "persistent: a deleted item is shown as deleted for ever"]])
     reader.orderly("Identify")
     reader.enter("nav a", "Formats", backwards=True)
@@ -241,7 +241,7 @@ def read_hostile(reader):
     """Texts that attack are seen as they are; letters of other directions and of four bytes too."""
     reader.go("#/hostile")
     seen = reader.expect("a name that attacks", STEAL, "")
-    reader.check("an address that attacks", seen["terms"][1], ["Responsible", LINK])
+    reader.check("an address that attacks", seen["terms"][1], ["Administrator", LINK])
     reader.enter("nav a", "Formats", backwards=True)
     reader.expect("a format that attacks", "Formats", "2 formats")
     reader.check("a format that attacks", reader.browser.run("return [...document.querySelectorAll('.format dd')].slice(2).map((it) => it.textContent)"),
@@ -381,22 +381,16 @@ def check_pages(reader):
 
 
 def go_through(reader, archive, stamp):
-    """All of it; `stamp` is the datestamp of the journal's items."""
-    choose_repository(reader)
-    look_around(reader)
-    read_one(reader, stamp)
-    read_headers(reader, stamp)
-    read_errors(reader)
-    read_parts(reader, stamp)
-    read_busy(reader, archive)
-    read_while_down(reader, archive)
-    read_hostile(reader)
-    read_many(reader)
-    read_narrow(reader)
-    network(reader)
-    read_console(reader)
-    try_policy(reader)
-    check_pages(reader)
+    """All of it; `stamp` is the datestamp of the journal's items. Where one step finds no way the next ones go on."""
+    steps = [
+        (choose_repository,), (look_around,), (read_one, stamp), (read_headers, stamp), (read_errors,), (read_parts, stamp), (read_busy, archive),
+        (read_while_down, archive), (read_hostile,), (read_many,), (read_narrow,), (network,), (read_console,), (try_policy,), (check_pages,),
+    ]
+    for step, *arguments in steps:
+        try:
+            step(reader, *arguments)
+        except RuntimeError as fault:
+            reader.check(step.__doc__, str(fault), None)
     reader.check("what had the focus unseen", reader.unseen, [])
 
 

@@ -17,10 +17,10 @@ function identifyView(place, answer) {
         title: foreign(textOf(answer, "repositoryName")),
         body: [terms([
             ["Base URL", linked(textOf(answer, "baseURL"))],
-            ...childrenOf(answer, "adminEmail").map((address) => ["Responsible", foreign(address.textContent)]),
+            ...childrenOf(answer, "adminEmail").map((address) => ["Administrator", foreign(address.textContent)]),
             ["Protocol", `OAI-PMH ${textOf(answer, "protocolVersion")}`],
             ["Earliest datestamp", textOf(answer, "earliestDatestamp")],
-            ["Datestamps count", GRANULARITIES[granularity] || foreign(granularity)],
+            ["Granularity", GRANULARITIES[granularity] || foreign(granularity)],
             ["Deleted records", DELETED_RECORDS[kept] || foreign(kept)],
         ])],
     };

@@ -4,7 +4,7 @@
 const ERRORS = {
     badVerb: ["This is no request", "The verb is missing, is there twice, or is none of the six that OAI-PMH has."],
     badArgument: ["An argument is wrong", "One is missing, stands twice, is not known here, or is not written as it must be. A day is written as "
-        + "2024-12-31. A second is written as 2024-12-31T00:00:00Z, where the repository counts seconds. Both dates are of one kind, and the first "
+        + "2024-12-31. A second is written as 2024-12-31T00:00:00Z, where the granularity is seconds. Both dates are of one kind, and the first "
         + "is not after the last."],
     badResumptionToken: ["This list has ended", "A list stays open for some time after each of its parts. This one is no longer open, or its token "
         + "was never handed out. Begin the list again."],
