@@ -17,7 +17,7 @@ ITEM = '{"deposit":"oai:a:1","sets":[],"records":{"oai_dc":[["title","On Sets"]]
 EXAMPLE = "/usr/share/doc/oaihost/examples/archive.example"
 
 # For how many seconds is waited for a boot, a start and an end.
-PATIENCE = 120
+PATIENCE = 300
 
 
 class Trial:
@@ -61,6 +61,10 @@ class Machine:
         if done.returncode != 0:
             raise RuntimeError(f"{command}: {done.returncode}: {done.stdout}{done.stderr}")
         return done.stdout.strip()
+
+    def apt(self, command, name):
+        """Has apt-get do that; it waits where the timers of a fresh root have it at work."""
+        self.said(f"apt-get -o DPkg::Lock::Timeout={PATIENCE} {command} -y {name}")
 
     def ask(self, path, body=None):
         """What the server in it answers, by a client beside it in its network."""
@@ -120,7 +124,7 @@ def look_at(trial, package):
 
 def install(trial, machine, package):
     """It is installed: started at each boot, and not now, since there is no configuration; and the unit is sound."""
-    machine.said(f"apt-get install -y /srv/{package.name}")
+    machine.apt("install", f"/srv/{package.name}")
     trial.check("started at boots", machine.said(f"systemctl is-enabled {UNIT}"), "enabled")
     trial.check("not started yet", machine.run(f"systemctl is-active {UNIT}").stdout.strip(), "inactive")
     trial.check("no archive yet", machine.run("ls /var/lib/oaihostd").returncode, 2)
@@ -202,7 +206,7 @@ def change_configuration(trial, machine, stamp):
 def upgrade(trial, machine, package, stamp):
     """A later package is installed over the running archive, which goes on with it."""
     before = property_of(machine, "MainPID")
-    machine.said(f"apt-get install -y /srv/{package.name}")
+    machine.apt("install", f"/srv/{package.name}")
     trial.check("the later package", machine.said("dpkg-query -W -f '${Version}' oaihost"), package.name.split("_")[1])
     trial.check("it was started anew", property_of(machine, "MainPID") not in (before, "0"), True)
     has_item(trial, machine, "behind an upgrade", stamp)
@@ -210,11 +214,11 @@ def upgrade(trial, machine, package, stamp):
 
 def remove(trial, machine, package, stamp):
     """Removed, it leaves the archive, with which it goes on once it is installed again; purged, it leaves nothing."""
-    machine.said("apt-get remove -y oaihost")
+    machine.apt("remove", "oaihost")
     trial.check("removed", machine.run(f"ls /usr/sbin/oaihostd /usr/bin/oaihost /usr/share/oaihost /lib/systemd/system/{UNIT} 2>/dev/null").stdout, "")
     trial.check("it listens no more", machine_sockets(machine), [])
     trial.check("what stays", machine.said("cd / && ls etc/oaihost/* var/lib/oaihostd/journal"), "etc/oaihost/archive.json\nvar/lib/oaihostd/journal")
-    machine.said(f"apt-get install -y /srv/{package.name}")
+    machine.apt("install", f"/srv/{package.name}")
     has_item(trial, machine, "once it is installed again", stamp)
 
 
@@ -226,7 +230,7 @@ def files(machine):
 
 
 def purge(trial, machine, before):
-    machine.said("apt-get purge -y oaihost")
+    machine.apt("purge", "oaihost")
     trial.check("what a purge leaves", sorted(files(machine) - before), [])
     trial.check("what a purge takes of others", sorted(before - files(machine)), [])
 

@@ -280,8 +280,17 @@ REFUSED = [
 ]
 
 
+POLICY = {
+    "default-src": "'none'", "script-src": "'self'", "style-src": "'self'", "img-src": "'self'", "connect-src": "'self'", "base-uri": "'none'",
+    "form-action": "'none'", "frame-ancestors": "'none'", "require-trusted-types-for": "'script'", "trusted-types": "'none'",
+}
+
+
 def try_policy(reader):
     """What the page never does is refused by its policy, were it to do so."""
+    reader.go()
+    said = reader.browser.run("const it = new XMLHttpRequest(); it.open('GET', '/', false); it.send(); return it.getResponseHeader('Content-Security-Policy')")
+    reader.check("the policy", dict(it.strip().split(" ", 1) for it in said.split(";")), POLICY)
     for script, wanted in REFUSED:
         tried = f"try {{ {script}; return 'done'; }} catch (fault) {{ return fault.name; }}"
         reader.check(f"refused: {script}", reader.browser.run(tried), wanted)

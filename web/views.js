@@ -108,35 +108,40 @@ function selection(asked) {
     return line(...parts.map(([word, name]) => element("span", {}, `${word} `, code(asked.get(name)))));
 }
 
-/** Links to the parts of a list before and behind this one. */
+/** Links to the parts of a list before and behind this one; nothing where it came whole. */
 function partLinks(place, chain, token) {
-    const links = element("p", { class: "parts" });
+    const links = [];
     if (chain.before) {
-        links.append(element("a", { href: chain.before, "data-kept": "" }, "Part before"));
+        links.push(element("a", { href: chain.before, "data-kept": "" }, "Part before"));
     }
     if (token && token.text !== "") {
-        links.append(requestLink(place, { verb: place.asked.get("verb"), resumptionToken: token.text }, "Next part"));
+        links.push(requestLink(place, { verb: place.asked.get("verb"), resumptionToken: token.text }, "Next part"));
     }
-    return links;
+    return links.length > 0 ? [element("p", { class: "parts" }, ...links)] : [];
 }
 
-/** ListRecords and ListIdentifiers (sections 4.3 and 4.5), a part at a time. */
+/** How long a list is open. */
+function openUntil(token) {
+    return line(token.text === ""
+        ? "This is the last part."
+        : `The list stays as it was when it was begun. It is open until ${token.ends}, and longer with each part that is read.`);
+}
+
+/** ListRecords and ListIdentifiers (sections 4.5 and 4.3), a part at a time. */
 function listView(place, answer, prefix, chain) {
     const isOfRecords = place.asked.get("verb") === "ListRecords";
     const records = isOfRecords
         ? childrenOf(answer, "record").map((record) => recordView(place, record, childOf(record, "header"), prefix))
         : childrenOf(answer, "header").map((header) => recordView(place, null, header, prefix));
     const token = readToken(answer);
-    const status = token
-        ? `${token.cursor + 1} to ${token.cursor + records.length} of ${token.size.toLocaleString("en")}`
-        : `${counted(records.length, isOfRecords ? "record" : "header")}, all of them`;
-    const body = [selection(chain.asked), partLinks(place, chain, token), ...records, partLinks(place, chain, token)];
-    if (token) {
-        body.splice(1, 0, line(token.text === ""
-            ? "This is the last part."
-            : `The list stays as it was when it was begun. It is open until ${token.ends}, and longer with each part that is read.`));
-    }
-    return { title: isOfRecords ? "Records" : "Headers", body, status };
+    const links = () => partLinks(place, chain, token);
+    return {
+        title: isOfRecords ? "Records" : "Headers",
+        body: [selection(chain.asked), ...(token ? [openUntil(token)] : []), ...links(), ...records, ...links()],
+        status: token
+            ? `${token.cursor + 1} to ${token.cursor + records.length} of ${token.size.toLocaleString("en")}`
+            : `${counted(records.length, isOfRecords ? "record" : "header")}, all of them`,
+    };
 }
 
 /** An answer in place of what was asked for: a title, words, and buttons and links. */
