@@ -110,8 +110,7 @@ def page():
             text.append(f"## {crate}")
             for entry in found:
                 text.append(textwrap.fill(entry, 120, initial_indent="- ", subsequent_indent="  ", break_long_words=False, break_on_hyphens=False))
-            text.append("")
-    return "\n".join(text)
+    return "\n".join(text) + "\n"
 
 
 if __name__ == "__main__":

@@ -59,7 +59,7 @@ def check_size(path, most):
     if most and len(lines) > most:
         problem(f"{path}: {len(lines)} lines, more than {most}")
     for number, line in enumerate(lines, 1):
-        if len(line) > COLUMNS:
+        if len(line) > COLUMNS and not line.startswith("    "):
             problem(f"{path}:{number}: {len(line)} columns, more than {COLUMNS}")
 
 
