@@ -4,6 +4,8 @@
 #[cfg(test)]
 mod clocks;
 #[cfg(test)]
+mod dumps;
+#[cfg(test)]
 mod places;
 #[cfg(test)]
 mod starts;

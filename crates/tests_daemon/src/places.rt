@@ -113,14 +113,19 @@ fn add_tick<J: Journal>(journal: &mut J, moment: i64) -> Result<(), Stop> {
         name: b"a",
         body: b"",
     };
-    if !tick.is_fit() {
+    add_record(journal, &tick)
+}
+
+/// Adds a record behind the first one, and commits it.
+pub(crate) fn add_record<J: Journal>(journal: &mut J, record: &Record<'_>) -> Result<(), Stop> {
+    if !record.is_fit() || record.kind.is_first() {
         return Err(Stop::CannotWrite);
     }
-    match journal.reserve(tick.body.len()) {
+    match journal.reserve(record.body.len()) {
         Ok(()) => {}
         Err(_) => return Err(Stop::CannotWrite),
     }
-    journal.append(&tick);
+    journal.append(record);
     match journal.commit() {
         Ok(()) => Ok(()),
         Err(_) => Err(Stop::CannotWrite),
