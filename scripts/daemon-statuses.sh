@@ -1,6 +1,6 @@
 #!/usr/bin/env bash
 # Shows that `oaihostd` ends with the status that it should, says on standard error what it should, and changes nothing that it does not go on with: at
-# arguments that it does not know, at a configuration that is none or not the journal's, at a folder that is a file, cannot be made or is in use, at a
+# arguments that it does not know, at a configuration that is none or differs from the journal's, at a dump of no repository, at a folder that is a file, cannot be made or is in use, at a
 # port that is taken, and at a journal of another program, of another version, or with a changed byte in its first frame, in a head, a body, a length or a
 # gate. And that a start which was cut off before it had a journal is made again. It names each case that differs; its status is 0 where
 # none does. It stands beside the gate. OAIHOSTD is the program, `bin/oaihostd` if it is not set. It needs python3.
@@ -13,7 +13,7 @@ folder=$(mktemp -d)
 said=$folder/said
 first=
 trap '[ -z "$first" ] || kill "$first" 2>/dev/null; rm -rf "$folder"' EXIT
-usage='usage: oaihostd serve CONFIG PORT FOLDER | verify FOLDER'
+usage='usage: oaihostd serve CONFIG PORT FOLDER | verify FOLDER | dump FOLDER NAME | checkpoint CONFIG FOLDER'
 wrong=0
 # The first use builds the program.
 "$daemon" >/dev/null 2>&1
@@ -71,7 +71,7 @@ damaged() {
     }
 }
 
-for arguments in '' 'serve' 'serve a' 'serve a 1' 'serve a 1 b c' 'verify' 'verify a b' 'Serve a 1 b' 'check a' 'serve a 65536 b' 'serve a +1 b' 'serve a x b'; do
+for arguments in '' 'serve' 'serve a' 'serve a 1' 'serve a 1 b c' 'verify' 'verify a b' 'dump a' 'dump a b c' 'checkpoint a' 'Serve a 1 b' 'check a' 'serve a 65536 b' 'serve a +1 b' 'serve a x b'; do
     # shellcheck disable=SC2086
     ended 2 "$usage" "oaihostd $arguments" $arguments
 done
@@ -91,11 +91,25 @@ ended 1 'folder: in use' 'a second server' serve "$config" 0 "$folder/good"
 ended 1 'socket fault' 'a port that is taken' serve "$config" "$port" "$folder/other"
 ended 0 '' 'verify beside a server' verify "$folder/good"
 killed
-python3 -c 'import sys
+changed_config() {
+    python3 -c 'import sys
 text = open(sys.argv[1]).read()
-open(sys.argv[2], "w").write(text.replace("Archive", "Library", 1))' "$config" "$folder/changed.json"
-ended 2 "$("$daemon" serve "$folder/changed.json" 0 "$folder/good" 2>&1 >/dev/null | grep 'config: differs from the journal: ')" 'another configuration' \
-    serve "$folder/changed.json" 0 "$folder/good"
+open(sys.argv[2], "w").write(text.replace(sys.argv[3], sys.argv[4], 1))' "$config" "$folder/$1.json" "$2" "$3"
+}
+cp -r "$folder/good" "$folder/other"
+changed_config deleted '"persistent"' '"transient"'
+ended 2 'config: differs from the journal: repository a: deletedRecord' 'another deletedRecord' serve "$folder/deleted.json" 0 "$folder/other"
+changed_config name '"name": "a"' '"name": "z"'
+ended 2 'config: differs from the journal: repository a: name' 'a repository that is missing' serve "$folder/name.json" 0 "$folder/other"
+ended 2 'config: differs from the journal: repository a: name' 'a checkpoint without a repository' checkpoint "$folder/name.json" "$folder/other"
+cmp -s "$folder/good/journal" "$folder/other/journal" || { echo "a configuration that differs changed the journal"; wrong=1; }
+changed_config title Archive Library
+ended 124 'config: another one: the open lists have ended' 'another name for people' serve "$folder/title.json" 0 "$folder/other"
+ended 0 '' 'a checkpoint' checkpoint "$folder/title.json" "$folder/other"
+ended 1 'folder: cannot open' 'a checkpoint of nothing' checkpoint "$config" "$folder/nothing"
+ended 2 'dump: no such repository' 'a dump of no repository' dump "$folder/other" nobody
+ended 0 '' 'a dump' dump "$folder/other" a
+[ "$("$daemon" dump "$folder/other" a)" = '{"deposit":"oai:a:1","records":{"oai_dc":[["title","On Sets"]]},"sets":[]}' ] || { echo "a dump: other lines"; wrong=1; }
 
 size=$(stat -c %s "$folder/good/journal")
 damaged gate 0 - 'journal: damaged at byte 0' 'the first gate closed'
