@@ -191,8 +191,8 @@ def kill(trial, machine, stamp):
 
 
 def change_configuration(trial, machine, stamp):
-    """With another configuration it ends with the status 2, and is not started again and again; with the one of before it goes on."""
-    machine.said("cp -p /etc/oaihost/archive.json /root/ && sed -i 's/Archive A/Library A/' /etc/oaihost/archive.json")
+    """With another deletedRecord it ends with the status 2, and is not started again and again; with the configuration of before it goes on."""
+    machine.said("cp -p /etc/oaihost/archive.json /root/ && sed -i '0,/persistent/s//transient/' /etc/oaihost/archive.json")
     machine.said(f"systemctl restart {UNIT}")
     wait(lambda: property_of(machine, "ActiveState") == "failed")
     time.sleep(7)

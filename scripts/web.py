@@ -384,7 +384,7 @@ def take_pictures(reader):
 
 def check_pages(reader):
     """Where docs/OPERATIONS.md shows the page's place, its lines for nginx are those of web/nginx.conf."""
-    shown = re.search(r"^    server \{\n(?:    .*\n|\n)*?    \}\n", (TOP / "docs/OPERATIONS.md").read_text(), re.M)[0]
+    shown = re.search(r"^    upstream oaihostd \{\n(?:    .*\n|\n)*?    \}\n\n    server \{\n(?:    .*\n|\n)*?    \}\n", (TOP / "docs/OPERATIONS.md").read_text(), re.M)[0]
     if "repositories.json" in shown:
         reader.check("the lines of docs/OPERATIONS.md", re.sub("^    ", "", shown, flags=re.M), (TOP / "web/nginx.conf").read_text())
 
