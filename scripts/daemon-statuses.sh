@@ -96,20 +96,20 @@ changed_config() {
 text = open(sys.argv[1]).read()
 open(sys.argv[2], "w").write(text.replace(sys.argv[3], sys.argv[4], 1))' "$config" "$folder/$1.json" "$2" "$3"
 }
-cp -r "$folder/good" "$folder/other"
+cp -r "$folder/good" "$folder/kept"
 changed_config deleted '"persistent"' '"transient"'
-ended 2 'config: differs from the journal: repository a: deletedRecord' 'another deletedRecord' serve "$folder/deleted.json" 0 "$folder/other"
-changed_config name '"name": "a"' '"name": "z"'
-ended 2 'config: differs from the journal: repository a: name' 'a repository that is missing' serve "$folder/name.json" 0 "$folder/other"
-ended 2 'config: differs from the journal: repository a: name' 'a checkpoint without a repository' checkpoint "$folder/name.json" "$folder/other"
-cmp -s "$folder/good/journal" "$folder/other/journal" || { echo "a configuration that differs changed the journal"; wrong=1; }
+ended 2 'config: differs from the journal: repository a: deletedRecord' 'another deletedRecord' serve "$folder/deleted.json" 0 "$folder/kept"
+changed_config name '"name":"a"' '"name":"z"'
+ended 2 'config: differs from the journal: repository a: name' 'a repository that is missing' serve "$folder/name.json" 0 "$folder/kept"
+ended 2 'config: differs from the journal: repository a: name' 'a checkpoint without a repository' checkpoint "$folder/name.json" "$folder/kept"
+cmp -s "$folder/good/journal" "$folder/kept/journal" || { echo "a configuration that differs changed the journal"; wrong=1; }
 changed_config title Archive Library
-ended 124 'config: another one: the open lists have ended' 'another name for people' serve "$folder/title.json" 0 "$folder/other"
-ended 0 '' 'a checkpoint' checkpoint "$folder/title.json" "$folder/other"
+ended 124 'config: another one: the open lists have ended' 'another name for people' serve "$folder/title.json" 0 "$folder/kept"
+ended 0 '' 'a checkpoint' checkpoint "$folder/title.json" "$folder/kept"
 ended 1 'folder: cannot open' 'a checkpoint of nothing' checkpoint "$config" "$folder/nothing"
-ended 2 'dump: no such repository' 'a dump of no repository' dump "$folder/other" nobody
-ended 0 '' 'a dump' dump "$folder/other" a
-[ "$("$daemon" dump "$folder/other" a)" = '{"deposit":"oai:a:1","records":{"oai_dc":[["title","On Sets"]]},"sets":[]}' ] || { echo "a dump: other lines"; wrong=1; }
+ended 2 'dump: no such repository' 'a dump of no repository' dump "$folder/kept" nobody
+ended 0 '' 'a dump' dump "$folder/kept" a
+[ "$("$daemon" dump "$folder/kept" a)" = '{"deposit":"oai:a:1","records":{"oai_dc":[["title","On Sets"]]},"sets":[]}' ] || { echo "a dump: other lines"; wrong=1; }
 
 size=$(stat -c %s "$folder/good/journal")
 damaged gate 0 - 'journal: damaged at byte 0' 'the first gate closed'
