@@ -125,7 +125,7 @@ impl<W: Write> Lines<'_, W> {
         let Some((spec, name)) = text.split_once(' ') else {
             return Err(Stop::NotOurs);
         };
-        let Ok(spec) = SetSpec::new(self.alloc, spec) else {
+        let Ok(spec) = SetSpec::read(self.alloc, spec) else {
             return Err(Stop::NotOurs);
         };
         let line = set_line(self.alloc, &spec, name)?;

@@ -40,6 +40,7 @@ pub(crate) fn is_of(alloc: Global, first: &Record<'_>, text: &[u8]) -> Result<bo
 }
 
 /// Whether two configurations are the same but for how many pages the cache has. The error is out of memory.
+#[tactic(auto, using(crate::proofs::FirstLemmas::same_written))]
 fn is_same(alloc: Global, config: &[u8], text: &[u8]) -> Result<bool, AllocError>
     ensures { IfOk result (λ same. IsTrue same → IsSameConfig config.now text.now) }
 {
