@@ -193,24 +193,3 @@ fn disk_that_fails(rt: HostRuntime) {
     assert!(&rt; failed < 20);
     assert!(&rt; failed > 5);
 }
-
-/// 600,000 bytes.
-fn long_body(alloc: Global) -> Vec<u8> {
-    let mut body = Vec::new(alloc);
-    for _ in 0..600_000u32 {
-        if body.push(b'x').is_err() {
-            break;
-        }
-    }
-    body
-}
-
-/// Five parts of 600,000 bytes are three groups: one is committed once more than 1 MiB waits, and the last one at the end.
-#[test]
-fn groups(rt: HostRuntime) {
-    let body = long_body(rt.alloc());
-    let part = part_of_a(PartKind::Item, 0, body.as_slice());
-    let disk = written(&rt, rt.alloc(), &[part, part, part, part, part]).into_disk();
-    let gates = disk.bytes().iter().filter(|byte| **byte == b'+').count();
-    assert!(&rt; gates == 4);
-}
