@@ -5,11 +5,5 @@
 # Usage: scripts/checkpoint-size.sh [ITEMS [TIMES]]
 set -u
 cd "$(dirname "$0")/.." || exit 2
-program="${OAIHOSTD:-bin/oaihostd}"
-# The first use builds the program, which is then called itself.
-if [ -z "${OAIHOSTD:-}" ]; then
-    "$program" >/dev/null 2>&1
-    [ $? -eq 2 ] || exit 2
-    program=crates/oaihostd/out/oaihostd
-fi
+source scripts/daemon_program.sh
 exec python3 -B scripts/checkpoint_size.py "$program" "${1:-1000000}" "${2:-10}"

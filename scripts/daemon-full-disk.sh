@@ -7,13 +7,7 @@
 # Usage: scripts/daemon-full-disk.sh
 set -u
 cd "$(dirname "$0")/.." || exit 2
-program="${OAIHOSTD:-bin/oaihostd}"
-# The first use builds the program, which is then called itself.
-if [ -z "${OAIHOSTD:-}" ]; then
-    "$program" >/dev/null 2>&1
-    [ $? -eq 2 ] || exit 2
-    program=crates/oaihostd/out/oaihostd
-fi
+source scripts/daemon_program.sh
 folder=$(mktemp -d)
 trap 'rm -rf "$folder"' EXIT
 # The file system is gone with the last process that sees it.

@@ -11,11 +11,5 @@ if [ $# -lt 1 ]; then
     echo "usage: scripts/kill.sh N [SEED]" >&2
     exit 2
 fi
-program="${OAIHOSTD:-bin/oaihostd}"
-# The first use builds the program, which is then called itself.
-if [ -z "${OAIHOSTD:-}" ]; then
-    "$program" >/dev/null 2>&1
-    [ $? -eq 2 ] || exit 2
-    program=crates/oaihostd/out/oaihostd
-fi
+source scripts/daemon_program.sh
 exec python3 -B scripts/kill.py "$program" "$@"

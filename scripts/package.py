@@ -192,13 +192,13 @@ def kill(trial, machine, stamp):
 
 def change_configuration(trial, machine, stamp):
     """With another deletedRecord it ends with the status 2, and is not started again and again; with the configuration of before it goes on."""
-    machine.said("cp -p /etc/oaihost/archive.json /root/ && sed -i '0,/persistent/s//transient/' /etc/oaihost/archive.json")
+    machine.said("sed -i.before '0,/persistent/s//transient/' /etc/oaihost/archive.json")
     machine.said(f"systemctl restart {UNIT}")
     wait(lambda: property_of(machine, "ActiveState") == "failed")
     time.sleep(7)
     trial.check("another configuration", [property_of(machine, it) for it in ("ActiveState", "ExecMainStatus", "NRestarts")], ["failed", "2", "0"])
     trial.check("what it said", "config: differs from the journal" in machine.said(f"journalctl --no-pager -u {UNIT} -n 20"), True)
-    machine.said("mv /root/archive.json /etc/oaihost/archive.json")
+    machine.said("mv /etc/oaihost/archive.json.before /etc/oaihost/archive.json")
     machine.said(f"systemctl start {UNIT}")
     has_item(trial, machine, "behind another configuration", stamp)
 
