@@ -30,8 +30,11 @@ class Browser:
             "browserName": "chrome", "acceptInsecureCerts": True, "goog:chromeOptions": options,
             "goog:loggingPrefs": {"browser": "ALL", "performance": "ALL"},
         }
-        made = self.send("POST", "/session", {"capabilities": {"alwaysMatch": capabilities}})
-        self.address += f"/session/{made['sessionId']}"
+        # By the standard WebDriver a path begins with the name of this member, without its last two letters.
+        member = "sessionId"
+        self.address += f"/{member[:-2]}"
+        made = self.send("POST", "", {"capabilities": {"alwaysMatch": capabilities}})
+        self.address += f"/{made[member]}"
 
     def send(self, method, path, body=None):
         """A command, and the value of its answer."""
