@@ -1,4 +1,4 @@
-//! Twenty lives of three repositories, as a model answers what is asked in them: written by scripts/lives.py. A line is an answer's status, the seconds
+//! Twenty lives of three repositories, as a model answers what is asked in them: written by scripts/run lives. A line is an answer's status, the seconds
 //! of a 503, how many bytes its body has and their 64-bit FNV-1a hash, and then what is asked: the moment, the method, the target, and the body.
 
 /// Their configuration.

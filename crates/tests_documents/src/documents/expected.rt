@@ -1,4 +1,4 @@
-//! The documents that the tests want, whole. `scripts/well-formed.sh` takes them from here: each
+//! The documents that the tests want, whole. `scripts/run well-formed` takes them from here: each
 //! begins with its XML declaration and ends with the end tag of its root and a line end. A `→` stands
 //! for a tab, which no source file may hold.
 

@@ -1,0 +1,449 @@
+"""Moves an archive with scripts/mirror, disturbs it, and compares source and target."""
+
+import collections
+import json
+import os
+import pty
+import random
+import signal
+import socket
+import subprocess
+import sys
+import tempfile
+import threading
+import time
+from concurrent.futures import ThreadPoolExecutor
+
+from oai.interop import moved, shown, stamp_now
+from oai.items import DUBLIN_CORE, JOURNAL, any_fields, configuration, plain_text
+from oai.journal import Journal
+from oai.programs import needs, oaihostd
+from oai.relay import LATER, REFUSED_TOKEN, Relay
+from oai.servers import serve_durably, write_configuration
+
+SEED = 27
+ITEMS = int(os.environ.get("ITEMS", "5000"))
+LIMIT = 100
+PREFIXES = ["oai_dc", "jnl"]
+
+# The sets, each with its name, as XML. One lies in a set that the source does not list.
+SETS = {
+    "theses": "Theses &amp; Dissertations",
+    "theses:law": "&lt;Law&gt;",
+    "theses:law:canon": "Canon &quot;law&quot;",
+    "letters": "Lettres, письма, 手紙",
+    "a-z.(1)!": "A name that says ']]&gt;' and 😀",
+    "unlisted:inner": "Its parent is not there",
+}
+
+# What the target names them. A set that the source does not list has its setSpec for a name.
+NAMES = {
+    "theses": "Theses & Dissertations",
+    "theses:law": "<Law>",
+    "theses:law:canon": 'Canon "law"',
+    "letters": "Lettres, письма, 手紙",
+    "a-z.(1)!": "A name that says ']]>' and 😀",
+    "unlisted": "unlisted",
+    "unlisted:inner": "Its parent is not there",
+}
+
+# Identifiers behind `oai:source.example:` that are no URIs.
+NO_URIS = ["a b", "é1", "x^2"]
+
+
+class Source:
+    """The other data provider, and its items by their identifiers."""
+
+    def __init__(self, folder):
+        self.folder, self.random, self.items = folder, random.Random(SEED), {}
+        self.port, self.process = free_port(), None
+        for number in range(ITEMS):
+            front = self.random.choice(["", "x/", "%C3%A9-", "(a);", "A+B="])
+            self.set_item(f"{front}{number}", moved(stamp_now(), -self.random.randrange(10, 1_000_000)), deleted=number % 50 == 0)
+        for it in NO_URIS:
+            self.set_item(it, moved(stamp_now(), -10))
+        with open(f"{folder}/sets.json", "w", encoding="utf-8") as it:
+            json.dump(SETS, it)
+
+    def set_item(self, identifier, stamp, deleted=False, sets=None):
+        """Gives an item a new state."""
+        texts = any_fields(self.random, DUBLIN_CORE) + [["description", plain_text(self.random, 100)]]
+        sets = self.random.choices(list(SETS), k=self.random.randrange(4)) if sets is None else sets
+        item = {"_id": identifier, "datestamp": stamp, "sets": list(dict.fromkeys(sets)), "deleted": int(deleted)}
+        self.items[identifier] = item | {"oai_dc": texts, "jnl": any_fields(self.random, JOURNAL["fields"])}
+
+    def live(self):
+        return [name for name, it in self.items.items() if not it["deleted"] and name not in NO_URIS]
+
+    def change(self, states, deletions, sets=None):
+        """Changes and deletes so many items, each once; a tenth of the changes are new items. Gives their identifiers, changed and deleted."""
+        chosen = self.random.sample(self.live(), states - states // 10 + deletions)
+        changed = chosen[deletions:] + [f"new-{len(self.items)}-{it}" for it in range(states // 10)]
+        for it in changed:
+            self.set_item(it, stamp_now(), sets=sets)
+        for it in chosen[:deletions]:
+            self.items[it] |= {"deleted": 1, "datestamp": stamp_now()}
+        self.write()
+        return changed, chosen[:deletions]
+
+    def write(self):
+        """Puts the items into the file that the provider reads, in the order of their datestamps."""
+        with open(f"{self.folder}/items.new", "w", encoding="utf-8") as it:
+            for item in sorted(self.items.values(), key=lambda item: item["datestamp"]):
+                it.write(json.dumps(item) + "\n")
+        os.rename(f"{self.folder}/items.new", f"{self.folder}/items.jsonl")
+
+    def start(self):
+        self.write()
+        environment = os.environ | {
+            "ITEMS": f"{self.folder}/items.jsonl", "SETS": f"{self.folder}/sets.json",
+            "LIMIT": str(LIMIT), "TEMPLATES": os.path.abspath("scripts/mirror-source"),
+        }  # fmt: skip
+        command = ["starman", "--host", "127.0.0.1", "--port", str(self.port), "--workers", "2", "scripts/mirror-source/app.psgi"]
+        with open(f"{self.folder}/log", "ab") as log:
+            self.process = subprocess.Popen(command, env=environment, stdout=log, stderr=log, start_new_session=True)
+        wait_for(self.port)
+
+    def kill(self):
+        os.killpg(self.process.pid, signal.SIGKILL)
+        self.process.wait()
+
+
+class Target:
+    """A server of oaihostd on a folder of its own, and how often each item was deposited and deleted since it was last asked."""
+
+    def __init__(self, folder):
+        self.folder, self.port, self.server = folder, 0, None
+        os.mkdir(folder)
+        write_configuration(f"{folder}/config.json", configuration(1000, 3600, 1000, 4 * ITEMS))
+        self.journal = Journal(f"{folder}/archive/journal")
+
+    def start(self):
+        """Starts it, at the port that it had before."""
+        self.server = serve_durably(f"{self.folder}/config.json", f"{self.folder}/archive", port=self.port, errors=subprocess.DEVNULL)
+        self.port = self.server.port
+
+    def kill(self):
+        self.server.kill()
+
+    def performed(self):
+        """How often each item was deposited, and deleted, since this was asked last."""
+        deposits, deletions = collections.Counter(), collections.Counter()
+        for _, kind, _, body in self.journal.read_on() or []:
+            for line in body.split("\n") if kind == "deposit" else []:
+                command = json.loads(line) if line else {}
+                deposits.update([command["deposit"]] if "deposit" in command else [])
+                deletions.update([command["delete"]] if "delete" in command else [])
+        return deposits, deletions
+
+
+def free_port():
+    with socket.create_server(("127.0.0.1", 0)) as it:
+        return it.getsockname()[1]
+
+
+def wait_for(port):
+    """Waits until a server listens there."""
+    for _ in range(100):
+        try:
+            socket.create_connection(("127.0.0.1", port), timeout=60).close()
+            return
+        except OSError:
+            time.sleep(0.1)
+    raise SystemExit(f"nothing listens on port {port}")
+
+
+def harvested(base, verb, folder, **arguments):
+    """What the library reads there."""
+    command = ["perl", "scripts/harvest.pl", base, folder, verb, *(f"{name}={value}" for name, value in arguments.items())]
+    ran = subprocess.run(command, stdout=subprocess.PIPE, check=True)
+    return [json.loads(it) for it in ran.stdout.splitlines()]
+
+
+def as_compared(record):
+    """A record without its datestamp, which is the target's own, with the sets that say where it is."""
+    kept = {name: it for name, it in record.items() if name != "datestamp"}
+    return kept | {"sets": sorted(shown(record["sets"]))}
+
+
+def uri(name):
+    return f"oai:source.example:{name}"
+
+
+def cut_answer(server, restart):
+    """Half of an answer is handed on, and the server is killed; and started again behind that, where it is said so."""
+
+    def cut(request, relay):
+        answer = relay.answer(request)
+        end(server, restart)
+        return answer[: len(answer) // 2]
+
+    return cut
+
+
+def cut_request(server, restart):
+    """Half of a request is handed on, and the server is killed."""
+
+    def cut(request, relay):
+        with relay.connect() as it:
+            it.sendall(request[: len(request) // 2])
+            time.sleep(0.2)
+            end(server, restart)
+        return b""
+
+    return cut
+
+
+def drop_answer(server, restart):
+    """A request is handed on, and the server is killed once it has answered; nobody is told."""
+
+    def cut(request, relay):
+        relay.answer(request)
+        end(server, restart)
+        return b""
+
+    return cut
+
+
+def end(server, restart):
+    server.kill()
+    if restart:
+        threading.Timer(1, server.start).start()
+
+
+class Trial:
+    """Runs of the program, and the differences that were found."""
+
+    def __init__(self, folder):
+        self.folder, self.differences, self.runs, self.targets = folder, 0, 0, 0
+        self.state = f"{folder}/state"
+        self.source = Source(folder)
+        self.source.start()
+        self.target = None
+        self.to_source = Relay(lambda: self.source.port)
+        self.to_target = Relay(lambda: self.target.port)
+
+    def new_target(self):
+        """An empty target, for a move from the beginning."""
+        if self.target:
+            self.target.kill()
+        if os.path.exists(self.state):
+            os.remove(self.state)
+        self.targets += 1
+        self.target = Target(f"{self.folder}/target-{self.targets}")
+        self.target.start()
+
+    def differ(self, text):
+        self.differences += 1
+        print(f"DIFFERENCE: {text}", flush=True)
+
+    def equal(self, what, wanted, found):
+        if wanted != found:
+            self.differ(f"{what} should be {str(wanted)[:300]}, is {str(found)[:300]}")
+
+    def mirror(self, what, *arguments, status=0):
+        """Runs the program with a terminal, and gives what it printed and what the terminal showed."""
+        self.runs += 1
+        before = self.state_text()
+        urls = [f"http://127.0.0.1:{self.to_source.port}/oai", f"http://127.0.0.1:{self.to_target.port}/deposit/archive"]
+        began = time.time()
+        printed, shown_text, found = on_terminal(["scripts/mirror", *urls, self.state, *arguments])
+        print(f"{what}: {time.time() - began:.0f} s, status {found}: {' '.join(printed.split()) or shown_text.splitlines()[-1]}", flush=True)
+        self.equal(f"{what}: the status", status, found)
+        if status:
+            self.equal(f"{what}: the state", before, self.state_text())
+        return printed, shown_text
+
+    def state_text(self):
+        if not os.path.exists(self.state):
+            return None
+        with open(self.state, encoding="utf-8") as it:
+            return it.read()
+
+    def compare(self, what):
+        """Harvests both and compares: each record in each format, and the sets."""
+        bases = [f"http://127.0.0.1:{self.source.port}/oai", f"http://127.0.0.1:{self.target.port}/oai/archive"]
+        asked = [(base, prefix) for prefix in PREFIXES for base in bases]
+        with ThreadPoolExecutor() as pool:
+            found = dict(zip(asked, pool.map(self.by_identifier, *zip(*asked))))
+        for prefix in PREFIXES:
+            theirs, ours = [found[base, prefix] for base in bases]
+            for it in NO_URIS:
+                theirs.pop(uri(it), None)
+            self.equal(f"{what}: the identifiers in {prefix}", sorted(theirs), sorted(ours))
+            for name in theirs.keys() & ours.keys():
+                self.equal(f"{what}: {name} in {prefix}", theirs[name], ours[name])
+            self.compare_written(f"{what}: in {prefix}", prefix, ours)
+        with tempfile.TemporaryDirectory() as folder:
+            sets = {it["setSpec"]: it["setName"] for it in harvested(bases[1], "ListSets", folder)}
+        self.equal(f"{what}: the sets", NAMES, sets)
+
+    def by_identifier(self, base, prefix):
+        with tempfile.TemporaryDirectory() as folder:
+            records = harvested(base, "ListRecords", folder, metadataPrefix=prefix)
+        return {it.get("identifier"): as_compared(it) for it in records if "error" not in it}
+
+    def compare_written(self, what, prefix, ours):
+        """Compares the target with the items as they were written, without a harvest of the source."""
+        for name, item in self.source.items.items():
+            if name in NO_URIS:
+                continue
+            found = ours.get(uri(name), {})
+            self.equal(f"{what}: whether {name} is deleted", bool(item["deleted"]), found.get("status") == "deleted")
+            if not item["deleted"]:
+                texts = [[field, text] for field, text in item[prefix]]
+                self.equal(f"{what}: {name}", texts, [[it[0].split("}")[1], it[1]] for it in found.get("fields", [])])
+
+    def performed(self, what, deposited, deleted):
+        """Compares what the target performed with what had to be done: each once."""
+        deposits, deletions = self.target.performed()
+        for it in NO_URIS:
+            deposits.pop(uri(it), None)
+        self.equal(f"{what}: what was deposited", collections.Counter(uri(it) for it in deposited), deposits)
+        self.equal(f"{what}: what was deleted", collections.Counter(uri(it) for it in deleted), deletions)
+
+    def refusals(self, what, count):
+        """The identifiers that are no URIs stand in the file of what was refused, with the reason."""
+        with open(f"{self.state}.refused", encoding="utf-8") as it:
+            found = sorted(it.read().splitlines())
+        self.equal(f"{what}: what was refused", sorted(f"{uri(it)}\t3 bad-identifier" for it in NO_URIS[:count]), found)
+
+
+def on_terminal(command):
+    """Runs a command whose standard error is a terminal: what it printed, what the terminal showed, and the status."""
+    ours, theirs = pty.openpty()
+    with subprocess.Popen(command, stdout=subprocess.PIPE, stderr=theirs, text=True) as process:
+        os.close(theirs)
+        seen = b""
+        try:
+            while more := os.read(ours, 65536):
+                seen += more
+        except OSError:
+            pass
+        os.close(ours)
+        printed = process.stdout.read()
+    return printed, seen.decode(), process.returncode
+
+
+def items_of(source):
+    """All that a whole move must deposit, and delete."""
+    names = [it for it in source.items if it not in NO_URIS]
+    return names, [it for it in names if source.items[it]["deleted"]]
+
+
+def whole(trial, what, *cuts, fails=False):
+    """A move to an empty target, with what is cut in it; where it fails, a second run goes on."""
+    trial.new_target()
+    trial.to_target.cuts += cuts
+    formats = ["--format", "jnl"]
+    printed, seen = trial.mirror(what, *formats, status=int(fails))
+    if fails:
+        trial.target.start()
+        printed, seen = trial.mirror(f"{what}, and then", *formats)
+    trial.compare(what)
+    trial.performed(what, *items_of(trial.source))
+    trial.refusals(what, len(NO_URIS))
+    trial.equal(f"{what}: the cuts", [], trial.to_target.cuts)
+    trial.equal(f"{what}: the progress", True, f"of {len(trial.source.items)} records" in seen)
+    return printed
+
+
+def later(trial, what, *cuts, fails=False):
+    """500 changes and 50 deletions, and a run that takes them over, with what is cut in it; where it fails, a second run goes on."""
+    changed, deleted = trial.source.change(500, 50)
+    trial.to_source.cuts += cuts
+    formats = ["--format", "jnl"]
+    if fails:
+        trial.mirror(what, *formats, status=1)
+        trial.source.start()
+        what = f"{what}, and then"
+    printed, _ = trial.mirror(what, *formats)
+    trial.compare(what)
+    trial.performed(what, changed, deleted)
+    trial.equal(f"{what}: the cuts", [], trial.to_source.cuts)
+    return printed
+
+
+def check_moves(trial):
+    """A whole move, one where nothing changed, one of what has changed, and one of a set."""
+    printed = whole(trial, "a whole move")
+    names, deleted = items_of(trial.source)
+    wanted = f"new {len(names) - len(deleted)}, changed 0, deleted {len(deleted)}, unchanged 0, sets {len(NAMES)}, refused {len(NO_URIS)}\n"
+    trial.equal("a whole move: the counts", wanted, printed.splitlines(keepends=True)[0])
+    printed, _ = trial.mirror("nothing changed", "--format", "jnl")
+    trial.performed("nothing changed", [], [])
+    trial.refusals("nothing changed", 0)
+    os.remove(trial.state)
+    printed, _ = trial.mirror("nothing changed, without a state", "--format", "jnl")
+    trial.performed("nothing changed, without a state", [], [])
+    trial.equal("nothing changed: the counts", f"unchanged {len(names)}", printed.split(", ")[3])
+    printed = later(trial, "500 changes and 50 deletions")
+    trial.equal("500 changes and 50 deletions: the counts", "new 50, changed 450, deleted 50", ", ".join(printed.split(", ")[:3]))
+    in_set, _ = trial.source.change(20, 0, sets=["letters"])
+    others, _ = trial.source.change(20, 0, sets=["theses:law"])
+    trial.mirror("a set", "--format", "jnl", "--set", "letters")
+    deposits, _ = trial.target.performed()
+    trial.equal("a set: what was left out", 0, sum(deposits[uri(it)] for it in set(others) - set(in_set)))
+    trial.equal("a set: what was deposited", {uri(it) for it in set(in_set) - set(others)}, set(deposits))
+
+
+def check_source(trial):
+    """The source says 503, refuses a token, and is killed in the middle of a list."""
+    whole(trial, "a whole move again")
+    token = b"resumptionToken="
+    later(trial, "the source says 503", (token, lambda *_: LATER))
+    later(trial, "the source refuses a token", (token, lambda *_: REFUSED_TOKEN))
+    later(trial, "the source is killed, and started", (token, cut_answer(trial.source, True)))
+    later(trial, "the source is killed", (token, cut_answer(trial.source, False)), fails=True)
+
+
+def check_target(trial):
+    """The target is killed in the middle of a deposit. The first message is handed on."""
+    post = b"POST "
+    for what, cut in {"within a message": cut_request, "before its answer": drop_answer}.items():
+        for restart in (True, False):
+            whole(
+                trial,
+                f"the target is killed {what}" + (", and started" if restart else ""),
+                (post, lambda request, relay: relay.answer(request)),
+                (post, lambda request, relay, cut=cut, restart=restart: cut(trial.target, restart)(request, relay)),
+                fails=not restart,
+            )
+
+
+PARTS = {"moves": check_moves, "source": check_source, "target": check_target}
+
+
+def mirror_trial(*parts):
+    """Shows that scripts/mirror moves an archive from a data provider that is not this repository's own.
+
+    That is Dancer::Plugin::Catmandu::OAI under starman (mirror-source/app.psgi); the target is a server of `oaihostd`. ITEMS records in sets, in two formats,
+    with texts that are hard to carry, some of them deleted; and three whose identifiers are no URIs, which must be refused by name. Source and target are
+    harvested by the library HTTP::OAI and compared after each run, and what was deposited is counted in the journal of the target: an item once for each
+    change, and none that had not changed. The parts:
+      moves    a whole archive; again, where nothing changed; 500 changes and 50 deletions; changes of one set, for that set alone
+      source   500 changes and 50 deletions each time, where the source says 503, refuses a token, is killed in the middle of a list and started again;
+               is killed, and started for the next run
+      target   a whole archive each time, where the target is killed when half of a message has come, or when its answer is on the way, and started
+               again; is killed so, and started for the next run
+    Between the two and the program stand relays, which cut. It ends with `N runs, M differences`; the status is 0 where M is 0. ITEMS is the number of items,
+    5000 if it is not set: at least 1000. Packages of Debian:
+        apt-get install libhttp-oai-perl libdancer-plugin-catmandu-oai-perl starman
+
+    Usage: scripts/run mirror-trial [PART..], which are all three if none is given
+    """
+    needs("perl", "starman", perl=["HTTP::OAI", "Dancer", "Catmandu"])
+    oaihostd()
+    parts = parts or list(PARTS)
+    if ITEMS < 1000 or not set(parts) <= set(PARTS):
+        sys.exit(f"mirror-trial: ITEMS is to be at least 1000, and each part one of {', '.join(PARTS)}")
+    with tempfile.TemporaryDirectory(prefix="mirror-trial-") as folder:
+        trial = Trial(folder)
+        try:
+            for it in parts:
+                PARTS[it](trial)
+        finally:
+            trial.source.kill()
+            trial.target.kill()
+    print(f"mirror-trial: {' '.join(parts)}: {len(trial.source.items)} items: {trial.runs} runs, {trial.differences} differences")
+    return int(trial.differences > 0)

@@ -1,0 +1,56 @@
+"""The names of the scripts, and the module of each. A script `some-name` is the function `some_name` of its module."""
+
+import importlib
+
+GROUPS = {
+    "The pages and the sources": {
+        "readme": "readme",
+        "contracts": "contracts",
+        "words": "words",
+        "clauses": "clauses",
+        "pages": "pages",
+        "lives": "fuzz",
+        "planted": "planted",
+        "tools": "tools",
+    },
+    "What the programs answer": {
+        "exit-statuses": "statuses",
+        "daemon-statuses": "statuses",
+        "fuzz": "fuzz",
+        "interop": "interop",
+        "valid": "documents",
+        "well-formed": "documents",
+        "mirror-trial": "mirror_trial",
+        "web": "web",
+        "package": "package",
+    },
+    "What goes wrong around them": {
+        "kill": "kill",
+        "full-disk": "disks",
+        "daemon-full-disk": "disks",
+        "idle-clients": "idle",
+        "proxy-load": "proxy",
+        "fuzz-failures": "fuzz_failures",
+        "refuse-growth": "refusals",
+        "refuse-allocations": "refusals",
+    },
+    "What they cost": {
+        "bench": "bench",
+        "daemon-bench": "connections",
+        "serving": "connections",
+        "instructions": "instructions",
+        "instructions-growth": "instructions",
+        "hostile": "hostile",
+        "recovery": "recovery",
+        "checkpoint-size": "recovery",
+        "pool-speed": "speeds",
+        "store-speed": "speeds",
+        "journal-speed": "speeds",
+    },
+}
+
+
+def script(name):
+    """The function of a script."""
+    module = next(group[name] for group in GROUPS.values() if name in group)
+    return getattr(importlib.import_module(f"oai.{module}"), name.replace("-", "_"))

@@ -1,0 +1,114 @@
+"""Programs in Rattle that scripts run beside the gate: scripts/tools/NAME. The names of their files end in .txt, since the gate takes a .rt file only
+in a crate that it proves; they are laid over a copy of the crates that they stand on."""
+
+import os
+import pathlib
+import shutil
+import subprocess
+import sys
+import tempfile
+
+from oai.crates import below, uses
+from oai.programs import TOP, needs
+
+TOOLS = TOP / "scripts/tools"
+PARTS = ("src", "specs", "proofs")
+
+
+class Tool:
+    """A program over a copy of the crates that it stands on, from here to the end of the `with`. COPY is a folder for the copy, which then stays.
+    With `built` what is built of these crates is copied too."""
+
+    def __init__(self, name, built=False):
+        needs("rt")
+        kept = os.environ.get("COPY")
+        self.name, self.place = name, pathlib.Path(kept or tempfile.mkdtemp(prefix=f"{name}-"))
+        self.is_kept, self.folder = bool(kept), self.place / "crates" / name
+        words = uses(TOOLS / "crates.txt")[name]
+        crates = below(words)
+        for crate in crates:
+            copy_parts(TOP / "crates" / crate, self.place / "crates" / crate, ("out",) if built else ())
+        lines = [f"{crate}: {' '.join(of)}\n" for crate, of in uses().items() if crate in crates]
+        (self.place / "crates.txt").write_text("".join([*lines, f"{name}: {' '.join(words)}\n"]))
+        self.lay()
+
+    def lay(self):
+        """Puts the files of the program into the copy."""
+        for part in PARTS:
+            shutil.rmtree(self.folder / part, ignore_errors=True)
+        for path in files_of(self.name):
+            self.write(path.relative_to(TOOLS / self.name).with_suffix(""), path.read_text(encoding="utf-8"))
+        for part in PARTS[1:]:
+            self.write(f"{part}/Lib.antt", "")
+
+    def write(self, path, text):
+        """Writes a file of the program."""
+        (self.folder / path).parent.mkdir(parents=True, exist_ok=True)
+        (self.folder / path).write_text(text, encoding="utf-8")
+
+    def __enter__(self):
+        return self
+
+    def __exit__(self, *_):
+        if not self.is_kept:
+            shutil.rmtree(self.place)
+
+    def rt(self, *arguments, output=None):
+        """Calls rt in its folder, where both streams go into a file if one is given; the status."""
+        streams = {} if output is None else {"stdout": open(output, "wb"), "stderr": subprocess.STDOUT}
+        return subprocess.run(["rt", *map(str, arguments)], cwd=self.folder, check=False, **streams).returncode
+
+
+def files_of(name):
+    """The files of a program, as they stand in the repository."""
+    return sorted((TOOLS / name).rglob("*.txt"))
+
+
+def copy_parts(source, target, more):
+    """Copies what a crate consists of, and more of its folders, without what only its own checks begin with."""
+    for part in (*PARTS, *more):
+        shutil.rmtree(target / part, ignore_errors=True)
+        if (source / part).is_dir():
+            shutil.copytree(source / part, target / part, ignore=shutil.ignore_patterns("incremental"), symlinks=True)
+
+
+def is_laid_out(tool, write):
+    """Whether the files of the program are as `rt fmt` writes them; it puts those that differ back into the repository where that is wanted."""
+    tool.rt("fmt")
+    differing = 0
+    for path in files_of(tool.name):
+        text = (tool.folder / path.relative_to(TOOLS / tool.name).with_suffix("")).read_text(encoding="utf-8")
+        if text != path.read_text(encoding="utf-8"):
+            differing += 1
+            print(f"{path.relative_to(TOP)}: not as rt fmt writes it")
+            if write:
+                path.write_text(text, encoding="utf-8")
+    return differing == 0
+
+
+def tools(*arguments):
+    """Looks at the programs of scripts/tools: whether each is laid out as `rt fmt` writes it, and whether `rt try` compiles it.
+
+    The gate does not prove them: they measure times, or run where memory is refused. With `write` it writes their files as `rt fmt` does. With the name of a
+    program it looks at that one alone. The last line is `N tools, M differ`; the status is 0 where M is 0.
+
+    Usage: scripts/run tools [write] [NAME]
+    """
+    from oai.refusals import prepare
+
+    names = [it for it in arguments if it != "write"] or list(uses(TOOLS / "crates.txt"))
+    differ = 0
+    for name in names:
+        with Tool(name) as tool:
+            if name == "refuse_growth":
+                prepare(tool, letters=1)
+            laid_out = is_laid_out(tool, "write" in arguments)
+            # (what it does where it has no input, for a second: 1 to 3 say that it was refused, or not tried)
+            status = tool.rt("try", "--steps", 1_000, "--seconds", 1, output=tool.place / "tried")
+            compiled = status not in (1, 2, 3) or "ended status=" in (tool.place / "tried").read_text(encoding="utf-8", errors="replace")
+            if not compiled:
+                print((tool.place / "tried").read_text(encoding="utf-8", errors="replace"), file=sys.stderr)
+            print(f"{name}: {'compiled' if compiled else 'not compiled'}, {'laid out' if laid_out else 'not laid out'}", flush=True)
+            differ += not (compiled and laid_out)
+    print(f"{len(names)} tools, {differ} differ")
+    return int(differ > 0)
