@@ -196,9 +196,9 @@ def check_odd(count):
 
 
 def valid(scripts="100", lines="200", seed="57"):
-    """Shows that documents are valid by a schema of OAI-PMH: scripts/valid/OAI-PMH.xsd, which is written from the text of the protocol.
+    """Shows that documents are valid by a schema of OAI-PMH.
 
-    The documents are
+    That is scripts/valid/OAI-PMH.xsd, which is written from the text of the protocol. The documents are
       all that the harvests of `interop` are answered;
       all that `ask` answers to SCRIPTS scripts of `fuzz`, of the seed SEED and the ones after it, of LINES lines each;
       those of a script that asks for each of four classes, which the specification of this repository allows and the schema refuses:

@@ -243,9 +243,9 @@ def figures_of(size):
 
 
 def instructions_growth(*sizes):
-    """Counts how the instructions of the server's operations change with the number of items, by valgrind's callgrind.
+    """Counts how the instructions of the server's operations change with the number of items.
 
-    A record of ListRecords and a header of ListIdentifiers in parts of 100, GetRecord, a deposit line, a changed record, the first part of a list, and the
+    valgrind's callgrind counts: a record of ListRecords and a header of ListIdentifiers in parts of 100, GetRecord, a deposit line, a changed record, the first part of a list, and the
     first and the last part that a token gives. For each size a server is loaded while nothing is counted; then each operation is asked over HTTP, about
     1,000 items whose pages the cache holds, and only its instructions are counted. It prints a table with the ratio of the last size to the first; it judges
     nothing. What is deposited comes from a fixed seed. 1,000,000 items take some quarter of an hour and 3 GB of a disk.

@@ -207,7 +207,7 @@ def check_testing():
 
 
 def readme():
-    """Checks the pages; the status is 0 where nothing is wrong.
+    """Checks the pages: their sizes and links, and the names that stand in them.
 
     README.md has at most 110 lines, docs/ARCHITECTURE.md 250 and docs/DECISIONS.md 200, all of docs/*.md together 3,000, each line of these at most 120 columns;
     the README of a crate has at most 40 lines, and shows a caller: a block of code. Every crate of crates.txt that is not one of tests has one. Every link of

@@ -105,9 +105,9 @@ def turn_bodies(items, turn):
 
 
 def checkpoint_size(items="1000000", times="10"):
-    """Shows how long a journal is before and behind a checkpoint, how long that takes, and that a dump of it has each item.
+    """Shows how long a journal is before and behind a checkpoint, and how long that takes.
 
-    So many items are deposited so many times, in messages of 500 lines. The status is 0 where the journal is then at most 1.2 times as long as the bytes
+    And that a dump of it has each item. So many items are deposited so many times, in messages of 500 lines. The status is 0 where the journal is then at most 1.2 times as long as the bytes
     of its items.
 
     Usage: scripts/run checkpoint-size [ITEMS [TIMES]], which are 1000000 and 10 if not given

@@ -223,9 +223,10 @@ def has_tests(crate):
 
 
 def refuse_allocations(count="60", *crates):
-    """Runs the tests of each crate that has some, or of the crates given, with the first, second, .. allocation of each test refused in turn.
+    """Runs the tests of crates with the first, second, .. allocation of each test refused in turn.
 
-    It does so up to a count (60 if none is given), and prints which tests failed and the lines at which they stopped. A test fails where the refused
+    They are the tests of each crate that has some, or of the crates given. It goes up to a count (60 if none is given), and prints which tests failed and
+    the lines at which they stopped. A test fails where the refused
     allocation was its own: it should stop at a line of its own that wants an answer, and none should stop inside a crate or answer something else in its
     place. It stops where the tests of a crate do not pass with no allocation refused.
 

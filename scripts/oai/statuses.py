@@ -283,9 +283,9 @@ def try_ends(trial, folder):
 
 
 def daemon_statuses():
-    """Shows that `oaihostd` ends with the status that it should, says on standard error what it should, and changes nothing that it does not go on with.
+    """Shows that `oaihostd` ends with the status that it should, and says on standard error what it should.
 
-    At arguments that it does not know, at a configuration that is none or differs from the journal's, at a dump of no repository, at a folder that is a
+    And that it changes nothing that it does not go on with: at arguments that it does not know, at a configuration that is none or differs from the journal's, at a dump of no repository, at a folder that is a
     file, cannot be made or is in use, at a port that is taken, and at a journal of another program, of another version, or with a changed byte in its first
     frame, in a head, a body, a length or a gate. And that a start which was cut off before it had a journal is made again. It names each case that differs;
     its status is 0 where none does.

@@ -74,7 +74,7 @@ def copy_parts(source, target, more):
 
 def is_laid_out(tool, write):
     """Whether the files of the program are as `rt fmt` writes them; it puts those that differ back into the repository where that is wanted."""
-    tool.rt("fmt")
+    tool.rt("fmt", output=os.devnull)
     differing = 0
     for path in files_of(tool.name):
         text = (tool.folder / path.relative_to(TOOLS / tool.name).with_suffix("")).read_text(encoding="utf-8")
@@ -87,7 +87,7 @@ def is_laid_out(tool, write):
 
 
 def tools(*arguments):
-    """Looks at the programs of scripts/tools: whether each is laid out as `rt fmt` writes it, and whether `rt try` compiles it.
+    """Looks at the programs of scripts/tools: whether `rt fmt` lays them out so, and `rt try` compiles them.
 
     The gate does not prove them: they measure times, or run where memory is refused. With `write` it writes their files as `rt fmt` does. With the name of a
     program it looks at that one alone. The last line is `N tools, M differ`; the status is 0 where M is 0.
