@@ -137,16 +137,17 @@ class Count:
             print(f"REFUSED: {what}: {told[path]}\n{still.get(other, '')}", flush=True)
 
 
-def kept_harvest(count):
-    """What makes the harvests of interop, where it counts the documents by their schema as well."""
+class KeptHarvest(interop.Harvest):
+    """The harvests of `interop`, whose documents are looked at by their schema as well."""
 
-    class KeptHarvest(interop.Harvest):
-        def check_documents(self):
-            paths = sorted(glob.glob(f"{self.folder}/*/*.xml"))
-            count.add("interop", paths)
-            return len(paths)
+    def __init__(self, server, folder, count):
+        super().__init__(server, folder)
+        self.schema_count = count
 
-    return KeptHarvest
+    def check_documents(self):
+        paths = sorted(glob.glob(f"{self.folder}/*/*.xml"))
+        self.schema_count.add("interop", paths)
+        return len(paths)
 
 
 def check_schema():
@@ -216,7 +217,7 @@ def valid(scripts="100", lines="200", seed="57"):
     differences = check_schema()
     check_odd(count)
     check_fuzz(count, int(scripts), int(lines), int(seed))
-    differences += interop.harvest_all(kept_harvest(count)).differences
+    differences += interop.harvest_all(lambda *place: KeptHarvest(*place, count)).differences
     print("documents: " + ", ".join(f"{name}: {number}" for name, number in count.documents.items()))
     print("refused by the schema: " + ", ".join(f"{name}: {count.classes[name]}" for name in CLASSES))
     if differences:

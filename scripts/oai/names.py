@@ -11,7 +11,7 @@ GROUPS = {
         "pages": "pages",
         "lives": "fuzz",
         "planted": "planted",
-        "tools": "tools",
+        "tools": "layout",
     },
     "What the programs answer": {
         "exit-statuses": "statuses",

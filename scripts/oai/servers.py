@@ -71,8 +71,12 @@ class Process:
         return self.errors.read()
 
     def ended(self, patience=30):
-        """Its status and what it said on standard error, once it has ended by itself."""
-        return self.process.wait(patience), self.said()
+        """Its status and what it said on standard error, once it has ended by itself; it is killed where that takes longer."""
+        try:
+            self.process.wait(patience)
+        except subprocess.TimeoutExpired:
+            self.kill()
+        return self.process.returncode, self.said()
 
     def connect(self, patience=PATIENCE):
         """A connection, which must be closed before `oaihost serve` serves another one."""

@@ -5,7 +5,6 @@ import os
 import pathlib
 import shutil
 import subprocess
-import sys
 import tempfile
 
 from oai.crates import below, uses
@@ -70,45 +69,3 @@ def copy_parts(source, target, more):
         shutil.rmtree(target / part, ignore_errors=True)
         if (source / part).is_dir():
             shutil.copytree(source / part, target / part, ignore=shutil.ignore_patterns("incremental"), symlinks=True)
-
-
-def is_laid_out(tool, write):
-    """Whether the files of the program are as `rt fmt` writes them; it puts those that differ back into the repository where that is wanted."""
-    tool.rt("fmt", output=os.devnull)
-    differing = 0
-    for path in files_of(tool.name):
-        text = (tool.folder / path.relative_to(TOOLS / tool.name).with_suffix("")).read_text(encoding="utf-8")
-        if text != path.read_text(encoding="utf-8"):
-            differing += 1
-            print(f"{path.relative_to(TOP)}: not as rt fmt writes it")
-            if write:
-                path.write_text(text, encoding="utf-8")
-    return differing == 0
-
-
-def tools(*arguments):
-    """Looks at the programs of scripts/tools: whether `rt fmt` lays them out so, and `rt try` compiles them.
-
-    The gate does not prove them: they measure times, or run where memory is refused. With `write` it writes their files as `rt fmt` does. With the name of a
-    program it looks at that one alone. The last line is `N tools, M differ`; the status is 0 where M is 0.
-
-    Usage: scripts/run tools [write] [NAME]
-    """
-    from oai.refusals import prepare
-
-    names = [it for it in arguments if it != "write"] or list(uses(TOOLS / "crates.txt"))
-    differ = 0
-    for name in names:
-        with Tool(name) as tool:
-            if name == "refuse_growth":
-                prepare(tool, letters=1)
-            laid_out = is_laid_out(tool, "write" in arguments)
-            # (what it does where it has no input, for a second: 1 to 3 say that it was refused, or not tried)
-            status = tool.rt("try", "--steps", 1_000, "--seconds", 1, output=tool.place / "tried")
-            compiled = status not in (1, 2, 3) or "ended status=" in (tool.place / "tried").read_text(encoding="utf-8", errors="replace")
-            if not compiled:
-                print((tool.place / "tried").read_text(encoding="utf-8", errors="replace"), file=sys.stderr)
-            print(f"{name}: {'compiled' if compiled else 'not compiled'}, {'laid out' if laid_out else 'not laid out'}", flush=True)
-            differ += not (compiled and laid_out)
-    print(f"{len(names)} tools, {differ} differ")
-    return int(differ > 0)
