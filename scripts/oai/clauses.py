@@ -44,8 +44,9 @@ def functions(path):
 def clauses(*names):
     """Counts the clauses, the functions and the modules of crates.
 
-    A clause is a line of src/ that begins with `requires` or `ensures`, a module one that begins with `mod` in src/lib.rt; a module of another file is a part of
-    that file's. Functions with more than eight clauses or six parameters (`self` not counted) are listed.
+    A clause is a line of src/ that begins with `requires` or `ensures`, a module one that begins with `mod` in
+    src/lib.rt; a module of another file is a part of that file's. Functions with more than eight clauses or six
+    parameters (`self` not counted) are listed.
 
     Usage: scripts/run clauses [CRATE..], which is every crate if none is named
     """

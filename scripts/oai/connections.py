@@ -107,10 +107,12 @@ def deposit_file(server, path):
 def serving(program, config, target, *files):
     """Measures a server of many connections.
 
-    These are the processor time of a deposited line, requests a second with 1, 64 and 512 clients by wrk, an answer beside idle clients and slow ones, and
-    the memory that clients which read nothing make it hold. `PROGRAM CONFIG PORT PLACE` serves and says `listening on 127.0.0.1:<port>`; PROGRAM may have a
-    word behind it, as `crates/oaihostd/out/oaihostd serve`; PLACE is the path of a file or a folder that is not there yet. TARGET is what is asked, as
-    `/oai/a?verb=Identify`; LINES are files of deposit lines for the repository `a`. It prints a line of figures for each measurement, and judges nothing.
+    These are the processor time of a deposited line, requests a second with 1, 64 and 512 clients by wrk, an answer
+    beside idle clients and slow ones, and the memory that clients which read nothing make it hold. `PROGRAM CONFIG PORT
+    PLACE` serves and says `listening on 127.0.0.1:<port>`; PROGRAM may have a word behind it, as
+    `crates/oaihostd/out/oaihostd serve`; PLACE is the path of a file or a folder that is not there yet. TARGET is what
+    is asked, as `/oai/a?verb=Identify`; LINES are files of deposit lines for the repository `a`. It prints a line of
+    figures for each measurement, and judges nothing.
 
     Usage: scripts/run serving PROGRAM CONFIG TARGET [LINES..]
     """
@@ -189,10 +191,12 @@ def told(what, figures, unit):
 def daemon_bench():
     """Measures `oaihostd` beside `oaihost serve`, and beside itself.
 
-    These are the processor time of a deposited line in messages of 500, GetRecord a second by wrk with one connection and with 64, with 64 beside 900 idle
-    connections and beside 900 that send a byte a second (1,024 are open at most), the memory that 1,024 clients make it take which each ask for one part of
-    1,000 records at once, and the memory after a load and after a start on its journal. Each figure is the median of RUNS runs, interleaved, 5 if it is
-    not set. It prints a line for each, with the load average; it judges nothing. ITEMS is the number of items, 20000 if it is not set.
+    These are the processor time of a deposited line in messages of 500, GetRecord a second by wrk with one connection
+    and with 64, with 64 beside 900 idle connections and beside 900 that send a byte a second (1,024 are open at most),
+    the memory that 1,024 clients make it take which each ask for one part of 1,000 records at once, and the memory
+    after a load and after a start on its journal. Each figure is the median of RUNS runs, interleaved, 5 if it is not
+    set. It prints a line for each, with the load average; it judges nothing. ITEMS is the number of items, 20000 if it
+    is not set.
 
     Usage: scripts/run daemon-bench
     """

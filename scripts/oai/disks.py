@@ -155,11 +155,12 @@ def fill_pages(folder, cache):
 def full_disk(folder=None):
     """Shows what a server does whose file of pages stands on a full file system.
 
-    One in memory, of 400 kilobytes, is mounted where no other program sees it, half of it is taken by another file, and items are deposited until there is
-    no room; with a cache of a page, and of 64. A deposit that finds no room is answered 500, with how many of its lines were done; what was stored
-    before is answered as before, deposits of other states and deletions are answered 500 or done, and once the other file is gone the lines that were
-    not done are deposited, and all is there. It names what is answered otherwise; the last line is `N answers, M differ`, and the status is 0 where M is
-    0. It needs root, to mount the file system.
+    One in memory, of 400 kilobytes, is mounted where no other program sees it, half of it is taken by another file, and
+    items are deposited until there is no room; with a cache of a page, and of 64. A deposit that finds no room is
+    answered 500, with how many of its lines were done; what was stored before is answered as before, deposits of other
+    states and deletions are answered 500 or done, and once the other file is gone the lines that were not done are
+    deposited, and all is there. It names what is answered otherwise; the last line is `N answers, M differ`, and the
+    status is 0 where M is 0. It needs root, to mount the file system.
 
     Usage: scripts/run full-disk
     """
@@ -249,9 +250,10 @@ def try_starts(trial, folder):
 def daemon_full_disk(folder=None):
     """Shows what `oaihostd` does whose folder stands on a full file system, or on one that cannot be written.
 
-    One in memory, of 200 kilobytes, is mounted where no other program sees it, and items are deposited until the journal finds no room. The server then
-    ends, no answer that waited leaves, and a start with room has all that was acknowledged. A start that finds no room, or may not write, ends with what
-    it should say. It names what differs; its last line is `N checked, M differ`, and its status is 0 where M is 0. It needs root, to mount the file system.
+    One in memory, of 200 kilobytes, is mounted where no other program sees it, and items are deposited until the
+    journal finds no room. The server then ends, no answer that waited leaves, and a start with room has all that was
+    acknowledged. A start that finds no room, or may not write, ends with what it should say. It names what differs; its
+    last line is `N checked, M differ`, and its status is 0 where M is 0. It needs root, to mount the file system.
 
     Usage: scripts/run daemon-full-disk
     """

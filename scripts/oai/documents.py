@@ -207,8 +207,9 @@ def valid(scripts="100", lines="200", seed="57"):
         a bare %             an identifier has a `%` without two hexadecimal digits
         a bracket            an identifier has a `[` or `]`
         no URI reference     an `identifier` of a request that no URI reference is, for any other cause, is repeated in `request`
-    A document that is refused counts in a class where it is valid once the texts of that class are replaced; it is named where it is in none. The last line
-    is `N documents, M refused outside the four classes`; the status is 0 where M is 0. It needs what `interop` needs; OAIHOSTD and ITEMS are as there.
+    A document that is refused counts in a class where it is valid once the texts of that class are replaced; it is
+    named where it is in none. The last line is `N documents, M refused outside the four classes`; the status is 0 where
+    M is 0. It needs what `interop` needs; OAIHOSTD and ITEMS are as there.
 
     Usage: scripts/run valid [SCRIPTS [LINES [SEED]]], which are 100, 200 and 57 if not given
     """
@@ -252,9 +253,10 @@ def is_well_formed(folder, document):
 def well_formed(*files):
     """Shows, by a parser that is not this repository's own, that documents are well-formed XML.
 
-    They are those that the tests want (crates/tests_documents/src/documents/expected.rt), and those of an example (examples/first-steps.expected). A
-    document begins with its XML declaration and ends with the end tag of its root. The parser is xmllint, of the Debian package libxml2-utils (apt-get
-    install libxml2-utils). It also tells of a namespace that is no URI, as a test has one; that is no fault of form.
+    They are those that the tests want (crates/tests_documents/src/documents/expected.rt), and those of an example
+    (examples/first-steps.expected). A document begins with its XML declaration and ends with the end tag of its root.
+    The parser is xmllint, of the Debian package libxml2-utils (apt-get install libxml2-utils). It also tells of a
+    namespace that is no URI, as a test has one; that is no fault of form.
 
     Usage: scripts/run well-formed [FILE..]
     """

@@ -180,15 +180,16 @@ def in_words(seen):
 def fuzz(scripts="1000", lines="200", seed="57"):
     """Compares what the program answers to scripts at random.
 
-    A script is a number of exchanges with three repositories: deposits, small, large, refused and again; deletions, purges, sets; all verbs, tokens, bad
-    arguments, lines that are none; moments that rise, stand and fall. For each:
+    A script is a number of exchanges with three repositories: deposits, small, large, refused and again; deletions,
+    purges, sets; all verbs, tokens, bad arguments, lines that are none; moments that rise, stand and fall. For each:
       ask    is run with caches of 1, 2 and 64 pages: output, status and message are equal, and are those of a model in Python (scripts/oai/model.py)
       trace  is given the same exchanges as messages on one to four connections, cut at random and in turns, some of them closing: the same
       both   with all messages on one connection, the answers of trace are those of ask
-    It says how often each status and error was answered, and of each difference the seed and the fewest first lines that show it, which it writes into a
-    file of the folder FOLDER (that of temporary files if it is not set). The last line is `N scripts, M differences`; the status is 0 where M is 0. A script
-    has a seed of its own, SEED and the ones after it: one is run again by `scripts/run fuzz 1 LINES ITS-SEED`. JOBS is how many scripts run side by side,
-    2 if not set.
+    It says how often each status and error was answered, and of each difference the seed and the fewest first lines
+    that show it, which it writes into a file of the folder FOLDER (that of temporary files if it is not set). The last
+    line is `N scripts, M differences`; the status is 0 where M is 0. A script has a seed of its own, SEED and the ones
+    after it: one is run again by `scripts/run fuzz 1 LINES ITS-SEED`. JOBS is how many scripts run side by side, 2 if
+    not set.
 
     Usage: scripts/run fuzz [SCRIPTS [LINES [SEED]]], which are 1000, 200 and 57 if not given
     """
@@ -244,7 +245,8 @@ def next_line(author, is_late):
 def lives(seed="4"):
     """Writes a file of crates/tests_durable: twenty lives of three repositories, as the model answers what is asked in them.
 
-    They stand one behind the other. Of each answer stand its status, how many bytes its body has, and their 64-bit FNV-1a hash. What is asked is as `fuzz` asks it.
+    They stand one behind the other. Of each answer stand its status, how many bytes its body has, and their 64-bit
+    FNV-1a hash. What is asked is as `fuzz` asks it.
 
     Usage: scripts/run lives [SEED] >crates/tests_durable/src/written_lives.rt
     """

@@ -108,20 +108,22 @@ def tally(cases, told):
 def fuzz_failures(scripts="300", lines="60", seed="71"):
     """Compares what a host answers to scripts at random where a device or a store fails with what it answers where none does.
 
-    A script is a number of exchanges with three repositories, as those of `fuzz`, but that a deposit may have several lines. A program is made in a copy of
-    the crates, and compiled with checks and without a proof. It makes the exchanges of each script with no trouble, and then once for each of seven
-    troubles, at calls that are drawn at random:
+    A script is a number of exchanges with three repositories, as those of `fuzz`, but that a deposit may have several
+    lines. A program is made in a copy of the crates, and compiled with checks and without a proof. It makes the
+    exchanges of each script with no trouble, and then once for each of seven troubles, at calls that are drawn at
+    random:
       device     a call of the device of the pages fails, and a second one a few calls later, or not; two of the seven
       memory     the device is refused memory, in the same way
       room       the device has room for a few pages only; some writes fail before there is more
       store      a call of the store fails, and a second one a few calls later, or not
       refused    the store is refused memory, in the same way
       pages      a call of the store that asks for pages finds none
-    An exchange that fails is made once more, up to three times; of a deposit the lines that were not done. Each failure must be told as one of its cause,
-    with nothing else; all other answers, and with the first three troubles also how many pages are named at the end, must be those without trouble. It says
-    how many exchanges failed by each trouble, and of each difference the seed of its script, which it writes into a file of the folder FOLDER (that of
-    temporary files if it is not set). The last line is `N scripts, M differences`; the status is 0 where M is 0. A script has a seed of its own, SEED and
-    the ones after it. COPY is a folder for the copy, which then stays.
+    An exchange that fails is made once more, up to three times; of a deposit the lines that were not done. Each failure
+    must be told as one of its cause, with nothing else; all other answers, and with the first three troubles also how
+    many pages are named at the end, must be those without trouble. It says how many exchanges failed by each trouble,
+    and of each difference the seed of its script, which it writes into a file of the folder FOLDER (that of temporary
+    files if it is not set). The last line is `N scripts, M differences`; the status is 0 where M is 0. A script has a
+    seed of its own, SEED and the ones after it. COPY is a folder for the copy, which then stays.
 
     Usage: scripts/run fuzz-failures [SCRIPTS [LINES [SEED]]], which are 300, 60 and 71 if not given
     """

@@ -325,12 +325,13 @@ class Counter:
 def hostile(*parts):
     """Counts what hostile input costs, in instructions, by valgrind's callgrind.
 
-    By `ask` and `trace` the program is given inputs of many kinds, each at two sizes, mostly 1 to 8: the instructions that it takes besides to begin, and to
-    answer what comes before, are counted by a run without the input, and left out. Of each kind it prints the two sizes, the instructions of both, their
-    ratio over the ratio of the sizes, and the last that was answered. That ratio is about 1 where the cost grows as the size, and somewhat more where
-    it grows as n log n. An input GROWS FASTER where it is above 1.5, or where a run has not ended within 600 seconds. The last line is `N inputs, M grow
-    faster`; the status is 0 where M is 0. PARTS are parts of the kinds' names: only those are counted that have one of them. JOBS is how many runs are made
-    side by side, 2 if not set.
+    By `ask` and `trace` the program is given inputs of many kinds, each at two sizes, mostly 1 to 8: the instructions
+    that it takes besides to begin, and to answer what comes before, are counted by a run without the input, and left
+    out. Of each kind it prints the two sizes, the instructions of both, their ratio over the ratio of the sizes, and
+    the last that was answered. That ratio is about 1 where the cost grows as the size, and somewhat more where it grows
+    as n log n. An input GROWS FASTER where it is above 1.5, or where a run has not ended within 600 seconds. The last
+    line is `N inputs, M grow faster`; the status is 0 where M is 0. PARTS are parts of the kinds' names: only those are
+    counted that have one of them. JOBS is how many runs are made side by side, 2 if not set.
 
     Usage: scripts/run hostile [PART..]
     """

@@ -49,9 +49,10 @@ def is_let_go(server, idle, what, most):
 def idle_clients():
     """Shows that a client which sends or reads nothing does not keep the others waiting for ever.
 
-    One sends nothing, and another one reads nothing of what it is answered. The server lets it go once a read, or a write, has done nothing for 60 seconds, and serves the next one. The first is let go after a minute, the second
-    after some three: the buffers of the system take a part of what is written at last. The status is 0 where that is so. Where OAIHOSTD is set that
-    program is tried, which serves the next client at once.
+    One sends nothing, and another one reads nothing of what it is answered. The server lets it go once a read, or a
+    write, has done nothing for 60 seconds, and serves the next one. The first is let go after a minute, the second
+    after some three: the buffers of the system take a part of what is written at last. The status is 0 where that is
+    so. Where OAIHOSTD is set that program is tried, which serves the next client at once.
 
     Usage: scripts/run idle-clients
     """

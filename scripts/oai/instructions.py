@@ -112,9 +112,10 @@ def last_figures():
 def instructions(size="1000"):
     """Counts the instructions of five operations of the program, by valgrind's callgrind.
 
-    A record of ListRecords and a header of ListIdentifiers in a harvest by tokens in parts of 100, GetRecord of an item at random, a deposit line of a new
-    item, and one that changes an item at random, each in a message of its own. It runs `ask` twice for each, with different numbers of them, and divides
-    the difference. 1,000 items, whose records have 1.6 kB of XML, are loaded before, or as many as ITEMS says. It prints a table, with the last figures of
+    A record of ListRecords and a header of ListIdentifiers in a harvest by tokens in parts of 100, GetRecord of an item
+    at random, a deposit line of a new item, and one that changes an item at random, each in a message of its own. It
+    runs `ask` twice for each, with different numbers of them, and divides the difference. 1,000 items, whose records
+    have 1.6 kB of XML, are loaded before, or as many as ITEMS says. It prints a table, with the last figures of
     docs/PERFORMANCE.md beside them; it judges nothing. What is deposited comes from a fixed seed.
 
     Usage: scripts/run instructions [ITEMS]
@@ -245,10 +246,12 @@ def figures_of(size):
 def instructions_growth(*sizes):
     """Counts how the instructions of the server's operations change with the number of items.
 
-    valgrind's callgrind counts: a record of ListRecords and a header of ListIdentifiers in parts of 100, GetRecord, a deposit line, a changed record, the first part of a list, and the
-    first and the last part that a token gives. For each size a server is loaded while nothing is counted; then each operation is asked over HTTP, about
-    1,000 items whose pages the cache holds, and only its instructions are counted. It prints a table with the ratio of the last size to the first; it judges
-    nothing. What is deposited comes from a fixed seed. 1,000,000 items take some quarter of an hour and 3 GB of a disk.
+    valgrind's callgrind counts: a record of ListRecords and a header of ListIdentifiers in parts of 100, GetRecord, a
+    deposit line, a changed record, the first part of a list, and the first and the last part that a token gives. For
+    each size a server is loaded while nothing is counted; then each operation is asked over HTTP, about 1,000 items
+    whose pages the cache holds, and only its instructions are counted. It prints a table with the ratio of the last
+    size to the first; it judges nothing. What is deposited comes from a fixed seed. 1,000,000 items take some quarter
+    of an hour and 3 GB of a disk.
 
     Usage: scripts/run instructions-growth [ITEMS..], which are 1000 and 1000000 if not given
     """

@@ -38,8 +38,9 @@ def is_compiled(tool):
 def tools(*arguments):
     """Looks at the programs of scripts/tools: whether `rt fmt` lays them out so, and `rt try` compiles them.
 
-    The gate does not prove them: they measure times, or run where memory is refused. With `write` it writes their files as `rt fmt` does. With the name of a
-    program it looks at that one alone. The last line is `N tools, M differ`; the status is 0 where M is 0.
+    The gate does not prove them: they measure times, or run where memory is refused. With `write` it writes their files
+    as `rt fmt` does. With the name of a program it looks at that one alone. The last line is `N tools, M differ`; the
+    status is 0 where M is 0.
 
     Usage: scripts/run tools [write] [NAME]
     """

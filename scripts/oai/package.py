@@ -258,11 +258,13 @@ def try_all(trial, folder):
 def package():
     """Makes the Debian package, and tries it in a fresh root that systemd-nspawn boots.
 
-    packaging/build.sh makes it, and lintian looks at it. It is installed, its unit is looked at with systemd-analyze, an archive is begun as README.Debian says, items are deposited, the server is killed, a later
-    package is installed over the running archive, the machine is started again, the package is removed (the archive stays), installed again, and purged.
-    Each time the item is asked for, which has to be there with its datestamp. It names what differs; the last line is `N checked, M differ`, and the
-    status is 0 where M is 0. ROOT is a folder in which debootstrap made a fresh root, of which a copy is used; where it is not set one is made, which asks a
-    mirror of Debian. It needs root, and packages of Debian: apt-get install curl debhelper debootstrap lintian systemd-container
+    packaging/build.sh makes it, and lintian looks at it. It is installed, its unit is looked at with systemd-analyze,
+    an archive is begun as README.Debian says, items are deposited, the server is killed, a later package is installed
+    over the running archive, the machine is started again, the package is removed (the archive stays), installed again,
+    and purged. Each time the item is asked for, which has to be there with its datestamp. It names what differs; the
+    last line is `N checked, M differ`, and the status is 0 where M is 0. ROOT is a folder in which debootstrap made a
+    fresh root, of which a copy is used; where it is not set one is made, which asks a mirror of Debian. It needs root,
+    and packages of Debian: apt-get install curl debhelper debootstrap lintian systemd-container
 
     Usage: scripts/run package
     """

@@ -63,8 +63,9 @@ def run_page(path):
 def pages(*paths):
     """Runs the commands of pages, as they stand, and writes into them what is printed.
 
-    Each block of `sh` is run in one shell for each page, in the folder of the repository and in a network of its own, in which the page's ports are free; and
-    what it prints, on both streams, is put into the block that stands behind it. It needs root, and the programs that the page needs.
+    Each block of `sh` is run in one shell for each page, in the folder of the repository and in a network of its own,
+    in which the page's ports are free; and what it prints, on both streams, is put into the block that stands behind
+    it. It needs root, and the programs that the page needs.
 
     Usage: scripts/run pages [PAGE..], which are docs/OPERATIONS.md and docs/PROTOCOL.md if none is named
     """

@@ -91,9 +91,10 @@ def load_of(proxy, depositor):
 def proxy_load(minutes="10"):
     """Shows that `oaihostd` behind nginx, with the lines of web/nginx.conf, answers no request with a status of 500 or above.
 
-    There is one deposit every 59 to 61 seconds, so that kept connections are at the edge of their time, for ten minutes (or as many as are given); then `wrk`
-    with 64 clients for a minute beside deposits. Its last line is `N requests, M of 5xx`, by nginx's log, and its status is 0 where M is 0 and each deposit was
-    done. Packages of Debian: apt-get install nginx-light wrk openssl
+    There is one deposit every 59 to 61 seconds, so that kept connections are at the edge of their time, for ten minutes
+    (or as many as are given); then `wrk` with 64 clients for a minute beside deposits. Its last line is `N requests, M
+    of 5xx`, by nginx's log, and its status is 0 where M is 0 and each deposit was done. Packages of Debian: apt-get
+    install nginx-light wrk openssl
 
     Usage: scripts/run proxy-load [MINUTES]
     """

@@ -209,14 +209,17 @@ def check_testing():
 def readme():
     """Checks the pages: their sizes and links, and the names that stand in them.
 
-    README.md has at most 110 lines, docs/ARCHITECTURE.md 250 and docs/DECISIONS.md 200, all of docs/*.md together 3,000, each line of these at most 120 columns;
-    the README of a crate has at most 40 lines, and shows a caller: a block of code. Every crate of crates.txt that is not one of tests has one. Every link of
-    a page to a file of this repository leads to one, and to a heading of it where it names one. In README.md a link to a file whose text is names in
-    backquotes leads to a file that defines each of them. In docs/THEOREMS.md a row of the table of what is proved names functions of a crate's src/, then
-    definitions of specs/, and a file of one of these crates. There, and in the tables of docs/ARCHITECTURE.md, each definition stands in the file that is
-    named before it, and each other word in backquotes is a word of src/ or specs/. docs/CONTRACTS.md is as the script `contracts` writes it. No sentence
-    stands in two of CONFIGURATION, OPERATIONS and PROTOCOL. docs/TESTING.md names each file of tests in an entry of its crate. scripts/README.md names each
-    script, and each script that a page or a comment calls is there. The last line is `N problems`.
+    README.md has at most 110 lines, docs/ARCHITECTURE.md 250 and docs/DECISIONS.md 200, all of docs/*.md together
+    3,000, each line of these at most 120 columns; the README of a crate has at most 40 lines, and shows a caller: a
+    block of code. Every crate of crates.txt that is not one of tests has one. Every link of a page to a file of this
+    repository leads to one, and to a heading of it where it names one. In README.md a link to a file whose text is
+    names in backquotes leads to a file that defines each of them. In docs/THEOREMS.md a row of the table of what is
+    proved names functions of a crate's src/, then definitions of specs/, and a file of one of these crates. There, and
+    in the tables of docs/ARCHITECTURE.md, each definition stands in the file that is named before it, and each other
+    word in backquotes is a word of src/ or specs/. docs/CONTRACTS.md is as the script `contracts` writes it. No
+    sentence stands in two of CONFIGURATION, OPERATIONS and PROTOCOL. docs/TESTING.md names each file of tests in an
+    entry of its crate. scripts/README.md names each script, and each script that a page or a comment calls is there.
+    The last line is `N problems`.
 
     Usage: scripts/run readme
     """

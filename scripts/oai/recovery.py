@@ -74,9 +74,10 @@ def journals(top, config, count, requests):
 def recovery(count="10000", requests="5000"):
     """Measures what a start of `oaihostd` costs for what its journal has.
 
-    Journals are made by a server: of N and 2N items deposited in messages of 500, and behind N of them of K and 2K requests for parts of a list by tokens.
-    For each it prints how many records and bytes the journal has, how many seconds a start takes, and how many megabytes of memory it then has; and
-    then, of the differences, how many instructions, by valgrind's callgrind, a line takes that is performed again, and a request by a token. It judges
+    Journals are made by a server: of N and 2N items deposited in messages of 500, and behind N of them of K and 2K
+    requests for parts of a list by tokens. For each it prints how many records and bytes the journal has, how many
+    seconds a start takes, and how many megabytes of memory it then has; and then, of the differences, how many
+    instructions, by valgrind's callgrind, a line takes that is performed again, and a request by a token. It judges
     nothing.
 
     Usage: scripts/run recovery [N [K]], which are 10000 and 5000 if not given
@@ -107,8 +108,8 @@ def turn_bodies(items, turn):
 def checkpoint_size(items="1000000", times="10"):
     """Shows how long a journal is before and behind a checkpoint, and how long that takes.
 
-    And that a dump of it has each item. So many items are deposited so many times, in messages of 500 lines. The status is 0 where the journal is then at most 1.2 times as long as the bytes
-    of its items.
+    And that a dump of it has each item. So many items are deposited so many times, in messages of 500 lines. The status
+    is 0 where the journal is then at most 1.2 times as long as the bytes of its items.
 
     Usage: scripts/run checkpoint-size [ITEMS [TIMES]], which are 1000000 and 10 if not given
     """

@@ -173,8 +173,9 @@ def tally(counted: Path, refused: Path, words: list[str]) -> int:
 def refuse_growth(letters="1", *words):
     """Refuses each request for memory in turn.
 
-    A program is made in a copy of the crates, with the script of crates/tests_fixtures/src/scripts.rt, on a host over pages in memory, and is run, compiled
-    with checks and without a proof, once for each request for memory that it makes:
+    A program is made in a copy of the crates, with the script of crates/tests_fixtures/src/scripts.rt, on a host over
+    pages in memory, and is run, compiled with checks and without a proof, once for each request for memory that it
+    makes:
       exchange   the script by Host::exchange: an exchange that is answered 503 for memory is made once more
       run        the script by Host::run: a run that is refused is made once more; in one that answers 503, the answers before it are compared
       pieces     a message and the same again through a front, a byte a piece: a piece that is refused is handed in again, behind Unfinished an empty
@@ -184,10 +185,12 @@ def refuse_growth(letters="1", *words):
       recover    the script's journal, performed again: a recovery that is refused is made once more, and what is asked then is answered as by the
                  host that ended
       copy       a harvester's copy that catches up with one harvest after the other: where a call is refused, its items are as before; then it again
-    Answers and pages, and the items of the copy, must be those of the undisturbed run. Of each it prints how many requests for memory it makes behind those
-    that make the host, how many of them were refused and answered so, how many were refused with no answer changed, and each that ended in a fault or was
-    answered otherwise. The last line is `N refused, M differences`, and the status is 0 where M is 0. LETTERS is how long the title of the first item
-    is, 1 if not given. COPY is a folder for the copy, which then stays; PARTS is how many runs go on side by side, 1 if not set.
+    Answers and pages, and the items of the copy, must be those of the undisturbed run. Of each it prints how many
+    requests for memory it makes behind those that make the host, how many of them were refused and answered so, how
+    many were refused with no answer changed, and each that ended in a fault or was answered otherwise. The last line is
+    `N refused, M differences`, and the status is 0 where M is 0. LETTERS is how long the title of the first item is, 1
+    if not given. COPY is a folder for the copy, which then stays; PARTS is how many runs go on side by side, 1 if not
+    set.
 
     Usage: scripts/run refuse-growth [LETTERS [exchange|run|pieces|clock|token|recover|copy]..]
     """
@@ -214,7 +217,7 @@ TOLD = re.compile(r"^test |panicked|signal|requires")
 
 def tried(crate, *arguments):
     """What `rt try` says of the tests of a crate."""
-    command = ["rt", "try", "--test", *arguments]
+    command = ["rt", "try", "--test", "--seconds", "300", *arguments]
     return subprocess.run(command, cwd=CRATES / crate, stdout=subprocess.PIPE, stderr=subprocess.STDOUT, text=True, errors="replace", check=False).stdout
 
 
@@ -225,10 +228,10 @@ def has_tests(crate):
 def refuse_allocations(count="60", *crates):
     """Runs the tests of crates with the first, second, .. allocation of each test refused in turn.
 
-    They are the tests of each crate that has some, or of the crates given. It goes up to a count (60 if none is given), and prints which tests failed and
-    the lines at which they stopped. A test fails where the refused
-    allocation was its own: it should stop at a line of its own that wants an answer, and none should stop inside a crate or answer something else in its
-    place. It stops where the tests of a crate do not pass with no allocation refused.
+    They are the tests of each crate that has some, or of the crates given. It goes up to a count (60 if none is given),
+    and prints which tests failed and the lines at which they stopped. A test fails where the refused allocation was its
+    own: it should stop at a line of its own that wants an answer, and none should stop inside a crate or answer
+    something else in its place. It stops where the tests of a crate do not pass with no allocation refused.
 
     Usage: scripts/run refuse-allocations [COUNT [CRATE..]]
     """

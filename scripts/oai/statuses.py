@@ -160,9 +160,10 @@ def try_cut(trial, folder):
 def exit_statuses():
     """Shows that `oaihost` ends with the status that it should, and says on standard error what it should.
 
-    After a whole input, at arguments that it does not know, at a configuration that is none, at a line that tells nothing, where its input or its output
-    fails, where the file of a server's pages cannot be emptied, and where a server cannot listen. And that the file is emptied once the configuration is
-    read, and that a server of whose file another program cuts a part goes on. It names each case that differs; its status is 0 where none does.
+    After a whole input, at arguments that it does not know, at a configuration that is none, at a line that tells
+    nothing, where its input or its output fails, where the file of a server's pages cannot be emptied, and where a
+    server cannot listen. And that the file is emptied once the configuration is read, and that a server of whose file
+    another program cuts a part goes on. It names each case that differs; its status is 0 where none does.
 
     Usage: scripts/run exit-statuses
     """
@@ -285,10 +286,11 @@ def try_ends(trial, folder):
 def daemon_statuses():
     """Shows that `oaihostd` ends with the status that it should, and says on standard error what it should.
 
-    And that it changes nothing that it does not go on with: at arguments that it does not know, at a configuration that is none or differs from the journal's, at a dump of no repository, at a folder that is a
-    file, cannot be made or is in use, at a port that is taken, and at a journal of another program, of another version, or with a changed byte in its first
-    frame, in a head, a body, a length or a gate. And that a start which was cut off before it had a journal is made again. It names each case that differs;
-    its status is 0 where none does.
+    And that it changes nothing that it does not go on with: at arguments that it does not know, at a configuration that
+    is none or differs from the journal's, at a dump of no repository, at a folder that is a file, cannot be made or is
+    in use, at a port that is taken, and at a journal of another program, of another version, or with a changed byte in
+    its first frame, in a head, a body, a length or a gate. And that a start which was cut off before it had a journal
+    is made again. It names each case that differs; its status is 0 where none does.
 
     Usage: scripts/run daemon-statuses
     """

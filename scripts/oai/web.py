@@ -406,10 +406,12 @@ def go_through(reader, archive, stamp):
 def web(pictures=None):
     """Goes through the page of web/ as a reader does, by the keyboard alone, in headless Chromium.
 
-    nginx stands by the lines of web/nginx.conf before a server that has repositories of its own. What is seen: each view, a list part by part, each error of
-    the protocol, 503 with its seconds, a window of 360 points, 10,000 sets, texts that are read from the right or have characters of four bytes, texts that
-    attack, both colour schemes; and that nothing is asked of another host. It names what differs; the last line is `N checked, M differ`, and the status is 0
-    where M is 0. With `pictures` it writes docs/web-records.png and docs/web-narrow.png instead. Packages of Debian:
+    nginx stands by the lines of web/nginx.conf before a server that has repositories of its own. What is seen: each
+    view, a list part by part, each error of the protocol, 503 with its seconds, a window of 360 points, 10,000 sets,
+    texts that are read from the right or have characters of four bytes, texts that attack, both colour schemes; and
+    that nothing is asked of another host. It names what differs; the last line is `N checked, M differ`, and the status
+    is 0 where M is 0. With `pictures` it writes docs/web-records.png and docs/web-narrow.png instead. Packages of
+    Debian:
         apt-get install chromium chromium-driver fonts-noto-core fonts-noto-color-emoji nginx-light openssl
 
     Usage: scripts/run web [pictures]

@@ -103,11 +103,13 @@ def count_comments():
 def words(*crates):
     """Lists words that have several meanings, and words that are not of the field.
 
-    First the words of specs/ that are defined more than once, each with the files that define it. A word is a definition of a file of specs/ (abbrev,
-    unfoldable, record, data, or with none of these), or a constructor of a `data`. The definitions of one word whose text is the same count as one. Then the
-    types of src/ (struct, enum, trait) of whose name there is another one in src/, or a definition in specs/ of another crate. Then the phrases of PHRASES in
-    the pages, each with its line, and how many there are in the doc comments of src/. Blocks of code are not looked at. The status is 1 where a page has such
-    a phrase; and, with the names of crates after it, where one of them defines a word of several meanings.
+    First the words of specs/ that are defined more than once, each with the files that define it. A word is a
+    definition of a file of specs/ (abbrev, unfoldable, record, data, or with none of these), or a constructor of a
+    `data`. The definitions of one word whose text is the same count as one. Then the types of src/ (struct, enum,
+    trait) of whose name there is another one in src/, or a definition in specs/ of another crate. Then the phrases of
+    PHRASES in the pages, each with its line, and how many there are in the doc comments of src/. Blocks of code are not
+    looked at. The status is 1 where a page has such a phrase; and, with the names of crates after it, where one of them
+    defines a word of several meanings.
 
     Usage: scripts/run words [CRATE..]
     """
