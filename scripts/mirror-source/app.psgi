@@ -1,4 +1,4 @@
-# The data provider that mirror_trial.py moves from: Dancer::Plugin::Catmandu::OAI over the items of the file that ITEMS names, one JSON object a
+# The data provider that mirror-trial moves from: Dancer::Plugin::Catmandu::OAI over the items of the file that ITEMS names, one JSON object a
 # line. The protocol is all the plugin's; only what it searches is here. Lists come in parts of LIMIT records. Each format is a template in the
 # folder TEMPLATES. It is run by starman, and needs these packages of Debian:
 #     apt-get install libdancer-plugin-catmandu-oai-perl starman
