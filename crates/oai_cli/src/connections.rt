@@ -31,7 +31,7 @@ pub(crate) fn forget_connection<H: Handler>(front: &mut Front<H>, conn: ConnId)
     let _ = front.forget(conn);
 }
 
-/// The bytes that the connection puts out next; none where there are none, or it is not open.
+/// The bytes that the connection writes next; none where there are none, or it is not open.
 pub(crate) fn next_output<H>(front: &Front<H>, conn: ConnId) -> &[u8]
     ensures front { IsFrontOf result.now (output_of conn.number front.now.connections) }
     ensures has { 0 < length result.now → HasOutput conn.number (length result.now)

@@ -29,7 +29,7 @@ use std::io::{Read, Write};
 pub const MAX_CONNECTIONS: usize = 1_024;
 
 /// Performs the lines of the input in order: each is a piece that comes on a connection, or a connection's
-/// end. Writes what each connection puts out. A line is `<moment> <label> <hex>` or `<moment> <label> end`;
+/// end. Writes what each connection would send. A line is `<moment> <label> <hex>` or `<moment> <label> end`;
 /// an empty line is skipped. The moment is in seconds from 1970 on, and a new label, a number below 2^64,
 /// opens a connection.
 /// After each line the new output is written as `<label> <hex>`, and `<label> close` where the connection is
@@ -112,7 +112,7 @@ fn trace_line<H: Handler, W: Write>(
     }
 }
 
-/// Performs the event on that connection, and writes what the connection puts out.
+/// Performs the event on that connection, and writes what the connection would send.
 fn trace_event<H: Handler, W: Write>(
     alloc: Global,
     front: &mut Front<H>,

@@ -5,7 +5,7 @@ use oai_config::NamedConfig;
 use oai_settings::RepoConfig;
 use std::alloc::Global;
 
-/// Whether an archive of the one configuration may go on with the other, as far as the two texts tell: it has a repository of the name of
+/// Whether an archive of the one configuration may go on with the other, as far as the two texts show it: it has a repository of the name of
 /// each of the journal's, with its granularity, earliestDatestamp and deletedRecord. The error is the first difference in the order of the
 /// journal's repositories; or out of memory.
 pub(crate) fn check_differences(alloc: Global, before: &[u8], text: &[u8]) -> Result<(), Stop> {

@@ -47,6 +47,6 @@ pub trait Place {
     /// the port is not known.
     fn announce(&mut self, port: &Self::Port) -> Result<(), Stop>;
 
-    /// Says, to whoever keeps the server, what it does. That it cannot be said ends nothing.
+    /// Reports to the operator what the server does. A report that cannot be written ends nothing.
     fn tell(&mut self, note: Note);
 }

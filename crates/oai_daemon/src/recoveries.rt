@@ -10,7 +10,7 @@ use oai_http::Replayed;
 use oai_journal::Recovery;
 use std::rt::Clock;
 
-/// How many seconds the clock may be ahead of the last record, and nothing is said of it: 366 days.
+/// How many seconds the clock may be ahead of the last record, without a warning: 366 days.
 const MAX_AHEAD: i64 = 31_622_400;
 
 /// How many seconds it may be behind it: an hour.
@@ -21,7 +21,7 @@ const MAX_BEHIND: i64 = 3_600;
 struct Meter<'a, P, C> {
     place: &'a mut P,
     clock: &'a C,
-    /// The second at which it was said last.
+    /// The second of the last report.
     last: u64,
 }
 

@@ -69,7 +69,7 @@ pub(crate) fn keep_checkpoint<P: Place>(
     place.keep_journal()
 }
 
-/// A progress of which nothing is said.
+/// A progress that is not reported.
 #[derive(Drop)]
 pub(crate) struct Silent;
 

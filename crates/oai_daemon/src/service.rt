@@ -30,7 +30,7 @@ type Started<P> = (
 /// killed or cannot go on. What is performed stands in the journal, synced, before it is answered.
 ///
 /// A start goes in this order, and stops at the first fault: the configuration, the folder, the port, the journal and its
-/// first record, the pages, all other records, and that it is said where the server listens. A journal of another configuration, and
+/// first record, the pages, all other records, and the report of where the server listens. A journal of another configuration, and
 /// one that is long while no list is open, is replaced by a checkpoint before that.
 pub fn serve<P: Place, C: Clock>(
     alloc: Global,

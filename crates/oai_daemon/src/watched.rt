@@ -1,4 +1,4 @@
-//! A handler whose faults are told.
+//! A handler whose faults are reported.
 ghost use Rattle.std.specs.Prelude.{◌≡◌};
 
 use crate::notes::Note;
@@ -6,20 +6,20 @@ use crate::places::Place;
 use oai_http::{Answer, Exchange, Handler, SettleFault, Settled, Status};
 use oai_item::Fault;
 
-/// A handler, and the place that is told of each exchange that it answers with 500 (Internal Server Error); of equal faults once a second,
+/// A handler, and the place to which each exchange is reported that it answers with 500 (Internal Server Error); of equal faults once a second,
 /// with how many they were since.
 #[derive(Drop)]
 pub(crate) struct Watched<'a, H, P> {
     handler: H,
     place: &'a mut P,
-    /// The fault that was told last, and at which moment.
+    /// The fault that was reported last, and at which moment.
     told: Option<(Fault, i64)>,
     /// How many equal ones came since.
     untold: u64,
 }
 
 impl<'a, H: Handler, P: Place> Watched<'a, H, P> {
-    /// Over that handler, whose faults the place is told.
+    /// Over that handler, whose faults are reported to the place.
     pub(crate) fn new(handler: H, place: &'a mut P) -> Watched<'a, H, P> {
         Watched {
             handler,

@@ -2,7 +2,7 @@ ghost use Rattle.std.specs.Prelude.{◌≡◌, false};
 
 use crate::devices::{DeviceFault, Page, PageDevice};
 
-/// A device over another one that lies once, for tests of what stands on devices. It is never honest.
+/// A device over another one that returns a wrong byte in one read, for tests of what stands on devices. It is never honest.
 #[derive(Drop)]
 pub struct FlippingDevice<D: PageDevice> {
     inner: D,

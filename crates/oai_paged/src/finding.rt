@@ -62,7 +62,7 @@ pub(crate) fn begins_on_page(page: &[u8], stamp: i64, identifier: &str) -> bool
 }
 
 /// Whether the item that the bytes spell has this datestamp, in seconds from 1970 on, and identifier. Where they spell
-/// none, nothing is said of the answer.
+/// none, nothing is promised of the answer.
 fn is_at(spelling: &[u8], stamp: i64, identifier: &str) -> bool
     ensures { (item : ItemState) → item_in spelling.now ≡ Some item → result ≡ is_at stamp identifier.now item }
 {

@@ -105,7 +105,7 @@ fn command_named(word: &str, path: String) -> Result<Command, Stop> {
 }
 
 /// Writes how many repositories the configuration has, and says on standard error what of it makes documents invalid
-/// or is of no use to a harvester. That this cannot be said ends nothing.
+/// or is of no use to a harvester. A warning that cannot be written ends nothing.
 fn run_check(rt: &(impl Files + Print + Eprint + AllocGlobal), path: &str) -> Result<(), Stop> {
     let text = read_file(rt, path)?;
     check_config(rt.alloc(), &text, &mut io::writer(rt))?;

@@ -145,7 +145,7 @@ fn run_checkpoint(rt: &HostRuntime, path: &str, folder: &str) -> Result<(), Stop
     checkpoint_folder(rt.alloc(), &mut place, rt, &text, &mut io::writer(rt))
 }
 
-/// Says on standard error why the program stopped. Where that cannot be said its status still says something.
+/// Writes to standard error why the program stopped. Where that cannot be written its status still shows it.
 fn stopped(rt: &impl Eprint, stop: Stop) -> ExitCode
     ensures { exit_status result ≡ spec.status_of stop }
 {

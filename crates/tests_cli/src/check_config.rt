@@ -32,7 +32,7 @@ fn with_no_chunk(rt: &impl Abort, alloc: Global, text: &str) -> String {
     changed(rt, alloc, text, r#""chunk":2"#, r#""chunk":0"#)
 }
 
-/// Checking the text stops: that is said, the status is 2, and nothing is written.
+/// Checking the text stops: that is reported, the status is 2, and nothing is written.
 fn assert_refused(rt: &impl Abort, alloc: Global, text: &str, wanted: &str) {
     let mut output = Vec::new(alloc);
     let Err(stop) = check_config(alloc, text.as_bytes(), &mut output) else {

@@ -182,7 +182,7 @@ fn numbers_of_bad_lines(rt: HostRuntime) {
     assert_bad_line(&rt, alloc, text.as_slice(), 65_536, 70_005);
 }
 
-/// What is said on standard error.
+/// What is written to standard error.
 #[test]
 fn what_is_said(rt: HostRuntime) {
     for (stop, text) in [

@@ -605,7 +605,7 @@ fn endless_streams(rt: HostRuntime) {
     assert_set(&rt, alloc, &mut front, set_answer());
 }
 
-/// What is said of each fault of a stream.
+/// What is reported of each fault of a stream.
 #[test]
 fn faults_of_streams(rt: HostRuntime) {
     for (fault, text) in [

@@ -61,7 +61,7 @@ fn push_piece(rt: &impl Abort, alloc: Global, label: u64, piece: &[u8], lines: &
     lines.push_str(line.as_str()).expect(rt, "memory");
 }
 
-/// Adds a line of the output: the connection of the label puts out the text.
+/// Adds a line of the output: the connection of the label sends the text.
 fn push_output(rt: &impl Abort, alloc: Global, label: u64, text: &str, wanted: &mut String) {
     let digits = hex::encode(alloc, text.as_bytes()).expect(rt, "hex::encode");
     let line = format!(in alloc; "{label} {digits}\n").expect(rt, "memory");
@@ -178,7 +178,7 @@ pub(crate) fn but_the_last(bytes: &[u8]) -> &[u8] {
     }
 }
 
-/// With the end after 21 bytes of the body nothing is put out, and there are no sets.
+/// With the end after 21 bytes of the body nothing is sent, and there are no sets.
 #[test]
 fn end_in_a_body(rt: HostRuntime) {
     let alloc = rt.alloc();
@@ -198,7 +198,7 @@ fn end_in_a_body(rt: HostRuntime) {
     assert_traced(&rt, alloc, lines.as_str(), wanted.as_str(), Ok(()));
 }
 
-/// A connection that ends behind the front of a message puts out nothing, and its repository is as it was.
+/// A connection that ends behind the front of a message sends nothing, and its repository is as it was.
 fn assert_end_behind(rt: &impl Abort, alloc: Global, front: &[u8]) {
     let mut lines = String::new(alloc);
     push_piece(rt, alloc, 1, front, &mut lines);
@@ -241,7 +241,7 @@ pub(crate) fn answer_with(rt: &impl Abort, alloc: Global, document: &str) -> Str
     .expect(rt, "memory")
 }
 
-/// Adds a line of the output: the connection of the label puts out the answer with that document.
+/// Adds a line of the output: the connection of the label sends the answer with that document.
 fn push_document(rt: &impl Abort, alloc: Global, label: u64, document: &str, wanted: &mut String) {
     let text = answer_with(rt, alloc, document);
     push_output(rt, alloc, label, text.as_str(), wanted);
@@ -434,7 +434,7 @@ fn digits_in_either_case(rt: HostRuntime) {
     }
 }
 
-/// What was put out before a read that fails stays written.
+/// What was sent before a read that fails stays written.
 #[test]
 fn input_of_a_trace_fails(rt: HostRuntime) {
     let text = b"1 1 end\n1 2 end\n1 3 e".as_slice();

@@ -1,4 +1,4 @@
-//! What is said of configurations whose documents would be invalid, or of no use to a harvester. The URIs that are tried are examples of RFC 3986,
+//! The warnings of configurations whose documents would be invalid, or of no use to a harvester. The URIs that are tried are examples of RFC 3986,
 //! section 1.1.2, and the addresses of RFC 5322, appendix A.
 use crate::assertions::assert_same_at;
 use crate::samples::worked_with;

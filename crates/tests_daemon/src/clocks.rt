@@ -81,7 +81,7 @@ fn assert_calls(rt: &impl Abort, alloc: Global, moment: i64, calls: &str) {
     assert_eq!(rt; place.calls.as_str(), calls);
 }
 
-/// A clock that is more than 366 days ahead of the last record, or more than an hour behind it, is told, and ends nothing.
+/// A clock that is more than 366 days ahead of the last record, or more than an hour behind it, is reported, and ends nothing.
 #[test]
 fn clock_is_far_from_the_journal(rt: HostRuntime) {
     let near = "lock listen find open pages recovered announce ";

@@ -40,7 +40,7 @@ fn starts(rt: HostRuntime) {
     assert_start(&rt, &mut place, Stop::Common(Other::SocketFault), BEGUN);
 }
 
-/// A fault at any step ends a start there, but one of what is told.
+/// A fault at any step ends a start there, but one of a report.
 #[test]
 fn faults_at_each_step(rt: HostRuntime) {
     for count in [0u32, 1, 2, 3, 4, 5, 6, 8] {

@@ -39,7 +39,7 @@ fn arguments_and_configurations(rt: HostRuntime) {
     assert_stop(&rt, alloc, refused, "out of memory", 1);
 }
 
-/// A configuration that an archive cannot go on with is told by the first aspect that differs.
+/// A configuration that an archive cannot go on with is reported by the first aspect that differs.
 #[test]
 fn other_configurations(rt: HostRuntime) {
     for (aspect, text) in [

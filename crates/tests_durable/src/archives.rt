@@ -33,7 +33,7 @@ pub(crate) type Pages<D> = Host<PagedVersions<D>>;
 /// The host and its journal.
 pub(crate) type Archive<D> = Journaled<Pages<D>, FileJournal<Memory>>;
 
-/// Nobody who is told how far a recovery is.
+/// A recovery whose progress is not reported.
 #[derive(Drop)]
 struct Quiet;
 

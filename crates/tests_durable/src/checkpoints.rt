@@ -97,7 +97,7 @@ fn checkpoint_has_these_bytes(rt: HostRuntime) {
     assert_pieces(&rt, disk.bytes(), &WRITTEN);
 }
 
-/// Nobody who is told how far a recovery is.
+/// A recovery whose progress is not reported.
 #[derive(Drop)]
 struct Quiet;
 

@@ -39,7 +39,7 @@ fn answer_to<H: Handler>(rt: &impl Abort, handler: &mut H, text: &str) -> Answer
     handler.exchange(moment.parse::<i64>().expect(rt, "a moment"), &exchange)
 }
 
-/// The answer is the one that the text tells of: its status, its seconds, and how many bytes of which hash its body has.
+/// The answer is the one that the text describes: its status, its seconds, and how many bytes of which hash its body has.
 fn assert_told(rt: &impl Abort, answer: &Answer, text: &str) {
     let (status, text) = cut(text);
     let (seconds, text) = cut(text);
@@ -52,7 +52,7 @@ fn assert_told(rt: &impl Abort, answer: &Answer, text: &str) {
     assert!(rt; hash_of(answer.body.as_slice()) == number(rt, hash));
 }
 
-/// What the text asks, behind the four words that tell of its answer.
+/// What the text asks, behind the four words that describe its answer.
 fn asked(text: &str) -> &str {
     let (_, text) = cut(text);
     let (_, text) = cut(text);

@@ -16,7 +16,7 @@ pub struct ExchangeLine<'a> {
     pub method: &'a str,
     /// Its target.
     pub target: &'a str,
-    /// The type of its body; none where it tells none.
+    /// The type of its body; none where it has none.
     pub content_type: Option<&'a str>,
     /// Its body, in which each `¶` stands for a line end.
     pub body: &'a str,

@@ -1,4 +1,5 @@
-//! The script over a device that lies once. The exchange that meets the lie fails, and the other repositories answer as where there is none.
+//! The script over a device that returns a wrong byte in one read. The exchange of that read fails, and the other repositories
+//! answer as where there is none.
 use crate::assertions::assert_same_at;
 use crate::sample_host::{host, paged};
 use crate::script_failures::{answer_of, assert_written, failed, step_in};
@@ -13,7 +14,7 @@ use std::process::Abort;
 use tests_devices::CountingDevice;
 use tests_fixtures::{Form, long, script, short};
 
-/// A host over a device that lies once, whose reads are counted.
+/// A host over a device that returns a wrong byte in one read, whose reads are counted.
 type LiedTo = Host<PagedVersions<CountingDevice<FlippingDevice<MemoryDevice>>>>;
 
 /// A new host, for whose device the first byte of the k-th read is inverted.

@@ -1,4 +1,4 @@
-//! What a connection puts out, gathered before it is written.
+//! What a connection has to write, gathered before it is written.
 ghost use Rattle.std.specs.Prelude.{◌≡◌, ◌+◌, ◌++◌, ◌<◌, ◌≤◌, [], length, vec_capacity, vec_len, IfOk, OnOk};
 ghost use Rattle.std.specs.Io.KnownBytes.{append_known, Appends, Keeps};
 ghost use Rattle.oai_cli.specs.Outputs as spec;
@@ -79,7 +79,7 @@ fn add(bytes: &[u8], others: &mut Vec<u8>)
     others.extend_from_slice(bytes).unwrap();
 }
 
-/// Writes all that the connection puts out. What is shorter than 4,096 bytes is gathered before it is
+/// Writes all that the connection has to write. What is shorter than 4,096 bytes is gathered before it is
 /// written, and what is longer is written as it is.
 pub(crate) fn flush_output<H: Handler, W: Write>(
     front: &mut Front<H>,
@@ -102,7 +102,7 @@ pub(crate) fn flush_output<H: Handler, W: Write>(
     gathered.write(writer)
 }
 
-/// Puts what the connection puts out next to the others; how many bytes, None where there are none.
+/// Adds what the connection has to write next to the others; how many bytes, None where there are none.
 fn put_next<H, W: Write>(
     front: &Front<H>,
     conn: ConnId,

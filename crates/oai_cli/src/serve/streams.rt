@@ -40,7 +40,7 @@ pub enum StreamFault {
 }
 
 /// Serves the stream as one connection of the front: what is read comes on it at the clock's moment, and
-/// what it puts out is written, until it is closing and all was written, or the stream ends. A read is of
+/// what it has to write is written, until it is closing and all was written, or the stream ends. A read is of
 /// at most 65,536 bytes. The connection is forgotten then, also at each fault; no other connection changes.
 pub fn serve_stream<H: Handler, S: Read + Write, C: Clock>(
     alloc: Global,
@@ -123,7 +123,7 @@ fn read_on<H: Handler, S: Read + Write, C: Clock>(
     answer(front, conn, moment, &buffer[..count], gathered, stream)
 }
 
-/// Lets the piece come on the connection, and writes what that puts out; whether it is to be read on.
+/// Lets the piece come on the connection, and writes what that gives to write; whether it is to be read on.
 fn answer<H: Handler, S: Write>(
     front: &mut Front<H>,
     conn: ConnId,

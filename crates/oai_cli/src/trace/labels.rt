@@ -22,7 +22,7 @@ use std::io::Write;
 /// The connections of a trace by their labels; None where it was forgotten.
 pub(crate) type Labels = BTreeMap<u64, Option<ConnId>>;
 
-/// Writes what the connection puts out, and where it is closing, that it is closed; then it is forgotten.
+/// Writes what the connection has to write, and where it is closing, that it is closed; then it is forgotten.
 pub(crate) fn report<H: Handler, W: Write>(
     alloc: Global,
     front: &mut Front<H>,
@@ -87,7 +87,7 @@ pub(crate) fn connection_of<H: Handler>(
     }
 }
 
-/// Writes all that the connection puts out, where it does, as a line `<label> <hex>`.
+/// Writes all that the connection has to write, where there is any, as a line `<label> <hex>`.
 fn write_output<H: Handler, W: Write>(
     alloc: Global,
     front: &mut Front<H>,
