@@ -126,7 +126,7 @@ impl Place for HostPlace<'_> {
 
     type NewDisk = FileFrom<Unknown>;
 
-    type Pages = FileDevice;
+    type Pages = FileDevice<File>;
 
     type Link = Socket;
 
@@ -190,7 +190,7 @@ impl Place for HostPlace<'_> {
         self.disk("journal", Wary)
     }
 
-    fn empty_pages(&mut self) -> Result<FileDevice, Stop> {
+    fn empty_pages(&mut self) -> Result<FileDevice<File>, Stop> {
         match self.open_file("pages", true) {
             Ok(file) => Ok(FileDevice::new(file)),
             Err(Stop::CannotOpen) => Err(Stop::Common(Other::DeviceFault)),

@@ -1,2 +1,3 @@
 pub mod Device
+pub mod PageFile
 pub mod Written

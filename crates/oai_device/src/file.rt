@@ -1,45 +1,45 @@
-//! A device over a file. No contract can say what a file gives back, so this is supposed of it, in words:
-//! it gives back what was written to it, and nobody else writes to it while the device is in use. Every
-//! theorem here is over a device that is honest; of a `FileDevice` it holds as far as its file is so.
-//! Nothing else is supposed: its failures are counted, its pages of other numbers stay as they were
-//! written, and it takes no memory, whatever the file does.
-ghost use Rattle.std.specs.Prelude.{◌≡◌, ◌⊎◌, ◌<◌, ◌≤◌, ℕ, None, false, nat_eq, is_ok, IfErr, OnErr};
-ghost use Rattle.std.specs.Map.{lookup};
+//! A device over a file of pages. It is honest where its file is. Of the system's file no clause can say
+//! what it gives back, so this is supposed of it, in words: it gives back what was written to it, and
+//! nobody else writes to it while the device is in use. Every theorem over a device that is honest holds
+//! of `FileDevice<File>` as far as its file is so. Nothing else is supposed: its failures are counted, its
+//! pages of other numbers stay as they were written, and it takes no memory, whatever the file does.
+ghost use Rattle.std.specs.Prelude.{◌≡◌, ◌⊎◌, ◌+◌, ◌*◌, ◌<◌, ◌≤◌, ℕ, None, false, is_ok, IfErr, IsTrue, OnErr};
+ghost use Rattle.oai_device.specs.Written.{AreInFile, page_under};
 ghost use Rattle.oai_device.specs.declared.devices.DeviceFault.TheVariants as fault;
 
 use crate::devices::{DeviceFault, MAX_FAILURES, PAGE_BYTES, Page, PageDevice};
+use crate::page_file::{PageFile, read_page, write_page};
 use crate::written::Written;
-use std::fs::File;
-use std::os::unix::fs::FileExt;
 
 /// A device that keeps page n in a file, at byte n times 16,384. It takes no memory. Each call that fails
 /// is counted, a read that finds fewer bytes than a page too.
 #[derive(Drop)]
-pub struct FileDevice {
-    file: File,
+pub struct FileDevice<F: PageFile> {
+    file: F,
     failed: u64,
     written: Written,
+    ghost placed: { IsTrue (F.honest file) → AreInFile (F.bytes file) written.pages },
 }
 
-impl PageDevice for FileDevice {
-    ghost pages = { λ d n. lookup (nat_eq n) d.written.pages };
+impl<F: PageFile> PageDevice for FileDevice<F> {
+    ghost pages = { λ d. page_under d.written.pages };
 
     ghost failures = { λ d. d.failed };
 
-    ghost honest = { λ _. false };
+    ghost honest = { λ d. F.honest d.file };
 
     ghost reads_take_memory = { false };
 
     ghost writes_take_memory = { false };
 
     fn read(&mut self, no: u32, page: &mut Page) -> Result<(), DeviceFault> {
-        let done = self.file.read_exact_at(page, start_of(no)).is_ok();
+        let done = read_page(&mut self.file, start_of(no), page);
         counted(done, &mut self.failed)
     }
 
     fn write(&mut self, no: u32, page: &Page) -> Result<(), DeviceFault> {
-        self.written.note(&[u64::from(no)], page);
-        let done = self.file.write_all_at(page, start_of(no)).is_ok();
+        let done = write_page(&mut self.file, start_of(no), page);
+        self.written.note(&[u64::from(no), u64::from(done)], page);
         counted(done, &mut self.failed)
     }
 
@@ -48,11 +48,12 @@ impl PageDevice for FileDevice {
     }
 }
 
-impl FileDevice {
+impl<F: PageFile> FileDevice<F> {
     /// A device over that file, which is open to be read and written.
-    pub fn new(file: File) -> FileDevice
-        ensures pages { (n : ℕ) → ⟦<FileDevice as PageDevice>⟧.pages result n ≡ None }
-        ensures failures { ⟦<FileDevice as PageDevice>⟧.failures result ≡ 0 }
+    pub fn new(file: F) -> FileDevice<F>
+        ensures pages { (n : ℕ) → ⟦<FileDevice<F> as PageDevice>⟧.pages result n ≡ None }
+        ensures failures { ⟦<FileDevice<F> as PageDevice>⟧.failures result ≡ 0 }
+        ensures honest { ⟦<FileDevice<F> as PageDevice>⟧.honest result ≡ F.honest file }
     {
         FileDevice {
             file,
@@ -63,7 +64,9 @@ impl FileDevice {
 }
 
 /// Where the page of that number begins in its file, in bytes.
-fn start_of(no: u32) -> u64 {
+fn start_of(no: u32) -> u64
+    ensures { result ≡ no * PAGE_BYTES }
+{
     u64::from(no) * PAGE_BYTES as u64
 }
 

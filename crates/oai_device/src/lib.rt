@@ -7,6 +7,7 @@ mod faulty;
 mod file;
 mod flipping;
 mod memory;
+mod page_file;
 mod written;
 
 pub use devices::{DeviceFault, MAX_FAILURES, PAGE_BYTES, Page, PageDevice};
@@ -14,3 +15,4 @@ pub use faulty::FaultyDevice;
 pub use file::FileDevice;
 pub use flipping::FlippingDevice;
 pub use memory::MemoryDevice;
+pub use page_file::PageFile;

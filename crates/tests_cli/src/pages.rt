@@ -15,7 +15,7 @@ use std::rt::Files;
 use tests_fixtures::{asked_in, wanted_in};
 
 /// A host whose pages are in a file.
-type FiledHost = Host<PagedVersions<FileDevice>>;
+type FiledHost = Host<PagedVersions<FileDevice<File>>>;
 
 /// The file that was at the path, and has other bytes in it, is emptied.
 fn emptied<R: Files<File = File> + AllocGlobal + Abort>(rt: &R, path: &str) -> File {

@@ -1,10 +1,12 @@
 //! A device over a file.
 use crate::assertions::{assert_page, assert_same, page_of};
+use crate::short_files::{ByteFile, ShortFile};
 use crate::steps::{add, assert_both, assert_read_fails, assert_written, write};
 use oai_device::{DeviceFault, FileDevice, PAGE_BYTES, PageDevice};
 use oai_pool::{PagePool, Pool, PoolFault};
 use std::fs;
 use std::fs::{File, OpenOptions};
+use std::io::ErrorKind;
 use std::os::unix::fs::FileExt;
 use std::panic::Expect;
 use std::process::Abort;
@@ -28,6 +30,16 @@ fn assert_stands<R: Files<File = File> + Abort>(rt: &R, path: &str, byte: u64, n
     file.read_exact_at(&mut page, byte)
         .expect(rt, "read_exact_at");
     assert_page(rt, &page, number);
+}
+
+/// Writes the page of `number` at that byte of the file, past its device.
+fn put<R: Files<File = File> + Abort>(rt: &R, path: &str, byte: u64, number: u16) {
+    let file = OpenOptions::new()
+        .write(true)
+        .open(rt, path)
+        .expect(rt, "open");
+    file.write_all_at(&page_of(number), byte)
+        .expect(rt, "write_all_at");
 }
 
 /// Leaves so many bytes of the file.
@@ -66,6 +78,77 @@ fn file_that_is_only_read(rt: HostRuntime) {
     assert_same(&rt, device.write(0, &page_of(1)), Err(DeviceFault::Failed));
     assert_same(&rt, device.faults(), 2);
     fs::remove_file(&rt, path).expect(&rt, "fs::remove_file");
+}
+
+/// Pages past the first 4 GiB of a sparse file stand at their place, and are read from there, in whole calls.
+#[test]
+fn sparse_file(rt: HostRuntime) {
+    let path = "file-sparse.pages";
+    let mut device = FileDevice::new(empty_file(&rt, path));
+    write(&rt, &mut device, 1, 1);
+    write(&rt, &mut device, 262_145, 2);
+    assert_stands(&rt, path, 16_384, 1);
+    assert_stands(&rt, path, 4_294_983_680, 2);
+    put(&rt, path, 4_294_983_680, 3);
+    assert_written(&rt, &mut device, 262_145, 3);
+    assert_written(&rt, &mut device, 1, 1);
+    fs::remove_file(&rt, path).expect(&rt, "fs::remove_file");
+}
+
+/// The same of a file whose calls come short, of which one is interrupted.
+#[test]
+fn sparse_file_in_parts(rt: HostRuntime) {
+    let path = "file-in-parts.pages";
+    let file = ShortFile::new(empty_file(&rt, path), 5_000, 2, ErrorKind::Interrupted);
+    let mut device = FileDevice::new(file);
+    write(&rt, &mut device, 1, 1);
+    write(&rt, &mut device, 300_000, 2);
+    assert_stands(&rt, path, 16_384, 1);
+    assert_stands(&rt, path, 4_915_200_000, 2);
+    put(&rt, path, 4_915_200_000, 3);
+    assert_written(&rt, &mut device, 300_000, 3);
+    assert_same(&rt, device.faults(), 0);
+    fs::remove_file(&rt, path).expect(&rt, "fs::remove_file");
+}
+
+/// Pages are whole over a file that reads and writes one byte a call.
+#[test]
+fn file_of_single_bytes(rt: HostRuntime) {
+    let mut device = FileDevice::new(ByteFile::new(rt.alloc(), None));
+    write(&rt, &mut device, 4_294_967_294, 1);
+    write(&rt, &mut device, 0, 2);
+    assert_written(&rt, &mut device, 4_294_967_294, 1);
+    assert_written(&rt, &mut device, 0, 2);
+    assert_same(&rt, device.faults(), 0);
+}
+
+/// A read that finds the end of the file before the end of its page fails, and a later page is read.
+#[test]
+fn file_that_ends_early(rt: HostRuntime) {
+    let mut device = FileDevice::new(ByteFile::new(rt.alloc(), Some(16_383)));
+    write(&rt, &mut device, 0, 1);
+    write(&rt, &mut device, 1, 2);
+    assert_read_fails(&rt, &mut device, 0);
+    assert_same(&rt, device.faults(), 1);
+    assert_written(&rt, &mut device, 1, 2);
+}
+
+/// A write of which a later call fails has failed, and so has such a read.
+#[test]
+fn file_that_fails(rt: HostRuntime) {
+    let alloc = rt.alloc();
+    let cause = ErrorKind::PermissionDenied;
+    let file = ShortFile::new(ByteFile::new(alloc, None), 1, 16_384, cause);
+    let mut device = FileDevice::new(file);
+    assert_same(&rt, device.write(0, &page_of(1)), Err(DeviceFault::Failed));
+    write(&rt, &mut device, 0, 2);
+    assert_written(&rt, &mut device, 0, 2);
+    assert_same(&rt, device.faults(), 1);
+    let file = ShortFile::new(ByteFile::new(alloc, None), 1, 32_768, cause);
+    let mut device = FileDevice::new(file);
+    write(&rt, &mut device, 0, 1);
+    assert_read_fails(&rt, &mut device, 0);
+    assert_same(&rt, device.faults(), 1);
 }
 
 /// A pool over a file: pages that are not cached come from it, and where it is cut the read fails.

@@ -20,6 +20,8 @@ mod refusing;
 #[cfg(test)]
 mod saturated;
 #[cfg(test)]
+mod short_files;
+#[cfg(test)]
 mod steps;
 
 pub use counting::CountingDevice;

@@ -1,0 +1,2 @@
+pub mod PageFileLemmas
+pub mod WrittenLemmas
