@@ -8,7 +8,7 @@ use Rattle.oai_pool.specs.Counts.{AddsName, KeepsNamed, count_of}
 use Rattle.oai_pool.specs.Names.{times}
 use Rattle.oai_pool.specs.declared.pools.PagePool.{Ghosts}
 use Rattle.oai_paged.specs.Calls.{Adds}
-use Rattle.oai_paged.specs.Pages.{FitAlone, FitPage, begins_at, pages_of}
+use Rattle.oai_paged.specs.Pages.{FitAlone, FitPage, begins_at, pages_of, size_of}
 use Rattle.oai_paged.specs.Places.{AreSetCounts, IsSoundPlace, Pages, PlaceState, bytes_on, have_records, items_at, named_in, page_at}
 use Rattle.oai_paged.specs.Recounts.{AddsNumbers, Recounts}
 use Rattle.oai_paged.proofs.NameLemmas.{named_in-cons, named_in-nil, times-append, times-nil, times-one}
@@ -79,14 +79,16 @@ unfolding items_at
 items_at-pages pages items place is fit alone = items_in-page (bytes_on pages place.pages) items (page_on pages place.pages items is fit alone)
 
 placed_pages : (pages : Pages) (items : List ItemState) (place : PlaceState) → map (page_at pages) place.pages ≡ pages_of items → FitPage items → FitAlone items
-    → begins_at place.stamp place.identifier items ≡ true → place.len ≡ length items → have_records place.prefixes items ≡ true → AreSetCounts place.sets items → IsSoundPlace pages place
-placed_pages pages items place is fit alone begins counted common sets =
+    → begins_at place.stamp place.identifier items ≡ true → place.len ≡ length items → place.size ≡ size_of items → have_records place.prefixes items ≡ true → AreSetCounts place.sets items → IsSoundPlace pages place
+placed_pages pages items place is fit alone begins counted sized common sets =
     let same = items_at-pages pages items place is fit alone in
     record {
+      written = is ∙ ap pages_of (sym same);
       page = rw same (page_on pages place.pages items is fit alone);
       many = rw same (fit_pages pages place.pages items is fit.storable alone);
       begins = ap (begins_at place.stamp place.identifier) same ∙ begins;
       counted = ap length same ∙ sym counted;
+      sized = ap size_of same ∙ sym sized;
       common = ap (have_records place.prefixes) same ∙ common;
       sets = subst (λ (zs : List ItemState). AreSetCounts place.sets zs) (sym same) sets;
     }
@@ -99,11 +101,11 @@ own_numbers place numbers n own =
 
 pub adds_page : {P : Type 0} (g : Ghosts P) (items : List ItemState) (place : PlaceState) (numbers : List ℕ) (old new : P) → AddsNumbers g (pages_of items) numbers old new
     → FitPage items → FitAlone items → place.pages ≡ numbers
-    → begins_at place.stamp place.identifier items ≡ true → place.len ≡ length items → have_records place.prefixes items ≡ true → AreSetCounts place.sets items → Adds g items (place ∷ []) old new
-adds_page g items place numbers old new h fit alone own begins counted common sets =
+    → begins_at place.stamp place.identifier items ≡ true → place.len ≡ length items → place.size ≡ size_of items → have_records place.prefixes items ≡ true → AreSetCounts place.sets items → Adds g items (place ∷ []) old new
+adds_page g items place numbers old new h fit alone own begins counted sized common sets =
     let is : map (page_at (g.pages new)) place.pages ≡ pages_of items = ap (map (page_at (g.pages new))) own ∙ h.pages in
     record {
-      placed = (placed_pages (g.pages new) items place is fit alone begins counted common sets, tt);
+      placed = (placed_pages (g.pages new) items place is fit alone begins counted sized common sets, tt);
       items =
           items_on-cons (g.pages new) place [] ∙ ap (λ zs. items_at (g.pages new) place ++ zs) (items_on-nil (g.pages new))
           ∙ append-nil (items_at (g.pages new) place) ∙ items_at-pages (g.pages new) items place is fit alone;

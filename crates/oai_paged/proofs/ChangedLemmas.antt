@@ -2,8 +2,10 @@
 use Rattle.std.proofs.Common.{◌≡◌, ◌∙◌, ◌+◌, ◌≤◌, ℕ, List, [], ◌++◌, Result, Ok, Err, IfOk, OnErr, OnOk, length, take, drop, refl, sym, ap, subst, arith}
 use Rattle.std.proofs.lemmas.List.{drop-drop, drop_at, length-take-le, take-append-drop, take_at}
 use Rattle.oai_item.specs.Item.{ItemState}
+use Rattle.oai_item.specs.declared.faults.Fault.{Fault}
+use Rattle.oai_pool.specs.Counts.{count_of}
 use Rattle.oai_pool.specs.declared.pools.PagePool.{Ghosts}
-use Rattle.oai_paged.specs.Calls.{Adds, IsDirectoryChanged, Renames}
+use Rattle.oai_paged.specs.Calls.{Adds, ChangesNothing, IsDirectoryChanged, ReadsPages, Renames, Stages}
 use Rattle.oai_paged.specs.Directory.{MayStand, StandsIn}
 use Rattle.oai_paged.specs.Places.{PlaceState, items_on, named_in}
 use Rattle.oai_paged.proofs.RenamedLemmas.{items_changed, stands_changed, traded_changed, within_changed}
@@ -79,6 +81,31 @@ changed_items g items at len new_at new_len gone before after old new h changed 
     let h_parts : StandsIn g old (front ++ (own ++ behind)) = subst (λ (ps : List PlaceState). StandsIn g old ps) (sym (three_parts at len before)) h in
     ap (items_on (g.pages new)) changed.exchanged
     ∙ items_changed g items front own behind (take new_len (drop at after)) old new h_parts (subst (λ (ps : List PlaceState). Adds g items ps old new) (sym part) changed.added)
+
+-- ---- after pages were read
+
+renames_read : {P A : Type 0} (g : Ghosts P) (read : Result A Fault) (a b : List PlaceState) (old mid new : P) → ReadsPages g read old mid → Renames g a b mid new → Renames g a b old new
+renames_read g read a b old mid new h k = record {
+  counts = λ n. k.counts n ∙ ap (λ counts. count_of counts n + named_in b n) h.counts;
+  kept = λ n named. k.kept n (omega (arith, named, ap (λ counts. count_of counts n) h.counts)) ∙ ap (λ pages. pages n) h.same;
+}
+
+pub stages_read : {P A : Type 0} (g : Ghosts P) (read : Result A Fault) (at len : ℕ) (gone before after : List PlaceState) (old mid new : P) → ReadsPages g read old mid → Stages g at len gone before after mid new
+    → Stages g at len gone before after old new
+stages_read g read at len gone before after old mid new h s = record {
+  stands = s.stands;
+  back = s.back;
+  names = renames_read g read [] (take len (drop at after)) old mid new h s.names;
+  traded = s.traded;
+  within = s.within;
+}
+
+pub nothing_read : {P A : Type 0} (g : Ghosts P) (read : Result A Fault) (before after : List PlaceState) (old mid new : P) → ReadsPages g read old mid → ChangesNothing g before after mid new
+    → ChangesNothing g before after old new
+nothing_read g read before after old mid new h c = record {
+  places = c.places;
+  names = renames_read g read [] [] old mid new h c.names;
+}
 
 -- what is so anyhow is so where a call failed
 pub on_err_of : {A E : Type 0} (X : Type 0) (result : Result A E) → X → OnErr result X

@@ -10,7 +10,7 @@ use Rattle.oai_names.proofs.Lists.{filter_all}
 use Rattle.oai_pool.specs.Counts.{count_of}
 use Rattle.oai_pool.specs.declared.pools.PagePool.{Ghosts}
 use Rattle.oai_paged.specs.Calls.{IsDirectoryChanged, IsRemoved, ReadsPages}
-use Rattle.oai_paged.specs.Directory.{IsDirectory, StandsIn}
+use Rattle.oai_paged.specs.Directory.{IsDirectory, StandsIn, items_with_run}
 use Rattle.oai_paged.specs.Places.{Pages, PlaceState, items_at, items_on}
 use Rattle.oai_paged.specs.Searches.{BelongsAt}
 use Rattle.oai_paged.proofs.ChangedLemmas.{changed_items}
@@ -25,15 +25,6 @@ items_put g item items entries at new_at new_len gone before after old new h wit
     changed_items g entries at 1 new_at new_len gone before after old new h changed
     ∙ ap (λ zs. items_on (g.pages old) (take at before) ++ (zs ++ items_on (g.pages old) (drop (at + 1) before))) (made ∙ ap (with_item item) read)
     ∙ sym (with_item-cut (g.pages old) before item at h.directory within belongs)
-
--- and but one
-pub items_removed : {P : Type 0} (g : Ghosts P) (stamp : ℤ) (identifier : List ℕ) (items entries : List ItemState) (at new_at new_len : ℕ) (gone before after : List PlaceState) (old new : P) → StandsIn g old before
-    → at < length before → BelongsAt before stamp identifier at → IsDirectoryChanged g entries at 1 new_at new_len gone before after old new → entries ≡ without_at stamp identifier items
-    → items ≡ items_at (g.pages old) (get_or before at no_place) → items_on (g.pages new) after ≡ without_at stamp identifier (items_on (g.pages old) before)
-items_removed g stamp identifier items entries at new_at new_len gone before after old new h within belongs changed made read =
-    changed_items g entries at 1 new_at new_len gone before after old new h changed
-    ∙ ap (λ zs. items_on (g.pages old) (take at before) ++ (zs ++ items_on (g.pages old) (drop (at + 1) before))) (made ∙ ap (without_at stamp identifier) read)
-    ∙ sym (without_at-cut (g.pages old) before stamp identifier at h.directory within belongs)
 
 -- ---- after a page of it was read
 
@@ -52,22 +43,21 @@ one_put g read item items entries at new_at new_len gone before after old mid ne
     items_put g item items entries at new_at new_len gone before after mid new (stands_read g read before old mid h k) within belongs changed made (was ∙ ap (λ (pages : Pages). items_at pages place) (sym k.same))
     ∙ ap (λ (pages : Pages). with_item item (items_on pages before)) k.same
 
--- but one
-pub one_removed : {P A : Type 0} (g : Ghosts P) (read : Result A Fault) (stamp : ℤ) (identifier : List ℕ) (items entries : List ItemState) (at new_at new_len : ℕ) (gone before after : List PlaceState) (old mid new : P) → StandsIn g old before
-    → ReadsPages g read old mid → at < length before → BelongsAt before stamp identifier at → IsDirectoryChanged g entries at 1 new_at new_len gone before after mid new
+-- where what is left of a place stands for it, one is taken out
+pub left_removed : (pages now : Pages) (stamp : ℤ) (identifier : List ℕ) (items entries : List ItemState) (at : ℕ) (before after : List PlaceState) → IsDirectory pages before → at < length before
+    → BelongsAt before stamp identifier at → items_on now after ≡ items_with_run pages before at 1 entries
     → true ≡ is_some (item_at stamp identifier items) → entries ≡ without_at stamp identifier items
-    → items ≡ items_at (g.pages old) (get_or before at no_place) → IsRemoved stamp identifier true (items_on (g.pages old) before) (items_on (g.pages new) after)
-one_removed g read stamp identifier items entries at new_at new_len gone before after old mid new h k within belongs changed found made was =
-    let place = get_or before at no_place in
-    record {
-      was =
-          found
-          ∙ ap (λ own. is_some (item_at stamp identifier own)) was
-          ∙ ap is_some (sym (item_at-cut (g.pages old) before stamp identifier at h.directory within belongs));
-      left =
-          items_removed g stamp identifier items entries at new_at new_len gone before after mid new (stands_read g read before old mid h k) within belongs changed made (was ∙ ap (λ (pages : Pages). items_at pages place) (sym k.same))
-          ∙ ap (λ (pages : Pages). without_at stamp identifier (items_on pages before)) k.same;
-    }
+    → items ≡ items_at pages (get_or before at no_place) → IsRemoved stamp identifier true (items_on pages before) (items_on now after)
+left_removed pages now stamp identifier items entries at before after h within belongs is found made read = record {
+  was =
+      found
+      ∙ ap (λ own. is_some (item_at stamp identifier own)) read
+      ∙ ap is_some (sym (item_at-cut pages before stamp identifier at h within belongs));
+  left =
+      is
+      ∙ ap (λ zs. items_on pages (take at before) ++ (zs ++ items_on pages (drop (at + 1) before))) (made ∙ ap (without_at stamp identifier) read)
+      ∙ sym (without_at-cut pages before stamp identifier at h within belongs);
+}
 
 -- where no item is at the datestamp and identifier, none is left out
 pub without_at-absent : (stamp : ℤ) (identifier : List ℕ) (items : List ItemState) → item_at stamp identifier items ≡ None → without_at stamp identifier items ≡ items

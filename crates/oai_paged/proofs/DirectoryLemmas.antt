@@ -19,7 +19,7 @@ use Rattle.oai_paged.proofs.PlaceLemmas.{items_on-append, items_on-cons, items_o
 
 -- a place that is none
 abbrev pub no_place : PlaceState
-no_place = record { pages = []; stamp = pos 0; identifier = []; len = 0; prefixes = []; sets = None }
+no_place = record { pages = []; stamp = pos 0; identifier = []; len = 0; size = 0; prefixes = []; sets = None }
 
 -- the items of places begin where the first place says
 pub goes_on : (pages : Pages) (places : List PlaceState) → AllByRecursion (IsSoundPlace pages) places → GoesOn places (items_on pages places)

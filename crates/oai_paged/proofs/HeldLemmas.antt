@@ -2,6 +2,7 @@
 use Rattle.std.proofs.Common.{◌≡◌, ◌∙◌, ◌+◌, ◌*◌, ◌<◌, ◌≤◌, ℕ, suc, zero, List, [], ◌∷◌, ◌++◌, Option, None, Some, length, length-append, take, min, refl, sym, ap, subst, arith, inl, inr, Contains, unwrap_or}
 use Rattle.std.specs.Prelude.{option_map, sum_by}
 use Rattle.std.specs.List.{AllByRecursion}
+use Rattle.std.proofs.lemmas.Bool.{cases_lt}
 use Rattle.std.proofs.lemmas.List.Elements.{Contains-append_cases}
 use Rattle.std.proofs.lemmas.List.Sums.{sum_by-cons}
 use Rattle.std.proofs.lemmas.Option.{none-some}
@@ -11,7 +12,8 @@ use Rattle.oai_pool.specs.Counts.{count_of, used_of}
 use Rattle.oai_pool.specs.Names.{times}
 use Rattle.oai_pool.specs.declared.pools.TheConstants.{MAX_PAGES}
 use Rattle.oai_paged.specs.Directory.{IsDirectory}
-use Rattle.oai_paged.specs.Places.{IsSoundPlace, Pages, PlaceState, items_at, items_on, named_in, page_numbers}
+use Rattle.oai_paged.specs.Pages.{FitAlone}
+use Rattle.oai_paged.specs.Places.{FitPages, IsSoundPlace, Pages, PlaceState, items_at, items_on, named_in, page_numbers}
 use Rattle.oai_paged.specs.Shelves.{AreShelved, Directories, StandsOnPages, calls_left, directory_at, items_below, lists_on, most_of, named_at, named_by_all}
 use Rattle.oai_paged.specs.Versions.{AreShared, Shelves, Versions, directories_named, number_at, places_of}
 use Rattle.oai_paged.proofs.FewLemmas.{used_few}
@@ -134,6 +136,14 @@ held_at pages (place ∷ places) item h among =
           }
     ]
 
+-- items of one page fit on it, and those of several are one
+fit_alone : (pages : Pages) (numbers : List ℕ) (items : List ItemState) → FitPages pages numbers items → FitAlone items
+fit_alone pages numbers items h =
+    elim (cases_lt 1 (length numbers)) [
+      | inl long ↦ inr (h.alone long)
+      | inr few ↦ inl (h.one few)
+    ]
+
 held_in : (counts : List ℕ) (pages : Pages) (slots : Directories) (v : ℕ) (item : ItemState) → AreShelved counts pages slots
     → (slot : Option (List PlaceState)) → directory_at slots v ≡ slot
     → Contains (unwrap_or (option_map (items_on pages) slot) []) item → StandsOnPages counts pages item
@@ -144,7 +154,9 @@ held_in counts pages slots v item h (Some places) is among =
       numbers = held.place.pages;
       items = items_at pages held.place;
       named = λ n own. omega (arith, shelved_named counts pages slots h v places is n, held.named n own);
-      spelled = held.placed.page;
+      written = held.placed.written;
+      fit = held.placed.page.fit;
+      alone = fit_alone pages held.place.pages (items_at pages held.place) held.placed.many;
       among = held.among;
     }
 

@@ -33,6 +33,7 @@ mod ChangedLemmas
 mod DirectoryChanges
 mod ReplaceLemmas
 mod LoneLemmas
+mod MergeLemmas
 mod GroupLemmas
 mod HaveReadLemmas
 mod StretchLemmas

@@ -18,13 +18,12 @@ use Rattle.oai_item.proofs.Around.{item_at-found, only_place, with_item-around, 
 use Rattle.oai_item.proofs.OrderLemmas.{in_order-with_item, in_order-without_at, is_at-Equal, placed-nil}
 use Rattle.oai_pool.specs.declared.pools.PagePool.{Ghosts}
 use Rattle.oai_paged.specs.Calls.{IsDirectoryChanged, IsRemoved}
-use Rattle.oai_paged.specs.Directory.{IsDirectory, MayStand, PutsAt, StandsIn}
+use Rattle.oai_paged.specs.Directory.{IsDirectory, MayStand, PutsAt, StandsIn, items_with_run}
 use Rattle.oai_paged.specs.Pages.{begins_at}
 use Rattle.oai_paged.specs.Places.{IsSoundPlace, Pages, PlaceState, first_cmp, is_wanted, items_at, items_on}
 use Rattle.oai_paged.specs.Parts.{IsOutside, IsPartTaken}
 use Rattle.oai_paged.specs.Searches.{BelongsAt}
 use Rattle.oai_paged.proofs.ChangedLemmas.{changed_items}
-use Rattle.oai_paged.proofs.DirectoryChanges.{items_removed}
 use Rattle.oai_paged.proofs.DirectoryLemmas.{item_at-cut, no_place, placed-cut, with_item-cut, without_at-cut}
 use Rattle.oai_paged.proofs.PlaceLemmas.{items_on-append, items_on-cons, items_on-nil}
 use Rattle.oai_paged.proofs.ReadPlaces.{placed_at}
@@ -179,13 +178,15 @@ module _ (pages : Pages) (places : List PlaceState) (stamp : ℤ) (identifier : 
   pub lone_was : true ≡ is_some (item_at stamp identifier (items_on pages places))
   lone_was = sym (ap is_some (item_at-cut pages places stamp identifier at h within belongs ∙ ap (item_at stamp identifier) one.items ∙ found.0))
 
-pub lone_removed : {P : Type 0} (g : Ghosts P) (stamp : ℤ) (identifier : List ℕ) (at new_at new_len : ℕ) (gone before after : List PlaceState) (old new : P) → StandsIn g old before
-    → at < length before → BelongsAt before stamp identifier at → IsLone (g.pages old) (get_or before at no_place) → first_cmp (get_or before at no_place) stamp identifier ≡ Equal
-    → IsDirectoryChanged g [] at 1 new_at new_len gone before after old new → IsRemoved stamp identifier true (items_on (g.pages old) before) (items_on (g.pages new) after)
-lone_removed g stamp identifier at new_at new_len gone before after old new h within belongs one same changed = record {
-  was = lone_was (g.pages old) before stamp identifier at h.directory within belongs one same;
-  left = items_removed g stamp identifier (items_at (g.pages old) (get_or before at no_place)) [] at new_at new_len gone before after old new h within belongs changed
-      (lone_left (g.pages old) before stamp identifier at h.directory within belongs one same) refl;
+pub lone_removed : (pages now : Pages) (stamp : ℤ) (identifier : List ℕ) (at : ℕ) (before after : List PlaceState) → IsDirectory pages before → at < length before → BelongsAt before stamp identifier at
+    → IsLone pages (get_or before at no_place) → first_cmp (get_or before at no_place) stamp identifier ≡ Equal → items_on now after ≡ items_with_run pages before at 1 []
+    → IsRemoved stamp identifier true (items_on pages before) (items_on now after)
+lone_removed pages now stamp identifier at before after h within belongs one same is = record {
+  was = lone_was pages before stamp identifier at h within belongs one same;
+  left =
+      is
+      ∙ ap (λ zs. items_on pages (take at before) ++ (zs ++ items_on pages (drop (at + 1) before))) (lone_left pages before stamp identifier at h within belongs one same)
+      ∙ sym (without_at-cut pages before stamp identifier at h within belongs);
 }
 
 -- ---- a test of an order

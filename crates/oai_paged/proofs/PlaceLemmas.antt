@@ -5,7 +5,7 @@ use Rattle.std.specs.List.{AllByRecursion, list_all}
 use Rattle.std.proofs.lemmas.Grind.{flat_map-append}
 use Rattle.oai_item.specs.Item.{ItemState}
 use Rattle.oai_pool.specs.Names.{times}
-use Rattle.oai_paged.specs.Pages.{IsPage, begins_at, fit_one, items_in, joined}
+use Rattle.oai_paged.specs.Pages.{IsPage, begins_at, fit_one, items_in, joined, pages_of, size_of}
 use Rattle.oai_paged.specs.Places.{AreSetCounts, FitPages, IsSoundPlace, Pages, PlaceState, bytes_on, have_records, items_at, items_on, named_in, page_at}
 use Rattle.oai_paged.specs.declared.sizes.TheConstants.{FRONT_BYTES}
 use Rattle.oai_paged.proofs.NameLemmas.{named_in-cons, named_own, times-cons, times-first, times-here}
@@ -68,10 +68,12 @@ pub placed-same : (old new : Pages) (place : PlaceState) → StayUnder old new p
 placed-same old new place kept h =
     let items = items_at-same old new place kept in
     record {
+      written = pages_under-same old new place.pages kept ∙ h.written ∙ ap pages_of (sym items);
       page = subst (λ (b : List ℕ). IsPage b (items_at new place)) (sym (bytes_on-same old new place.pages kept)) (subst (λ (xs : List ItemState). IsPage (bytes_on old place.pages) xs) (sym items) h.page);
       many = fit-same old new place.pages (items_at old place) (items_at new place) kept items h.many;
       begins = ap (begins_at place.stamp place.identifier) items ∙ h.begins;
       counted = ap length items ∙ h.counted;
+      sized = ap size_of items ∙ h.sized;
       common = ap (have_records place.prefixes) items ∙ h.common;
       sets = subst (λ (zs : List ItemState). AreSetCounts place.sets zs) (sym items) h.sets;
     }

@@ -10,7 +10,7 @@ use Rattle.oai_item.proofs.Around.{item_at-found, only_place, with_item-found, w
 use Rattle.oai_names.proofs.Lists.{set_cut}
 use Rattle.oai_paged.specs.Entries.{AreEntries, ends_from, items_with}
 use Rattle.oai_paged.specs.Pages.{AreStorable, IsRemoval, entries_of, entry_of, size_of}
-use Rattle.oai_paged.proofs.EntryLemmas.{are_entries, ends_from-append, ends_moved, ends_within, entries_of-append, length-ends_from, storable-append, storable-drop, storable-take}
+use Rattle.oai_paged.proofs.EntryLemmas.{AreFields, are_entries, ends_from-append, ends_moved, ends_within, entries_of-append, length-ends_from, storable-append, storable-drop, storable-take}
 use Rattle.oai_paged.proofs.PageLemmas.{entries_of-cons}
 
 -- ---- the ends before a place, and behind it
@@ -97,6 +97,20 @@ without_one ends new_bytes new_ends before more items at start behind ending sto
     e ∙ (λ k. are_before k ++ are_behind k) ∙ ap (λ n. ends_from 0 front ++ ends_from n rear) place ∙ sym (ends_from-append 0 front rear)
     in
     are_entries new_bytes new_ends (front ++ rear) all_bytes all_ends (storable-append front rear (storable-take at items storable) (storable-drop (at + 1) items storable))
+
+-- ---- entries behind others
+
+pub joined_entries : (bytes ends other_bytes other_ends new_bytes new_ends before : List ℕ) (items others : List ItemState) (start : ℕ) → AreFields bytes ends items → AreFields other_bytes other_ends others
+    → start ≡ size_of items → new_bytes ≡ bytes ++ other_bytes → before ≡ ends → new_ends ≡ before ++ map (λ n. n - 0 + start) other_ends
+    → (items_with new_bytes new_ends ≡ items ++ others) × AreEntries new_bytes new_ends
+joined_entries bytes ends other_bytes other_ends new_bytes new_ends before items others start h k starts b first e =
+    let all_bytes : new_bytes ≡ entries_of (items ++ others) = b ∙ (λ i. h.spelling i ++ k.spelling i) ∙ sym (entries_of-append items others) in
+    let place : 0 - 0 + start ≡ 0 + size_of items = omega (arith, starts) in
+    let are_moved : map (λ n. n - 0 + start) other_ends ≡ ends_from (0 + size_of items) others =
+    ap (map (λ n. n - 0 + start)) k.ending ∙ ends_moved 0 start 0 others (omega arith) ∙ ap (λ n. ends_from n others) place in
+    let all_ends : new_ends ≡ ends_from 0 (items ++ others) =
+    e ∙ (λ i. (first ∙ h.ending) i ++ are_moved i) ∙ sym (ends_from-append 0 items others) in
+    are_entries new_bytes new_ends (items ++ others) all_bytes all_ends (storable-append items others h.storable k.storable)
 
 pub map_more : (f : ℕ → ℕ) (front old xs : List ℕ) (i : ℕ) → i < length xs → old ≡ front ++ map f (take i xs) → old ++ f (get_or xs i 0) ∷ [] ≡ front ++ map f (take (i + 1) xs)
 map_more f front old xs i within e =

@@ -136,6 +136,28 @@ takes_freed_err g a f p q s h k =
       kept (inl up) = inl (omega (arith, up, k.count))
       kept (inr top) = inr top
 
+-- pages that were read, by calls of which it does not matter what they found
+pub reads_any : {P A B : Type 0} (g : Ghosts P) (read : Result A Fault) (x : B) (p q : P) → ReadsPages g read p q → ReadsPages g (ok_of x) p q
+reads_any g read x p q h = record {
+  counts = h.counts;
+  same = h.same;
+  pool = record {
+    room = record { enough = tt; used = h.pool.room.used };
+    device = record { count = h.pool.device.count; device = tt };
+    honesty = record { same = h.pool.honesty.same; damaged = tt };
+  };
+}
+
+pub reads_none : {P A : Type 0} (g : Ghosts P) (x : A) (p : P) → ReadsPages g (ok_of x) p p
+reads_none g x p = record { counts = refl; same = refl; pool = takes_none g x p }
+
+pub reads_both : {P A B : Type 0} (g : Ghosts P) (x : A) (y : B) (p q s : P) → ReadsPages g (ok_of x) p q → ReadsPages g (ok_of y) q s → ReadsPages g (ok_of y) p s
+reads_both g x y p q s h k = record {
+  counts = k.counts ∙ h.counts;
+  same = k.same ∙ h.same;
+  pool = takes_both g 0 0 x (ok_of y) p q s h.pool k.pool;
+}
+
 -- a call after pages were read
 pub takes_read : {P A B : Type 0} (g : Ghosts P) (b : ℕ) (read : Result A Fault) (r : Result B Fault) (p q s : P) → ReadsPages g read p q → Takes g b r q s → Takes g b r p s
 takes_read g b read (Ok y) p q s h k =

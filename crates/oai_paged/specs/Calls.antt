@@ -1,5 +1,5 @@
 -- What a call does to the pool of pages and to a directory.
-use Rattle.std.specs.Prelude.{◌≡◌, ◌⊎◌, ◌+◌, ◌<◌, ◌≤◌, ℕ, ℤ, Bool, true, List, [], ◌++◌, take, drop, is_some, IfNone, IfOk, IfSome, IsTrue, Option, Result, OnErr, OnOk}
+use Rattle.std.specs.Prelude.{◌≡◌, ◌⊎◌, ◌+◌, ◌<◌, ◌≤◌, ℕ, ℤ, Bool, true, List, [], ◌++◌, take, drop, is_some, IfNone, IfOk, IfSome, IsTrue, Option, Result, Ok, OnErr, OnOk}
 use Rattle.oai_catalogue.specs.Store.{Spares, Spends}
 use Rattle.oai_item.specs.Item.{ItemState}
 use Rattle.oai_item.specs.Items.{item_at, with_item, without_at}
@@ -20,6 +20,10 @@ use Rattle.std.specs.List.{AllByRecursion}
 -- it takes at most so many numbers of the pool, and may reach the device
 abbrev pub Takes : {P A : Type 0} → Ghosts P → ℕ → Result A Fault → P → P → Type 0
 Takes g numbers result old new = Spends g.room g.failures g.honest numbers result old new
+
+-- what a call that cannot fail returns, as what one returns that can
+abbrev pub returned : {A : Type 0} → A → Result A Fault
+returned a = Ok a
 
 -- it reads pages alone
 pub record ReadsPages {P A : Type 0} (g : Ghosts P) (result : Result A Fault) (old new : P) : Type 0 where

@@ -9,16 +9,17 @@ use Rattle.oai_item.specs.Order.{place_cmp}
 use Rattle.oai_item.specs.Selection.{Filter, passes}
 use Rattle.oai_pool.specs.Names.{times}
 use Rattle.oai_sums.specs.Sums.{AreCounts, SetTotal, counted_in}
-use Rattle.oai_paged.specs.Pages.{IsPage, begins_at, fit_one, items_in, joined}
+use Rattle.oai_paged.specs.Pages.{IsPage, begins_at, fit_one, items_in, joined, pages_of, size_of}
 use Rattle.oai_paged.specs.declared.sizes.TheConstants.{FRONT_BYTES, MAX_OVERFLOW_PAGES}
 
--- a place: the numbers of its pages, the datestamp and the identifier of its first item, how many items there are, prefixes of which each of
--- them has a record, and how many are in each set, where that is known
+-- a place: the numbers of its pages, the datestamp and the identifier of its first item, how many items there are and how many bytes their entries
+-- have, prefixes of which each of them has a record, and how many are in each set, where that is known
 pub record PlaceState : Type 0 where
   pub pages : List ℕ
   pub stamp : ℤ
   pub identifier : List ℕ
   pub len : ℕ
+  pub size : ℕ
   pub prefixes : List (List ℕ)
   pub sets : Option (List SetTotal)
 
@@ -70,10 +71,12 @@ pub record FitPages (pages : Pages) (numbers : List ℕ) (items : List ItemState
 -- what is so of a place: its pages are those of its items, and as many as these may have; the first item is the one that the place names,
 -- and of all of them is so what it says
 pub record IsSoundPlace (pages : Pages) (place : PlaceState) : Type 0 where
+  pub written : map (page_at pages) place.pages ≡ pages_of (items_at pages place)
   pub page : IsPage (bytes_on pages place.pages) (items_at pages place)
   pub many : FitPages pages place.pages (items_at pages place)
   pub begins : begins_at place.stamp place.identifier (items_at pages place) ≡ true
   pub counted : length (items_at pages place) ≡ place.len
+  pub sized : size_of (items_at pages place) ≡ place.size
   pub common : have_records place.prefixes (items_at pages place) ≡ true
   pub sets : AreSetCounts place.sets (items_at pages place)
 

@@ -1,5 +1,5 @@
 -- The directories of all versions of a store, over the pages of one pool.
-use Rattle.std.specs.Prelude.{◌≡◌, ◌+◌, ◌-◌, ◌<◌, ◌/◌, ℕ, zero, suc, List, [], ◌∷◌, Option, None, Some, length, max, min, option_map, sum_by, slice_index_or}
+use Rattle.std.specs.Prelude.{◌≡◌, ◌+◌, ◌-◌, ◌<◌, ◌/◌, ℕ, zero, suc, List, [], ◌∷◌, Option, None, Some, length, map, max, min, option_map, sum_by, slice_index_or}
 use Rattle.std.specs.List.{Contains}
 use Rattle.oai_catalogue.specs.Store.{Lists, list_at}
 use Rattle.oai_item.specs.Item.{ItemState}
@@ -7,8 +7,8 @@ use Rattle.oai_pool.specs.Counts.{count_of}
 use Rattle.oai_pool.specs.Names.{times}
 use Rattle.oai_pool.specs.declared.pools.TheConstants.{MAX_PAGES}
 use Rattle.oai_paged.specs.Directory.{IsDirectory}
-use Rattle.oai_paged.specs.Pages.{IsPage}
-use Rattle.oai_paged.specs.Places.{Pages, PlaceState, bytes_on, items_on, named_in}
+use Rattle.oai_paged.specs.Pages.{FitAlone, FitPage, pages_of}
+use Rattle.oai_paged.specs.Places.{Pages, PlaceState, items_on, named_in, page_at}
 
 -- a directory at each number that is in use
 abbrev pub Directories : Type 0
@@ -54,10 +54,13 @@ unfoldable pub items_below : ℕ → Lists → ℕ
 items_below zero lists = 0
 items_below (suc v) lists = length (list_at lists v) + items_below v lists
 
--- the item stands, spelled, on pages that are named: on one, or on one and its overflow pages
+-- the item stands on pages that are named: they are the pages of some items, of which it is one. These stand whole on one page; or it is alone, and
+-- has as many overflow pages as it needs
 pub record StandsOnPages (counts : List ℕ) (pages : Pages) (item : ItemState) : Type 0 where
   pub numbers : List ℕ
   pub items : List ItemState
   pub named : (n : ℕ) → 0 < times n numbers → 0 < count_of counts n
-  pub spelled : IsPage (bytes_on pages numbers) items
+  pub written : map (page_at pages) numbers ≡ pages_of items
+  pub fit : FitPage items
+  pub alone : FitAlone items
   pub among : Contains items item

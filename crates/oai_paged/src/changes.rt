@@ -5,7 +5,7 @@ ghost use Rattle.oai_item.specs.Item.{ItemState};
 ghost use Rattle.oai_item.specs.Order.{are_in_order};
 ghost use Rattle.oai_pool.specs.Counts.{count_of};
 ghost use Rattle.oai_paged.specs.Calls.{Adds, AddsPages, ChangesNothing, FreesPages, HasWayBack, IsDirectoryChanged, Renames, Takes};
-ghost use Rattle.oai_paged.specs.Directory.{IsOneWithin, MayStand, StandsIn};
+ghost use Rattle.oai_paged.specs.Directory.{IsRunWithin, MayStand, StandsIn};
 ghost use Rattle.oai_paged.specs.Pages.{AreCuts, FitAlone, between, overflow_of, pages_of};
 ghost use Rattle.oai_paged.specs.Places.{have_records, named_in};
 ghost use Rattle.oai_paged.specs.Recounts.{AddsNumbers, Recounts};
@@ -39,7 +39,7 @@ pub(crate) struct Changed {
     pub(crate) gone: Vec<SharedPlace>,
 }
 
-/// Puts pages of the entries, which are cut at these places, in the place of so many places from `at` on, at most one: three pages and the overflow
+/// Puts pages of the entries, which are cut at these places, in the place of so many places from `at` on, at most three: three pages and the overflow
 /// pages of one item at most, and one at most where the entries fit on one. Any fault but `Damaged` may come; directory and pages are then as before.
 pub(crate) fn change<P: PagePool>(
     alloc: Global,
@@ -52,7 +52,7 @@ pub(crate) fn change<P: PagePool>(
     entries: &Entries,
     cuts: Cuts,
 ) -> Result<Changed, Fault>
-    requires within { IsOneWithin at len (vec_len places.old) }
+    requires within { IsRunWithin at len (vec_len places.old) }
     requires stands { StandsIn P.PagePool pages.old places.old.items }
     requires cuts { AreCuts entries.now cuts.first cuts.second }
     requires may_stand { MayStand (P.pages pages.old) places.old.items at len entries.now }
@@ -226,6 +226,7 @@ fn add_page<P: PagePool>(
     let identifier = entries.identifier(alloc, from)?;
     let prefixes = prefixes_near(alloc, entries, from, to, near)?;
     let sets = entries.set_counts(alloc, names, from, to);
+    let size = entries.size_between(from, to);
     let numbers = add_numbers(alloc, pages, entries, from, to)?;
     match SharedPlace::new(
         alloc,
@@ -233,6 +234,7 @@ fn add_page<P: PagePool>(
         stamp,
         identifier,
         to - from,
+        size,
         prefixes,
         sets,
     ) {

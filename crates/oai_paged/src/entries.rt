@@ -53,18 +53,6 @@ pub(crate) struct Cuts {
     pub(crate) second: usize,
 }
 
-impl Cuts {
-    /// Where no entries are cut.
-    pub(crate) fn none() -> Cuts
-        ensures { AreCuts [] result.first result.second }
-    {
-        Cuts {
-            first: 0,
-            second: 0,
-        }
-    }
-}
-
 impl Entries {
     /// No entries. It takes no memory.
     pub(crate) fn new(alloc: Global) -> Entries
@@ -346,6 +334,44 @@ impl Entries {
         }
         counts.fit();
         Some(counts)
+    }
+
+    /// How many bytes the entries from the one place up to the other have.
+    pub(crate) fn size_between(&self, from: usize, to: usize) -> usize
+        requires order { from ≤ to }
+        requires within { to ≤ length self.now }
+        ensures { result ≡ size_of (between from to self.now) }
+    {
+        self.entries(from, to).len()
+    }
+
+    /// These entries and the others behind them. The error is out of memory.
+    fn and(&self, alloc: Global, others: &Entries) -> Result<Entries, AllocError>
+        ensures { IfOk result (λ all. all ≡ self.now ++ others.now) }
+    {
+        let start = self.size();
+        let bytes = joined(alloc, self.bytes.as_slice(), &[], others.bytes.as_slice())?;
+        let mut ends = copied_ends(alloc, &self.ends)?;
+        push_moved(&mut ends, &others.ends, 0, start)?;
+        Ok(Entries { bytes, ends })
+    }
+
+    /// These entries and the others behind them, where all stand on one page, in their order; or else None, and where memory is refused.
+    pub(crate) fn joined(&self, alloc: Global, others: &Entries) -> Option<Entries>
+        ensures all { IfSome result (λ all. all ≡ self.now ++ others.now) }
+        ensures one_page { IfSome result (λ all. fit_one all ≡ true) }
+        ensures rising { IfSome result (λ all. are_in_order all ≡ true) }
+    {
+        let Ok(all) = self.and(alloc, others) else {
+            return None;
+        };
+        if !all.fit_one() {
+            return None;
+        }
+        if !all.are_rising() {
+            return None;
+        }
+        Some(all)
     }
 
     /// How many records the item at that place has.

@@ -1,12 +1,14 @@
 //! Places of a directory exchanged for others, where they stand.
 ghost use Rattle.std.specs.Prelude.{◌≡◌, ◌+◌, ◌-◌, ◌≤◌, ◌++◌, take, drop, vec_len, vec_capacity, OnOk};
+ghost use Rattle.oai_paged.specs.declared.sizes.TheConstants.{MAX_REPLACED};
 
 use crate::places::SharedPlace;
+use crate::sizes::MAX_REPLACED;
 use std::alloc::AllocError;
 use std::mem;
 
-/// Makes the room in which `exchange` of at most one place for the others cannot fail, and neither can the exchange of
-/// these for that one. The error is out of memory.
+/// Makes the room in which `exchange` of at most three places for the others cannot fail, and neither can the exchange of
+/// these for those. The error is out of memory.
 pub(crate) fn reserve(
     places: &mut Vec<SharedPlace>,
     others: &mut Vec<SharedPlace>,
@@ -17,14 +19,14 @@ pub(crate) fn reserve(
     ensures others_len { vec_len others.new ≡ vec_len others.old }
     ensures capacity { vec_capacity places.old ≤ vec_capacity places.new }
     ensures room { OnOk result (vec_len places.new + vec_len others.new ≤ vec_capacity places.new) }
-    ensures back { OnOk result (vec_len others.new + 1 ≤ vec_capacity others.new) }
+    ensures back { OnOk result (vec_len others.new + MAX_REPLACED ≤ vec_capacity others.new) }
 {
     places.reserve(others.len())?;
-    others.reserve(1)
+    others.reserve(MAX_REPLACED)
 }
 
-/// Puts the others in the place of so many places from `at` on, at most one, which are the others then. It takes no
-/// memory, and moves the places behind only where their number changes.
+/// Puts the others in the place of so many places from `at` on, which are the others then. It takes no memory,
+/// and moves the places behind only where their number changes.
 pub(crate) fn exchange(
     places: &mut Vec<SharedPlace>,
     at: usize,

@@ -88,8 +88,8 @@ impl Groups {
         Ok(Groups { groups })
     }
 
-    /// Forgets what is known of the group that a place was changed of: so many from `at` on, at most one, for which so many others were put in. The
-    /// groups behind are moved.
+    /// Forgets what is known of the groups that a place was changed of: so many from `at` on, for which so many others were put in. The groups
+    /// behind are moved.
     pub(crate) fn exchange(&mut self, at: usize, len: usize, count: usize)
         ensures { (before after : List PlaceState) → AreExchanged at len count before after
             → AreGroups before self.old → AreGroups after self.new }
@@ -224,7 +224,8 @@ impl Group {
         })
     }
 
-    /// Forgets what is known of the group where so many of its places from `at` on were changed, for which so many others were put in.
+    /// Forgets what is known of the group where so many places from `at` on were changed, some of them its own, for which so many others were put in:
+    /// they are places of the group in which the first of those stood.
     fn exchange(&mut self, at: usize, len: usize, count: usize)
         ensures { (before after : List PlaceState) → AreExchanged at len count before after
             → IsSoundGroup before self.old → IsSoundGroup after self.new }
@@ -237,7 +238,16 @@ impl Group {
             return;
         }
         self.sum = None;
-        self.len = self.len.saturating_sub(len).saturating_add(count);
+        let end = self.first.saturating_add(self.len);
+        let behind = end.saturating_sub(at.saturating_add(len));
+        if at < self.first {
+            self.first = at.saturating_add(count);
+            self.len = behind;
+        } else {
+            self.len = (at - self.first)
+                .saturating_add(count)
+                .saturating_add(behind);
+        }
     }
 
     /// Whether the place at `at` is behind those of the group.

@@ -9,6 +9,7 @@ mod exchanges;
 mod faults;
 mod finding;
 mod groups;
+mod merging;
 mod names;
 mod page_numbers;
 mod places;

@@ -18,6 +18,7 @@ struct Place {
     stamp: i64,
     identifier: Identifier,
     len: usize,
+    size: usize,
     /// Many places have the same: these have one list in common, so that it is at hand where many are asked.
     prefixes: Rc<Sequence<Prefix>>,
     /// None where the sets were too many, or memory was refused.
@@ -34,6 +35,7 @@ impl Model for Place {
       stamp = p.stamp;
       identifier = p.identifier;
       len = p.len;
+      size = p.size;
       prefixes = p.prefixes.value;
       sets = p.sets;
     } };
@@ -55,14 +57,15 @@ impl Model for SharedPlace {
 
 impl SharedPlace {
     /// The place of so many items on the pages of these numbers, of which the first item has this datestamp, in seconds
-    /// from 1970 on, and identifier, and each has a record of each of the prefixes. So many are in each set, where that is known. The error is
-    /// out of memory.
+    /// from 1970 on, and identifier, and each has a record of each of the prefixes. Their entries have `size` bytes, and so many are in each set,
+    /// where that is known. The error is out of memory.
     pub(crate) fn new(
         alloc: Global,
         pages: &[PageNo],
         stamp: i64,
         identifier: Identifier,
         len: usize,
+        size: usize,
         prefixes: Rc<Sequence<Prefix>>,
         sets: Option<SetCounts>,
     ) -> Result<SharedPlace, AllocError>
@@ -71,6 +74,7 @@ impl SharedPlace {
           stamp = stamp;
           identifier = identifier;
           len = len;
+          size = size;
           prefixes = prefixes.value;
           sets = sets;
         }) }
@@ -80,6 +84,7 @@ impl SharedPlace {
             stamp,
             identifier,
             len,
+            size,
             prefixes,
             sets,
         };
@@ -130,6 +135,13 @@ impl SharedPlace {
         ensures { result ≡ self.now.len }
     {
         self.place.len
+    }
+
+    /// How many bytes their entries have.
+    pub(crate) fn size(&self) -> usize
+        ensures { result ≡ self.now.size }
+    {
+        self.place.size
     }
 
     /// The prefixes of which each item is known to have a record: a list that other places may have too.

@@ -1,18 +1,19 @@
 //! Items put into a directory, and taken out.
-ghost use Rattle.std.specs.Prelude.{◌≡◌, ◌+◌, ◌<◌, ◌≤◌, ℕ, [], true, length, take, drop, is_some, HoldsAt, vec_capacity, vec_len, IfOk, IfSome, IsTrue, OnOk};
+ghost use Rattle.std.specs.Prelude.{◌≡◌, ◌+◌, ◌<◌, ◌≤◌, ℕ, [], true, length, take, drop, is_some, HoldsAt, vec_capacity, vec_len, IfOk, IfSome, IsTrue, OnErr, OnOk};
 ghost use Rattle.oai_item.specs.Encoding.{encoded};
 ghost use Rattle.oai_item.specs.Items.{item_at, with_item, without_at};
 ghost use Rattle.oai_item.specs.declared.sizes.TheConstants.{MAX_ITEM_BYTES};
-ghost use Rattle.oai_paged.specs.Calls.{Changes, HasWayBack, PutsItem, Takes, TakesItemOut};
-ghost use Rattle.oai_paged.specs.Directory.{IsOneWithin, PutsAt, StandsIn};
+ghost use Rattle.oai_paged.specs.Calls.{Changes, ChangesNothing, HasWayBack, PutsItem, Stages, Takes, TakesItemOut};
+ghost use Rattle.oai_paged.specs.Directory.{IsRunWithin, MayReplace, PutsAt, StandsIn, items_with_run};
 ghost use Rattle.oai_paged.specs.Places.{items_on};
 ghost use Rattle.oai_paged.specs.Searches.{IsPlaceFor};
 ghost use Rattle.oai_paged.specs.Sums.{AreGroups};
 ghost use Rattle.oai_paged.specs.declared.sizes.TheConstants.{MAX_OVERFLOW_PAGES};
 
 use crate::changes::{Changed, change, undo};
-use crate::entries::{Cuts, Entries};
+use crate::entries::Entries;
 use crate::groups::Groups;
+use crate::merging::merge;
 use crate::names::drop_all;
 use crate::places::SharedPlace;
 use crate::reading::read_place;
@@ -45,8 +46,8 @@ pub(crate) fn put<P: PagePool>(
     Ok(())
 }
 
-/// Takes the item of that datestamp, in seconds from 1970 on, and identifier out, and answers whether there was one. It reads one page and adds one at
-/// most. Any fault may come; directory and pages are then as before.
+/// Takes the item of that datestamp, in seconds from 1970 on, and identifier out, and answers whether there was one. It reads three pages and adds one at
+/// most: where what is left of a page and the items of its neighbours fill one to nine tenths at most, they become one. Any fault may come; directory and pages are then as before.
 pub(crate) fn remove<P: PagePool>(
     alloc: Global,
     pages: &mut P,
@@ -74,7 +75,7 @@ pub(crate) fn remove<P: PagePool>(
 }
 
 /// Takes the item of that datestamp, in seconds from 1970 on, and identifier out and puts the other item in, as `remove` and then `put` do, and answers
-/// whether there was one to take out. The spelling of the item has at most `MAX_ITEM_BYTES`. It reads two pages and adds four, and the overflow pages of
+/// whether there was one to take out. The spelling of the item has at most `MAX_ITEM_BYTES`. It reads four pages and adds four, and the overflow pages of
 /// the item, at most. Any fault may come; directory and pages are then as before.
 pub(crate) fn replace<P: PagePool>(
     alloc: Global,
@@ -202,7 +203,7 @@ fn put_alone<P: PagePool>(
     len: usize,
     item: &Item,
 ) -> Result<Changed, Fault>
-    requires within { IsOneWithin at len (vec_len places.old) }
+    requires within { IsRunWithin at len (vec_len places.old) }
     requires stands { StandsIn P.PagePool pages.old places.old.items }
     requires fits { length (encoded item.now) ≤ MAX_ITEM_BYTES }
     requires puts { PutsAt (P.pages pages.old) places.old.items item.now at len }
@@ -266,16 +267,15 @@ fn take_out_among<P: PagePool>(
     let old = read_place(alloc, pages, places.as_slice(), at)?;
     match old.remove(alloc, stamp, identifier)? {
         Some(entries) => {
-            let cuts = entries.cuts(false);
-            let changed = change(alloc, pages, names, places, groups, at, 1, &entries, cuts)?;
+            let changed = leave(alloc, pages, names, places, groups, at, entries)?;
             Ok(Some(changed))
         }
         None => Ok(None),
     }
 }
 
-/// Takes the place at `at` out, which has overflow pages, where its item is the one of that datestamp and identifier, which belong to it. Nothing is
-/// read. `NoMemory`; directory and pages are then as before.
+/// Takes the place at `at` out, which has overflow pages, where its item is the one of that datestamp and identifier, which belong to it. It is not
+/// read. Any fault but `Damaged` may come; directory and pages are then as before.
 fn take_out_long<P: PagePool>(
     alloc: Global,
     pages: &mut P,
@@ -297,17 +297,43 @@ fn take_out_long<P: PagePool>(
     if places[at].order_to(stamp, identifier) != Ordering::Equal {
         return Ok(None);
     }
-    let none = Entries::new(alloc);
-    let changed = change(
+    let changed = leave(alloc, pages, names, places, groups, at, Entries::new(alloc))?;
+    Ok(Some(changed))
+}
+
+/// Has one page of the entries stand for the place at `at`, or no page where there are none, and with them the items of its neighbours, where all fill a
+/// page to nine tenths at most. Any fault but `Damaged` may come; directory and pages are then as before.
+fn leave<P: PagePool>(
+    alloc: Global,
+    pages: &mut P,
+    names: &mut SetNames,
+    places: &mut Vec<SharedPlace>,
+    groups: &mut Groups,
+    at: usize,
+    entries: Entries,
+) -> Result<Changed, Fault>
+    requires stands { StandsIn P.PagePool pages.old places.old.items }
+    requires may { MayReplace (P.pages pages.old) places.old.items at 1 entries }
+    ensures list { OnOk result (IsTrue (P.honest pages.old) → items_on (P.pages pages.new) places.new.items
+        ≡ items_with_run (P.pages pages.old) places.old.items at 1 entries) }
+    ensures staged { IfOk result (λ changed. Stages P.PagePool changed.at changed.len changed.gone.items places.old.items places.new.items pages.old pages.new) }
+    ensures err { OnErr result (ChangesNothing P.PagePool places.old.items places.new.items pages.old pages.new) }
+    ensures back { IfOk result (λ changed. HasWayBack changed.at changed.len
+        (vec_len places.new) (vec_capacity places.new) (vec_len changed.gone) (vec_capacity changed.gone)) }
+    ensures pool { Takes P.PagePool 1 result pages.old pages.new }
+    ensures groups { AreGroups places.old.items groups.old → AreGroups places.new.items groups.new }
+{
+    let merged = merge(alloc, pages, places.as_slice(), at, entries);
+    let cuts = merged.entries.cuts(false);
+    change(
         alloc,
         pages,
         names,
         places,
         groups,
-        at,
-        1,
-        &none,
-        Cuts::none(),
-    )?;
-    Ok(Some(changed))
+        merged.at,
+        merged.len,
+        &merged.entries,
+        cuts,
+    )
 }

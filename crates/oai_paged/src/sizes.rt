@@ -19,8 +19,11 @@ pub const NUMBER_BYTES: usize = 4;
 /// How many bytes of a page are in use where its item has overflow pages: two numbers, and the first bytes of the spelling.
 pub const FRONT_BYTES: usize = 608;
 
-/// To how many bytes a page is filled at the end of a list, where items come in order: nine tenths.
+/// To how many bytes a page is filled at the end of a list, where items come in order, and where pages become one: nine tenths.
 pub(crate) const FULL_BYTES: usize = 14_742;
+
+/// The most places of a directory that one change puts others in for: one, and its two neighbours.
+pub(crate) const MAX_REPLACED: usize = 3;
 
 /// The sizes in numbers, since definitions read them by their names. It is a theorem: the function is empty.
 pub fn size_law()

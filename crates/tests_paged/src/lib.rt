@@ -23,11 +23,15 @@ mod five_pages;
 #[cfg(test)]
 mod groups;
 #[cfg(test)]
+mod growth;
+#[cfg(test)]
 mod long_costs;
 #[cfg(test)]
 mod long_filters;
 #[cfg(test)]
 mod long_items;
+#[cfg(test)]
+mod merges;
 #[cfg(test)]
 mod orders;
 #[cfg(test)]

@@ -76,10 +76,12 @@ fn assert_put(rt: &impl Abort, both: &mut Both<CountedVersions>) {
     assert_cost(rt, both, Call::Remove(small(42)), 0, 0);
 }
 
-/// Lists that are frozen or let go read and write nothing, and so does an item of overflow pages that is taken out.
+/// Lists that are frozen or let go read and write nothing. An item of overflow pages that is taken out is not read; the small ones before and behind it
+/// then go on one page.
 fn assert_nothing(rt: &impl Abort, both: &mut Both<CountedVersions>) {
     assert_cost(rt, both, Call::Freeze, 0, 0);
-    assert_cost(rt, both, Call::Remove(long(20)), 0, 0);
+    assert_cost(rt, both, Call::Remove(long(20)), 2, 1);
+    assert_cost(rt, both, Call::Remove(long(41)), 0, 0);
     assert_cost(rt, both, Call::Turn, 0, 0);
     assert_cost(rt, both, Call::Renew, 0, 0);
     assert_cost(rt, both, Call::Remove(long(40)), 0, 0);

@@ -29,6 +29,7 @@ returns-in-Ok-clause-added g c =
     (ap (λ (p : PlaceState). begins_at p.stamp p.identifier items) is
     ∙ begins-between c.stamp-stamp.result c.in_ok-identifier.identifier c.args.from c.args.to c.args.entries.now d c.requires.order c.requires.within (c.stamp-stamp.ensures d) (c.in_ok-identifier.ensures d))
     (ap (λ (p : PlaceState). p.len) is ∙ sym (length-between c.args.from c.args.to c.args.entries.now c.requires.within))
+    (ap (λ (p : PlaceState). p.size) is ∙ c.size_between-size.ensures)
     (ap (λ (p : PlaceState). have_records p.prefixes items) is ∙ c.in_ok-prefixes.ensures)
     (subst (λ (sets : Option (List SetTotal)). AreSetCounts sets items) (sym (ap (λ (p : PlaceState). p.sets) is)) c.set_counts-sets.ensures)
 

@@ -1,37 +1,23 @@
-use Rattle.std.proofs.Common.{◌≡◌, ◌∙◌, ◌<◌, ℕ, ℤ, Err, List, None, Option, Some, true, ap, arith, get_or, length, rules, subst, sym, w64}
+use Rattle.std.proofs.Common.{◌≡◌, ◌∙◌, ◌<◌, ℕ, ℤ, Err, IsTrue, List, None, Option, Some, true, ap, arith, get_or, length, rules, subst, sym, w64}
 use Rattle.std.proofs.lemmas.Int.{to_z-of_z}
 use Rattle.oai_item.specs.Item.{ItemState}
+use Rattle.oai_paged.specs.Directory.{items_with_run}
 use Rattle.oai_paged.specs.Pages.{IsRemoval, fit_one}
-use Rattle.oai_paged.specs.Places.{PlaceState, items_at}
+use Rattle.oai_paged.specs.Places.{Pages, PlaceState, items_at}
 use Rattle.oai_paged.specs.Searches.{MayBeAt}
-use Rattle.oai_paged.proofs.DirectoryChanges.{none_removed, one_removed, stands_read}
+use Rattle.oai_paged.proofs.DirectoryChanges.{left_removed, none_removed, stands_read}
 use Rattle.oai_paged.proofs.DirectoryLemmas.{may_stand_without, no_place}
-use Rattle.oai_paged.proofs.ShortLemmas.{fit_parts}
 use Rattle.oai_paged.proofs.TakenLemmas.{err_of, ok_of, takes_failed, takes_ok, takes_read}
 use Rattle.oai_paged.specs.declared.changes.Changed.{Changed}
 use Rattle.oai_paged.proofs.put_and_remove.take_out_among.Goals as goal
 
-pub cuts-cuts-requires-clause-size : goal.cuts-cuts-requires-clause-size
-cuts-cuts-requires-clause-size g c =
-    let at = c.args.at in
-    let few = c.requires.place.passes no_place in
-    let fits : fit_one c.in_ok-old.old ≡ true =
-    c.in_ok-old.ensures.fits.fits no_place (omega (arith, few, ap (λ (ps : List PlaceState). length (get_or ps at no_place).pages) c.as_slice.ensures.value)) in
-    let left = rw c.in-Some.is at c.in_ok-entries.ensures.one_page in
-    omega (arith, (fit_parts c.in-Some.entries (left fits)).0)
-
-pub cuts-cuts-requires-clause-short : goal.cuts-cuts-requires-clause-short
-cuts-cuts-requires-clause-short g c =
-    let at = c.args.at in
-    let few = c.requires.place.passes no_place in
-    let fits : fit_one c.in_ok-old.old ≡ true =
-    c.in_ok-old.ensures.fits.fits no_place (omega (arith, few, ap (λ (ps : List PlaceState). length (get_or ps at no_place).pages) c.as_slice.ensures.value)) in
-    let left = rw c.in-Some.is at c.in_ok-entries.ensures.one_page in
-    (fit_parts c.in-Some.entries (left fits)).1
-
-pub change-requires-clause-may_stand : goal.change-requires-clause-may_stand
-change-requires-clause-may_stand g c =
+pub leave-requires-clause-may : goal.leave-requires-clause-may
+leave-requires-clause-may g c =
     let G = g.P.PagePool in
+    let few = c.requires.place.passes no_place in
+    let fits : fit_one c.in_ok-old.old ≡ true =
+    c.in_ok-old.ensures.fits.fits no_place (omega (arith, few, ap (λ (ps : List PlaceState). length (get_or ps c.args.at no_place).pages) c.as_slice.ensures.value)) in
+    let left = rw c.in-Some.is at c.in_ok-entries.ensures.one_page in
     let p = c.args.pages.now in
     let stamp : ℤ = c.args.stamp in
     let identifier : List ℕ = c.args.identifier.now in
@@ -44,38 +30,30 @@ change-requires-clause-may_stand g c =
     let removal : IsRemoval stamp identifier old (Some c.in-Some.entries) = subst (λ (o : Option (List ItemState)). IsRemoval stamp identifier old o) c.in-Some.is taken in
     let read : MayBeAt before at old = subst (λ (ps : List PlaceState). MayBeAt ps at old) c.as_slice.ensures.value c.in_ok-old.ensures.fits in
     let stands = stands_read G c.read_place.result before p c.read_place.new.pages c.requires.stands c.read_place.ensures.pages in
-    rw removal.1 (may_stand_without (G.pages c.read_place.new.pages) before stamp identifier at old stands.directory within c.requires.place.belongs read)
+    record {
+      run = record { within = omega (arith, within); few = omega arith };
+      fits = left fits;
+      order = rw removal.1 (may_stand_without (G.pages c.read_place.new.pages) before stamp identifier at old stands.directory within c.requires.place.belongs read);
+    }
 
 pub returns-in_err-changed-in-Some-clause-pool : goal.returns-in_err-changed-in-Some-clause-pool
 returns-in_err-changed-in-Some-clause-pool g c =
-    let at = c.args.at in
-    let few = c.requires.place.passes no_place in
-    let fits : fit_one c.in_ok-old.old ≡ true =
-    c.in_ok-old.ensures.fits.fits no_place (omega (arith, few, ap (λ (ps : List PlaceState). length (get_or ps at no_place).pages) c.as_slice.ensures.value)) in
-    let left = rw c.in-Some.is at c.in_ok-entries.ensures.one_page in
     let is : c.from_residual-in_err-changed-in-Some.result ≡ Err c.in_err-changed-in-Some.field-0.0 = search rules in
     let G = g.P.PagePool in
     let p = c.args.pages.now in
     let mid = c.read_place.new.pages in
-    let q = c.change.new.pages in
-    let then = c.in_err-changed-in-Some.ensures.pool.few (left fits) in
+    let q = c.leave.new.pages in
     takes_failed G 1 1 c.in_err-changed-in-Some.field-0.0 c.from_residual-in_err-changed-in-Some.result p q is (omega arith)
-    (takes_read G 1 c.read_place.result (err_of Changed c.in_err-changed-in-Some.field-0.0) p mid q c.read_place.ensures.pages then)
+    (takes_read G 1 c.read_place.result (err_of Changed c.in_err-changed-in-Some.field-0.0) p mid q c.read_place.ensures.pages c.in_err-changed-in-Some.ensures.pool)
 
 pub returns-in-Some-clause-pool : goal.returns-in-Some-clause-pool
 returns-in-Some-clause-pool g c =
-    let at = c.args.at in
-    let few = c.requires.place.passes no_place in
-    let fits : fit_one c.in_ok-old.old ≡ true =
-    c.in_ok-old.ensures.fits.fits no_place (omega (arith, few, ap (λ (ps : List PlaceState). length (get_or ps at no_place).pages) c.as_slice.ensures.value)) in
-    let left = rw c.in-Some.is at c.in_ok-entries.ensures.one_page in
     let G = g.P.PagePool in
     let p = c.args.pages.now in
     let mid = c.read_place.new.pages in
-    let q = c.change.new.pages in
+    let q = c.leave.new.pages in
     let changed = c.in_ok-changed-in-Some.changed in
-    let then = c.in_ok-changed-in-Some.ensures.pool.few (left fits) in
-    takes_ok G 1 changed (Some changed) p q (takes_read G 1 c.read_place.result (ok_of changed) p mid q c.read_place.ensures.pages then)
+    takes_ok G 1 changed (Some changed) p q (takes_read G 1 c.read_place.result (ok_of changed) p mid q c.read_place.ensures.pages c.in_ok-changed-in-Some.ensures.pool)
 
 pub returns-in-Some-clause-item : goal.returns-in-Some-clause-item
 returns-in-Some-clause-item g c =
@@ -91,11 +69,13 @@ returns-in-Some-clause-item g c =
     subst (λ (z : ℤ). IsRemoval z identifier old c.in_ok-entries.field-0) (to_z-of_z w64 stamp c.ranges.stamp) c.in_ok-entries.ensures.removal in
     let removal : IsRemoval stamp identifier old (Some c.in-Some.entries) = subst (λ (o : Option (List ItemState)). IsRemoval stamp identifier old o) c.in-Some.is taken in
     let changed = c.in_ok-changed-in-Some.changed in
+    let same = c.read_place.ensures.pages in
     record {
       list = λ honest.
           let held : old ≡ items_at (G.pages p) (get_or c.as_slice.result.now at no_place) = c.in_ok-old.ensures.items honest no_place in
-          one_removed G c.read_place.result stamp identifier old c.in-Some.entries at changed.at changed.len changed.gone.items before c.change.new.places.items p c.read_place.new.pages c.change.new.pages
-          c.requires.stands c.read_place.ensures.pages within c.requires.place.belongs c.in_ok-changed-in-Some.ensures.ok (sym removal.0) removal.1
+          let still : IsTrue (G.honest c.read_place.new.pages) = rw same.pool.honesty.same honest in
+          left_removed (G.pages p) (G.pages c.leave.new.pages) stamp identifier old c.in-Some.entries at before c.leave.new.places.items c.requires.stands.directory within c.requires.place.belongs
+          (c.in_ok-changed-in-Some.ensures.list still ∙ ap (λ (pages : Pages). items_with_run pages before at 1 c.in-Some.entries) same.same) (sym removal.0) removal.1
           (held ∙ ap (λ (ps : List PlaceState). items_at (G.pages p) (get_or ps at no_place)) c.as_slice.ensures.value);
       staged = search rules;
       none = search rules;

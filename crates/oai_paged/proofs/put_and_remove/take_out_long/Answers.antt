@@ -3,8 +3,7 @@ use Rattle.std.specs.Ordering.{is_eq}
 use Rattle.std.proofs.lemmas.Int.{to_z-of_z}
 use Rattle.std.proofs.lemmas.List.{get_or_read}
 use Rattle.oai_item.specs.Item.{ItemState}
-use Rattle.oai_paged.specs.Calls.{IsDirectoryChanged}
-use Rattle.oai_paged.specs.Directory.{MayStand}
+use Rattle.oai_paged.specs.Directory.{MayStand, items_with_run}
 use Rattle.oai_paged.specs.Places.{PlaceState, first_cmp, items_at}
 use Rattle.oai_paged.proofs.DirectoryChanges.{none_removed}
 use Rattle.oai_paged.proofs.DirectoryLemmas.{no_place, placed-cut}
@@ -38,8 +37,8 @@ returns-then-ne-clause-item g c =
       err = search rules;
     }
 
-pub change-requires-clause-may_stand : goal.change-requires-clause-may_stand
-change-requires-clause-may_stand g c =
+pub leave-requires-clause-may : goal.leave-requires-clause-may
+leave-requires-clause-may g c =
     let G = g.P.PagePool in
     let p = c.args.pages.now in
     let pages = G.pages p in
@@ -54,13 +53,16 @@ change-requires-clause-may_stand g c =
     let seen : c.order_to.result ≡ first_cmp place stamp identifier =
     c.order_to.ensures ∙ (λ i. first_cmp (here i) (to_z-of_z w64 stamp c.ranges.stamp i) identifier) in
     let same : first_cmp place stamp identifier ≡ Equal = sym seen ∙ equal_from c.order_to.result (sym c.ne.ensures ∙ c.if-ne.false) in
-    subst (λ (es : List ItemState). MayStand pages places at 1 es) (sym c.new-none.ensures) (may_stand_left pages places stamp identifier at c.requires.stands.directory within c.requires.place.belongs one same)
+    record {
+      run = record { within = omega (arith, within); few = omega arith };
+      fits = ap fit_one c.new.ensures ∙ fit-nil;
+      order = subst (λ (es : List ItemState). MayStand pages places at 1 es) (sym c.new.ensures) (may_stand_left pages places stamp identifier at c.requires.stands.directory within c.requires.place.belongs one same);
+    }
 
 pub returns-in_err-changed-clause-pool : goal.returns-in_err-changed-clause-pool
 returns-in_err-changed-clause-pool g c =
     let is : c.from_residual.result ≡ Err c.in_err-changed.field-0.0 = search rules in
-    takes_failed g.P.PagePool 1 1 c.in_err-changed.field-0.0 c.from_residual.result c.args.pages.now c.change.new.pages is (omega arith)
-    (c.in_err-changed.ensures.pool.few (ap fit_one c.new-none.ensures ∙ fit-nil))
+    takes_failed g.P.PagePool 1 1 c.in_err-changed.field-0.0 c.from_residual.result c.args.pages.now c.leave.new.pages is (omega arith) c.in_err-changed.ensures.pool
 
 pub returns-clause-item : goal.returns-clause-item
 returns-clause-item g c =
@@ -78,12 +80,11 @@ returns-clause-item g c =
     let seen : c.order_to.result ≡ first_cmp place stamp identifier =
     c.order_to.ensures ∙ (λ i. first_cmp (here i) (to_z-of_z w64 stamp c.ranges.stamp i) identifier) in
     let same : first_cmp place stamp identifier ≡ Equal = sym seen ∙ equal_from c.order_to.result (sym c.ne.ensures ∙ c.if-ne.false) in
-    let q = c.change.new.pages in
-    let after : List PlaceState = c.change.new.places.items in
-    let changed = c.in_ok-changed.changed in
+    let q = c.leave.new.pages in
+    let after : List PlaceState = c.leave.new.places.items in
     record {
-      list = λ honest. lone_removed G stamp identifier at changed.at changed.len changed.gone.items places after p q c.requires.stands within c.requires.place.belongs one same
-          (subst (λ (es : List ItemState). IsDirectoryChanged G es at 1 changed.at changed.len changed.gone.items places after p q) c.new-none.ensures c.in_ok-changed.ensures.ok);
+      list = λ honest. lone_removed pages (G.pages q) stamp identifier at places after c.requires.stands.directory within c.requires.place.belongs one same
+          (c.in_ok-changed.ensures.list honest ∙ ap (λ (es : List ItemState). items_with_run pages places at 1 es) c.new.ensures);
       staged = search rules;
       none = search rules;
       err = search rules;
@@ -92,4 +93,4 @@ returns-clause-item g c =
 pub returns-clause-pool : goal.returns-clause-pool
 returns-clause-pool g c =
     let changed = c.in_ok-changed.changed in
-    takes_ok g.P.PagePool 1 changed (Some changed) c.args.pages.now c.change.new.pages (c.in_ok-changed.ensures.pool.few (ap fit_one c.new-none.ensures ∙ fit-nil))
+    takes_ok g.P.PagePool 1 changed (Some changed) c.args.pages.now c.leave.new.pages c.in_ok-changed.ensures.pool
