@@ -6,6 +6,7 @@ use crate::samples::sized;
 use crate::two_lists::TwoLists;
 use oai_device::{MemoryDevice, PAGE_BYTES};
 use oai_paged::PagedVersions;
+use oai_pool::PagePool;
 use std::alloc::Global;
 use std::panic::Expect;
 use std::process::Abort;

@@ -1,12 +1,17 @@
 //! Pages that become one with their neighbours where items are taken out, and such as stay.
 use crate::assertions::assert_same;
 use crate::both::{Both, paged};
-use crate::calls::Call;
-use crate::samples::{Sample, sized};
+use crate::calls::{Call, answer};
+use crate::samples::{Sample, sized, spelling_of};
+use crate::two_lists::TwoLists;
 use oai_device::MemoryDevice;
+use oai_item::Fault;
 use oai_paged::PagedVersions;
+use oai_pool::PagePool;
 use std::alloc::Global;
+use std::panic::Expect;
 use std::process::Abort;
+use tests_devices::LyingDevice;
 
 /// A paged store in memory beside a plain one.
 type BothInMemory = Both<PagedVersions<MemoryDevice>>;
@@ -90,4 +95,22 @@ fn frozen_list(rt: HostRuntime) {
     assert_pages(&rt, &mut both, Call::Replace(item(2, 0), item(4, 4_000)), 4);
     both.call(&rt, Call::Turn);
     assert_pages(&rt, &mut both, Call::Renew, 1);
+}
+
+/// A neighbour whose page is damaged stays as it is, and the item goes all the same.
+#[test]
+fn damaged_neighbour(rt: HostRuntime) {
+    let alloc = rt.alloc();
+    let device = LyingDevice::new(MemoryDevice::new(alloc), 1, 3);
+    let mut lists = TwoLists::new(&rt, paged(&rt, alloc, device, 1));
+    for sample in [item(1, 4_000), item(2, 15_000), item(3, 4_000)] {
+        answer(&rt, alloc, &mut lists, Call::Put(sample)).expect(&rt, "put");
+    }
+    let removed = answer(&rt, alloc, &mut lists, Call::Remove(item(2, 0)));
+    assert!(&rt; removed.expect(&rt, "remove").ends_with(&[1]));
+    assert_same(&rt, lists.store().pool().used(), 2);
+    let kept = answer(&rt, alloc, &mut lists, Call::Find(item(3, 0)));
+    assert!(&rt; kept.expect(&rt, "find") == spelling_of(&rt, alloc, item(3, 4_000)));
+    let damaged = answer(&rt, alloc, &mut lists, Call::Find(item(1, 0)));
+    assert_same(&rt, damaged.err().expect(&rt, "fault"), Fault::Damaged);
 }
