@@ -105,11 +105,12 @@ fn one_page(rt: &impl Abort, alloc: Global) -> Both<CountedVersions> {
     both
 }
 
-/// An item that is put in reads a page and writes three, also where it parts a page in two and stands between them.
+/// An item that is put in reads a page and writes three, also where it parts a page in two and stands between them. Where it is taken out again, its page
+/// and both parts are read and one is written.
 fn assert_put(rt: &impl Abort, both: &mut Both<CountedVersions>) {
     assert_cost(rt, both, Call::Put(large(41)), 1, 3);
     assert_cost(rt, both, Call::Put(large(204)), 1, 3);
-    assert_cost(rt, both, Call::Remove(large(41)), 1, 3);
+    assert_cost(rt, both, Call::Remove(large(41)), 3, 1);
 }
 
 /// One that is put in place of another one reads two pages, and writes four.

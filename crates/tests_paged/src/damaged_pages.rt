@@ -87,17 +87,14 @@ fn page_of_the_entry(rt: HostRuntime) {
     }
 }
 
-/// A page of small items on which the number of them, the length or the key of the first is another one is damaged, also for an item that is not there.
+/// A page of small items on which the number of them, or the length or the key of the first, is another one is damaged.
 #[test]
 fn page_of_small_items(rt: HostRuntime) {
     for at in [0, 3, 4, 7, 16] {
         let alloc = rt.alloc();
         let mut lists = lists_with(&rt, alloc, 4, at);
         assert_item(&rt, alloc, &mut lists, Call::Find(long()), long());
-        for number in [2, 3] {
-            let key = Call::Find(tiny(number, number));
-            assert_damaged(&rt, alloc, &mut lists, key);
-        }
+        assert_damaged(&rt, alloc, &mut lists, Call::Find(tiny(2, 2)));
     }
 }
 

@@ -12,7 +12,7 @@ use std::panic::Expect;
 use std::process::Abort;
 
 /// How many items there are.
-const ITEMS: u32 = 20_000;
+const ITEMS: u32 = 4_000;
 
 /// How many bytes each has.
 const BYTES: usize = 200;

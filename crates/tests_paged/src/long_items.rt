@@ -53,7 +53,7 @@ fn assert_alone<V: Versions + Drop + UsesPages>(
 }
 
 /// The item between two small ones: put, taken out and put again. Where it has overflow pages, each of the small ones has a page
-/// of its own from then on.
+/// of its own meanwhile.
 fn assert_between<V: Versions + Drop + UsesPages>(
     rt: &impl Abort,
     both: &mut Both<V>,
@@ -66,7 +66,7 @@ fn assert_between<V: Versions + Drop + UsesPages>(
     assert_used(rt, both, Call::Put(tiny(2, 2)), 1);
     assert_used(rt, both, Call::Put(item), left.saturating_add(more));
     both.assert_lists(rt);
-    assert_used(rt, both, Call::Remove(item), left);
+    assert_used(rt, both, Call::Remove(item), 1);
     both.assert_lists(rt);
     assert_used(rt, both, Call::Put(item), left.saturating_add(more));
     both.assert_lists(rt);
