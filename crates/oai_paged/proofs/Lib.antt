@@ -39,6 +39,7 @@ mod HaveReadLemmas
 mod StretchLemmas
 mod SumLemmas
 mod TakenLemmas
+mod TestedLemmas
 mod ReadPlaces
 mod InsidePlaces
 mod FindingLemmas

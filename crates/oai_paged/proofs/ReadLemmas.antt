@@ -33,6 +33,11 @@ number_written : (bytes : List ℕ) → AreBytes bytes → 4 ≤ length bytes �
 unfolding encoded_count
 number_written bytes fits long = sym (be_bytes_4 (take 4 bytes) (first_number bytes) (omega (arith, length-take 4 bytes)) (bytes_taken 4 bytes fits) refl)
 
+pub number_few : (bytes : List ℕ) → AreBytes bytes → first_number bytes < 2 ^ 32
+number_few bytes fits =
+    let four = bytes_taken 4 bytes fits in
+    omega (arith, four 0, four 1, four 2, four 3)
+
 -- ---- an entry
 
 entry_read : (bytes : List ℕ) (item : ItemState) (behind : List ℕ) → Spells (encoded item) item → bytes ≡ entry_of item ++ behind

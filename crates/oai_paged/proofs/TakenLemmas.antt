@@ -5,7 +5,7 @@ use Rattle.oai_item.specs.declared.faults.Fault.{Fault}
 use Rattle.oai_pool.specs.Calls as pool
 use Rattle.oai_pool.specs.declared.pools.PagePool.{Ghosts}
 use Rattle.oai_pool.specs.declared.pools.PoolFault.{PoolFault}
-use Rattle.oai_pool.specs.declared.pools.PoolFault.TheVariants.{Device, NoMemory, TooManyPages}
+use Rattle.oai_pool.specs.declared.pools.PoolFault.TheVariants.{Damaged, Device, NoMemory, TooManyPages}
 use Rattle.oai_paged.specs.Calls.{FreesPages, ReadsPages, Takes, fault_of}
 
 -- results of a type that is told
@@ -21,13 +21,18 @@ pool_ok_of a = Ok a
 abbrev pub pool_err_of : (A : Type 0) → PoolFault → Result A PoolFault
 pool_err_of A fault = Err fault
 
--- a fault of the pool, as a store tells it; a call that cannot find damage
+-- a fault of the pool, as a store tells it
 pub takes_fault : {P A B : Type 0} (g : Ghosts P) (numbers : ℕ) (fault : PoolFault) (p q : P)
     → pool.SpendsPool g.room g.failures g.cache_size g.honest numbers (pool_err_of A fault) p q → Takes g numbers (err_of B (fault_of fault)) p q
 takes_fault g numbers Device p q h = record {
   room = record { enough = λ same. cc; used = h.room };
   device = record { count = h.device.count; device = λ same. h.device.device refl };
   honesty = record { same = h.honesty; damaged = λ same. cc };
+}
+takes_fault g numbers Damaged p q h = record {
+  room = record { enough = λ same. cc; used = h.room };
+  device = record { count = h.device.count; device = λ same. cc };
+  honesty = record { same = h.honesty; damaged = λ same. h.damaged refl };
 }
 takes_fault g numbers NoMemory p q h = record {
   room = record { enough = λ same. cc; used = h.room };

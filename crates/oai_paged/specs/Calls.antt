@@ -58,6 +58,12 @@ pub record AddsPages {P A : Type 0} (g : Ghosts P) (entries : List ItemState) (r
 abbrev pub FreesPages : {P : Type 0} → Ghosts P → P → P → Type 0
 FreesPages g old new = Spares g.room g.failures g.honest old new
 
+-- pages that were kept in memory are kept no more, and nothing else changes
+pub record Forgets {P : Type 0} (g : Ghosts P) (old new : P) : Type 0 where
+  pub counts : g.counts new ≡ g.counts old
+  pub same : g.pages new ≡ g.pages old
+  pub pool : FreesPages g old new
+
 -- a page that the places name is named as often as it can be
 abbrev pub RunsOut : {P : Type 0} → Ghosts P → List PlaceState → P → Type 0
 RunsOut g places pool = (n : ℕ) × (0 < named_in places n) × (MAX_PAGES ≤ count_of (g.counts pool) n)
@@ -69,6 +75,7 @@ IsShareFault full cause = (cause ≡ told.NoMemory) ⊎ ((cause ≡ told.TooMany
 -- the fault of a store that reports the fault of a pool
 abbrev pub fault_of : PoolFault → Fault
 fault_of pool.Device = told.Device
+fault_of pool.Damaged = told.Damaged
 fault_of pool.NoMemory = told.NoMemory
 fault_of pool.TooManyPages = told.TooManyPages
 

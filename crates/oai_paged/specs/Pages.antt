@@ -10,6 +10,8 @@ use Rattle.oai_item.specs.declared.decodings.DecodeFault.{DecodeFault}
 use Rattle.oai_item.specs.declared.decodings.DecodeFault.TheVariants.{Damaged, NoMemory}
 use Rattle.oai_item.specs.Decoding.{item_in}
 use Rattle.oai_device.specs.declared.devices.TheConstants.{PAGE_BYTES}
+use Rattle.oai_pool.specs.declared.kinds.PageKind.{PageKind}
+use Rattle.oai_pool.specs.declared.kinds.PageKind.TheVariants.{Items, Bytes}
 use Rattle.oai_paged.specs.declared.sizes.TheConstants.{FRONT_BYTES, MAX_ENTRY_BYTES, MAX_WHOLE_BYTES, NUMBER_BYTES}
 
 -- ---- how a page is written
@@ -84,6 +86,11 @@ unfoldable pub pages_of : List ItemState → List (List ℕ)
 pages_of items =
     if fit_one items then filled (written items) ∷ []
     else filled (take FRONT_BYTES (written items)) ∷ spread (overflow_of items) (drop FRONT_BYTES (written items))
+
+-- of what kind the pages of items are that need so many overflow pages
+abbrev pub kind_for : ℕ → PageKind
+kind_for zero = Items
+kind_for (suc n) = Bytes
 
 -- the bytes of pages: those of one; or, of several, the front of the first and then the others
 abbrev pub joined : List (List ℕ) → List ℕ

@@ -6,7 +6,7 @@ ghost use Rattle.oai_item.specs.Order.{are_in_order};
 ghost use Rattle.oai_pool.specs.Counts.{count_of};
 ghost use Rattle.oai_paged.specs.Calls.{Adds, AddsPages, ChangesNothing, FreesPages, HasWayBack, IsDirectoryChanged, Renames, Takes};
 ghost use Rattle.oai_paged.specs.Directory.{IsRunWithin, MayStand, StandsIn};
-ghost use Rattle.oai_paged.specs.Pages.{AreCuts, FitAlone, between, overflow_of, pages_of};
+ghost use Rattle.oai_paged.specs.Pages.{AreCuts, FitAlone, between, kind_for, overflow_of, pages_of};
 ghost use Rattle.oai_paged.specs.Places.{have_records, named_in};
 ghost use Rattle.oai_paged.specs.Recounts.{AddsNumbers, Recounts};
 ghost use Rattle.oai_paged.specs.Sums.{AreGroups};
@@ -20,7 +20,7 @@ use crate::places::SharedPlace;
 use oai_device::PAGE_BYTES;
 use oai_item::Fault;
 use oai_names::{Prefix, Sequence};
-use oai_pool::{PageNo, PagePool};
+use oai_pool::{PageKind, PageNo, PagePool};
 use oai_sums::SetNames;
 use std::alloc::{AllocError, Global};
 use std::rc::Rc;
@@ -288,11 +288,12 @@ fn add_numbers<P: PagePool>(
 {
     let _all = entries.len();
     let overflow = entries.overflow(from, to);
+    let kind = kind_for(overflow);
     let mut numbers = Vec::with_capacity(alloc, 1 + overflow)?;
     let mut page = [0; PAGE_BYTES];
     for at in 0..1 + overflow {
         entries.fill_page(from, to, at, &mut page);
-        match pages.add(&page) {
+        match pages.add(&page, kind) {
             Ok(number) => numbers.push(number).unwrap(),
             Err(fault) => {
                 drop_numbers(pages, numbers.as_slice());
@@ -301,4 +302,15 @@ fn add_numbers<P: PagePool>(
         }
     }
     Ok(numbers)
+}
+
+/// Of what kind the pages of entries are that need so many overflow pages.
+fn kind_for(overflow: usize) -> PageKind
+    ensures { result ≡ kind_for overflow }
+{
+    if overflow == 0 {
+        PageKind::Items
+    } else {
+        PageKind::Bytes
+    }
 }

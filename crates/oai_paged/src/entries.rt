@@ -8,7 +8,8 @@ ghost use Rattle.oai_item.specs.Items.{item_at, with_item, without_at};
 ghost use Rattle.oai_item.specs.Order.{IsPlace, are_in_order, place_cmp};
 ghost use Rattle.oai_item.specs.Selection.{passes};
 ghost use Rattle.oai_item.specs.declared.sizes.TheConstants.{MAX_ITEM_BYTES};
-ghost use Rattle.oai_paged.specs.Entries.{HasEntries, IsEntryReading, IsPlaceFrom};
+ghost use Rattle.oai_pool.specs.Kinds.{has_items, number_in, spells_item, spells_items};
+ghost use Rattle.oai_paged.specs.Entries.{HasEntries, HasEntry, IsEntryReading, IsPlaceFrom};
 ghost use Rattle.oai_paged.specs.Pages.{AreCuts, AreStorable, FitAlone, IsPageReading, IsRemoval, are_short, begins_at, between, entries_of, entry_of, filled, first_number, fit_one, overflow_of, pages_of, size_of};
 ghost use Rattle.oai_paged.specs.Places.{AreSetCounts, have_records};
 ghost use Rattle.oai_paged.specs.declared.sizes.TheConstants.{MAX_ENTRY_BYTES, MAX_WHOLE_BYTES};
@@ -71,10 +72,38 @@ impl Entries {
         ensures { IsPageReading page.now result }
     {
         let count = first_number(page);
+        let (ends, size) = read_ends(alloc, &page[NUMBER_BYTES..], count)?;
+        Entries::ending(alloc, page, ends, size)
+    }
+
+    /// The entries of a page, each of which is known to spell an item, and is not tested. `Damaged` where the bytes are
+    /// not the page of any items; `NoMemory`.
+    pub(crate) fn of_page(alloc: Global, page: &[u8]) -> Result<Entries, DecodeFault>
+        requires long { 4 ≤ length page.now }
+        requires tested { has_items page.now ≡ true }
+        ensures { IsPageReading page.now result }
+    {
+        let count = first_number(page);
+        let (ends, size) = ends_of(alloc, &page[NUMBER_BYTES..], count)?;
+        Entries::ending(alloc, page, ends, size)
+    }
+
+    /// The entries of a page, which has so many bytes of them, and of which each ends at one of the numbers. `Damaged`
+    /// where the bytes are not the page of any items; `NoMemory`.
+    fn ending(
+        alloc: Global,
+        page: &[u8],
+        ends: Vec<usize>,
+        size: usize,
+    ) -> Result<Entries, DecodeFault>
+        requires long { 4 ≤ length page.now }
+        requires entries { HasEntries (drop 4 page.now) ends.items (first_number page.now) size }
+        ensures { IsPageReading page.now result }
+    {
+        let count = first_number(page);
         if count == 0 {
             return Err(DecodeFault::Damaged);
         }
-        let (ends, size) = read_ends(alloc, &page[NUMBER_BYTES..], count)?;
         let (bytes, behind) = page[NUMBER_BYTES..].split_at(size);
         if !are_zeros(behind) {
             return Err(DecodeFault::Damaged);
@@ -670,6 +699,31 @@ fn read_ends(alloc: Global, bytes: &[u8], count: usize) -> Result<(Vec<usize>, u
         push_end(&mut ends, end)?;
     }
     Ok((ends, end))
+}
+
+/// Where each of so many entries in front of the bytes ends, each of which is known to spell an item, and the last of
+/// them. The error is out of memory.
+fn ends_of(alloc: Global, bytes: &[u8], count: usize) -> Result<(Vec<usize>, usize), AllocError>
+    requires { spells_items count bytes.now ≡ true }
+    ensures { IfOk result (λ read. HasEntries bytes.now read.0.items count read.1) }
+{
+    let mut ends = Vec::new(alloc);
+    let mut end = 0;
+    for _ in 0..count {
+        end += spelled_len(&bytes[end..]);
+        push_end(&mut ends, end)?;
+    }
+    Ok((ends, end))
+}
+
+/// How many bytes the entry has that stands in front of the bytes, which is known to spell an item.
+fn spelled_len(bytes: &[u8]) -> usize
+    requires { spells_item bytes.now ≡ true }
+    ensures entry { HasEntry bytes.now result }
+    ensures within { result ≤ length bytes.now }
+    ensures behind { result ≡ 4 + number_in bytes.now }
+{
+    NUMBER_BYTES + first_number(bytes)
 }
 
 /// Adds the end.

@@ -13,6 +13,7 @@ pub(crate) fn fault_of(fault: PoolFault) -> Fault
 {
     match fault {
         PoolFault::Device => Fault::Device,
+        PoolFault::Damaged => Fault::Damaged,
         PoolFault::NoMemory => Fault::NoMemory,
         PoolFault::TooManyPages => Fault::TooManyPages,
     }

@@ -3,7 +3,7 @@ ghost use Rattle.std.specs.Prelude.{◌≡◌, ◌<◌, ◌≤◌, ℕ, [], OnEr
 ghost use Rattle.oai_item.specs.declared.faults.Fault.TheVariants as fault;
 ghost use Rattle.oai_pool.specs.Counts.{count_of};
 ghost use Rattle.oai_pool.specs.Names.{times};
-ghost use Rattle.oai_paged.specs.Calls.{FreesPages, IsShareFault, Renames, RunsOut};
+ghost use Rattle.oai_paged.specs.Calls.{Forgets, FreesPages, IsShareFault, Renames, RunsOut};
 ghost use Rattle.oai_paged.specs.Places.{named_in};
 ghost use Rattle.oai_paged.specs.Recounts.{HasFull, Recounts};
 
@@ -32,6 +32,15 @@ pub(crate) fn drop_numbers<P: PagePool>(pages: &mut P, numbers: &[PageNo])
 {
     for number in numbers {
         pages.drop_ref(*number);
+    }
+}
+
+/// Keeps none of the pages in memory. It takes no memory and cannot fail.
+pub(crate) fn forget_all<P: PagePool>(pages: &mut P, numbers: &[PageNo])
+    ensures { Forgets P.PagePool pages.old pages.new }
+{
+    for number in numbers {
+        pages.forget(*number);
     }
 }
 

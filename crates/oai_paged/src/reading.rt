@@ -9,7 +9,7 @@ ghost use Rattle.oai_item.specs.Selection.{passes, selected};
 ghost use Rattle.oai_pool.specs.Counts.{count_of};
 ghost use Rattle.oai_pool.specs.Names.{times};
 ghost use Rattle.oai_pool.specs.declared.pools.TheConstants.{MAX_PAGES};
-ghost use Rattle.oai_paged.specs.Calls.{ReadsPages};
+ghost use Rattle.oai_paged.specs.Calls.{Forgets, ReadsPages};
 ghost use Rattle.oai_paged.specs.Directory.{StandsIn};
 ghost use Rattle.oai_paged.specs.Pages.{FitPage, IsPage, fit_one, items_in};
 ghost use Rattle.oai_paged.specs.Parts.{EndsBy, IsInside, IsKnown, IsOutside, IsPartTaken};
@@ -21,6 +21,7 @@ use crate::entries::{Entries, are_zeros};
 use crate::faults::fault_of;
 use crate::finding::{begins_on_page, find_on_page, has_items};
 use crate::groups::{Groups, Stretch};
+use crate::names::forget_all;
 use crate::places::SharedPlace;
 use crate::searches::place_of;
 use crate::sizes::FRONT_BYTES;
@@ -28,7 +29,7 @@ use oai_catalogue::Filter;
 use oai_device::PAGE_BYTES;
 use oai_item::{DecodeFault, Fault, Item};
 use oai_names::Sequence;
-use oai_pool::{PageNo, PagePool};
+use oai_pool::{PageKind, PageNo, PagePool};
 use oai_time::LAST_SECOND;
 use std::alloc::{AllocError, Global};
 use std::cmp::Ordering;
@@ -62,8 +63,8 @@ fn read_page<P: PagePool>(alloc: Global, pages: &mut P, no: PageNo) -> Result<En
     ensures fits { IfOk result (λ entries. fit_one entries ≡ true) }
     ensures pages { ReadsPages P.PagePool result pages.old pages.new }
 {
-    match pages.read(no) {
-        Ok(page) => match Entries::read(alloc, &page[..]) {
+    match pages.read(no, PageKind::Items) {
+        Ok(page) => match Entries::of_page(alloc, &page[..]) {
             Ok(entries) => {
                 if !entries.fit_one() {
                     return Err(Fault::Damaged);
@@ -92,7 +93,7 @@ fn read_long<P: PagePool>(
     ensures page { IfOk result (λ entries. FitPage entries) }
     ensures pages { ReadsPages P.PagePool result pages.old pages.new }
 {
-    let first = match pages.read(numbers[0]) {
+    let first = match pages.read(numbers[0], PageKind::Bytes) {
         Ok(page) => page,
         Err(fault) => return Err(fault_of(fault)),
     };
@@ -134,7 +135,7 @@ fn read_more<P: PagePool>(pages: &mut P, no: PageNo, bytes: &mut Vec<u8>) -> Res
     ensures more { OnOk result (length bytes.old.items ≤ length bytes.new.items) }
     ensures pages { ReadsPages P.PagePool result pages.old pages.new }
 {
-    match pages.read(no) {
+    match pages.read(no, PageKind::Bytes) {
         Ok(page) => match bytes.extend_from_slice(&page[..]) {
             Ok(()) => Ok(()),
             Err(_) => Err(Fault::NoMemory),
@@ -164,8 +165,31 @@ fn read_entries<P: PagePool>(
     read_page(alloc, pages, numbers[0])
 }
 
-/// The entries of a place. Any fault but `TooManyPages`.
+/// The entries of a place. Any fault but `TooManyPages`. Where it is `Damaged`, none of the pages of the place is kept in memory.
 pub(crate) fn read_place<P: PagePool>(
+    alloc: Global,
+    pages: &mut P,
+    places: &[SharedPlace],
+    at: usize,
+) -> Result<Entries, Fault>
+    requires within { at < length places.now }
+    requires stands { StandsIn P.PagePool pages.old places.now }
+    ensures items { IfOk result (λ entries. IsTrue (P.honest pages.old)
+        → HoldsAt (λ place. entries ≡ items_at (P.pages pages.old) place) places.now at) }
+    ensures fits { IfOk result (λ entries. MayBeAt places.now at entries) }
+    ensures pages { ReadsPages P.PagePool result pages.old pages.new }
+{
+    match read_at(alloc, pages, places, at) {
+        Ok(entries) => Ok(entries),
+        Err(fault) => {
+            forget_damaged(pages, &places[at], fault);
+            Err(fault)
+        }
+    }
+}
+
+/// The entries of a place. Any fault but `TooManyPages`.
+fn read_at<P: PagePool>(
     alloc: Global,
     pages: &mut P,
     places: &[SharedPlace],
@@ -232,7 +256,7 @@ pub(crate) fn find<P: PagePool>(
 }
 
 /// The item of that datestamp, in seconds from 1970 on, and identifier of those of the place, which has one page, or None. Any fault but
-/// `TooManyPages`.
+/// `TooManyPages`. Where it is `Damaged`, the page is not kept in memory.
 fn find_at<P: PagePool>(
     alloc: Global,
     pages: &mut P,
@@ -247,7 +271,41 @@ fn find_at<P: PagePool>(
         → item ≡ item_at stamp identifier.now (items_at (P.pages pages.old) place.now)) }
     ensures pages { ReadsPages P.PagePool result pages.old pages.new }
 {
-    let page = match pages.read(place.pages()[0]) {
+    match find_in(alloc, pages, place, stamp, identifier) {
+        Ok(found) => Ok(found),
+        Err(fault) => {
+            forget_damaged(pages, place, fault);
+            Err(fault)
+        }
+    }
+}
+
+/// Where the fault is `Damaged`, none of the pages of the place is kept in memory, so that each is read from the device again.
+fn forget_damaged<P: PagePool>(pages: &mut P, place: &SharedPlace, fault: Fault)
+    ensures { Forgets P.PagePool pages.old pages.new }
+{
+    if fault == Fault::Damaged {
+        forget_all(pages, place.pages());
+    }
+}
+
+/// The item of that datestamp, in seconds from 1970 on, and identifier of those of the place, which has one page, or None. Any fault but
+/// `TooManyPages`.
+fn find_in<P: PagePool>(
+    alloc: Global,
+    pages: &mut P,
+    place: &SharedPlace,
+    stamp: i64,
+    identifier: &str,
+) -> Result<Option<Item>, Fault>
+    requires one { length place.now.pages ≤ 1 }
+    requires named { (n : ℕ) → 0 < times n place.now.pages → 0 < count_of (P.counts pages.old) n }
+    requires sound { IsSoundPlace (P.pages pages.old) place.now }
+    ensures found { IfOk result (λ item. IsTrue (P.honest pages.old)
+        → item ≡ item_at stamp identifier.now (items_at (P.pages pages.old) place.now)) }
+    ensures pages { ReadsPages P.PagePool result pages.old pages.new }
+{
+    let page = match pages.read(place.pages()[0], PageKind::Items) {
         Ok(page) => page,
         Err(fault) => return Err(fault_of(fault)),
     };

@@ -1,2 +1,3 @@
 pub mod CacheLemmas
 pub mod NamesLemmas
+mod TestingLemmas

@@ -5,4 +5,4 @@ use Rattle.oai_pool.specs.declared.cache.PageCache.{PageCache}
 
 -- the bytes of the page that the cache holds under the number
 unfoldable pub held : PageCache → ℕ → Option (List ℕ)
-held cache n = option_map (λ page. page.value) (lookup (nat_eq n) cache.pages.entries)
+held cache n = option_map (λ kept. kept.page.value) (lookup (nat_eq n) cache.pages.entries)

@@ -3,4 +3,5 @@ pub mod Calls
 pub mod Limits
 pub mod Names
 pub mod Held
+pub mod Kinds
 pub mod Pool

@@ -1,6 +1,8 @@
-ghost use Rattle.std.specs.Prelude.{◌≡◌, ◌≢◌, ◌⊎◌, ◌<◌, ◌≤◌, ℕ, List, None, Some, IfOk, IfSome, length};
+ghost use Rattle.std.specs.Prelude.{◌≡◌, ◌≢◌, ◌⊎◌, ◌<◌, ◌≤◌, ℕ, List, true, None, Some, IfOk, IfSome, length};
 ghost use Rattle.std.specs.NonZero.{non_zero_usize_get};
 
+use crate::kept::KeptPage;
+use crate::kinds::PageKind;
 use lru::LruCache;
 use oai_device::Page;
 use std::alloc::{AllocError, AllocFailed, Global};
@@ -10,12 +12,13 @@ use std::rc::Rc;
 /// The pages that were used last, at most so many.
 #[derive(Drop)]
 pub struct PageCache {
-    pages: LruCache<u32, Rc<Page>>,
+    pages: LruCache<u32, KeptPage>,
 }
 
 #[tactic(auto, unfolding(crate::specs::Held::held))]
 impl PageCache {
     ghost use Rattle.oai_pool.specs.Held.{held};
+    ghost use Rattle.oai_pool.specs.Kinds.{is_of};
 
     /// A cache of at most `size` pages, which holds none.
     pub fn new(alloc: Global, size: NonZeroUsize) -> Result<PageCache, AllocError>
@@ -26,28 +29,33 @@ impl PageCache {
         Ok(PageCache { pages })
     }
 
-    /// The page of that number, where the cache holds it and it can be shared once more.
-    pub fn find(&mut self, no: u32) -> Option<Rc<Page>>
+    /// The page of that number, where the cache holds it, it is known to be of that kind, and it can be
+    /// shared once more.
+    pub fn find(&mut self, no: u32, kind: PageKind) -> Option<Rc<Page>>
         ensures found { IfSome result (λ page. held self.old no ≡ Some page.value) }
+        ensures tested { IfSome result (λ page. is_of kind page.value ≡ true) }
         ensures kept { (n : ℕ) → held self.new n ≡ held self.old n }
         ensures size { self.new.pages.cap ≡ self.old.pages.cap }
     {
         match self.pages.get(&no) {
-            Some(page) => page.clone().ok(),
+            Some(kept) => kept.of(kind),
             None => None,
         }
     }
 
-    /// Holds the page under that number. Where there is no room another page, the one that was used longest
-    /// ago, leaves; where memory is refused, this one is not held. Answers the page that is not held.
-    pub fn keep(&mut self, no: u32, page: Rc<Page>) -> Option<Rc<Page>>
+    /// Holds the page, which is known to be of that kind, under that number. Where there is no room another
+    /// page, the one that was used longest ago, leaves; where memory is refused, this one is not held.
+    /// Answers the page that is not held.
+    pub fn keep(&mut self, no: u32, page: Rc<Page>, kind: PageKind) -> Option<Rc<Page>>
+        requires { is_of kind page.value ≡ true }
         ensures this { (bytes : List ℕ) → held self.new no ≡ Some bytes
             → (held self.old no ≡ Some bytes) ⊎ (page.value ≡ bytes) }
         ensures others { (n : ℕ) (bytes : List ℕ) → n ≢ no
             → held self.new n ≡ Some bytes → held self.old n ≡ Some bytes }
         ensures size { self.new.pages.cap ≡ self.old.pages.cap }
     {
-        left_over(self.pages.push(no, page))
+        let kept = KeptPage::new(page, kind);
+        left_over(self.pages.push(no, kept))
     }
 
     /// Holds no page under that number. Answers the one that it held.
@@ -58,7 +66,10 @@ impl PageCache {
         ensures size { self.new.pages.cap ≡ self.old.pages.cap }
     {
         let _pages = self.pages.len();
-        self.pages.pop(&no)
+        match self.pages.pop(&no) {
+            Some(kept) => Some(kept.into_page()),
+            None => None,
+        }
     }
 
     /// How many pages the cache holds.
@@ -72,14 +83,14 @@ impl PageCache {
 
 /// The page that a push into a cache left over.
 fn left_over(
-    pushed: Result<Option<(u32, Rc<Page>)>, AllocFailed<(u32, Rc<Page>)>>,
+    pushed: Result<Option<(u32, KeptPage)>, AllocFailed<(u32, KeptPage)>>,
 ) -> Option<Rc<Page>> {
     match pushed {
-        Ok(Some((_, page))) => Some(page),
+        Ok(Some((_, kept))) => Some(kept.into_page()),
         Ok(None) => None,
         Err(refused) => {
-            let (_, page) = refused.value;
-            Some(page)
+            let (_, kept) = refused.value;
+            Some(kept.into_page())
         }
     }
 }

@@ -3,11 +3,15 @@
 #![tactic(auto)]
 
 mod cache;
+mod kept;
+mod kinds;
 mod names;
 mod pool;
 mod pools;
+mod testing;
 mod transfers;
 
+pub use kinds::PageKind;
 pub use oai_device::Page;
 pub use pool::Pool;
 pub use pools::{MAX_PAGES, PageNo, PagePool, PoolFault};

@@ -42,6 +42,7 @@ impl Names {
             → vec_len self.new.counts < vec_capacity self.new.free) }
         ensures few { OnOk result (vec_len self.new.free ≡ 0 → vec_len self.new.counts < MAX_PAGES) }
         ensures fault { IfErr result (λ cause. cause ≢ fault.Device) }
+        ensures whole { IfErr result (λ cause. cause ≢ fault.Damaged) }
         ensures full { IsErrOf result PoolFault.TooManyPages → MAX_PAGES ≤ used_of self.old.counts.items }
     {
         let free = self.free.len();

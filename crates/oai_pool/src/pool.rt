@@ -3,8 +3,10 @@ ghost use Rattle.oai_pool.specs.Counts.{count_of, room_of};
 ghost use Rattle.oai_pool.specs.Held.{held};
 
 use crate::cache::PageCache;
+use crate::kinds::PageKind;
 use crate::names::Names;
 use crate::pools::{MAX_PAGES, PageNo, PagePool, PoolFault};
+use crate::testing::is_of;
 use crate::transfers::{copied, load, store};
 use oai_device::{Page, PageDevice};
 use std::alloc::Global;
@@ -44,12 +46,12 @@ impl<D: PageDevice> PagePool for Pool<D> {
 
     ghost cache_size = { λ p. p.cache.pages.cap };
 
-    fn add(&mut self, page: &Page) -> Result<PageNo, PoolFault> {
+    fn add(&mut self, page: &Page, kind: PageKind) -> Result<PageNo, PoolFault> {
         let no = self.names.next()?;
         store(&mut self.device, no, page)?;
         self.names.name();
         if let Ok(copy) = copied(self.alloc, self.spare.take(), page) {
-            self.spare = self.cache.keep(no, copy);
+            self.spare = self.cache.keep(no, copy, kind);
         }
         Ok(no)
     }
@@ -66,15 +68,24 @@ impl<D: PageDevice> PagePool for Pool<D> {
         }
     }
 
-    fn read(&mut self, no: PageNo) -> Result<Rc<Page>, PoolFault> {
-        if let Some(page) = self.cache.find(no) {
+    fn read(&mut self, no: PageNo, kind: PageKind) -> Result<Rc<Page>, PoolFault> {
+        if let Some(page) = self.cache.find(no, kind) {
             return Ok(page);
         }
         let page = load(self.alloc, &mut self.device, no, self.spare.take())?;
+        if !is_of(self.alloc, kind, &page[..])? {
+            return Err(PoolFault::Damaged);
+        }
         if let Ok(kept) = page.clone() {
-            self.spare = self.cache.keep(no, kept);
+            self.spare = self.cache.keep(no, kept, kind);
         }
         Ok(page)
+    }
+
+    fn forget(&mut self, no: PageNo) {
+        if let Some(page) = self.cache.forget(no) {
+            self.spare = Some(page);
+        }
     }
 
     fn used(&self) -> usize {

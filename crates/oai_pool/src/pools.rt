@@ -1,9 +1,11 @@
-ghost use Rattle.std.specs.Prelude.{◌≡◌, ◌+◌, ◌<◌, ◌≤◌, ℕ, Bool, List, Option, Some, max, length, IfErr, IfOk, IsSome, IsTrue, OnErr, OnOk};
+ghost use Rattle.std.specs.Prelude.{◌≡◌, ◌+◌, ◌<◌, ◌≤◌, ℕ, Bool, true, List, Option, Some, max, length, IfErr, IfOk, IsSome, IsTrue, OnErr, OnOk};
 ghost use Rattle.oai_pool.specs.Counts.{AddsName, KeepsNamed, StaysNamed, count_of, used_of};
 ghost use Rattle.oai_pool.specs.Calls.{SparesPool, SpendsPool};
+ghost use Rattle.oai_pool.specs.Kinds.{is_of};
 ghost use Rattle.oai_pool.specs.declared.pools.PoolFault.TheVariants as fault;
 ghost use Rattle.oai_pool.specs.declared.pools.TheConstants.{MAX_PAGES};
 
+use crate::kinds::PageKind;
 use oai_device::Page;
 use std::alloc::{AllocError, AllocFailed};
 use std::rc::Rc;
@@ -21,6 +23,9 @@ pub enum PoolFault {
     /// The device failed, and counted it.
     #[error("the device failed")]
     Device,
+    /// The page that the device gave is not of the kind that it was added as.
+    #[error("a page is damaged")]
+    Damaged,
     /// Memory was refused.
     #[error("out of memory")]
     NoMemory,
@@ -70,9 +75,10 @@ pub trait PagePool {
     /// How many pages the cache may hold.
     ghost cache_size: { Self → ℕ };
 
-    /// Adds a page, which is then named once, under a number that nobody names. Numbers that were named
-    /// before are given first. Device, NoMemory or TooManyPages.
-    fn add(&mut self, page: &Page) -> Result<PageNo, PoolFault>
+    /// Adds a page, which is of that kind and then named once, under a number that nobody names. Numbers
+    /// that were named before are given first. Device, NoMemory or TooManyPages.
+    fn add(&mut self, page: &Page, kind: PageKind) -> Result<PageNo, PoolFault>
+        requires { is_of kind page.now ≡ true }
         ensures free { IfOk result (λ no. count_of (counts self.old) no ≡ 0) }
         ensures counts { IfOk result (λ no. AddsName no (counts self.old) (counts self.new)) }
         ensures once { IfOk result (λ no. count_of (counts self.new) no ≡ 1) }
@@ -107,15 +113,25 @@ pub trait PagePool {
         ensures kept { KeepsNamed (counts self.new) (pages self.old) (pages self.new) }
         ensures pool { SparesPool room failures cache_size honest self.old self.new };
 
-    /// The page of a number that is named: over an honest device the one that was added under it. Device or
-    /// NoMemory.
-    fn read(&mut self, no: PageNo) -> Result<Rc<Page>, PoolFault>
-        requires { 0 < count_of (counts self.old) no }
+    /// The page of a number that is named, which was of that kind when it was added: over an honest device
+    /// that page, and over any a page of that kind. It is tested when it comes from the device; where it
+    /// fails it is not kept, so that the next call reads it again. Device, NoMemory or Damaged.
+    fn read(&mut self, no: PageNo, kind: PageKind) -> Result<Rc<Page>, PoolFault>
+        requires named { 0 < count_of (counts self.old) no }
+        requires kind { (bytes : List ℕ) → pages self.old no ≡ Some bytes → is_of kind bytes ≡ true }
+        ensures tested { IfOk result (λ page. is_of kind page.value ≡ true) }
         ensures value { IfOk result
             (λ page. IsTrue (honest self.old) → pages self.old no ≡ Some page.value) }
         ensures counts { counts self.new ≡ counts self.old }
         ensures same { pages self.new ≡ pages self.old }
         ensures pool { SpendsPool room failures cache_size honest 0 result self.old self.new };
+
+    /// Keeps no page under that number in memory, so that the next call reads it again. It takes no memory,
+    /// calls no device, and cannot fail.
+    fn forget(&mut self, no: PageNo)
+        ensures counts { counts self.new ≡ counts self.old }
+        ensures same { pages self.new ≡ pages self.old }
+        ensures pool { SparesPool room failures cache_size honest self.old self.new };
 
     /// How many pages are named.
     fn used(&self) -> usize

@@ -13,6 +13,7 @@ pub(crate) fn store<D: PageDevice>(device: &mut D, no: u32, page: &Page) -> Resu
     ensures written { OnOk result (D.pages device.new no ≡ Some page.now) }
     ensures others { (n : ℕ) → n ≢ no → D.pages device.new n ≡ D.pages device.old n }
     ensures fault { IfErr result (λ cause. cause ≢ fault.TooManyPages) }
+    ensures whole { IfErr result (λ cause. cause ≢ fault.Damaged) }
     ensures device { IsPoolCounted result (D.failures device.old) (D.failures device.new) }
     ensures honesty { D.honest device.new ≡ D.honest device.old }
 {
@@ -36,6 +37,7 @@ pub(crate) fn load<D: PageDevice>(
         (λ page. IsTrue (D.honest device.old) → D.pages device.old no ≡ Some page.value) }
     ensures same { D.pages device.new ≡ D.pages device.old }
     ensures fault { IfErr result (λ cause. cause ≢ fault.TooManyPages) }
+    ensures whole { IfErr result (λ cause. cause ≢ fault.Damaged) }
     ensures device { IsPoolCounted result (D.failures device.old) (D.failures device.new) }
     ensures honesty { D.honest device.new ≡ D.honest device.old }
 {
@@ -74,6 +76,7 @@ fn load_anew<D: PageDevice>(alloc: Global, device: &mut D, no: u32) -> Result<Rc
         (λ page. IsTrue (D.honest device.old) → D.pages device.old no ≡ Some page.value) }
     ensures same { D.pages device.new ≡ D.pages device.old }
     ensures fault { IfErr result (λ cause. cause ≢ fault.TooManyPages) }
+    ensures whole { IfErr result (λ cause. cause ≢ fault.Damaged) }
     ensures device { IsPoolCounted result (D.failures device.old) (D.failures device.new) }
     ensures honesty { D.honest device.new ≡ D.honest device.old }
 {
@@ -90,6 +93,7 @@ fn fetch<D: PageDevice>(device: &mut D, no: u32, page: &mut Page) -> Result<(), 
     ensures value { OnOk result (IsTrue (D.honest device.old) → D.pages device.old no ≡ Some page.new) }
     ensures same { D.pages device.new ≡ D.pages device.old }
     ensures fault { IfErr result (λ cause. cause ≢ fault.TooManyPages) }
+    ensures whole { IfErr result (λ cause. cause ≢ fault.Damaged) }
     ensures device { IsPoolCounted result (D.failures device.old) (D.failures device.new) }
     ensures honesty { D.honest device.new ≡ D.honest device.old }
 {

@@ -3,7 +3,7 @@ use crate::assertions::{assert_page, assert_same, page_of};
 use crate::short_files::{ByteFile, ShortFile};
 use crate::steps::{add, assert_both, assert_read_fails, assert_written, write};
 use oai_device::{DeviceFault, FileDevice, PAGE_BYTES, PageDevice};
-use oai_pool::{PagePool, Pool, PoolFault};
+use oai_pool::{PageKind, PagePool, Pool, PoolFault};
 use std::fs;
 use std::fs::{File, OpenOptions};
 use std::io::ErrorKind;
@@ -161,7 +161,11 @@ fn pool_over_a_file(rt: HostRuntime) {
     let second = add(&rt, &mut pool, 2);
     assert_both(&rt, &mut pool, (first, 1), (second, 2));
     cut(&rt, path, 100);
-    assert_same(&rt, pool.read(first).err(), Some(PoolFault::Device));
+    assert_same(
+        &rt,
+        pool.read(first, PageKind::Bytes).err(),
+        Some(PoolFault::Device),
+    );
     assert_same(&rt, (pool.used(), pool.device().faults()), (2, 1));
     fs::remove_file(&rt, path).expect(&rt, "fs::remove_file");
 }

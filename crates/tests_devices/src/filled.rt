@@ -3,7 +3,7 @@ ghost use Rattle.std.specs.Prelude.{◌≡◌, ◌<◌, ℕ};
 ghost use Rattle.oai_pool.specs.Counts.{count_of};
 
 use crate::assertions::{assert_page, page_of};
-use oai_pool::PagePool;
+use oai_pool::{PageKind, PagePool};
 use std::panic::Expect;
 use std::process::Abort;
 
@@ -12,7 +12,9 @@ pub(crate) fn fill<P: PagePool>(rt: &impl Abort, pool: &mut P, pages: u16)
     ensures { (n : ℕ) → n < pages → 0 < count_of (P.counts pool.new) n }
 {
     for number in 0..pages {
-        let no = pool.add(&page_of(number)).expect(rt, "add");
+        let no = pool
+            .add(&page_of(number), PageKind::Bytes)
+            .expect(rt, "add");
         assert!(rt; no == u32::from(number));
     }
 }
@@ -23,7 +25,9 @@ pub(crate) fn assert_filled<P: PagePool>(rt: &impl Abort, pool: &mut P, pages: u
     ensures { P.counts pool.new ≡ P.counts pool.old }
 {
     for number in 0..pages {
-        let page = pool.read(u32::from(number)).expect(rt, "read");
+        let page = pool
+            .read(u32::from(number), PageKind::Bytes)
+            .expect(rt, "read");
         assert_page(rt, &page, number);
     }
 }

@@ -5,7 +5,7 @@ ghost use Rattle.oai_pool.specs.Counts.{StaysNamed, count_of};
 use crate::assertions::{assert_page, assert_same, page_of};
 use crate::steps::{drop_name, share_and_drop};
 use oai_device::{FaultyDevice, MemoryDevice, PageDevice};
-use oai_pool::{PageNo, PagePool, Pool, PoolFault};
+use oai_pool::{PageKind, PageNo, PagePool, Pool, PoolFault};
 use std::alloc::Global;
 use std::panic::Expect;
 use std::process::Abort;
@@ -17,12 +17,13 @@ fn add_again<P: PagePool>(rt: &impl Abort, pool: &mut P, number: u16) -> PageNo
     ensures named { StaysNamed (P.counts pool.old) (P.counts pool.new) }
 {
     let used = pool.used();
-    match pool.add(&page_of(number)) {
+    match pool.add(&page_of(number), PageKind::Bytes) {
         Ok(no) => no,
         Err(fault) => {
             assert_same(rt, fault, PoolFault::Device);
             assert_same(rt, pool.used(), used);
-            pool.add(&page_of(number)).expect(rt, "add")
+            pool.add(&page_of(number), PageKind::Bytes)
+                .expect(rt, "add")
         }
     }
 }
@@ -32,11 +33,11 @@ fn assert_again<P: PagePool>(rt: &impl Abort, pool: &mut P, no: PageNo, number: 
     requires { 0 < count_of (P.counts pool.old) no }
     ensures { StaysNamed (P.counts pool.old) (P.counts pool.new) }
 {
-    match pool.read(no) {
+    match pool.read(no, PageKind::Bytes) {
         Ok(page) => assert_page(rt, &page, number),
         Err(fault) => {
             assert_same(rt, fault, PoolFault::Device);
-            let page = pool.read(no).expect(rt, "read");
+            let page = pool.read(no, PageKind::Bytes).expect(rt, "read");
             assert_page(rt, &page, number);
         }
     }

@@ -5,7 +5,7 @@ use crate::filled::{assert_filled, fill};
 use crate::saturated::WornDevice;
 use crate::steps::{add, assert_both, assert_named, drop_name, share_and_drop};
 use oai_device::{FaultyDevice, FlippingDevice, MemoryDevice, PageDevice};
-use oai_pool::{PagePool, Pool, PoolFault};
+use oai_pool::{PageKind, PagePool, Pool, PoolFault};
 use std::panic::Expect;
 
 /// A page is there as often as it is named, and its number is given again.
@@ -33,7 +33,11 @@ fn named_pages(rt: HostRuntime) {
 fn pool_over_a_device_that_fails(rt: HostRuntime) {
     let device = FaultyDevice::new(MemoryDevice::new(rt.alloc()), 1);
     let mut pool = Pool::new(rt.alloc(), device, 8).expect(&rt, "Pool::new");
-    assert_same(&rt, pool.add(&page_of(1)), Err(PoolFault::Device));
+    assert_same(
+        &rt,
+        pool.add(&page_of(1), PageKind::Bytes),
+        Err(PoolFault::Device),
+    );
     assert_same(&rt, (pool.used(), pool.cached()), (0, 0));
     let no = add(&rt, &mut pool, 1);
     assert_same(&rt, (no, pool.used()), (0, 1));
@@ -47,7 +51,11 @@ fn pool_over_a_worn_device(rt: HostRuntime) {
         inner: MemoryDevice::new(rt.alloc()),
     };
     let mut pool = Pool::new(rt.alloc(), FaultyDevice::new(inner, 1), 8).expect(&rt, "Pool::new");
-    assert_same(&rt, pool.add(&page_of(1)), Err(PoolFault::Device));
+    assert_same(
+        &rt,
+        pool.add(&page_of(1), PageKind::Bytes),
+        Err(PoolFault::Device),
+    );
     assert_same(&rt, pool.used(), 0);
     let no = add(&rt, &mut pool, 1);
     assert_named(&rt, &mut pool, no, 1);
@@ -83,7 +91,7 @@ fn pool_over_a_device_that_lies(rt: HostRuntime) {
 fn page_that_is_still_read(rt: HostRuntime) {
     let mut pool = Pool::new(rt.alloc(), MemoryDevice::new(rt.alloc()), 1).expect(&rt, "Pool::new");
     let first = add(&rt, &mut pool, 1);
-    let read = pool.read(first).expect(&rt, "read");
+    let read = pool.read(first, PageKind::Bytes).expect(&rt, "read");
     drop_name(&mut pool, first);
     let second = add(&rt, &mut pool, 2);
     let third = add(&rt, &mut pool, 3);
@@ -110,6 +118,7 @@ fn more_pages_than_the_cache_holds(rt: HostRuntime) {
 fn texts_of_faults(rt: HostRuntime) {
     let alloc = rt.alloc();
     assert_shown(&rt, alloc, PoolFault::Device, "the device failed");
+    assert_shown(&rt, alloc, PoolFault::Damaged, "a page is damaged");
     assert_shown(&rt, alloc, PoolFault::NoMemory, "out of memory");
     assert_shown(
         &rt,

@@ -5,7 +5,7 @@ ghost use Rattle.oai_pool.specs.Counts.{StaysNamed, count_of};
 
 use crate::assertions::{assert_page, assert_same, page_of};
 use oai_device::{DeviceFault, PAGE_BYTES, PageDevice};
-use oai_pool::{PageNo, PagePool};
+use oai_pool::{PageKind, PageNo, PagePool};
 use std::panic::Expect;
 use std::process::Abort;
 
@@ -42,7 +42,8 @@ pub(crate) fn add<P: PagePool>(rt: &impl Abort, pool: &mut P, number: u16) -> Pa
     ensures added { 0 < count_of (P.counts pool.new) result }
     ensures named { StaysNamed (P.counts pool.old) (P.counts pool.new) }
 {
-    pool.add(&page_of(number)).expect(rt, "add")
+    pool.add(&page_of(number), PageKind::Bytes)
+        .expect(rt, "add")
 }
 
 /// The pool gives the page of `number`.
@@ -50,7 +51,7 @@ pub(crate) fn assert_named<P: PagePool>(rt: &impl Abort, pool: &mut P, no: PageN
     requires { 0 < count_of (P.counts pool.old) no }
     ensures { StaysNamed (P.counts pool.old) (P.counts pool.new) }
 {
-    let page = pool.read(no).expect(rt, "read");
+    let page = pool.read(no, PageKind::Bytes).expect(rt, "read");
     assert_page(rt, &page, number);
 }
 

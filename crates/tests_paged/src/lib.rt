@@ -21,6 +21,8 @@ mod failing;
 #[cfg(test)]
 mod five_pages;
 #[cfg(test)]
+mod flipped_reads;
+#[cfg(test)]
 mod groups;
 #[cfg(test)]
 mod growth;

@@ -9,6 +9,7 @@ use Rattle.oai_paged.proofs.EntryLemmas.{storable-between}
 use Rattle.oai_paged.proofs.OverflowLemmas.{few_overflow, length-pages}
 use Rattle.oai_paged.proofs.RecountLemmas.{named_while_shared, undone_after}
 use Rattle.oai_paged.proofs.TakenLemmas.{err_of, ok_of, takes_both, takes_call, takes_fault, takes_freed_err, takes_more, takes_none, takes_ok}
+use Rattle.oai_paged.proofs.TestedLemmas.{kind_fits}
 use Rattle.oai_paged.proofs.changes.add_numbers.Goals as goal
 
 pub overflow_add-overflow : goal.overflow_add-overflow
@@ -27,6 +28,13 @@ loop-at-init g c = record {
 pub fill_page-requires-clause-there : goal.fill_page-requires-clause-there
 fill_page-requires-clause-there g c =
     omega (arith, c.loop-at-test.true, c.overflow-overflow.ensures, length-pages (between c.args.from c.args.to c.args.entries.now))
+
+pub add-requires : goal.add-requires
+add-requires g c =
+    let items : List ItemState = between c.args.from c.args.to c.args.entries.now in
+    kind_fits items _ c.loop-at.at c.fill_page.new.page c.kind_for-kind.result c.kind_for-kind.ensures c.overflow-overflow.ensures
+    (omega (arith, c.loop-at-test.true, c.overflow-overflow.ensures, length-pages items)) (c.fill_page.ensures [])
+    (storable-between c.args.from c.args.to c.args.entries.now c.len-all.ensures.storable) c.requires.alone
 
 pub unwrap-requires : goal.unwrap-requires
 unwrap-requires g c = c.push.ensures.succeeds (omega (arith, c.loop-at-test.true, c.loop-at.invariant.len, c.loop-at.invariant.room))

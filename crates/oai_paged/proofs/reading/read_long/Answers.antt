@@ -13,8 +13,8 @@ use Rattle.oai_paged.proofs.PageLemmas.{items_in-page}
 use Rattle.oai_paged.proofs.ReadPlaces.{not_honest_from, reads_damaged}
 use Rattle.oai_paged.proofs.reading.read_long.Goals as goal
 
-pub read-requires : goal.read-requires
-read-requires g c = c.requires.named (get_or c.args.numbers.now 0 0) (named_in_numbers 0 c.args.numbers.now (omega (arith, c.requires.long)))
+pub read-requires-clause-named : goal.read-requires-clause-named
+read-requires-clause-named g c = c.requires.named (get_or c.args.numbers.now 0 0) (named_in_numbers 0 c.args.numbers.now (omega (arith, c.requires.long)))
 
 pub returns-then-not-are_zeros-clause-pages : goal.returns-then-not-are_zeros-clause-pages
 returns-then-not-are_zeros-clause-pages g c =

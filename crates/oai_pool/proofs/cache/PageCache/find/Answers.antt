@@ -6,9 +6,9 @@ use Rattle.oai_pool.proofs.cache.PageCache.find.Goals as goal
 pub returns-in-Some-clause-kept : goal.returns-in-Some-clause-kept
 unfolding held
 returns-in-Some-clause-kept c = λ n.
-    shown-promoted (λ page. page.value) _ c.args.self.now.pages c.args.no n c.get.follows.holds-at-none
+    shown-promoted (λ kept. kept.page.value) _ c.args.self.now.pages c.args.no n c.get.follows.holds-at-none
 
 pub returns-in-None-clause-kept : goal.returns-in-None-clause-kept
 unfolding held
 returns-in-None-clause-kept c = λ n.
-    shown-promoted (λ page. page.value) _ c.args.self.now.pages c.args.no n c.get.follows.holds-at-none
+    shown-promoted (λ kept. kept.page.value) _ c.args.self.now.pages c.args.no n c.get.follows.holds-at-none

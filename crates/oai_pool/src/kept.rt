@@ -1,0 +1,43 @@
+//! A page in the cache, and what is known of it.
+ghost use Rattle.std.specs.Prelude.{◌≡◌, true, IfSome};
+ghost use Rattle.oai_pool.specs.Kinds.{is_of};
+
+use crate::kinds::PageKind;
+use oai_device::Page;
+use std::rc::Rc;
+
+/// A page that a cache holds, of that kind.
+#[derive(Drop)]
+pub struct KeptPage {
+    page: Rc<Page>,
+    kind: PageKind,
+    ghost tested: { is_of kind page.value ≡ true },
+}
+
+impl KeptPage {
+    /// The page, of which it is known that it is of that kind.
+    pub(crate) fn new(page: Rc<Page>, kind: PageKind) -> KeptPage
+        requires { is_of kind page.value ≡ true }
+        ensures { result.page.value ≡ page.value }
+    {
+        KeptPage { page, kind }
+    }
+
+    /// The page, shared once more, where it is known to be of that kind.
+    pub(crate) fn of(&self, kind: PageKind) -> Option<Rc<Page>>
+        ensures page { IfSome result (λ page. page.value ≡ self.now.page.value) }
+        ensures tested { IfSome result (λ page. is_of kind page.value ≡ true) }
+    {
+        match (self.kind, kind) {
+            (PageKind::Bytes, PageKind::Items) => None,
+            _ => self.page.clone().ok(),
+        }
+    }
+
+    /// The page alone.
+    pub(crate) fn into_page(self) -> Rc<Page>
+        ensures { result.value ≡ self.page.value }
+    {
+        self.page
+    }
+}

@@ -1,0 +1,65 @@
+//! The test of a page of items.
+ghost use Rattle.std.specs.Prelude.{◌≡◌, ◌≤◌, length, IfOk};
+ghost use Rattle.oai_pool.specs.Kinds.{IsEntryTest, has_items, is_of, number_in};
+
+use crate::kinds::PageKind;
+use oai_item::is_spelling;
+use std::alloc::{AllocError, Global};
+
+/// The bytes of a number on a page.
+const NUMBER_BYTES: usize = 4;
+
+/// Whether the page is of that kind. The error is out of memory, which is taken where an item is in many sets.
+pub(crate) fn is_of(alloc: Global, kind: PageKind, page: &[u8]) -> Result<bool, AllocError>
+    requires { 4 ≤ length page.now }
+    ensures { IfOk result (λ is. is ≡ is_of kind page.now) }
+{
+    match kind {
+        PageKind::Items => has_items(alloc, page),
+        PageKind::Bytes => Ok(true),
+    }
+}
+
+/// Whether each entry of the page spells an item. The error is out of memory.
+fn has_items(alloc: Global, page: &[u8]) -> Result<bool, AllocError>
+    requires { 4 ≤ length page.now }
+    ensures { IfOk result (λ has. has ≡ has_items page.now) }
+{
+    let mut rest = &page[NUMBER_BYTES..];
+    'entries: for _ in 0..number_in(page) {
+        match entry_len(alloc, rest)? {
+            Some(len) => rest = &rest[len..],
+            None => return Ok(false),
+        }
+    }
+    Ok(true)
+}
+
+/// How many bytes the entry has that stands in front of the bytes and spells an item, or None where none does. The
+/// error is out of memory.
+fn entry_len(alloc: Global, bytes: &[u8]) -> Result<Option<usize>, AllocError>
+    ensures { IfOk result (λ len. IsEntryTest bytes.now len) }
+{
+    if bytes.len() < NUMBER_BYTES {
+        return Ok(None);
+    }
+    let len = number_in(bytes);
+    let rest = &bytes[NUMBER_BYTES..];
+    if rest.len() < len {
+        return Ok(None);
+    }
+    if !is_spelling(alloc, &rest[..len])? {
+        return Ok(None);
+    }
+    Ok(Some(NUMBER_BYTES + len))
+}
+
+/// The number in front of the bytes.
+fn number_in(bytes: &[u8]) -> usize
+    requires { 4 ≤ length bytes.now }
+    ensures { result ≡ number_in bytes.now }
+{
+    let mut number = [0; NUMBER_BYTES];
+    number.copy_from_slice(&bytes[..NUMBER_BYTES]);
+    u32::from_be_bytes(number) as usize
+}
