@@ -1,4 +1,4 @@
-//! An item that is looked for on a page, of which no other item is tested.
+//! An item that is looked for on a page, of which no other item is decoded.
 
 ghost use Rattle.std.specs.Prelude.{◌≤◌, ◌≡◌, ◌==◌, ◌++◌, ℕ, List, Some, length};
 ghost use Rattle.oai_item.specs.Decoding.{item_in};

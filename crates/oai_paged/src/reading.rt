@@ -225,7 +225,7 @@ fn are_below(entries: &Entries, places: &[SharedPlace]) -> bool
 }
 
 /// The item of that datestamp, in seconds from 1970 on, and identifier, or None. It reads one page, and the overflow pages of an item that it
-/// returns, and tests no other item. Any fault but `TooManyPages`.
+/// returns, and decodes no other item. Any fault but `TooManyPages`.
 pub(crate) fn find<P: PagePool>(
     alloc: Global,
     pages: &mut P,
