@@ -12,10 +12,10 @@ use std::panic::Expect;
 use std::process::Abort;
 
 /// How many items there are.
-const ITEMS: u32 = 4_000;
+const ITEMS: u32 = 1_000;
 
 /// How many bytes each has.
-const BYTES: usize = 200;
+const BYTES: usize = 600;
 
 /// The numbers of the items, in an order by chance.
 fn shuffled(rt: &impl Abort, alloc: Global) -> Vec<u32> {
