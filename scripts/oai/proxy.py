@@ -62,21 +62,25 @@ class Proxy:
 
 
 class Depositor:
-    """Deposits an item after the other through the proxy, each on a connection of its own; and whether each was done."""
+    """Deposits an item after the other through the proxy, each on a connection of its own; and how those were answered that were not done."""
 
     def __init__(self, proxy):
         self.address = f"https://127.0.0.1:{proxy.port}/deposit/a"
         self.trust = ssl._create_unverified_context()
-        self.count, self.refused = 0, 0
+        self.count, self.others = 0, []
 
     def deposit(self):
         self.count += 1
-        line = json.dumps(deposit(f"oai:a:{self.count}", [], {"oai_dc": [["title", str(self.count)]]})).encode()
+        # (the repository of the example holds 1,000 items)
+        number = (self.count - 1) % 500 + 1
+        line = json.dumps(deposit(f"oai:a:{number}", [], {"oai_dc": [["title", str(self.count)]]})).encode()
         try:
             with urllib.request.urlopen(self.address, line, context=self.trust) as answer:
-                self.refused += not answer.read().startswith(b"ok ")
-        except OSError:
-            self.refused += 1
+                said = answer.read().decode()
+        except OSError as fault:
+            said = str(fault)
+        if not said.startswith("ok "):
+            self.others.append(said)
 
 
 def load_of(proxy, depositor):
@@ -111,5 +115,7 @@ def proxy_load(minutes="10"):
             print(server.said(), end="")
             statuses = proxy.statuses()
     wrong = sum(count for status, count in statuses.items() if status >= "5")
+    for said, often in collections.Counter(depositor.others).items():
+        print(f"{often} of {depositor.count} deposits are answered {said!r}")
     print(f"{sum(statuses.values())} requests, {wrong} of 5xx")
-    return int(wrong > 0 or depositor.refused > 0)
+    return int(wrong > 0 or bool(depositor.others))

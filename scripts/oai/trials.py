@@ -9,10 +9,13 @@ class Trial:
 
     def check(self, what, found, wanted):
         """Compares what was found with what is wanted."""
-        self.expect(found == wanted, f"{what}:\n    is     {found!r}\n    wanted {wanted!r}")
+        self.count(found == wanted, f"{what}:\n    is     {found!r}\n    wanted {wanted!r}")
 
     def expect(self, holds, what):
         """Names what does not hold."""
+        self.count(holds, what)
+
+    def count(self, holds, what):
         self.checked += 1
         if not holds:
             self.differ += 1
