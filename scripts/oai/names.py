@@ -26,6 +26,7 @@ GROUPS = {
     },
     "What goes wrong around them": {
         "kill": "kill",
+        "checkpoint-kills": "checkpoint_kills",
         "full-disk": "disks",
         "daemon-full-disk": "disks",
         "idle-clients": "idle",

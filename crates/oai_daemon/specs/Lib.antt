@@ -1,4 +1,2 @@
-pub mod Firsts
 pub mod Notes
-pub mod Stops
 pub mod Archives

@@ -2,7 +2,7 @@
 use Rattle.std.specs.Prelude.{ℕ, List, ◌++◌, codes, decimal}
 use Rattle.oai_daemon.specs.declared.notes.Note.{Note}
 use Rattle.oai_daemon.specs.declared.notes.Note.TheVariants.{Clock, Failed, OtherConfig, Recovered, Recovering}
-use Rattle.oai_daemon.specs.Stops.{fault_text, jump_text}
+use Rattle.oai_archive.specs.Stops.{fault_text, jump_text}
 
 unfoldable pub last_record : List ℕ
 last_record = codes ", and the last record is of "

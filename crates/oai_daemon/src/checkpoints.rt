@@ -1,8 +1,7 @@
 //! The command that replaces a journal by a checkpoint.
 use crate::places::Place;
 use crate::renewals::renew;
-use crate::stop::Stop;
-use crate::verify::verify_journal;
+use oai_archive::{Stop, verify_journal};
 use oai_cli::config_in;
 use std::alloc::Global;
 use std::io::Write;

@@ -1,5 +1,5 @@
 //! The clock of a server.
-use crate::stop::Stop;
+use oai_archive::Stop;
 use oai_cli::Stop as Other;
 use std::cell::Cell;
 use std::io;

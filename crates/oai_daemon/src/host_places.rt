@@ -1,11 +1,16 @@
 //! The folder, the port and the streams of the system.
+ghost use Rattle.oai_archive.specs.Readings.{IsReadBack};
+ghost use Rattle.oai_journal.specs.Recovered.{disk_of};
+ghost use Rattle.std.specs.Prelude.{IsTrue};
+
 use crate::notes::Note;
 use crate::places::Place;
-use crate::stop::Stop;
+use oai_archive::Stop;
 use oai_cli::Stop as Other;
 use oai_device::FileDevice;
+use oai_journal::Recovery;
 use oai_serving::{Listener, Socket};
-use sqlite_disk::Files;
+use sqlite_disk::{Disk, Files};
 use sqlite_std_file::{FileFrom, OpenError, Start, Unknown, Wary, open};
 use std::fs::{self, DirBuilder, File, OpenOptions, TryLockError};
 use std::io::{self, ErrorKind};
@@ -171,19 +176,23 @@ impl Place for HostPlace<'_> {
         self.disk("journal.new", Unknown)
     }
 
-    fn keep_journal(&mut self) -> Result<(), Stop> {
-        let begun = self.path("journal.new")?;
+    fn open_begun(&mut self) -> Result<FileFrom<Wary>, Stop> {
+        self.disk("journal.new", Wary)
+    }
+
+    fn keep_journal(&mut self, begun: Recovery<FileFrom<Wary>>) -> Result<(), Stop>
+        requires synced { IsTrue (⟦<FileFrom<Wary> as Disk>⟧.is_clean (disk_of begun))
+            → IsReadBack ⟦<FileFrom<Wary> as Disk>⟧.seen ⟦<FileFrom<Wary> as Disk>⟧.may_leave begun }
+    {
+        drop(begun);
+        let new = self.path("journal.new")?;
         let kept = self.path("journal")?;
-        if fs::rename(self.rt, begun.as_str(), kept.as_str()).is_err() {
+        if fs::rename(self.rt, new.as_str(), kept.as_str()).is_err() {
             return Err(Stop::CannotWrite);
         }
         self.remove("journal.new-wal")?;
         self.sync(".")?;
         self.sync("..")
-    }
-
-    fn open_begun(&mut self) -> Result<FileFrom<Wary>, Stop> {
-        self.disk("journal.new", Wary)
     }
 
     fn open_journal(&mut self) -> Result<FileFrom<Wary>, Stop> {

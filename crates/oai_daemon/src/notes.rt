@@ -2,7 +2,7 @@
 ghost use Rattle.std.specs.Prelude.{◌≡◌};
 ghost use Rattle.oai_daemon.specs.Notes as spec;
 
-use crate::stop::{Second, fault_word};
+use oai_archive::{Second, fault_word};
 use oai_item::Fault;
 use std::fmt;
 

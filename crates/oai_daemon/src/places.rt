@@ -1,7 +1,12 @@
 //! What a server has of the world around it.
+ghost use Rattle.oai_archive.specs.Readings.{IsReadBack};
+ghost use Rattle.oai_journal.specs.Recovered.{disk_of};
+ghost use Rattle.std.specs.Prelude.{IsTrue};
+
 use crate::notes::Note;
-use crate::stop::Stop;
+use oai_archive::Stop;
 use oai_device::PageDevice;
+use oai_journal::Recovery;
 use oai_serving::{Sockets, Stream};
 use sqlite_disk::Disk;
 
@@ -31,11 +36,13 @@ pub trait Place {
     /// The disk of a journal that is begun beside the folder's: it is empty.
     fn begin_journal(&mut self) -> Result<Self::NewDisk, Stop>;
 
-    /// Makes the journal that was begun, and is written, the folder's.
-    fn keep_journal(&mut self) -> Result<(), Stop>;
-
     /// The disk of the journal that was begun and written, to be read back.
     fn open_begun(&mut self) -> Result<Self::Disk, Stop>;
+
+    /// Makes the journal that was begun the folder's, in place of the one that is there. It was read to its end, and all its bytes are synced.
+    fn keep_journal(&mut self, begun: Recovery<Self::Disk>) -> Result<(), Stop>
+        requires synced { IsTrue (Self.Disk.Disk.is_clean (disk_of begun))
+            → IsReadBack Self.Disk.Disk.seen Self.Disk.Disk.may_leave begun };
 
     /// The disk of the folder's journal.
     fn open_journal(&mut self) -> Result<Self::Disk, Stop>;
@@ -43,7 +50,7 @@ pub trait Place {
     /// The device of the pages, without pages.
     fn empty_pages(&mut self) -> Result<Self::Pages, Stop>;
 
-    /// Says, to whoever started the server, at which port it listens. The error is `OutputFault`, or `SocketFault` where
+    /// Writes to standard output at which port it listens. The error is `OutputFault`, or `SocketFault` where
     /// the port is not known.
     fn announce(&mut self, port: &Self::Port) -> Result<(), Stop>;
 

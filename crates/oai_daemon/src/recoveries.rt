@@ -1,11 +1,10 @@
 //! What a server performed before, performed again.
 use crate::clocks::{moment_of, second_of};
 use crate::dated::Dated;
-use crate::journals::stop_of_reading;
 use crate::notes::Note;
 use crate::places::Place;
-use crate::stop::Stop;
-use oai_durable::{Progress, RecoverFault, recover};
+use oai_archive::{Stop, stop_of_recovery};
+use oai_durable::{Progress, recover};
 use oai_http::Replayed;
 use oai_journal::Recovery;
 use std::rt::Clock;
@@ -78,13 +77,4 @@ fn tell_clock<P: Place>(place: &mut P, moment: i64, last: Option<i64>) {
 /// Whether the moment is more than 366 days ahead of the other one, or more than an hour behind it.
 fn is_far(moment: i64, last: i64) -> bool {
     moment > last.saturating_add(MAX_AHEAD) || moment < last.saturating_sub(MAX_BEHIND)
-}
-
-/// Why the server stops, where the recovery failed.
-pub(crate) fn stop_of_recovery(fault: RecoverFault) -> Stop {
-    match fault {
-        RecoverFault::Journal(fault) => stop_of_reading(fault),
-        RecoverFault::Kind(_) => Stop::NotOurs,
-        RecoverFault::Performing(number, fault) => Stop::Performing(number, fault),
-    }
 }

@@ -1,17 +1,12 @@
 //! A journal that is replaced by a checkpoint.
 use crate::clocks::moment_of;
-use crate::dated::Dated;
-use crate::differences::check_differences;
-use crate::journals::{begin_reading, config_text, create_on, stop_of_journal};
 use crate::places::Place;
-use crate::recoveries::{recover_all, stop_of_recovery};
-use crate::stop::{Aspect, Difference, Stop};
-use oai_cli::{Stop as Other, config_in, host_on};
-use oai_durable::{CheckpointFault, Progress, RecoverFault, checkpoint, recover};
+use crate::recoveries::recover_all;
+use oai_archive::{
+    Stop, begin_reading, check_differences, config_text, read_checkpoint, write_checkpoint,
+};
+use oai_cli::{config_in, host_on};
 use oai_http::Replayed;
-use oai_item::Fault;
-use oai_journal::Recovery;
-use sqlite_disk::Disk;
 use std::alloc::Global;
 use std::rt::Clock;
 
@@ -30,7 +25,7 @@ pub(crate) fn renew<P: Place, C: Clock>(
     check_differences(alloc, &before, text)?;
     let host = host_on(alloc, config_in(alloc, &before)?, place.empty_pages()?)?;
     let mut recovered = recover_all(place, clock, host, &mut recovery)?;
-    write_checkpoint(alloc, place, clock, text, &mut recovered.handler, raise)?;
+    begin_checkpoint(alloc, place, clock, text, &mut recovered.handler, raise)?;
     drop(recovered);
     drop(recovery);
     keep_checkpoint(alloc, place, text)
@@ -38,7 +33,7 @@ pub(crate) fn renew<P: Place, C: Clock>(
 
 /// Writes what the handler keeps as a checkpoint beside the journal of the place, with the configuration in the text, and the number of
 /// each next list raised by so many.
-pub(crate) fn write_checkpoint<P: Place, H: Replayed, C: Clock>(
+pub(crate) fn begin_checkpoint<P: Place, H: Replayed, C: Clock>(
     alloc: Global,
     place: &mut P,
     clock: &C,
@@ -47,14 +42,7 @@ pub(crate) fn write_checkpoint<P: Place, H: Replayed, C: Clock>(
     raise: u32,
 ) -> Result<(), Stop> {
     let disk = place.begin_journal()?;
-    let journal = create_on(alloc, disk, moment_of(clock)?, text)?;
-    match checkpoint(handler, raise, journal) {
-        Ok(_) => Ok(()),
-        Err(CheckpointFault::Reading(Fault::NoMemory)) => Err(Stop::Common(Other::NoMemory)),
-        Err(CheckpointFault::Reading(_)) => Err(Stop::Common(Other::DeviceFault)),
-        Err(CheckpointFault::Numbers) => Err(Stop::CannotWrite),
-        Err(CheckpointFault::Journal(fault)) => Err(stop_of_journal(fault)),
-    }
+    write_checkpoint(alloc, disk, moment_of(clock)?, text, handler, raise)
 }
 
 /// Reads the checkpoint back that was written, as a start does, and makes it the journal of the place.
@@ -63,46 +51,8 @@ pub(crate) fn keep_checkpoint<P: Place>(
     place: &mut P,
     text: &[u8],
 ) -> Result<(), Stop> {
-    let recovery = begin_reading(alloc, place.open_begun()?)?;
+    let disk = place.open_begun()?;
     let host = host_on(alloc, config_in(alloc, text)?, place.empty_pages()?)?;
-    try_checkpoint(alloc, recovery, host)?;
-    place.keep_journal()
-}
-
-/// A progress that is not reported.
-#[derive(Drop)]
-pub(crate) struct Silent;
-
-impl Progress for Silent {
-    fn note(&mut self, _position: usize, _len: usize, _records: u64) {}
-}
-
-/// Restores the parts of a checkpoint. Where the handler does not keep one of them, the error is the name of its repository.
-fn try_checkpoint<H: Replayed + Drop, D: Disk + Drop>(
-    alloc: Global,
-    mut recovery: Recovery<D>,
-    handler: H,
-) -> Result<(), Stop> {
-    match recover(&mut Dated::new(handler), &mut recovery, &mut Silent) {
-        Ok(_) => Ok(()),
-        Err(RecoverFault::Performing(_, Fault::Damaged)) => Err(unfit(alloc, &recovery)),
-        Err(fault) => Err(stop_of_recovery(fault)),
-    }
-}
-
-/// That the configuration does not allow the part that was read last.
-fn unfit<D: Disk + Drop>(alloc: Global, recovery: &Recovery<D>) -> Stop {
-    let Some(part) = recovery.record() else {
-        return Stop::NotOurs;
-    };
-    let Ok(name) = str::from_utf8(part.name) else {
-        return Stop::NotOurs;
-    };
-    match String::from_str(alloc, name) {
-        Ok(repository) => Stop::OtherConfig(Difference {
-            repository,
-            aspect: Aspect::Contents,
-        }),
-        Err(_) => Stop::Common(Other::NoMemory),
-    }
+    let begun = read_checkpoint(alloc, disk, host)?;
+    place.keep_journal(begun)
 }

@@ -1,12 +1,12 @@
 //! A start, and the service behind it.
 use crate::clocks::{GuardedClock, moment_of, to_moment};
 use crate::dated::Dated;
-use crate::journals::{begin_reading, open_journal};
+use crate::journals::open_journal;
 use crate::places::Place;
 use crate::recoveries::recover_all;
-use crate::renewals::{keep_checkpoint, write_checkpoint};
-use crate::stop::Stop;
+use crate::renewals::{begin_checkpoint, keep_checkpoint};
 use crate::watched::Watched;
+use oai_archive::{Stop, begin_reading};
 use oai_cli::{Stop as Other, config_in, host_on};
 use oai_durable::resume;
 use oai_host::Host;
@@ -45,7 +45,7 @@ pub fn serve<P: Place, C: Clock>(
     let mut started = recovered_host(alloc, place, clock, text, recovery)?;
     if is_due::<P, C>(alloc, clock, text, &started)? {
         let (recovery, mut recovered) = started;
-        write_checkpoint(alloc, place, clock, text, &mut recovered.handler, 0)?;
+        begin_checkpoint(alloc, place, clock, text, &mut recovered.handler, 0)?;
         drop(recovered);
         drop(recovery);
         keep_checkpoint(alloc, place, text)?;

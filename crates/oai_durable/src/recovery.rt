@@ -52,6 +52,7 @@ pub fn recover<H: Replayed, D: Disk + Drop, P: Progress>(
     ensures seen { D.Disk.seen (disk_of recovery.new) ≡ D.Disk.seen (disk_of recovery.old) }
     ensures crash { (c : List ℕ) → D.Disk.may_leave (disk_of recovery.new) c
         → D.Disk.may_leave (disk_of recovery.old) c }
+    ensures clean { IsTrue (D.Disk.is_clean (disk_of recovery.new)) → IsTrue (D.Disk.is_clean (disk_of recovery.old)) }
 {
     for count in 0..u64::MAX {
         if !redo_next(handler, recovery, count + 1)? {

@@ -1,6 +1,7 @@
 //! Clocks in memory, and what a server does whose clock jumps.
 use crate::places::{MemoryPlace, configuration};
-use oai_daemon::{Stop, serve};
+use oai_archive::Stop;
+use oai_daemon::serve;
 use std::alloc::Global;
 use std::cell::Cell;
 use std::io;

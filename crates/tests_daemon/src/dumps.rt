@@ -1,8 +1,8 @@
 //! What a repository holds, as the lines of a dump.
 use crate::places::{add_record, first_body};
-use oai_daemon::{Stop, dump_repository};
+use oai_archive::{Stop, dump_repository};
 use oai_journal::{FileJournal, Kind, Record};
-use sqlite_disk::Memory;
+use sqlite_disk::{Disk, Memory};
 use std::alloc::Global;
 use std::panic::Expect;
 use std::process::Abort;
@@ -11,7 +11,7 @@ use std::process::Abort;
 const FIRST: i64 = 1_704_067_200;
 
 /// A journal in memory that begins so.
-fn begun(rt: &impl Abort, alloc: Global) -> FileJournal<Memory> {
+pub(crate) fn begun(rt: &impl Abort, alloc: Global) -> FileJournal<Memory> {
     let first = Record {
         moment: FIRST,
         kind: Kind::Journal,
@@ -23,7 +23,12 @@ fn begun(rt: &impl Abort, alloc: Global) -> FileJournal<Memory> {
 }
 
 /// Adds a deposit of these lines at the repository `a`, so many seconds behind the first moment.
-fn deposit(rt: &impl Abort, journal: &mut FileJournal<Memory>, seconds: i64, lines: &str) {
+pub(crate) fn deposit(
+    rt: &impl Abort,
+    journal: &mut FileJournal<Memory>,
+    seconds: i64,
+    lines: &str,
+) {
     let record = Record {
         moment: FIRST.saturating_add(seconds),
         kind: Kind::Deposit,
@@ -33,17 +38,17 @@ fn deposit(rt: &impl Abort, journal: &mut FileJournal<Memory>, seconds: i64, lin
     add_record(journal, &record).expect(rt, "record");
 }
 
-/// What is dumped of the repository of that name.
-fn assert_dumped(
+/// What is dumped of the repository of that name, by the journal on the disk.
+pub(crate) fn assert_dumped<D: Disk + Drop>(
     rt: &impl Abort,
     alloc: Global,
-    journal: FileJournal<Memory>,
+    disk: D,
     name: &str,
     wanted: Result<(), Stop>,
     text: &str,
 ) {
     let mut written = Vec::new(alloc);
-    let done = dump_repository(alloc, journal.into_disk(), name, &mut written);
+    let done = dump_repository(alloc, disk, name, &mut written);
     assert_eq!(rt; done, wanted);
     assert_eq!(rt; written.as_slice(), text.as_bytes());
 }
@@ -72,12 +77,13 @@ fn dumped_lines(rt: HostRuntime) {
 {"delete":"oai:a:2"}
 {"deposit":"oai:a:3","records":{"oai_dc":[["title","A \"b\" \\ \t é <&>"],["title","€"]]},"sets":["y","x"]}
 "#;
-    assert_dumped(&rt, alloc, journal, "a", Ok(()), wanted);
+    assert_dumped(&rt, alloc, journal.into_disk(), "a", Ok(()), wanted);
 }
 
 /// Nothing is written of a repository that is not there.
 #[test]
 fn unknown_repository(rt: HostRuntime) {
     let journal = begun(&rt, rt.alloc());
-    assert_dumped(&rt, rt.alloc(), journal, "b", Err(Stop::NoRepository), "");
+    let wanted = Err(Stop::NoRepository);
+    assert_dumped(&rt, rt.alloc(), journal.into_disk(), "b", wanted, "");
 }

@@ -6,6 +6,8 @@ mod clocks;
 #[cfg(test)]
 mod dumps;
 #[cfg(test)]
+mod growing;
+#[cfg(test)]
 mod places;
 #[cfg(test)]
 mod starts;

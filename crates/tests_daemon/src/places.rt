@@ -1,10 +1,15 @@
 //! A place in memory.
+ghost use Rattle.oai_archive.specs.Readings.{IsReadBack};
+ghost use Rattle.oai_journal.specs.Recovered.{disk_of};
+ghost use Rattle.std.specs.Prelude.{IsTrue};
+
+use oai_archive::Stop;
 use oai_cli::Stop as Other;
-use oai_daemon::{Note, Place, Stop};
+use oai_daemon::{Note, Place};
 use oai_device::MemoryDevice;
-use oai_journal::{FileJournal, Journal, Kind, Record};
+use oai_journal::{FileJournal, Journal, Kind, Record, Recovery};
 use oai_serving::{Readiness, Sockets, Stream};
-use sqlite_disk::Memory;
+use sqlite_disk::{Disk, Memory};
 use std::alloc::{AllocError, Global};
 use std::io::{self, ErrorKind};
 use std::time::Duration;
@@ -164,13 +169,17 @@ impl Place for MemoryPlace {
         Ok(Memory::new(self.alloc))
     }
 
-    fn keep_journal(&mut self) -> Result<(), Stop> {
-        self.call("keep")
-    }
-
     fn open_begun(&mut self) -> Result<Memory, Stop> {
         self.call("begun")?;
         self.journal()
+    }
+
+    fn keep_journal(&mut self, begun: Recovery<Memory>) -> Result<(), Stop>
+        requires synced { IsTrue (⟦<Memory as Disk>⟧.is_clean (disk_of begun))
+            → IsReadBack ⟦<Memory as Disk>⟧.seen ⟦<Memory as Disk>⟧.may_leave begun }
+    {
+        drop(begun);
+        self.call("keep")
     }
 
     fn open_journal(&mut self) -> Result<Memory, Stop> {

@@ -1,8 +1,9 @@
 //! The order of a start, and where it stops.
 use crate::clocks::Standing;
 use crate::places::{MemoryPlace, configuration};
+use oai_archive::{Aspect, Difference, Stop};
 use oai_cli::Stop as Other;
-use oai_daemon::{Aspect, Difference, Stop, serve};
+use oai_daemon::serve;
 use std::alloc::Global;
 use std::panic::Expect;
 use std::process::Abort;
@@ -10,7 +11,7 @@ use std::process::Abort;
 /// The calls of a start with a journal, and of one without.
 const FOUND: &str = "lock listen find open pages recovered announce ";
 
-const BEGUN: &str = "lock listen find begin keep open pages recovered announce ";
+const BEGUN: &str = "lock listen find begin begun keep open pages recovered announce ";
 
 /// A start in that place stops so, after these calls.
 fn assert_start(rt: &impl Abort, place: &mut MemoryPlace, wanted: Stop, calls: &str) {
@@ -43,7 +44,7 @@ fn starts(rt: HostRuntime) {
 /// A fault at any step ends a start there, but one of a report.
 #[test]
 fn faults_at_each_step(rt: HostRuntime) {
-    for count in [0u32, 1, 2, 3, 4, 5, 6, 8] {
+    for count in [0u32, 1, 2, 3, 4, 5, 6, 7, 9] {
         let mut place = MemoryPlace::new(rt.alloc(), count).expect(&rt, "place");
         place.found = false;
         let stop = serve(rt.alloc(), &mut place, &Standing, configuration());

@@ -1,6 +1,7 @@
 //! What a server says where it stops, and with which status.
+use oai_archive::{Aspect, Difference, Stop};
 use oai_cli::Stop as Other;
-use oai_daemon::{Aspect, Difference, Note, Stop};
+use oai_daemon::Note;
 use oai_item::Fault;
 use std::alloc::Global;
 use std::fmt::Display;

@@ -18,4 +18,5 @@ loop-count-preserved g c = (
       let had = c.loop-count.invariant.3 (c.redo_next.ensures.clean clean) first begun in
       let more = c.in_ok-redo_next.ensures.next c.if-not-branch.false clean (g.H.Replayed.kept c.args.handler.now) first had.0 had.2 in
       (had.0 ++ more.0 ∷ [], one_more c.loop-count.count had.0 more.0 had.1, more.1)),
+  (λ clean. c.loop-count.invariant.4 (c.redo_next.ensures.clean clean)),
 )

@@ -1,14 +1,14 @@
 //! What a repository of an archive holds, as deposit lines.
-use crate::journals::{begin_reading, config_text};
-use crate::recoveries::stop_of_recovery;
-use crate::renewals::Silent;
+use crate::journals::{begin_reading, config_text, stop_of_reading};
+use crate::recoveries::{Counted, stop_of_recovery};
 use crate::stop::Stop;
 use oai_cli::{Stop as Other, config_in, host_on};
 use oai_device::MemoryDevice;
 use oai_dump::{deletion_line, deposit_line, set_line};
-use oai_durable::recover;
+use oai_durable::{RecoverFault, recover};
 use oai_http::{Part, PartKind, Replayed, SaveFault, Sink, SinkFault};
 use oai_item::{DecodeFault, Fault, Item};
+use oai_journal::{Recovery, RecoveryFault};
 use oai_names::SetSpec;
 use sqlite_disk::Disk;
 use std::alloc::Global;
@@ -16,8 +16,8 @@ use std::io::Write;
 
 /// Writes the sets and the items of the repository of that name as deposit lines, in an order in which they can be deposited: the sets in
 /// the order in which they were added, and the items in their order, a deleted one as its deposit and its deletion. The journal on the disk
-/// is performed again with its pages in memory, and not written to. The errors are those of `verify_journal`, `Performing`,
-/// and `NoRepository`, before which nothing is written.
+/// is performed again with its pages in memory, and not written to. A server may write to it meanwhile, as `verify_journal` says. The errors
+/// are those of `verify_journal`, `Performing`, and `NoRepository`, before which nothing is written.
 pub fn dump_repository<D: Disk + Drop, W: Write>(
     alloc: Global,
     disk: D,
@@ -28,10 +28,7 @@ pub fn dump_repository<D: Disk + Drop, W: Write>(
     let text = config_text(alloc, &recovery)?;
     check_name(alloc, &text, name)?;
     let mut host = host_on(alloc, config_in(alloc, &text)?, MemoryDevice::new(alloc))?;
-    match recover(&mut host, &mut recovery, &mut Silent) {
-        Ok(_) => {}
-        Err(fault) => return Err(stop_of_recovery(fault)),
-    }
+    perform_all(&mut host, &mut recovery)?;
     drop(recovery);
     let mut lines = Lines {
         alloc,
@@ -41,6 +38,48 @@ pub fn dump_repository<D: Disk + Drop, W: Write>(
     };
     let saved = host.save(0, &mut lines);
     finish(saved, lines)
+}
+
+/// Performs all records again. What looks like damage is read once more, and is damage where it is found at the same byte; else the journal
+/// ends where it is found then.
+fn perform_all<H: Replayed, D: Disk + Drop>(
+    handler: &mut H,
+    recovery: &mut Recovery<D>,
+) -> Result<(), Stop> {
+    let mut done = Counted { records: 0 };
+    let at = match recover(handler, recovery, &mut done) {
+        Ok(_) => return Ok(()),
+        Err(RecoverFault::Journal(RecoveryFault::Damaged(at))) => at,
+        Err(fault) => return Err(stop_of_recovery(fault)),
+    };
+    read_again(recovery, at)?;
+    match recover(handler, recovery, &mut Counted { records: 0 }) {
+        Ok(_) => Ok(()),
+        Err(RecoverFault::Journal(RecoveryFault::Damaged(again))) if again > at => Ok(()),
+        Err(RecoverFault::Performing(number, fault)) => {
+            Err(Stop::Performing(done.records.saturating_add(number), fault))
+        }
+        Err(fault) => Err(stop_of_recovery(fault)),
+    }
+}
+
+/// Reads the journal once more, up to the gate at that byte.
+fn read_again<D: Disk + Drop>(recovery: &mut Recovery<D>, at: usize) -> Result<(), Stop> {
+    match recovery.begin() {
+        Ok(()) => {}
+        Err(fault) => return Err(stop_of_reading(fault)),
+    }
+    for _ in 0..u64::MAX {
+        if recovery.position() >= at {
+            return Ok(());
+        }
+        match recovery.advance() {
+            Ok(true) => {}
+            Ok(false) => return Err(Stop::Damaged(recovery.position())),
+            Err(fault) => return Err(stop_of_reading(fault)),
+        }
+    }
+    Err(Stop::Common(Other::InputFault))
 }
 
 /// Whether the configuration in the text has a repository of that name. The error is `NoRepository`, or out of memory.

@@ -4,9 +4,9 @@ use Rattle.serde_json.specs.Read.{read}
 use Rattle.serde_json.specs.View.{members_view, view}
 use Rattle.serde_json.specs.declared.value.Value.{Null, Object}
 use Rattle.serde_json.proofs.Views.{view-Object}
-use Rattle.oai_daemon.specs.Firsts.{but_cache}
-use Rattle.oai_daemon.proofs.FirstLemmas.{read_again, view-Null}
-use Rattle.oai_daemon.proofs.firsts.without_cache.Goals as goal
+use Rattle.oai_archive.specs.Firsts.{but_cache}
+use Rattle.oai_archive.proofs.FirstLemmas.{read_again, view-Null}
+use Rattle.oai_archive.proofs.firsts.without_cache.Goals as goal
 
 pub returns-in-Some-Object : goal.returns-in-Some-Object
 returns-in-Some-Object c =

@@ -1,7 +1,7 @@
-//! Why the server stops, what it says then, and its exit status.
+//! Why a program stops, what it says then, and its exit status.
 ghost use Rattle.std.specs.Prelude.{◌≡◌};
-ghost use Rattle.oai_daemon.specs.Stops as spec;
-ghost use Rattle.oai_daemon.specs.declared.stop.Stop.TheVariants as stop;
+ghost use Rattle.oai_archive.specs.Stops as spec;
+ghost use Rattle.oai_archive.specs.declared.stop.Stop.TheVariants as stop;
 ghost use Rattle.oai_cli.specs.declared.stop.Stop.TheVariants as other;
 
 use oai_cli::Stop as Other;
@@ -121,7 +121,7 @@ impl From<AllocError> for Stop {
 /// What the program says of it on standard error.
 impl fmt::Display for Stop {
     ghost use Rattle.std.specs.Prelude.{Some};
-    ghost use Rattle.oai_daemon.specs.Stops.{stop_text};
+    ghost use Rattle.oai_archive.specs.Stops.{stop_text};
 
     ghost output = { λ stop. Some (stop_text stop) };
 
@@ -172,7 +172,7 @@ fn performing_fails() -> &'static str
 }
 
 /// The fault, in words.
-pub(crate) fn fault_word(fault: Fault) -> &'static str
+pub fn fault_word(fault: Fault) -> &'static str
     ensures { result.now ≡ spec.fault_text fault }
 {
     match fault {
@@ -186,11 +186,11 @@ pub(crate) fn fault_word(fault: Fault) -> &'static str
 /// A second from 1970 on, shown as its datestamp; one before 1970 as its first, and one behind the year 9998 as the last of
 /// that year.
 #[derive(Drop)]
-pub(crate) struct Second(pub(crate) i64);
+pub struct Second(pub i64);
 
 impl fmt::Display for Second {
     ghost use Rattle.std.specs.Prelude.{Some};
-    ghost use Rattle.oai_daemon.specs.Stops.{jump_text};
+    ghost use Rattle.oai_archive.specs.Stops.{jump_text};
 
     ghost output = { λ second. Some (jump_text second.0) };
 

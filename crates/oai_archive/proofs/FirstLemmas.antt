@@ -5,7 +5,7 @@ use Rattle.serde_json.specs.Read.{max_depth, read}
 use Rattle.serde_json.specs.View.{view}
 use Rattle.serde_json.specs.declared.value.Value.{Null, the_lemmas}
 use Rattle.oai_deposit.proofs.ReadingLemmas.{Some-injective}
-use Rattle.oai_daemon.specs.Firsts.{IsSameConfig, IsWrittenFor, but_cache}
+use Rattle.oai_archive.specs.Firsts.{IsSameConfig, IsWrittenFor, but_cache}
 
 pub view-Null : view Null ≡ null
 view-Null = search (rules, the_lemmas)

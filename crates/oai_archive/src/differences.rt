@@ -8,7 +8,7 @@ use std::alloc::Global;
 /// Whether an archive of the one configuration may go on with the other, as far as the two texts show it: it has a repository of the name of
 /// each of the journal's, with its granularity, earliestDatestamp and deletedRecord. The error is the first difference in the order of the
 /// journal's repositories; or out of memory.
-pub(crate) fn check_differences(alloc: Global, before: &[u8], text: &[u8]) -> Result<(), Stop> {
+pub fn check_differences(alloc: Global, before: &[u8], text: &[u8]) -> Result<(), Stop> {
     let old = config_in(alloc, before)?.into_repositories();
     let new = config_in(alloc, text)?.into_repositories();
     for repository in old.as_slice() {

@@ -1,6 +1,6 @@
 //! The first record of a journal: the program, the version, and the configuration.
 ghost use Rattle.std.specs.Prelude.{◌≡◌, IfOk, IfSome, IsTrue, OnOk, string_bytes};
-ghost use Rattle.oai_daemon.specs.Firsts.{IsOf, IsSameConfig, IsWrittenFor, first_body, program};
+ghost use Rattle.oai_archive.specs.Firsts.{IsOf, IsSameConfig, IsWrittenFor, first_body, program};
 
 use crate::stop::Stop;
 use oai_cli::read_number;

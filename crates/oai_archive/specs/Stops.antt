@@ -5,10 +5,10 @@ use Rattle.oai_item.specs.declared.faults.Fault.{Fault}
 use Rattle.oai_item.specs.declared.faults.Fault.TheVariants.{Damaged as IsDamaged, Device, NoMemory, TooManyPages}
 use Rattle.oai_time.specs.Clock.{tick}
 use Rattle.oai_time.specs.TimeTexts.{second_text}
-use Rattle.oai_daemon.specs.declared.stop.Stop.{Stop}
-use Rattle.oai_daemon.specs.declared.stop.Stop.TheVariants.{CannotOpen, CannotWrite, Common, Damaged, InUse, Jumped, NotOurs, NoRepository, OfVersion, OtherConfig, Performing, Usage}
-use Rattle.oai_daemon.specs.declared.stop.Aspect.{Aspect}
-use Rattle.oai_daemon.specs.declared.stop.Aspect.TheVariants.{Contents, Deleted, Earliest, Granularity, Name}
+use Rattle.oai_archive.specs.declared.stop.Stop.{Stop}
+use Rattle.oai_archive.specs.declared.stop.Stop.TheVariants.{CannotOpen, CannotWrite, Common, Damaged, InUse, Jumped, NotOurs, NoRepository, OfVersion, OtherConfig, Performing, Usage}
+use Rattle.oai_archive.specs.declared.stop.Aspect.{Aspect}
+use Rattle.oai_archive.specs.declared.stop.Aspect.TheVariants.{Contents, Deleted, Earliest, Granularity, Name}
 
 -- a fault, in words
 abbrev pub fault_text : Fault → List ℕ

@@ -1,4 +1,10 @@
 //! A journal that is read and not performed.
+ghost use Rattle.oai_archive.specs.Readings.{HasBegun, IsVerified};
+ghost use Rattle.oai_journal.specs.Changes.{IsUndamaged};
+ghost use Rattle.oai_journal.specs.Records.{Entry};
+ghost use Rattle.oai_journal.specs.Recovered.{HasRecovered, current, disk_of};
+ghost use Rattle.std.specs.Prelude.{◌≡◌, ◌++◌, ◌∷◌, [], List, Some, false, IfOk, IsTrue, OnOk};
+
 use crate::firsts::config_of;
 use crate::journals::stop_of_reading;
 use crate::stop::Stop;
@@ -34,22 +40,52 @@ pub fn verify_journal<D: Disk + Drop, W: Write>(
 }
 
 /// Reads the whole journal; how many records stand behind the first one, as far as it is read, is then in `records`.
-fn read_all<D: Disk + Drop>(recovery: &mut Recovery<D>, records: &mut u64) -> Result<(), Stop> {
+fn read_all<D: Disk + Drop>(recovery: &mut Recovery<D>, records: &mut u64) -> Result<(), Stop>
+    ensures whole { OnOk result (IsTrue (D.Disk.is_clean (disk_of recovery.new))
+        → IsVerified D.Disk.seen recovery.new records.new) }
+{
     *records = 0;
     match recovery.begin() {
         Ok(()) => {}
         Err(fault) => return Err(stop_of_reading(fault)),
     }
     check_program(recovery)?;
+    read_rest(recovery, records)
+}
+
+/// Reads the records behind the first one; how many they are, as far as they are read, is then in `records`.
+fn read_rest<D: Disk + Drop>(recovery: &mut Recovery<D>, records: &mut u64) -> Result<(), Stop>
+    ensures whole { OnOk result (IsTrue (D.Disk.is_clean (disk_of recovery.new))
+        → HasBegun D.Disk.seen D.Disk.may_leave recovery.old → IsVerified D.Disk.seen recovery.new records.new) }
+    ensures clean { IsTrue (D.Disk.is_clean (disk_of recovery.new)) → IsTrue (D.Disk.is_clean (disk_of recovery.old)) }
+{
     for count in 0..u64::MAX {
         *records = count;
-        match recovery.advance() {
-            Ok(true) => {}
-            Ok(false) => return Ok(()),
-            Err(fault) => return Err(stop_of_reading(fault)),
+        if !read_next(recovery)? {
+            return Ok(());
         }
     }
     Err(Stop::Common(Other::InputFault))
+}
+
+/// Reads the next record; false where there is none.
+fn read_next<D: Disk + Drop>(recovery: &mut Recovery<D>) -> Result<bool, Stop>
+    ensures next { IfOk result (λ more. IsTrue (D.Disk.is_clean (disk_of recovery.new))
+        → (first : Entry) (entries : List Entry)
+        → HasRecovered D.Disk.seen D.Disk.may_leave recovery.old first entries → IsTrue more
+        → (e : Entry) × HasRecovered D.Disk.seen D.Disk.may_leave recovery.new first (entries ++ e ∷ [])
+        × (current recovery.new ≡ Some e)) }
+    ensures end { IfOk result (λ more. IsTrue (D.Disk.is_clean (disk_of recovery.new))
+        → (first : Entry) (entries : List Entry)
+        → HasRecovered D.Disk.seen D.Disk.may_leave recovery.old first entries → more ≡ false
+        → HasRecovered D.Disk.seen D.Disk.may_leave recovery.new first entries
+        × IsUndamaged (D.Disk.seen (disk_of recovery.new)) first entries) }
+    ensures clean { IsTrue (D.Disk.is_clean (disk_of recovery.new)) → IsTrue (D.Disk.is_clean (disk_of recovery.old)) }
+{
+    match recovery.advance() {
+        Ok(more) => Ok(more),
+        Err(fault) => Err(stop_of_reading(fault)),
+    }
 }
 
 /// Whether the first record, which was read, is of this program.

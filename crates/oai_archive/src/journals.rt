@@ -1,0 +1,100 @@
+//! The journal of an archive, begun, and read as far as its first record.
+ghost use Rattle.oai_archive.specs.Readings.{HasBegun, IsReadBack};
+ghost use Rattle.oai_journal.specs.Recovered.{disk_of};
+ghost use Rattle.std.specs.Prelude.{IfOk, IsTrue};
+
+use crate::firsts::{PROGRAM, config_of, is_of, write_first};
+use crate::stop::Stop;
+use oai_cli::Stop as Other;
+use oai_journal::{FileJournal, JournalFault, Kind, Record, Recovery, RecoveryFault};
+use sqlite_disk::Disk;
+use std::alloc::Global;
+
+/// Begins a journal on the disk, at the moment, with the configuration in the text.
+pub fn create_journal<D: Disk + Drop>(
+    alloc: Global,
+    disk: D,
+    moment: i64,
+    text: &[u8],
+) -> Result<FileJournal<D>, Stop> {
+    let body = write_first(alloc, text)?;
+    let first = Record {
+        moment,
+        kind: Kind::Journal,
+        name: PROGRAM,
+        body: &body,
+    };
+    if !first.is_fit() {
+        return Err(Stop::Common(Other::CannotRead));
+    }
+    match FileJournal::create(alloc, disk, &first) {
+        Ok(journal) => Ok(journal),
+        Err(fault) => Err(stop_of_journal(fault)),
+    }
+}
+
+/// The journal on the disk, of which the first record is read. The errors are `Damaged`, `InputFault` and `NoMemory`.
+pub fn begin_reading<D: Disk + Drop>(alloc: Global, disk: D) -> Result<Recovery<D>, Stop>
+    ensures begun { IfOk result (λ recovery. IsTrue (D.Disk.is_clean (disk_of recovery))
+        → HasBegun D.Disk.seen D.Disk.may_leave recovery) }
+{
+    let mut recovery = Recovery::new(alloc, disk);
+    match recovery.begin() {
+        Ok(()) => Ok(recovery),
+        Err(fault) => Err(stop_of_reading(fault)),
+    }
+}
+
+/// The journal on the disk, which has no record behind its first one, and was read to its end. The errors are those of `begin_reading`, and
+/// `CannotWrite` where it has one.
+pub fn read_begun<D: Disk + Drop>(alloc: Global, disk: D) -> Result<Recovery<D>, Stop>
+    ensures whole { IfOk result (λ begun. IsTrue (D.Disk.is_clean (disk_of begun))
+        → IsReadBack D.Disk.seen D.Disk.may_leave begun) }
+{
+    let mut recovery = begin_reading(alloc, disk)?;
+    match recovery.advance() {
+        Ok(false) => Ok(recovery),
+        Ok(true) => Err(Stop::CannotWrite),
+        Err(fault) => Err(stop_of_reading(fault)),
+    }
+}
+
+/// Whether the first record, which was read, is of the configuration in the text, but for how many pages the cache has. The errors are
+/// `NotOurs`, `OfVersion` and `NoMemory`.
+pub fn has_config<D: Disk + Drop>(
+    alloc: Global,
+    recovery: &Recovery<D>,
+    text: &[u8],
+) -> Result<bool, Stop> {
+    match recovery.record() {
+        Some(first) => is_of(alloc, &first, text),
+        None => Err(Stop::NotOurs),
+    }
+}
+
+/// A copy of the configuration in the first record, which was read. The errors are `NotOurs`, `OfVersion` and `NoMemory`.
+pub fn config_text<D: Disk + Drop>(alloc: Global, recovery: &Recovery<D>) -> Result<Vec<u8>, Stop> {
+    let Some(first) = recovery.record() else {
+        return Err(Stop::NotOurs);
+    };
+    let mut text = Vec::new(alloc);
+    text.extend_from_slice(config_of(&first)?)?;
+    Ok(text)
+}
+
+/// Why the program stops, where the journal could not be written.
+pub(crate) fn stop_of_journal(fault: JournalFault) -> Stop {
+    match fault {
+        JournalFault::NoRoom => Stop::Common(Other::NoMemory),
+        JournalFault::Failed => Stop::CannotWrite,
+    }
+}
+
+/// Why the program stops, where the journal cannot be read on.
+pub(crate) fn stop_of_reading(fault: RecoveryFault) -> Stop {
+    match fault {
+        RecoveryFault::Damaged(at) => Stop::Damaged(at),
+        RecoveryFault::Stopped(JournalFault::NoRoom) => Stop::Common(Other::NoMemory),
+        RecoveryFault::Stopped(JournalFault::Failed) => Stop::Common(Other::InputFault),
+    }
+}

@@ -1,0 +1,22 @@
+//! An archive as its journal on a disk, which nobody serves: its first record, what it holds, and its checkpoints; and why a program stops
+//! that works on it.
+#![tactic(auto)]
+
+mod checkpoints;
+mod differences;
+mod dumps;
+mod firsts;
+mod journals;
+mod read_files;
+mod recoveries;
+mod stop;
+mod verify;
+
+pub use checkpoints::{read_checkpoint, write_checkpoint};
+pub use differences::check_differences;
+pub use dumps::dump_repository;
+pub use journals::{begin_reading, config_text, create_journal, has_config, read_begun};
+pub use read_files::ReadFile;
+pub use recoveries::stop_of_recovery;
+pub use stop::{Aspect, Difference, Second, Stop, fault_word};
+pub use verify::verify_journal;

@@ -1,0 +1,25 @@
+//! What an archive's journal has, performed again, without a report of its progress.
+use crate::journals::stop_of_reading;
+use crate::stop::Stop;
+use oai_durable::{Progress, RecoverFault};
+
+/// A progress that is not reported: so many records were performed.
+#[derive(Drop)]
+pub(crate) struct Counted {
+    pub(crate) records: u64,
+}
+
+impl Progress for Counted {
+    fn note(&mut self, _position: usize, _len: usize, records: u64) {
+        self.records = records;
+    }
+}
+
+/// Why the program stops, where the recovery failed.
+pub fn stop_of_recovery(fault: RecoverFault) -> Stop {
+    match fault {
+        RecoverFault::Journal(fault) => stop_of_reading(fault),
+        RecoverFault::Kind(_) => Stop::NotOurs,
+        RecoverFault::Performing(number, fault) => Stop::Performing(number, fault),
+    }
+}
