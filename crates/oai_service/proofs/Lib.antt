@@ -1,0 +1,4 @@
+pub mod TurnLemmas
+pub mod LifeLemmas
+pub mod OwnLemmas
+pub mod ServiceLemmas

@@ -1,0 +1,195 @@
+-- A life of a server, told: its turns, as far as the journal kept them.
+use Rattle.std.proofs.Common.{◌≡◌, ◌∙◌, inl, inr, ◌≤◌, ℕ, zero, suc, ◌+◌, ◌-◌, ◌++◌, IsTrue, List, [], ◌∷◌, length, Option, None, Some, Result, Ok, Err, slice_index_or, refl, sym, ap, arith, subst, take}
+use Rattle.std.specs.List.{AllByRecursion, AllZip}
+use Rattle.std.proofs.lemmas.List.{append-nil, length-append}
+use Rattle.std.proofs.Math.Seq.{take-append-add}
+use Rattle.slab.specs.Slab.{Slab}
+use Rattle.oai_front.specs.Runs.{Served, Serves, done_on}
+use Rattle.oai_host.specs.Hosts.{HostState, Repository}
+use Rattle.oai_journal.specs.Journals.{IsLeft}
+use Rattle.oai_journal.specs.Records.{Entry}
+use Rattle.oai_journal.specs.declared.journals.Journal as journal
+use Rattle.oai_serving.specs.Links.{Link}
+use Rattle.oai_serving.specs.Rounds.{EndsService, IsRoundSettled, served_in}
+use Rattle.oai_serving.specs.Tables.{AreLinksKept}
+use Rattle.oai_serving.specs.declared.faults.ServeFault.{ServeFault}
+use Rattle.oai_serving.specs.declared.faults.ServeFault.TheVariants.{Clock, Unsettled, Wait}
+use Rattle.oai_durable.specs.Journaled.{IsExchange, IsSettled, Parts}
+use Rattle.oai_durable.specs.Served.{EndsAs}
+use Rattle.oai_durable.proofs.ServedLemmas.{ends_held, left_less}
+use Rattle.oai_service.specs.Hosting.{hosting}
+use Rattle.oai_service.specs.Lives.{AreServerLives, IsServerLife, ServerLife}
+use Rattle.oai_service.specs.Service.{AreKept, IsReceivedIn, Told, all_turns, turns_of}
+use Rattle.oai_service.specs.Turns.{AreTurns, Turn, its, records_in}
+use Rattle.oai_service.proofs.TurnLemmas.{HasFew, behind, goes_all, goes_rounds, turns_append, turns_front}
+
+-- ---- what a crash leaves
+
+-- the first so many of the records of turns are those of the first turns
+record IsCut (turns : List Turn) (count : ℕ) : Type 0 where
+  pub kept : List Turn
+  pub others : List Turn
+  pub parts : turns ≡ kept ++ others
+  pub records : take count (records_in turns) ≡ records_in kept
+
+none_taken : (records : List Entry) → take zero records ≡ []
+none_taken [] = refl
+none_taken (entry ∷ records) = refl
+
+cut_one : (turn : Turn) (turns : List Turn) (own : List Entry) (count : ℕ) → (its turn).own ≡ own → length own ≤ 1 → ((less : ℕ) → IsCut turns less) → IsCut (turn ∷ turns) count
+cut_one turn turns [] count is one cut =
+    let rest = cut count in
+    record {
+      kept = turn ∷ rest.kept;
+      others = rest.others;
+      parts = ap (λ (ts : List Turn). turn ∷ ts) rest.parts;
+      records = subst (λ (own : List Entry). take count (own ++ records_in turns) ≡ own ++ records_in rest.kept) (sym is) rest.records;
+    }
+cut_one turn turns (entry ∷ []) zero is one cut = record { kept = []; others = turn ∷ turns; parts = refl; records = none_taken (records_in (turn ∷ turns)) }
+cut_one turn turns (entry ∷ []) (suc count) is one cut =
+    let rest = cut count in
+    record {
+      kept = turn ∷ rest.kept;
+      others = rest.others;
+      parts = ap (λ (ts : List Turn). turn ∷ ts) rest.parts;
+      records = subst (λ (own : List Entry). take (suc count) (own ++ records_in turns) ≡ own ++ records_in rest.kept) (sym is) (ap (λ (rs : List Entry). entry ∷ rs) rest.records);
+    }
+cut_one turn turns (entry ∷ (other ∷ own)) count is one cut = absurd (omega (arith, one))
+
+cut_turns : (turns : List Turn) (count : ℕ) → AllByRecursion HasFew turns → IsCut turns count
+cut_turns [] zero few = record { kept = []; others = []; parts = refl; records = refl }
+cut_turns [] (suc count) few = record { kept = []; others = []; parts = refl; records = refl }
+cut_turns (turn ∷ turns) count few = cut_one turn turns (its turn).own count refl few.0 (λ less. cut_turns turns less few.1)
+
+apart : (n m : ℕ) → n ≤ m → m ≡ n + (m - n)
+apart n m low = grind (arith)
+
+-- what a crash leaves behind so many durable records: these, and the records of the first of the turns behind them
+record Leaves (front : List Entry) (turns : List Turn) (left : List Entry) : Type 0 where
+  pub kept : List Turn
+  pub others : List Turn
+  pub parts : turns ≡ kept ++ others
+  pub records : left ≡ front ++ records_in kept
+
+left_behind : (front : List Entry) (turns : List Turn) (left : List Entry) → AllByRecursion HasFew turns → IsLeft (length front) (front ++ records_in turns) left → Leaves front turns left
+left_behind front turns left few is =
+    let cut = cut_turns turns (is.count - length front) few in
+    record {
+      kept = cut.kept;
+      others = cut.others;
+      parts = cut.parts;
+      records = is.is ∙ ap (λ (n : ℕ). take n (front ++ records_in turns)) (apart (length front) is.count is.enough) ∙ take-append-add front (records_in turns) (is.count - length front)
+          ∙ ap (λ (rs : List Entry). front ++ rs) cut.records;
+    }
+
+-- ---- a life
+
+-- how a service ended: what its last round performed, and whether it settled behind it
+record IsOver {H J : Type 0} (view : H → HostState) (j : journal.Ghosts J) (mid last : Parts H J) : Type 0 where
+  pub served : List Served
+  pub performed : Parts H J
+  pub run : Serves (IsExchange (hosting view) j) mid served performed
+  pub ends : EndsAs j performed last
+
+ends_as : {H J : Type 0} (j : journal.Ghosts J) (performed last : Parts H J) (fault : ServeFault) → IsRoundSettled (IsSettled j) performed (Err fault) last → EndsAs j performed last
+ends_as j performed last Unsettled settles = inr (Err settles.0, settles.1)
+ends_as j performed last Wait is = inl is
+ends_as j performed last Clock is = inl is
+
+over_by : {H J : Type 0} (view : H → HostState) (j : journal.Ghosts J) (mid last : Parts H J) (result : Result (Unit {0}) ServeFault)
+    → EndsService (IsExchange (hosting view) j) (IsSettled j) mid result last → IsOver view j mid last
+over_by view j mid last (Ok done) ends = record { served = []; performed = mid; run = refl; ends = inl ends }
+over_by view j mid last (Err fault) ends =
+    record { served = ends.served; performed = ends.performed; run = ends.run; ends = ends_as j ends.performed last fault ends.settles }
+
+-- a server with no link has none that is not what came of its stream
+nothing_at : {A : Type 0} (slots : List (Option A)) (key : ℕ) → slots ≡ [] → slice_index_or slots key None ≡ None
+nothing_at {A} slots key none = ap (λ (xs : List (Option A)). slice_index_or xs key None) none ∙ at key
+  where
+    at : (key : ℕ) → slice_index_or {A = Option A} [] key None ≡ None
+    at zero = refl
+    at (suc key) = refl
+
+unlinked_kept : {S : Type 0} (contents remaining : S → Option (List ℕ)) (links : Slab (Link S)) → links.slots ≡ [] → AreLinksKept contents remaining [] [] links
+unfolding done_on
+unlinked_kept {S} contents remaining links none = record {
+  each = λ key link there. absurd (apart_at (nothing_at links.slots key none) there);
+  one = λ key other a b there. absurd (apart_at (nothing_at links.slots key none) there);
+  later = λ number above. refl;
+}
+  where
+    apart_at : {link : Link S} {found : Option (Link S)} → found ≡ None → found ≡ Some link → ⊥
+    apart_at is there = cc
+
+long_append : {A : Type 0} (xs ys : List A) → length xs ≤ length (xs ++ ys)
+long_append xs ys = let many : length (xs ++ ys) ≡ length xs + length ys = length-append xs ys in grind (arith)
+
+few_of : {A : Type 0} (n : ℕ) (xs ys : List A) → n ≡ length xs → n ≤ length (xs ++ ys)
+few_of n xs ys is = rw is (long_append xs ys)
+
+left_all : (found left : List Entry) (answered kept : List Turn) → left ≡ (found ++ records_in answered) ++ records_in kept → left ≡ found ++ records_in (answered ++ kept)
+left_all found left answered kept is = is ∙ sym (behind found answered kept)
+
+-- what is told of a life
+pub record Tells {S H J : Type 0} (contents remaining : S → Option (List ℕ)) (begun : List Repository) (life : ServerLife S H J) : Type 0 where
+  pub told : Told
+  pub received : IsReceivedIn contents remaining life told
+  pub turned : AreTurns begun life.found (turns_of told)
+  pub left : life.left ≡ life.found ++ records_in (turns_of told)
+
+pub tell : {S H J : Type 0} (view : H → HostState) (j : journal.Ghosts J) (contents remaining : S → Option (List ℕ))
+    → ((journal : J) (entries : List Entry) (durable : ℕ) (found : List Entry) → j.holds journal entries durable → j.may_leave journal found → IsLeft durable entries found)
+    → (begun : List Repository) (life : ServerLife S H J) → IsServerLife (hosting view) j contents remaining begun life → Tells contents remaining begun life
+tell {S} {H} {J} view j contents remaining law begun life is =
+    let service = is.serves in
+    let before = goes_rounds view j begun life.found service.rounds life.old.handler service.mid is.begins is.honest service.settles in
+    let answered : List Turn = before.goes.turns in
+    let front : List Entry = life.found ++ records_in answered in
+    let over = over_by view j service.mid life.new.handler life.result service.ends in
+    let after = goes_all view j begun front before.durable over.served service.mid over.performed before.goes.held before.goes.honest over.run in
+    let entries : List Entry = front ++ records_in after.turns in
+    let few : before.durable ≤ length entries = few_of before.durable front (records_in after.turns) before.all in
+    let ended = ends_held j entries before.durable over.performed life.new.handler few after.held.records over.ends in
+    let durable : IsLeft before.durable entries life.left = left_less before.durable ended.0 entries life.left ended.1 (law life.new.handler.journal entries ended.0 life.left ended.2 is.leaves) in
+    let left = left_behind front after.turns life.left after.few (subst (λ (n : ℕ). IsLeft n entries life.left) before.all durable) in
+    record {
+      told = record { answered = answered; held = left.kept };
+      received = record {
+        served = served_in service.rounds;
+        those = before.goes.those;
+        streams = service.streams;
+        accepts = service.accepts;
+        clients = service.answered [] [] is.none (unlinked_kept contents remaining life.old.links is.unlinked);
+      };
+      turned = turns_append begun life.found answered left.kept before.goes.turned (turns_front begun front left.kept left.others (subst (AreTurns begun front) left.parts after.turned));
+      left = left_all life.found life.left answered left.kept left.records;
+    }
+
+-- ---- lives
+
+-- what is told of lives
+pub record TellsAll {S H J : Type 0} (contents remaining : S → Option (List ℕ)) (begun : List Repository) (before : List Entry) (lives : List (ServerLife S H J)) (left : List Entry) : Type 0 where
+  pub told : List Told
+  pub received : AllZip (IsReceivedIn contents remaining) lives told
+  pub turned : AreTurns begun before (all_turns told)
+  pub kept : AreKept before lives told left
+  pub leaves : left ≡ before ++ records_in (all_turns told)
+
+pub tell_all : {S H J : Type 0} (view : H → HostState) (j : journal.Ghosts J) (contents remaining : S → Option (List ℕ))
+    → ((journal : J) (entries : List Entry) (durable : ℕ) (found : List Entry) → j.holds journal entries durable → j.may_leave journal found → IsLeft durable entries found)
+    → (begun : List Repository) (before : List Entry) (lives : List (ServerLife S H J)) (left : List Entry)
+    → AreServerLives (hosting view) j contents remaining begun before lives left → TellsAll contents remaining begun before lives left
+tell_all view j contents remaining law begun before [] left are = record { told = []; received = tt; turned = tt; kept = are; leaves = are ∙ sym (append-nil before) }
+tell_all view j contents remaining law begun before (life ∷ lives) left are =
+    let first = tell view j contents remaining law begun life are.1 in
+    let more = tell_all view j contents remaining law begun life.left lives left are.2 in
+    let own : List Turn = turns_of first.told in
+    let others : List Turn = all_turns more.told in
+    let there : life.left ≡ before ++ records_in own = first.left ∙ ap (λ (es : List Entry). es ++ records_in own) are.0 in
+    record {
+      told = first.told ∷ more.told;
+      received = (first.received, more.received);
+      turned = turns_append begun before own others (subst (λ (es : List Entry). AreTurns begun es own) are.0 first.turned) (subst (λ (es : List Entry). AreTurns begun es others) there more.turned);
+      kept = (are.0, subst (λ (es : List Entry). AreKept es lives more.told left) there more.kept);
+      leaves = more.leaves ∙ ap (λ (es : List Entry). es ++ records_in others) there ∙ sym (behind before own others);
+    }

@@ -1,0 +1,4 @@
+pub mod Hosting
+pub mod Lives
+pub mod Turns
+pub mod Service

@@ -1,0 +1,36 @@
+-- Lives of a server, one behind the other: each as its service was, over what the one before it left. This repository's own.
+use Rattle.std.specs.Prelude.{◌≡◌, ℕ, IsTrue, List, [], ◌∷◌, length, Option, Result}
+use Rattle.oai_journal.specs.Records.{Entry}
+use Rattle.oai_journal.specs.declared.journals.Journal as journal
+use Rattle.oai_serving.specs.Rounds.{IsService, World}
+use Rattle.oai_serving.specs.declared.faults.ServeFault.{ServeFault}
+use Rattle.oai_durable.specs.Journaled.{IsExchange, IsHeld, IsSettled, Parts, Replaying}
+
+-- a life: the records that it found; the streams that were accepted before it and in it, where they are known; the world in which it began; how its
+-- service ended, in which world; and the records that the journal had when the next life began
+pub record ServerLife (S H J : Type 0) : Type 0 where
+  pub found : List Entry
+  pub known : Option (List S)
+  pub later : Option (List S)
+  pub old : World S (Parts H J)
+  pub result : Result (Unit {0}) ServeFault
+  pub new : World S (Parts H J)
+  pub left : List Entry
+
+-- it began with no connection, with all records that it found performed again, over a device that gives back what was written to it; it was a
+-- service; and a crash at its end may leave what it left
+pub record IsServerLife {S H J : Type 0} (h : Replaying H) (j : journal.Ghosts J) (contents remaining : S → Option (List ℕ)) (begun : h.Kept) (life : ServerLife S H J) : Type 0 where
+  pub begins : IsHeld h j begun life.old.handler life.found (length life.found)
+  pub honest : IsTrue (h.is_honest life.old.handler.handler)
+  pub unlinked : life.old.links.slots ≡ []
+  pub none : life.old.last ≡ 0
+  pub serves : IsService (IsExchange h j) (IsSettled j) contents remaining life.known life.later life.old life.result life.new
+  pub leaves : j.may_leave life.new.handler.journal life.left
+
+-- lives, the first with those records, and each other one with those that the one before it left
+abbrev pub AreServerLives : {S H J : Type 0} (h : Replaying H) → journal.Ghosts J → (S → Option (List ℕ)) → (S → Option (List ℕ)) → h.Kept → List Entry → List (ServerLife S H J) → List Entry → Type 0
+AreServerLives h j contents remaining begun found [] left = left ≡ found
+AreServerLives h j contents remaining begun found (life ∷ lives) left =
+    (life.found ≡ found)
+    × IsServerLife h j contents remaining begun life
+    × AreServerLives h j contents remaining begun life.left lives left
