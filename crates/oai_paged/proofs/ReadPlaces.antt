@@ -1,6 +1,6 @@
 -- What is so of a place of a directory that is read.
-use Rattle.std.proofs.Common.{◌≡◌, ◌∙◌, ◌+◌, ◌<◌, ◌≤◌, ℕ, ℤ, Bool, true, false, List, ◌∷◌, ◌++◌, length, take, drop, get_or, sym, ap, subst, arith, IsTrue}
-use Rattle.std.proofs.lemmas.Bool.{both_ways, false_from_ne_true}
+use Rattle.std.proofs.Common.{◌≡◌, ◌==◌, ◌&&◌, ◌∙◌, ◌+◌, ◌<◌, ◌≤◌, ℕ, ℤ, Bool, true, false, List, ◌∷◌, ◌++◌, length, take, drop, get_or, sym, ap, subst, arith, IsTrue}
+use Rattle.std.proofs.lemmas.Bool.{and_from, and_parts, both_ways, eqb-true, false_from_ne_true}
 use Rattle.std.proofs.lemmas.List.{get_or_read}
 use Rattle.oai_names.proofs.Lists.{cut}
 use Rattle.oai_item.specs.Item.{ItemState}
@@ -11,7 +11,7 @@ use Rattle.oai_pool.specs.declared.pools.PagePool.{Ghosts}
 use Rattle.oai_paged.specs.Calls.{ReadsPages}
 use Rattle.oai_paged.specs.Directory.{IsDirectory}
 use Rattle.oai_pool.specs.Names.{times}
-use Rattle.oai_paged.specs.Pages.{FitPage, IsPage, begins_at, fit_one, items_in}
+use Rattle.oai_paged.specs.Pages.{FitPage, IsPage, begins_at, fit_one, items_in, size_of}
 use Rattle.oai_paged.specs.Places.{FitPages, IsSoundPlace, Pages, PlaceState, are_below, bytes_on, items_at, items_on, named_in, page_at}
 use Rattle.oai_paged.specs.Searches.{MayBeAt}
 use Rattle.oai_paged.proofs.DirectoryLemmas.{goes_on, items-cut, no_place, placed-cut}
@@ -96,12 +96,28 @@ read_below pages places at numbers p entries h within is read same =
     ap (λ xs. are_below xs next) (read_is pages numbers p entries read same ∙ ap (items_at pages) is)
     ∙ own_below next own behind (in_order-append before (own ++ behind) rising).1 (goes_on pages next parts.1)
 
--- items that were read, and seen to begin and to end so
+-- and there are as many, of as many bytes
+pub read_whole : (pages : Pages) (places : List PlaceState) (at : ℕ) (numbers : List ℕ) (p : PlaceState) (entries : List ItemState) → IsDirectory pages places → at < length places
+    → p ≡ get_or places at p → entries ≡ items_in (bytes_on pages numbers) → numbers ≡ p.pages → (length entries == p.len && size_of entries == p.size) ≡ true
+read_whole pages places at numbers p entries h within is read same =
+    let own = read_is pages numbers p entries read same in
+    let sound = placed_at pages places at p h within is in
+    and_from (length entries == p.len) (size_of entries == p.size) (same_eqb (length entries) p.len (ap length own ∙ sound.counted)) (same_eqb (size_of entries) p.size (ap size_of own ∙ sound.sized)) where
+      same_eqb : (a b : ℕ) → a ≡ b → (a == b) ≡ true
+      same_eqb a b e = grind (arith, e)
+
+pub whole_from : (entries : List ItemState) (p : PlaceState) → (length entries == p.len && size_of entries == p.size) ≡ true → (length entries ≡ p.len) × (size_of entries ≡ p.size)
+whole_from entries p h =
+    let parts = and_parts (length entries == p.len) (size_of entries == p.size) h in
+    (eqb-true (length entries) p.len parts.0, eqb-true (size_of entries) p.size parts.1)
+
+-- items that were read, and seen to be all, and to begin and to end so
 pub may_be_read : (places : List PlaceState) (at : ℕ) (numbers : List ℕ) (p : PlaceState) (entries : List ItemState) (stamp : ℤ) (identifier : List ℕ) → at < length places → p ≡ get_or places at p
-    → numbers ≡ p.pages → stamp ≡ p.stamp → identifier ≡ p.identifier → FitPage entries → (length numbers ≤ 1 → fit_one entries ≡ true) → begins_at stamp identifier entries ≡ true
+    → numbers ≡ p.pages → stamp ≡ p.stamp → identifier ≡ p.identifier → FitPage entries → (length numbers ≤ 1 → fit_one entries ≡ true) → (length entries ≡ p.len) × (size_of entries ≡ p.size) → begins_at stamp identifier entries ≡ true
     → are_below entries (drop (at + 1) places) ≡ true → MayBeAt places at entries
-may_be_read places at numbers p entries stamp identifier within is paged dated named page fits begins below = record {
+may_be_read places at numbers p entries stamp identifier within is paged dated named page fits whole begins below = record {
   page = page;
+  whole = λ d. subst (λ (q : PlaceState). (length entries ≡ q.len) × (size_of entries ≡ q.size)) (get_or_read places at p within is d) whole;
   fits = λ d few. fits (omega (arith, few, ap length (paged ∙ ap (λ (q : PlaceState). q.pages) (get_or_read places at p within is d))));
   begins = λ d. sym (λ i. begins_at ((dated ∙ ap (λ (q : PlaceState). q.stamp) (get_or_read places at p within is d)) i) ((named ∙ ap (λ (q : PlaceState). q.identifier) (get_or_read places at p within is d)) i) entries) ∙ begins;
   below = below;

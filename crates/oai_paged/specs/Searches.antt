@@ -3,7 +3,7 @@ use Rattle.std.specs.Prelude.{◌≡◌, ◌⊎◌, ◌+◌, ◌<◌, ◌≤◌,
 use Rattle.std.specs.Ordering.{is_gt}
 use Rattle.oai_item.specs.Item.{ItemState}
 use Rattle.oai_item.specs.Selection.{Filter}
-use Rattle.oai_paged.specs.Pages.{FitPage, begins_at, fit_one}
+use Rattle.oai_paged.specs.Pages.{FitPage, begins_at, fit_one, size_of}
 use Rattle.oai_paged.specs.Places.{PlaceState, are_below, first_cmp}
 
 -- that datestamp and identifier belong to this place: no place before it begins behind them, and the next one does. Where no place is there,
@@ -20,11 +20,12 @@ pub record IsPlaceFor (test : PlaceState → Type 0) (places : List PlaceState) 
   pub passes : HoldsAt test places at
   pub belongs : BelongsAt places stamp identifier at
 
--- items that may have been read at this place: those of a page, of which the first is the one that the place names, and the last stands before
--- the first of the next place; those of a place of one page fit on it
+-- items that may have been read at this place: those of a page, as many and of as many bytes as the place has, of which the first is the one that the
+-- place names, and the last stands before the first of the next place; those of a place of one page fit on it
 pub record MayBeAt (places : List PlaceState) (at : ℕ) (items : List ItemState) : Type 0 where
   pub page : FitPage items
   pub fits : HoldsAt (λ place. length place.pages ≤ 1 → fit_one items ≡ true) places at
+  pub whole : HoldsAt (λ place. (length items ≡ place.len) × (size_of items ≡ place.size)) places at
   pub begins : HoldsAt (λ place. begins_at place.stamp place.identifier items ≡ true) places at
   pub below : are_below items (drop (at + 1) places) ≡ true
 

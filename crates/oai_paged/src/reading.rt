@@ -1,5 +1,5 @@
 //! What is read of a directory: which items it has.
-ghost use Rattle.std.specs.Prelude.{◌≡◌, ◌+◌, ◌*◌, ◌^◌, ◌<◌, ◌≤◌, ◌++◌, ℕ, [], true, false, length, take, drop, filter, HoldsAt, IfErr, IfOk, IfSome, IsSome, IsTrue, OnOk};
+ghost use Rattle.std.specs.Prelude.{◌≡◌, ◌==◌, ◌&&◌, ◌+◌, ◌*◌, ◌^◌, ◌<◌, ◌≤◌, ◌++◌, ℕ, [], true, false, length, take, drop, filter, HoldsAt, IfErr, IfOk, IfSome, IsSome, IsTrue, OnOk};
 ghost use Rattle.std.specs.List.{flat_map, list_all};
 ghost use Rattle.std.specs.Ordering.{is_eq};
 ghost use Rattle.oai_item.specs.Items.{item_at, items_after};
@@ -11,7 +11,7 @@ ghost use Rattle.oai_pool.specs.Names.{times};
 ghost use Rattle.oai_pool.specs.declared.pools.TheConstants.{MAX_PAGES};
 ghost use Rattle.oai_paged.specs.Calls.{Forgets, ReadsPages};
 ghost use Rattle.oai_paged.specs.Directory.{StandsIn};
-ghost use Rattle.oai_paged.specs.Pages.{FitPage, IsPage, fit_one, items_in};
+ghost use Rattle.oai_paged.specs.Pages.{FitPage, IsPage, fit_one, items_in, size_of};
 ghost use Rattle.oai_paged.specs.Parts.{EndsBy, IsInside, IsKnown, IsOutside, IsPartTaken};
 ghost use Rattle.oai_paged.specs.Places.{FitPages, IsSoundPlace, are_below, bytes_on, first_cmp, is_wanted, items_at, items_on, page_at};
 ghost use Rattle.oai_paged.specs.Searches.{MayBeAt, StartsAt};
@@ -204,6 +204,9 @@ fn read_at<P: PagePool>(
 {
     let place = &places[at];
     let entries = read_entries(alloc, pages, place.pages())?;
+    if !are_all(&entries, place) {
+        return Err(Fault::Damaged);
+    }
     if !entries.begins_at(place.stamp(), place.identifier()) {
         return Err(Fault::Damaged);
     }
@@ -211,6 +214,13 @@ fn read_at<P: PagePool>(
         return Err(Fault::Damaged);
     }
     Ok(entries)
+}
+
+/// Whether the items are as many, and of as many bytes, as those of the place.
+fn are_all(entries: &Entries, place: &SharedPlace) -> bool
+    ensures { result ≡ (length entries.now == place.now.len && size_of entries.now == place.now.size) }
+{
+    entries.len() == place.len() && entries.size() == place.size()
 }
 
 /// Whether the items, which are in their order, stand before those of the next place, where there is one.
