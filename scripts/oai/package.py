@@ -127,7 +127,8 @@ def begin(trial, machine):
     trial.check("the example", machine.said("oaihost check /etc/oaihost/archive.json"), "ok 1")
     machine.said(f"systemctl start {UNIT}")
     answer = machine.ask("/deposit/a", ITEM)
-    trial.check("a deposit", bool(re.fullmatch(r"ok \d{4}-\d\d-\d\dT\d\d:\d\d:\d\dZ", answer)), True)
+    if not re.fullmatch(r"ok \d{4}-\d\d-\d\dT\d\d:\d\d:\d\dZ", answer):
+        raise RuntimeError(f"a deposit: {answer}: {machine.run(f'journalctl --no-pager -u {UNIT} -n 20').stdout}")
     return answer.split()[1]
 
 
