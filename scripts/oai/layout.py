@@ -44,7 +44,7 @@ def tools(*arguments):
 
     Usage: scripts/run tools [write] [NAME]
     """
-    names = [it for it in arguments if it != "write"] or list(uses(TOOLS / "crates.txt"))
+    names = [it for it in arguments if it != "write"] or list(uses(TOOLS / "programs.txt"))
     differ = 0
     for name in names:
         with Tool(name) as tool:

@@ -23,7 +23,7 @@ class Tool:
         kept = os.environ.get("COPY")
         self.name, self.place = name, pathlib.Path(kept or tempfile.mkdtemp(prefix=f"{name}-"))
         self.is_kept, self.folder = bool(kept), self.place / "crates" / name
-        words = uses(TOOLS / "crates.txt")[name]
+        words = uses(TOOLS / "programs.txt")[name]
         crates = below(words)
         for crate in crates:
             copy_parts(TOP / "crates" / crate, self.place / "crates" / crate, ("out",) if built else ())
