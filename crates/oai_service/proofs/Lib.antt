@@ -2,3 +2,6 @@ pub mod TurnLemmas
 pub mod LifeLemmas
 pub mod OwnLemmas
 pub mod ServiceLemmas
+pub mod MachineLemmas
+pub mod WorkedLemmas
+pub mod WorkedLifeLemmas

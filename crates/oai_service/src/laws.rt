@@ -1,15 +1,23 @@
-//! What is so of every list of lives of a server: a theorem, on a function with an empty body.
+//! What is so of every list of lives of a server: theorems, each on a function with an empty body.
 ghost use Rattle.std.specs.Prelude.{[], List, map};
 ghost use Rattle.oai_config.specs.Configs.{HostConfig};
 ghost use Rattle.oai_headline.specs.Headline.{HaveRules};
+ghost use Rattle.oai_headline.specs.Visits.{Visit};
 ghost use Rattle.oai_host.specs.Hosts.{HostState, begun};
 ghost use Rattle.oai_journal.specs.Records.{Entry};
-ghost use Rattle.oai_service.specs.Hosting.{hosting};
+ghost use Rattle.oai_laws.specs.Harvests.{Harvest};
 ghost use Rattle.oai_service.specs.Lives.{AreServerLives, ServerLife};
 ghost use Rattle.oai_service.specs.Service.{IsServed};
+ghost use Rattle.oai_service.specs.WorkedLives.{AreWorkedLives, AreWorkedTurns};
 
-use oai_journal::Journal;
+use oai_catalogue::Versions;
+use oai_device::PageDevice;
+use oai_host::Host;
+use oai_http::{Handler, Replayed};
+use oai_journal::{FileJournal, Journal};
+use oai_paged::PagedVersions;
 use oai_serving::Stream;
+use sqlite_disk::Disk;
 
 /// **The theorem.** A server lives any number of times, and each life is a service as `Server::serve` promises it: rounds in which
 /// messages come over connections, are performed by a host whose exchanges stand in a journal, and are answered once the
@@ -22,8 +30,41 @@ use oai_serving::Stream;
 ///
 /// The configuration is one that keeps its rules. The first life begins with no record, and each is over a store that gives back what was
 /// written to it. No checkpoint stands between the lives. It does nothing.
-pub fn service_law<S: Stream, J: Journal>()
+pub fn service_law<S: Stream, V: Versions + Drop, J: Journal>()
     ensures { (config : HostConfig) (lives : List (ServerLife S HostState J)) (left : List Entry) → HaveRules config
-        → AreServerLives (hosting (λ (host : HostState). host)) J.Journal S.contents S.remaining (map begun config.repositories) [] lives left
+        → AreServerLives (record {
+          step = ⟦<Host<V> as Handler>⟧.step;
+          Kept = ⟦<Host<V> as Replayed>⟧.Kept;
+          kept = ⟦<Host<V> as Replayed>⟧.kept;
+          is_honest = ⟦<Host<V> as Replayed>⟧.is_honest;
+          leaving = record { redone = ⟦<Host<V> as Replayed>⟧.redone; restored = ⟦<Host<V> as Replayed>⟧.restored };
+          reply = ⟦<Host<V> as Replayed>⟧.reply;
+        }) J.Journal S.contents S.remaining (map begun config.repositories) [] lives left
         → IsServed config S.contents S.remaining lives left }
+{}
+
+/// The same at the types that the program runs: the store is the one of pages over a device, and the journal a file. It does nothing.
+pub fn service_on_files_law<S: Stream, P: PageDevice, D: Disk + Drop>()
+    ensures { (config : HostConfig) (lives : List (ServerLife S HostState _)) (left : List Entry) → HaveRules config
+        → AreServerLives (record {
+          step = ⟦<Host<PagedVersions<P>> as Handler>⟧.step;
+          Kept = ⟦<Host<PagedVersions<P>> as Replayed>⟧.Kept;
+          kept = ⟦<Host<PagedVersions<P>> as Replayed>⟧.kept;
+          is_honest = ⟦<Host<PagedVersions<P>> as Replayed>⟧.is_honest;
+          leaving = record {
+            redone = ⟦<Host<PagedVersions<P>> as Replayed>⟧.redone;
+            restored = ⟦<Host<PagedVersions<P>> as Replayed>⟧.restored;
+          };
+          reply = ⟦<Host<PagedVersions<P>> as Replayed>⟧.reply;
+        }) ⟦<FileJournal<D> as Journal>⟧ S.contents S.remaining (map begun config.repositories) [] lives left
+        → IsServed config S.contents S.remaining lives left }
+{}
+
+/// What the theorem speaks of is there: two lives of a server of two repositories, with an end in the middle of a list and of a harvest, and with a
+/// deposit whose record that end took. A further deposit is refused memory behind its first line. At the first repository a list is followed over
+/// three pages, at the second three harvests are made, by the visits of both lives. It is computed from the bytes of the records on, and does nothing.
+pub fn worked_lives_law()
+    ensures lived { AreWorkedLives }
+    ensures turned { (first : Visit) × (second : Visit) × (last : Visit) × (one : Harvest) × (two : Harvest) × (three : Harvest)
+        × AreWorkedTurns first second last one two three }
 {}

@@ -3,4 +3,4 @@
 
 mod laws;
 
-pub use laws::service_law;
+pub use laws::{service_law, service_on_files_law, worked_lives_law};

@@ -1,0 +1,139 @@
+-- Two worked lives of a server of two repositories, as turns: what the theorem asks of lists and harvests can be met across an end. OAI-PMH 2.0,
+-- sections 2.7.1, 3.1.2.2 and 3.5; deposits and lives are this repository's own.
+use Rattle.std.specs.Prelude.{◌≡◌, ℕ, pos, ◌+◌, List, [], ◌∷◌, ◌++◌, codes, length, map, None, Some}
+use Rattle.std.specs.List.{flat_map}
+use Rattle.oai_item.specs.declared.faults.Fault.TheVariants.{NoMemory}
+use Rattle.oai_laws.specs.Harvests.{AreSuccessive, Harvest}
+use Rattle.oai_laws.specs.Worked.{all_records, worked_config}
+use Rattle.oai_laws.specs.WorkedHarvests.{archive_b, prefix}
+use Rattle.oai_http.specs.Answers.{failed}
+use Rattle.oai_http.specs.Exchanges.{Asked}
+use Rattle.oai_http.specs.declared.exchanges.Answer.{Answer}
+use Rattle.oai_http.specs.declared.exchanges.Call.{Call}
+use Rattle.oai_host.specs.Hosts.{HostState, Repository, begun}
+use Rattle.oai_host.specs.Redone.{reply_all}
+use Rattle.oai_journal.specs.Journals.{IsLeft}
+use Rattle.oai_journal.specs.Records.{Entry}
+use Rattle.oai_journal.specs.declared.journals.Journal as journal
+use Rattle.oai_journal.specs.declared.records.Kind.TheVariants as kind
+use Rattle.oai_durable.specs.Lives.{Exchanged}
+use Rattle.oai_durable.specs.Records.{call_in, left_by}
+use Rattle.oai_headline.specs.Chains.{IsFollowing}
+use Rattle.oai_headline.specs.Throughout.{own_given, whole_visits}
+use Rattle.oai_headline.specs.Visits.{Visit, steps_of}
+use Rattle.oai_headline.specs.Worked.{delete_line, deposit_line, first_entry, post, second_entry, worked_host}
+use Rattle.oai_service.specs.Hosting.{hosting, leaving}
+use Rattle.oai_service.specs.Lives.{AreServerLives, ServerLife}
+use Rattle.oai_service.specs.Service.{AreKept, Told, all_turns}
+use Rattle.oai_service.specs.Turns.{AreTurns, Turn, answers_in, calls_in, was_performed}
+
+-- ---- what is done
+
+-- a message that is done whole is the call of its record; of a deposit that is refused memory behind its first line, this line is the record
+pub data Deed : Type 0 where
+  done_whole : Entry → Deed
+  done_once : Call → Entry → Deed
+
+abbrev pub entry_in : Deed → Entry
+entry_in (done_whole entry) = entry
+entry_in (done_once call entry) = entry
+
+-- what the call asks
+abbrev pub asked_in : Call → Asked
+asked_in call = record { method = call.method; target = call.target; content_type = call.content_type; body = call.body }
+
+abbrev pub exchanged_at : List Repository → Deed → Exchanged
+exchanged_at kept (done_whole entry) =
+    record { moment = (call_in entry).moment; asked = asked_in (call_in entry); answer = reply_all kept (call_in entry); own = entry ∷ [] }
+exchanged_at kept (done_once call entry) =
+    record { moment = call.moment; asked = asked_in call; answer = failed NoMemory (Some 1); own = entry ∷ [] }
+
+-- as turns, one after the other
+abbrev pub turns_at : List Repository → List Deed → List Turn
+turns_at kept [] = []
+turns_at kept (deed ∷ deeds) = was_performed (exchanged_at kept deed) ∷ turns_at (left_by leaving kept (entry_in deed)) deeds
+
+-- ---- the two lives
+
+abbrev pub requested : ℕ → List ℕ → List ℕ → Deed
+requested seconds name arguments = done_whole (record { moment = pos (1_704_067_200 + seconds); kind = kind.Oai; name = name; body = arguments })
+
+abbrev pub deposited : ℕ → List ℕ → List ℕ → Deed
+deposited seconds name lines = done_whole (record { moment = pos (1_704_067_200 + seconds); kind = kind.Deposit; name = name; body = lines })
+
+-- the exchanges of the worked run of the host. In the first life the list is opened that is followed over three pages, and the first harvest is
+-- begun, and gets its first page
+abbrev pub first_deeds : List Deed
+first_deeds =
+    deposited 0 (codes "a") (deposit_line (codes "oai:a:1") ++ deposit_line (codes "oai:a:2"))
+    ∷ deposited 0 (codes "b") (deposit_line (codes "oai:b:1") ++ deposit_line (codes "oai:b:2"))
+    ∷ deposited 0 (codes "a") (deposit_line (codes "oai:a:3"))
+    ∷ deposited 0 (codes "b") (deposit_line (codes "oai:b:3"))
+    ∷ deposited 0 (codes "a") (deposit_line (codes "oai:a:4") ++ deposit_line (codes "oai:a:5"))
+    ∷ requested 0 (codes "a") (codes "verb=ListIdentifiers&metadataPrefix=oai_dc")
+    ∷ requested 5 (codes "b") (codes "verb=ListRecords&metadataPrefix=oai_dc")
+    ∷ deposited 5 (codes "b") (delete_line (codes "oai:b:2"))
+    ∷ requested 60 (codes "a") (codes "verb=ListRecords&metadataPrefix=oai_dc")
+    ∷ []
+
+-- in the second life both lists are followed to their ends, and two further harvests are made; a deposit of two lines fails behind its first
+abbrev pub second_deeds : List Deed
+second_deeds =
+    requested 6 (codes "b") (codes "verb=ListRecords&resumptionToken=1.2")
+    ∷ requested 60 (codes "a") (codes "verb=ListIdentifiers&resumptionToken=1.2")
+    ∷ done_once (post 61 (codes "/deposit/a") (deposit_line (codes "oai:a:6") ++ deposit_line (codes "oai:a:7")))
+    (record { moment = pos (1_704_067_200 + 61); kind = kind.Deposit; name = codes "a"; body = deposit_line (codes "oai:a:6") })
+    ∷ deposited 6 (codes "b") (deposit_line (codes "oai:b:4"))
+    ∷ deposited 62 (codes "a") (delete_line (codes "oai:a:4"))
+    ∷ requested 30 (codes "a") (codes "verb=ListIdentifiers&metadataPrefix=oai_dc")
+    ∷ requested 7 (codes "b") (codes "verb=ListRecords&metadataPrefix=oai_dc&from=2024-01-01T00:00:05Z")
+    ∷ requested 63 (codes "a") (codes "verb=ListIdentifiers&resumptionToken=2.2")
+    ∷ requested 64 (codes "a") (codes "verb=ListRecords&resumptionToken=2.2")
+    ∷ deposited 70 (codes "a") (deposit_line (codes "oai:a:5"))
+    ∷ requested 8 (codes "b") (codes "verb=ListRecords&metadataPrefix=oai_dc&from=2024-01-01T00:00:07Z")
+    ∷ requested 123 (codes "a") (codes "verb=ListRecords&resumptionToken=2.4")
+    ∷ []
+
+abbrev pub worked_begun : List Repository
+worked_begun = map begun worked_host.repositories
+
+abbrev pub worked_turns : List Turn
+worked_turns = turns_at worked_begun (first_deeds ++ second_deeds)
+
+abbrev pub worked_given_a : List Visit
+worked_given_a = whole_visits (own_given first_entry (calls_in worked_turns) (answers_in worked_turns))
+
+abbrev pub worked_given_b : List Visit
+worked_given_b = whole_visits (own_given second_entry (calls_in worked_turns) (answers_in worked_turns))
+
+-- they are turns behind no record; a list is followed over three pages at the first repository, and three harvests are made of the second, among
+-- visits of both lives
+pub record AreWorkedTurns (first second last : Visit) (one two three : Harvest) : Type 0 where
+  pub turned : AreTurns worked_begun [] worked_turns
+  pub following : IsFollowing worked_config worked_given_a all_records first (second ∷ last ∷ [])
+  pub successive : AreSuccessive archive_b (flat_map (steps_of archive_b) worked_given_b) prefix one (two ∷ three ∷ [])
+
+-- ---- the lives of a server
+
+-- a journal in memory: its records, and how many of them are durable
+pub record Memory : Type 0 where
+  pub entries : List Entry
+  pub durable : ℕ
+
+abbrev pub in_memory : journal.Ghosts Memory
+in_memory = record {
+  holds = λ journal entries durable. (journal.entries ≡ entries) × (journal.durable ≡ durable);
+  may_leave = λ journal found. IsLeft journal.durable journal.entries found;
+  has_room = λ journal bytes. Unit {0};
+}
+
+-- two lives of a server, over streams of which nothing is known. At the end of the first one a further deposit was performed, whose record the
+-- crash did not leave. What they leave is the records of these turns
+pub record AreWorkedLives : Type 0 where
+  pub lives : List (ServerLife (Unit {0}) HostState Memory)
+  pub two : length lives ≡ 2
+  pub left : List Entry
+  pub are : AreServerLives (hosting (λ (host : HostState). host)) in_memory (λ stream. None) (λ stream. None) worked_begun [] lives left
+  pub told : List Told
+  pub kept : AreKept [] lives told left
+  pub turns : all_turns told ≡ worked_turns
