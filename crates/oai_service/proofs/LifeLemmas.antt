@@ -1,5 +1,5 @@
 -- A life of a server, told: its turns, as far as the journal kept them.
-use Rattle.std.proofs.Common.{◌≡◌, ◌∙◌, inl, inr, ◌≤◌, ℕ, zero, suc, ◌+◌, ◌-◌, ◌++◌, IsTrue, List, [], ◌∷◌, length, Option, None, Some, Result, Ok, Err, slice_index_or, refl, sym, ap, arith, subst, take}
+use Rattle.std.proofs.Common.{◌≡◌, ◌∙◌, inl, inr, ◌≤◌, ℕ, zero, suc, ◌+◌, ◌-◌, ◌++◌, List, [], ◌∷◌, length, Option, None, Some, Result, Ok, Err, slice_index_or, refl, sym, ap, arith, subst, take}
 use Rattle.std.specs.List.{AllByRecursion, AllZip}
 use Rattle.std.proofs.lemmas.List.{append-nil, length-append}
 use Rattle.std.proofs.Math.Seq.{take-append-add}

@@ -1,30 +1,29 @@
 -- What the machine does over a store that does not fail is what a host may do.
-use Rattle.std.proofs.Common.{◌≡◌, ◌∙◌, inl, inr, ◌<◌, ◌≤◌, ℕ, ℤ, Bool, true, false, IsTrue, not, List, [], ◌∷◌, ◌++◌, length, map, take, Option, None, Some, refl, sym, ap, subst, arith}
+use Rattle.std.proofs.Common.{◌≡◌, ◌∙◌, inl, inr, ◌<◌, ℕ, ℤ, Bool, true, false, not, List, [], ◌∷◌, length, map, take, Option, None, Some, refl, sym, ap, subst, arith}
 use Rattle.std.specs.Prelude.{if◌then◌else◌, Result, Ok, Err}
-use Rattle.std.specs.List.{AllZip, list_all}
-use Rattle.std.proofs.lemmas.Bool.{and_parts, cases_Bool, cond-true, cond-false, false≢true, true≢false}
+use Rattle.std.specs.List.{list_all}
+use Rattle.std.proofs.lemmas.Bool.{and_parts, cond-true, cond-false, false≢true, true≢false}
 use Rattle.oai_item.specs.declared.changes.Change.{Change}
 use Rattle.oai_item.specs.declared.changes.Change.TheVariants as change
 use Rattle.oai_item.specs.declared.faults.Fault.{Fault}
-use Rattle.oai_item.specs.declared.faults.Fault.TheVariants.{Damaged, Device, NoMemory, TooManyPages}
+use Rattle.oai_item.specs.declared.faults.Fault.TheVariants.{NoMemory}
 use Rattle.oai_item.specs.declared.refusals.ChangeRefusal.{ChangeRefusal}
 use Rattle.oai_item.specs.declared.refusals.LineRefusal.{LineRefusal}
-use Rattle.oai_item.specs.Refusals.{in_repository}
 use Rattle.oai_deposit.specs.Lines.{line_of}
 use Rattle.oai_catalogue.specs.Store.{IsCounted, IsHonest, NeedsRoom}
 use Rattle.oai_settings.specs.Config.{Config}
 use Rattle.oai_repo.specs.Accepted.{sets_with}
 use Rattle.oai_repo.specs.Changes.{changed, refusal_of, stamp_at}
-use Rattle.oai_repo.specs.Machine.{Outcome, Output, act, act_on_change, bytes, outcome_output, query, step, wait}
+use Rattle.oai_repo.specs.Machine.{Output, act, act_on_change, bytes, outcome_output, query, step, wait}
 use Rattle.oai_repo.specs.State.{Holdings, RepoState, moved}
-use Rattle.oai_http.specs.Answers.{answered_with, failed}
+use Rattle.oai_http.specs.Answers.{failed}
 use Rattle.oai_http.specs.Targets.{leads_to_repository}
 use Rattle.oai_http.specs.declared.exchanges.Answer.{Answer}
 use Rattle.oai_http.specs.declared.exchanges.Call.{Call}
 use Rattle.oai_host.specs.Alone.{after_line, after_lines, after_read, done_alone, exchanged_alone, with_end}
 use Rattle.oai_host.specs.Answers.{IsReply, answer_of, failure, failure_in}
 use Rattle.oai_host.specs.Hosts.{AreSteps, HostState, IsExchanged, IsStep, Repository, is_of_none}
-use Rattle.oai_host.specs.Performed.{AreLinesPerformed, IsDone, IsLineAnswered, IsLinePerformed, IsPerformed, StoreState}
+use Rattle.oai_host.specs.Performed.{AreLinesPerformed, IsDone, IsLineAnswered, IsPerformed, StoreState}
 use Rattle.oai_host.specs.Redone.{redone_all, redone_at, reply_all}
 use Rattle.oai_host.specs.Room.{room_for_task}
 use Rattle.oai_host.specs.Tasks.{Task, asking, depositing, refusing, task_of}

@@ -1,5 +1,5 @@
 -- Turns of a host, at each of its repositories: what is known of its own exchanges, one after the other.
-use Rattle.std.proofs.Common.{◌≡◌, ◌∙◌, inl, inr, ℕ, Bool, true, false, IsTrue, List, [], ◌∷◌, ◌++◌, map, filter, take, Option, None, Some, is_none, unwrap_or, refl, sym, ap, subst, append-nil, arith}
+use Rattle.std.proofs.Common.{◌≡◌, ◌∙◌, inl, inr, ℕ, true, false, IsTrue, List, [], ◌∷◌, ◌++◌, map, filter, take, Option, None, Some, is_none, unwrap_or, refl, sym, ap, subst, append-nil, arith}
 use Rattle.std.specs.List.{AllByRecursion, AllZip, zip}
 use Rattle.std.proofs.lemmas.Bool.{and_parts, cases_Bool, cond-true, cond-false}
 use Rattle.std.proofs.lemmas.List.{append_assoc}
@@ -17,10 +17,9 @@ use Rattle.oai_host.specs.Tasks.{Task, asking, depositing, refusing, task_of}
 use Rattle.oai_journal.specs.Records.{Entry}
 use Rattle.oai_durable.specs.Records.{redone_all}
 use Rattle.oai_headline.specs.Throughout.{IsTrueVisit, IsTrueBy, left_by, calls_done, calls_done_by, calls_done_in, visits_given, with_lines}
-use Rattle.oai_headline.specs.Visits.{Visit}
-use Rattle.oai_headline.proofs.GivenLemmas.{AreMet, all_met}
+use Rattle.oai_headline.proofs.GivenLemmas.{all_met}
 use Rattle.oai_service.specs.Hosting.{leaving}
-use Rattle.oai_service.specs.Turns.{AreTurns, Turn, answers_in, calls_in, its, records_in, was_performed, was_refused}
+use Rattle.oai_service.specs.Turns.{AreTurns, Turn, answers_in, calls_in, records_in, was_performed, was_refused}
 
 -- ---- exchanges of one repository
 

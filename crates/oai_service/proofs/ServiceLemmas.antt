@@ -24,7 +24,7 @@ use Rattle.oai_headline.proofs.PartLemmas.{following_more, part_each, successive
 use Rattle.oai_service.specs.Hosting.{hosting, leaving}
 use Rattle.oai_service.specs.Lives.{AreServerLives, ServerLife}
 use Rattle.oai_service.specs.Service.{IsServed, all_turns}
-use Rattle.oai_service.specs.Turns.{answers_in, calls_in, records_in}
+use Rattle.oai_service.specs.Turns.{answers_in, calls_in}
 use Rattle.oai_service.proofs.LifeLemmas.{tell_all}
 use Rattle.oai_service.proofs.OwnLemmas.{IsOwnMet, turns_met}
 

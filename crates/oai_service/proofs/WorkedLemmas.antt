@@ -1,14 +1,13 @@
 -- The two worked lives are turns, and what is asked of a list and of harvests is true of their visits.
-use Rattle.std.proofs.Common.{◌≡◌, ◌∙◌, ℕ, ◌+◌, pos, Bool, true, false, ◌&&◌, not, List, [], ◌∷◌, ◌++◌, length, map, codes, Option, None, Some, is_none, refl, sym, ap, subst, arith, take, unwrap_or}
+use Rattle.std.proofs.Common.{◌≡◌, ◌∙◌, ℕ, ◌+◌, pos, Bool, true, false, ◌&&◌, not, List, [], ◌∷◌, ◌++◌, map, codes, None, Some, is_none, refl, sym, ap, subst, arith, take, unwrap_or}
 use Rattle.std.specs.Prelude.{if◌then◌else◌}
 use Rattle.std.specs.List.{AllByRecursion, AllZip, flat_map, list_all}
 use Rattle.std.proofs.lemmas.Bool.{and_from, and_parts, cond-true, cond-false, false≢true}
-use Rattle.oai_item.specs.declared.faults.Fault.{Fault}
 use Rattle.oai_item.specs.declared.faults.Fault.TheVariants.{NoMemory}
 use Rattle.oai_settings.specs.Config.{Config}
 use Rattle.oai_repo.specs.State.{RepoState, empty_state}
 use Rattle.oai_laws.specs.Harvests.{AreSuccessive, Harvest}
-use Rattle.oai_laws.specs.Runs.{Exchange, IsPart}
+use Rattle.oai_laws.specs.Runs.{IsPart}
 use Rattle.oai_laws.specs.Worked.{all_records, worked_config}
 use Rattle.oai_laws.specs.WorkedHarvests.{archive_b, prefix}
 use Rattle.oai_http.specs.Answers.{failed}

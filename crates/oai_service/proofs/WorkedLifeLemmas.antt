@@ -1,31 +1,26 @@
 -- The two worked lives are lives of a server.
-use Rattle.std.proofs.Common.{◌≡◌, ◌∙◌, inl, ◌≤◌, ℕ, zero, suc, pos, ◌+◌, Bool, true, false, List, [], ◌∷◌, ◌++◌, length, map, codes, Option, None, Some, Ok, Err, slice_index_or, take, refl, sym, ap, subst, arith}
+use Rattle.std.proofs.Common.{◌≡◌, ◌∙◌, inl, ℕ, zero, suc, false, List, [], ◌∷◌, ◌++◌, length, map, codes, None, Some, Ok, Err, take, refl, sym, ap, subst, arith}
 use Rattle.std.specs.List.{AllByRecursion}
 use Rattle.std.proofs.lemmas.List.{append-nil, append_assoc}
 use Rattle.std.proofs.Math.Nat.{le_refl}
 use Rattle.slab.specs.Slab.{Slab}
 use Rattle.oai_item.specs.declared.faults.Fault.TheVariants.{NoMemory}
 use Rattle.oai_http.specs.Answers.{failed}
-use Rattle.oai_http.specs.declared.exchanges.Call.{Call}
 use Rattle.oai_front.specs.Runs.{Served, Serves}
-use Rattle.oai_host.specs.Exchanged.{IsHandled}
 use Rattle.oai_host.specs.Hosts.{HostState, IsExchanged, Repository}
 use Rattle.oai_host.specs.Redone as host
-use Rattle.oai_journal.specs.Journals.{IsLeft}
 use Rattle.oai_journal.specs.Records.{Entry}
 use Rattle.oai_serving.specs.Links.{Link}
-use Rattle.oai_serving.specs.Rounds.{IsService, World}
 use Rattle.oai_serving.specs.Tables.{AreLinksAnswered}
 use Rattle.oai_serving.specs.declared.faults.ServeFault.TheVariants.{Wait}
-use Rattle.oai_durable.specs.Journaled.{IsExchange, IsHeld, IsKept, IsSettled, Parts}
-use Rattle.oai_durable.specs.Lives.{Exchanged}
-use Rattle.oai_durable.specs.Records.{call_in, left_by, part_kind, redone_all}
+use Rattle.oai_durable.specs.Journaled.{IsExchange, IsHeld, IsSettled, Parts}
+use Rattle.oai_durable.specs.Records.{call_in, left_by, redone_all}
 use Rattle.oai_headline.specs.Worked.{deposit_line}
 use Rattle.oai_service.specs.Hosting.{hosting, leaving}
 use Rattle.oai_service.specs.Lives.{AreServerLives, IsServerLife, ServerLife}
-use Rattle.oai_service.specs.Service.{AreKept, Told, all_turns, turns_of}
+use Rattle.oai_service.specs.Service.{AreKept, Told, all_turns}
 use Rattle.oai_service.specs.Turns.{Turn, records_in, was_performed}
-use Rattle.oai_service.specs.WorkedLives.{AreWorkedLives, Deed, Memory, deposited, done_once, done_whole, entry_in, exchanged_at, first_deeds, in_memory, second_deeds, turns_at, worked_begun, worked_turns}
+use Rattle.oai_service.specs.WorkedLives.{AreWorkedLives, Deed, Memory, deposited, done_once, done_whole, entry_in, exchanged_at, first_deeds, in_memory, second_deeds, turns_at, worked_begun}
 use Rattle.oai_service.proofs.MachineLemmas.{names_in, once_exchanged, sound_host, whole_exchanged}
 use Rattle.oai_service.proofs.WorkedLemmas.{IsFit, deed_kind, first_fit, left_call, names_after, own_entry, redone_append, second_fit}
 

@@ -1,5 +1,5 @@
 -- What is said of a handler that is a host, as its journal performs it again. This repository's own.
-use Rattle.std.specs.Prelude.{◌≡◌, List}
+use Rattle.std.specs.Prelude.{List}
 use Rattle.oai_durable.specs.Journaled.{Replaying}
 use Rattle.oai_durable.specs.Records.{Leaving}
 use Rattle.oai_host.specs.Exchanged.{IsHandled}

@@ -8,7 +8,6 @@ use Rattle.oai_laws.specs.Worked.{all_records, worked_config}
 use Rattle.oai_laws.specs.WorkedHarvests.{archive_b, prefix}
 use Rattle.oai_http.specs.Answers.{failed}
 use Rattle.oai_http.specs.Exchanges.{Asked}
-use Rattle.oai_http.specs.declared.exchanges.Answer.{Answer}
 use Rattle.oai_http.specs.declared.exchanges.Call.{Call}
 use Rattle.oai_host.specs.Hosts.{HostState, Repository, begun}
 use Rattle.oai_host.specs.Redone.{reply_all}
