@@ -89,6 +89,12 @@ class Bench:
             raise SystemExit(f"{count} records were read in place of {self.size}")
         return count
 
+    def harvest_set(self):
+        """Reads all records of the set."""
+        self.begun += 1
+        count, _ = self.client.harvest("ListRecords", f"&set={SET}")
+        return count
+
     def part(self, token):
         self.client.get(f"verb=ListIdentifiers&resumptionToken={token}")
         return 1
@@ -123,6 +129,7 @@ class Bench:
     def read(self):
         self.measure("GetRecord", lambda: as_many(self.get_record, SHORT))
         self.measure("records of ListRecords, whole", lambda: as_many(lambda: self.harvest("ListRecords"), SHORT))
+        self.measure("records of a set, whole", lambda: as_many(self.harvest_set, SHORT))
         self.measure("headers of ListIdentifiers, whole", lambda: as_many(lambda: self.harvest("ListIdentifiers"), SHORT))
         tokens = self.tokens
         self.measure("the tenth part, again", lambda: as_many(lambda: self.part(tokens[:9][-1]), SHORT))

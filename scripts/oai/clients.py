@@ -67,9 +67,9 @@ class Client:
             raise SystemExit(f"a line was refused: {[it for it in said if not it.startswith('ok ')][:3]}")
         return said
 
-    def harvest(self, verb):
+    def harvest(self, verb, arguments=""):
         """Reads a list to its end; how many headers it has, and its tokens."""
-        count, tokens, query = 0, [], f"verb={verb}&{LISTED}"
+        count, tokens, query = 0, [], f"verb={verb}&{LISTED}{arguments}"
         while query:
             document = self.get(query)
             count += document.count(b"</header>")
