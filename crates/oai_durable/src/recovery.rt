@@ -30,7 +30,7 @@ pub enum RecoverFault {
     Performing(u64, Fault),
 }
 
-/// What is told how far a recovery is.
+/// To what it is reported how far a recovery is.
 pub trait Progress {
     /// So many bytes of `len` were read, and so many records were performed.
     fn note(&mut self, position: usize, len: usize, records: u64);

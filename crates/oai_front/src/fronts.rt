@@ -169,7 +169,7 @@ impl<H: Handler> Front<H> {
 
 impl<H: Settled> Front<H> {
     /// Makes all that was performed durable; no connection changes. The error is the handler's, and the
-    /// answers that were put out since the last settling that was Ok may then not leave.
+    /// answers that were written since the last settling that was Ok may then not leave.
     pub fn settle(&mut self) -> Result<(), SettleFault>
         ensures { IsSettling H.settled self.old result self.new }
     {

@@ -40,7 +40,7 @@ pub fn cut_law()
 /// each connection are the messages of the bytes that came on it before its end, in order, each performed
 /// with the piece that brings its last byte, or, where memory was refused, with a later one; their answers,
 /// and the answer to a fault, are what is put behind its output, and what is taken is taken from the front.
-/// It is said of each connection that reads and on which nothing whole waits, and of each that is opened
+/// It holds of each connection that reads and on which nothing whole waits, and of each that is opened
 /// among the calls. A theorem, proved by an empty function.
 pub fn run_law<H: Handler>()
     ensures served { (old new : State H) (calls : List FrontCall)

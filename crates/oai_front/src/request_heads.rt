@@ -80,7 +80,7 @@ fn front_of(bytes: &[u8], most: usize) -> &[u8]
     &bytes[..most]
 }
 
-/// What is said of bytes that do not begin with a head: a fault, once they are as many as one may have.
+/// What bytes come to that do not begin with a head: a fault, once they are as many as one may have.
 fn unless_full(bytes: &[u8], most: usize) -> HeadParse
     ensures { result ≡ parse_unless_full most bytes.now }
 {

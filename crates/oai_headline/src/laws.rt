@@ -26,7 +26,7 @@ use oai_device::PageDevice;
 /// What a repository that stands alone answers to exchanges is what its machine does, written. The steps that
 /// come of the exchanges are the run of the commands that they carry: a request is one, a deposit one for each
 /// line. A request is answered the document of its step, or that it is to come again later, and a deposit a
-/// line for each step; an exchange that asks nothing is answered its status, and is no step. So what the laws
+/// line for each step; an exchange that is refused by its path, method or type is answered its status, and is no step. So what the laws
 /// of runs say is true of the exchanges. It does nothing.
 pub fn carried_law()
     ensures answers { (config : Config) (state : RepoState) (calls : List Call)
@@ -39,7 +39,7 @@ pub fn carried_law()
 {}
 
 /// A list that is followed by exchanges (OAI-PMH 2.0, section 3.5). Among the exchanges with a repository that stands alone, from its
-/// beginning on, one asks for a list that is too long for one answer and is not told to come again later; and others, each after the
+/// beginning on, one asks for a list that is too long for one answer and is not answered 503; and others, each after the
 /// one before it, ask with the token that the answer before prints, and before its expirationDate. Then each of them is a step of the
 /// machine and is answered its page, written; and the pages, joined, are what was selected at the first of them, as
 /// `following_law` of `oai_laws` says. And exchanges whose steps are a chain of the machine are such a chain: what is asked of a token that
@@ -115,7 +115,7 @@ pub fn place_law()
 /// pages, by the tokens that they print, and their records are the five that there were at its first request. Amid the pages an item
 /// is deposited and one is deleted; and another list is asked for while as many are open as may be, and is answered by a time to wait.
 /// At the second repository, beside it, three harvests are made, the first over two pages, while an item is deleted and one deposited;
-/// and a copy that catches up with them holds what there is. The answers are those of documents that tell the pages; the bytes of
+/// and a copy that catches up with them holds what there is. The answers are those of documents that show the pages; the bytes of
 /// these documents are not written out. It does nothing.
 pub fn worked_headline_law()
     ensures accepted { IsHostConfig worked_host }

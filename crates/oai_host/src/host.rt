@@ -172,7 +172,7 @@ impl<V: Versions + Drop> Host<V> {
     }
 
     /// The store. The host's repositories are what its lists stand for, and its honesty, its failures and
-    /// its room are those that are said of the host.
+    /// its room are those of the host.
     pub fn versions(&self) -> &V
         ensures lists { StandFor (V.honest result.now) (V.lists result.now) self.now.repositories }
         ensures honesty { V.honest result.now ≡ self.now.honest }

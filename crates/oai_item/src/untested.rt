@@ -12,7 +12,7 @@ use crate::order::order_of_places;
 use std::cmp::Ordering;
 
 /// How the item that the bytes spell stands in the order of items to this datestamp, in seconds from 1970
-/// on, and identifier. Where they spell none, nothing is said of the answer; where they spell one, it is
+/// on, and identifier. Where they spell none, nothing is promised of the answer; where they spell one, it is
 /// not None. It looks at the front of them, up to the identifier, and takes no memory.
 pub fn order_of_spelling(bytes: &[u8], stamp: i64, identifier: &str) -> Option<Ordering>
     ensures { (item : ItemState) → item_in bytes.now ≡ Some item

@@ -88,7 +88,7 @@ pub fn is_no_finer_than(bound: Bound, granularity: Granularity) -> bool
 
 /// The law of the calendar: each date of a year from 0000 to 9999, a month from 1 to 12, and a day
 /// from 1 to the month's last is the text of a day; and the numbers of the definitions are the seconds
-/// that they are said to be, of which 1970-01-01T00:00:00Z is the 0th. A theorem, proved by an empty
+/// that they are written as, of which 1970-01-01T00:00:00Z is the 0th. A theorem, proved by an empty
 /// function.
 pub fn calendar_law()
     ensures dates { HasEachDate }
