@@ -9,3 +9,4 @@ pub mod Worked
 pub mod Shown
 pub mod Harvests
 pub mod WorkedHarvests
+pub mod Eras
