@@ -239,7 +239,7 @@ chain_from config (timed ∷ commands) state list_request first others good soun
     let part : IsPart others (run config later commands) = subst (λ (es : List Exchange). IsPart es (run config later commands)) (sym others_are) here.2 in
     chain_at config state timed commands list_request first others first_is good sound part verb asked many answered next
 
-chain_followed : (config : Config) (commands : List Timed) (state : RepoState) (list_request : ListRequest) (first : Exchange) (others : List Exchange) → IsConfig config → IsSound config state
+pub chain_followed : (config : Config) (commands : List Timed) (state : RepoState) (list_request : ListRequest) (first : Exchange) (others : List Exchange) → IsConfig config → IsSound config state
     → IsChain config (run config state commands) list_request first others → (pages : List Page) × IsFollowedThrough config list_request (selection_in first.found list_request) (first ∷ others) pages
 chain_followed config commands state list_request first others good sound chain =
     chain_from config commands state list_request first others good sound chain.among chain.verb chain.asked chain.long chain.answered chain.next

@@ -9,12 +9,12 @@ use Rattle.oai_item.specs.declared.formats.Format.{Format}
 use Rattle.oai_answers.specs.Answers.{Answer, Continuation, Page, completes, fails, lists_records, remains, whole}
 use Rattle.oai_settings.specs.Config.{Config, IsConfig}
 use Rattle.oai_repo.specs.Machine.{Outcome, accepted, act, documented, later, refused_with}
-use Rattle.oai_repo.specs.State.{empty_state}
+use Rattle.oai_repo.specs.State.{RepoState}
 use Rattle.oai_laws.specs.Effects.{IsSound}
 use Rattle.oai_laws.specs.Following.{ArePagesAt, IsChain, ListRequest, answer_in, are_complete, extent_in, first_request, is_later, joined, offer_in, page_in, page_shown, selection_in}
 use Rattle.oai_laws.specs.Runs.{Exchange, IsPart, Timed, run}
 use Rattle.oai_laws.specs.Shown.{is_followed_to_its_end, is_last_page}
-use Rattle.oai_laws.proofs.ChainLemmas.{following}
+use Rattle.oai_laws.proofs.ChainLemmas.{chain_followed}
 use Rattle.oai_laws.proofs.WholeLemmas.{none_told, whole_told}
 use Rattle.oai_laws.specs.Harvests.{Harvest, IsEmptyHarvest, IsFollowedHarvest, IsHarvest, IsWholeHarvest, harvested, items_told, records_since, requests_of}
 
@@ -70,10 +70,10 @@ first_of_pages config exchange format size (page ∷ pages) told placed =
     let answer : answer_in exchange.outcome ≡ Some (lists_records format page) = cc in
     record { page = page; shown = shown_by exchange.outcome (lists_records format page) answer; long = not_whole page.continuation size 0 placed.0.extent }
 
-pub told_some : (config : Config) (commands : List Timed) (prefix : List ℕ) (from : Option (List ℕ)) (exchange : Exchange) → IsConfig config → IsSound config exchange.found
-    → IsPart (exchange ∷ []) (run config (empty_state config) commands) → exchange.command ≡ first_request (records_since prefix from) → exchange.outcome ≡ (act config exchange.found exchange.command).0
+pub told_some : (config : Config) (state : RepoState) (commands : List Timed) (prefix : List ℕ) (from : Option (List ℕ)) (exchange : Exchange) → IsConfig config → IsSound config state → IsSound config exchange.found
+    → IsPart (exchange ∷ []) (run config state commands) → exchange.command ≡ first_request (records_since prefix from) → exchange.outcome ≡ (act config exchange.found exchange.command).0
     → IsToldSome exchange (selection_in exchange.found (records_since prefix from))
-told_some config commands prefix from exchange good sound among asked told =
+told_some config state commands prefix from exchange good begins sound among asked told =
     let request : ListRequest = records_since prefix from in
     let selection : List ItemState = selection_in exchange.found request in
     let acted : exchange.outcome ≡ (act config exchange.found (first_request request)).0 = told ∙ ap (λ c. (act config exchange.found c).0) asked in
@@ -87,9 +87,9 @@ told_some config commands prefix from exchange good sound among asked told =
                 elim (cases_Bool (is_later exchange.outcome)) [
                   | inl waits ↦ inr (inr (inr (record { waits = later_none exchange.outcome waits })))
                   | inr answered ↦
-                      let chain : IsChain config (run config (empty_state config) commands) request exchange [] =
+                      let chain : IsChain config (run config state commands) request exchange [] =
                       record { among = among; verb = refl; asked = asked; long = long; answered = answered; next = tt } in
-                      let followed = following config commands request exchange [] good chain in
+                      let followed = chain_followed config commands state request exchange [] good begins chain in
                       inr (inr (inl (first_of_pages config exchange followed.1.format (length selection) followed.0 followed.1.told followed.1.placed)))
                 ]
             | inr short ↦
@@ -161,23 +161,23 @@ shown_pages format (exchange ∷ exchanges) (page ∷ pages) told =
       ap (λ o. is_last_page o || is_followed_to_its_end exchanges) shown ∙ ap (λ b. is_none (offer_in page.continuation) || b) rest.1,
     )
 
-followed_told : (config : Config) (commands : List Timed) (prefix : List ℕ) (from : Option (List ℕ)) (harvest : Harvest) → IsConfig config
-    → IsFollowedHarvest config (run config (empty_state config) commands) (records_since prefix from) harvest → harvested harvest ≡ selection_in harvest.first.found (records_since prefix from)
-followed_told config commands prefix from harvest good follow =
-    let followed = following config commands (records_since prefix from) harvest.first harvest.others good follow.chain in
+followed_told : (config : Config) (state : RepoState) (commands : List Timed) (prefix : List ℕ) (from : Option (List ℕ)) (harvest : Harvest) → IsConfig config → IsSound config state
+    → IsFollowedHarvest config (run config state commands) (records_since prefix from) harvest → harvested harvest ≡ selection_in harvest.first.found (records_since prefix from)
+followed_told config state commands prefix from harvest good begins follow =
+    let followed = chain_followed config commands state (records_since prefix from) harvest.first harvest.others good begins follow.chain in
     let shown = shown_pages followed.1.format (requests_of harvest) followed.0 followed.1.told in
     shown.0 ∙ followed.1.complete (sym shown.1 ∙ follow.ended)
 
-pub harvest_told : (config : Config) (commands : List Timed) (prefix : List ℕ) (from : Option (List ℕ)) (harvest : Harvest) → IsConfig config → IsSound config harvest.first.found
-    → IsPart (harvest.first ∷ []) (run config (empty_state config) commands) → harvest.first.outcome ≡ (act config harvest.first.found harvest.first.command).0
-    → IsHarvest config (run config (empty_state config) commands) (records_since prefix from) harvest → harvested harvest ≡ selection_in harvest.first.found (records_since prefix from)
-harvest_told config commands prefix from harvest good sound among acted h =
-    let told = told_some config commands prefix from harvest.first good sound among h.asked acted in
+pub harvest_told : (config : Config) (state : RepoState) (commands : List Timed) (prefix : List ℕ) (from : Option (List ℕ)) (harvest : Harvest) → IsConfig config → IsSound config state → IsSound config harvest.first.found
+    → IsPart (harvest.first ∷ []) (run config state commands) → harvest.first.outcome ≡ (act config harvest.first.found harvest.first.command).0
+    → IsHarvest config (run config state commands) (records_since prefix from) harvest → harvested harvest ≡ selection_in harvest.first.found (records_since prefix from)
+harvest_told config state commands prefix from harvest good begins sound among acted h =
+    let told = told_some config state commands prefix from harvest.first good begins sound among h.asked acted in
     let selection : List ItemState = selection_in harvest.first.found (records_since prefix from) in
     elim h.answered [
       | inl empty ↦ empty_told harvest selection empty told
       | inr some ↦ elim some [
         | inl one ↦ whole_harvested harvest selection one told
-        | inr follow ↦ followed_told config commands prefix from harvest good follow
+        | inr follow ↦ followed_told config state commands prefix from harvest good begins follow
       ]
     ]

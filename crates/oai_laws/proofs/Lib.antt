@@ -15,6 +15,8 @@ pub mod WorkedLemmas
 pub mod ShownLemmas
 pub mod ReadLemmas
 pub mod SinceLemmas
+pub mod EndedLemmas
+pub mod ReachedLemmas
 pub mod HarvestedLemmas
 pub mod HeldLemmas
 pub mod HarvestLemmas

@@ -44,7 +44,7 @@ use Rattle.oai_laws.proofs.EffectLemmas.{effect_of, sound_act, sound_empty, soun
 -- ---- datestamps
 
 -- what is true of the times of a state
-record IsTimed (config : Config) (state : RepoState) : Type 0 where
+pub record IsTimed (config : Config) (state : RepoState) : Type 0 where
   pub years : is_in_years state.clock ≡ true
   pub begun : int_le config.earliest state.clock ≡ true
   pub dated : list_all (has_granular_stamp config state.clock) state.holdings.items ≡ true
@@ -59,7 +59,7 @@ le_later : (a b c : ℤ) → int_le a b ≡ true → b ≤ℤ c → int_le a c �
 le_later a b c h g = grind (arith, ints)
 
 -- a repository begins at its earliestDatestamp
-timed_empty : (config : Config) → IsConfig config → IsTimed config (empty_state config)
+pub timed_empty : (config : Config) → IsConfig config → IsTimed config (empty_state config)
 timed_empty config good = record { years = in_years-config config good; begun = le_own config.earliest; dated = refl }
 
 -- the clock never goes back
@@ -73,7 +73,7 @@ dated_later config clock later after item h =
     and_from (int_le config.earliest item.stamp && int_le item.stamp later) (int_eq (stamp_of config.granularity item.stamp) item.stamp)
     (and_from (int_le config.earliest item.stamp) (int_le item.stamp later) between.0 (le_later item.stamp clock later between.1 after)) parts.1
 
-timed_moved : (config : Config) (moment : ℤ) (state : RepoState) → IsTimed config state → IsTimed config (moved moment state)
+pub timed_moved : (config : Config) (moment : ℤ) (state : RepoState) → IsTimed config state → IsTimed config (moved moment state)
 timed_moved config moment state timed =
     let later : ℤ = tick state.clock moment in
     record {
@@ -130,7 +130,7 @@ timed_effected config state (set_added set) good possible timed = record { years
 timed_effected config state (list_carried_on number next) good possible timed = record { years = timed.years; begun = timed.begun; dated = timed.dated }
 timed_effected config state (list_opened list) good possible timed = record { years = timed.years; begun = timed.begun; dated = timed.dated }
 
-timed_act : (config : Config) (state : RepoState) (command : Command) → IsConfig config → IsSound config state → IsTimed config state → IsTimed config (act config state command).1
+pub timed_act : (config : Config) (state : RepoState) (command : Command) → IsConfig config → IsSound config state → IsTimed config state → IsTimed config (act config state command).1
 timed_act config state command good sound timed =
     let done = effect_of config state command sound in
     subst (IsTimed config) (sym done.done) (timed_effected config state done.effect good done.possible timed)
@@ -212,7 +212,7 @@ selected_for config clock list_request items item earliest years dated stands as
       in_set = given_set list_request.set item.sets asked.set;
     }
 
-selection_is : (config : Config) (state : RepoState) (list_request : ListRequest) → IsConfig config → IsSound config state → IsTimed config state → IsSelection list_request state.holdings.items (selection_in state list_request)
+pub selection_is : (config : Config) (state : RepoState) (list_request : ListRequest) → IsConfig config → IsSound config state → IsTimed config state → IsSelection list_request state.holdings.items (selection_in state list_request)
 selection_is config state list_request good sound timed =
     let items : List ItemState = state.holdings.items in
     let asked : Filter = filter_of list_request.prefix list_request.from list_request.until list_request.set in
@@ -227,13 +227,13 @@ selection_is config state list_request good sound timed =
 
 -- ---- in the course of time
 
-abbrev IsSelectionAt : ListRequest → Exchange → Type 0
+abbrev pub IsSelectionAt : ListRequest → Exchange → Type 0
 IsSelectionAt list_request exchange = IsSelection list_request exchange.found.holdings.items (selection_in exchange.found list_request)
 
-abbrev IsDatedAfter : Config → Exchange → Type 0
+abbrev pub IsDatedAfter : Config → Exchange → Type 0
 IsDatedAfter config exchange = list_all (has_granular_stamp config exchange.left.clock) exchange.left.holdings.items ≡ true
 
-selected_from : (config : Config) (commands : List Timed) (state : RepoState) (list_request : ListRequest) → IsConfig config → IsSound config state → IsTimed config state → Throughout (IsSelectionAt list_request) (run config state commands)
+pub selected_from : (config : Config) (commands : List Timed) (state : RepoState) (list_request : ListRequest) → IsConfig config → IsSound config state → IsTimed config state → Throughout (IsSelectionAt list_request) (run config state commands)
 selected_from config [] state list_request good sound times = tt
 selected_from config (timed ∷ commands) state list_request good sound times =
     let found : RepoState = moved timed.moment state in

@@ -19,7 +19,6 @@ use Rattle.oai_repo.specs.Changes.{drops_format, stamp_at, with_new}
 use Rattle.oai_repo.specs.Machine.{Command, act}
 use Rattle.oai_repo.specs.State.{RepoState, moved}
 use Rattle.oai_laws.specs.Effects.{Effect, IsPossible, IsSound, effected, item_put, item_taken, items_purged, list_carried_on, list_opened, set_added, unchanged}
-use Rattle.oai_laws.specs.Runs.{Exchange, IsPart, Timed, performed, run}
 use Rattle.oai_laws.proofs.EffectLemmas.{effect_of, not_not, sound_effected, sound_moved}
 
 -- ---- under one identifier
@@ -143,43 +142,3 @@ pub after_act : (config : Config) (clock : ℤ) (old : List ItemState) (state : 
 after_act config clock old state command persistent after =
     let done = effect_of config state command after.sound in
     subst (IsAfter config clock old) (sym done.done) (after_effected config clock old state done.effect persistent done.possible after)
-
--- ---- an exchange of a run
-
--- what is known of one that is found behind such a state, with others behind it
-pub record IsReached (config : Config) (clock : ℤ) (old : List ItemState) (exchange : Exchange) (others : List Exchange) : Type 0 where
-  pub commands : List Timed
-  pub found : IsAfter config clock old exchange.found
-  pub told : exchange.outcome ≡ (act config exchange.found exchange.command).0
-  pub left : exchange.left ≡ (act config exchange.found exchange.command).1
-  pub behind : IsPart others (run config exchange.left commands)
-
-here : (config : Config) (clock : ℤ) (old : List ItemState) (state : RepoState) (timed : Timed) (commands : List Timed) (others : List Exchange) → IsAfter config clock old state
-    → IsPart others (run config (performed config state timed).left commands) → IsReached config clock old (performed config state timed) others
-here config clock old state timed commands others after part = record {
-  commands = commands;
-  found = after_moved config clock old timed.moment state after;
-  told = refl;
-  left = refl;
-  behind = part;
-}
-
-pub reached : (config : Config) (clock : ℤ) (old : List ItemState) (state : RepoState) (commands : List Timed) (exchange : Exchange) (others : List Exchange) → config.deleted ≡ Persistent → IsAfter config clock old state
-    → IsPart (exchange ∷ others) (run config state commands) → IsReached config clock old exchange others
-reached config clock old state [] exchange others persistent after part = cc
-reached config clock old state (timed ∷ commands) exchange others persistent after (inl part) =
-    reached config clock old (performed config state timed).left commands exchange others persistent
-    (after_act config clock old (moved timed.moment state) timed.command persistent (after_moved config clock old timed.moment state after)) part
-reached config clock old state (timed ∷ commands) exchange others persistent after (inr found) =
-    let is : exchange ∷ others ≡ performed config state timed ∷ found.0 = found.1 in
-    let exchange_is : performed config state timed ≡ exchange = cc in
-    let others_are : found.0 ≡ others = cc in
-    subst (λ (e : Exchange). IsReached config clock old e others) exchange_is
-    (here config clock old state timed commands others after (subst (λ (es : List Exchange). IsPart es (run config (performed config state timed).left commands)) others_are found.2))
-
--- what becomes of its items behind it
-pub left_after : (config : Config) (clock : ℤ) (old : List ItemState) (exchange : Exchange) (others : List Exchange) → config.deleted ≡ Persistent → IsReached config clock old exchange others
-    → IsAfter config exchange.found.clock exchange.found.holdings.items exchange.left
-left_after config clock old exchange others persistent reached =
-    subst (IsAfter config exchange.found.clock exchange.found.holdings.items) (sym reached.left)
-    (after_act config exchange.found.clock exchange.found.holdings.items exchange.found exchange.command persistent (after_itself config exchange.found reached.found.sound reached.found.writable))
