@@ -5,42 +5,53 @@ use Rattle.oai_settings.specs.Config.{Config}
 use Rattle.oai_repo.specs.Machine.{Command, command_of, line, query}
 use Rattle.oai_repo.specs.State.{RepoState}
 use Rattle.oai_deposit.specs.Lines.{line_of}
+use Rattle.oai_laws.specs.Eras.{left_behind}
 use Rattle.oai_laws.specs.Runs.{Exchange, Timed, performed, run}
 use Rattle.oai_http.specs.Answers.{answered_with}
 use Rattle.oai_http.specs.declared.exchanges.Call.{Call}
 use Rattle.oai_host.specs.Alone.{after_line, after_lines, answers_alone, done_alone, exchanged_alone}
 use Rattle.oai_host.specs.Tasks.{Task, asking, depositing, refusing, task_of}
+use Rattle.oai_headline.specs.Throughout.{left_by}
 use Rattle.oai_headline.specs.Visits.{IsWritten, IsWrittenVisit, Visit, commands_by, commands_in, commands_of, lines_written, steps_of, timed_input, visits}
 
 -- ---- the state behind commands
 
-abbrev pub state_behind : Config → RepoState → List Timed → RepoState
-state_behind config state [] = state
-state_behind config state (timed ∷ commands) = state_behind config (performed config state timed).left commands
-
 -- commands behind others are performed in the state that these leave
 pub run-append : (config : Config) (state : RepoState) (commands others : List Timed)
-    → run config state (commands ++ others) ≡ run config state commands ++ run config (state_behind config state commands) others
+    → run config state (commands ++ others) ≡ run config state commands ++ run config (left_behind config state commands) others
 run-append config state [] others = refl
 run-append config state (timed ∷ commands) others =
     ap (λ (steps : List Exchange). performed config state timed ∷ steps) (run-append config (performed config state timed).left commands others)
 
 -- the lines of a deposit, one after the other
 lines_behind : (config : Config) (moment : ℤ) (state : RepoState) (lines : List (List ℕ))
-    → state_behind config state (commands_of config.granularity moment (depositing lines)) ≡ (after_lines config moment state lines).1
+    → left_behind config state (commands_of config.granularity moment (depositing lines)) ≡ (after_lines config moment state lines).1
 lines_behind config moment state [] = refl
 lines_behind config moment state (text ∷ lines) = lines_behind config moment (after_line config moment state text).1 lines
 
 task_behind : (config : Config) (moment : ℤ) (state : RepoState) (task : Task)
-    → state_behind config state (commands_of config.granularity moment task) ≡ (done_alone config state moment task).1
+    → left_behind config state (commands_of config.granularity moment task) ≡ (done_alone config state moment task).1
 task_behind config moment state (refusing status) = refl
 task_behind config moment state (asking arguments) = refl
 task_behind config moment state (depositing lines) = lines_behind config moment state lines
 
 -- what an exchange leaves is what its commands leave
 pub call_behind : (config : Config) (state : RepoState) (call : Call)
-    → state_behind config state (commands_by config.granularity call) ≡ (exchanged_alone config state call).1
+    → left_behind config state (commands_by config.granularity call) ≡ (exchanged_alone config state call).1
 call_behind config state call = task_behind config call.moment state (task_of call)
+
+behind_both : (config : Config) (state : RepoState) (commands others : List Timed)
+    → left_behind config state (commands ++ others) ≡ left_behind config (left_behind config state commands) others
+behind_both config state [] others = refl
+behind_both config state (timed ∷ commands) others = behind_both config (performed config state timed).left commands others
+
+-- and what exchanges leave, what theirs leave
+pub calls_behind : (config : Config) (state : RepoState) (calls : List Call) → left_behind config state (commands_in config.granularity calls) ≡ left_by config state calls
+calls_behind config state [] = refl
+calls_behind config state (call ∷ calls) =
+    behind_both config state (commands_by config.granularity call) (commands_in config.granularity calls)
+    ∙ ap (λ (s : RepoState). left_behind config s (commands_in config.granularity calls)) (call_behind config state call)
+    ∙ calls_behind config (exchanged_alone config state call).1 calls
 
 -- ---- the steps
 

@@ -14,7 +14,7 @@ use Rattle.oai_repo.specs.Machine.{Outcome, accepted, documented, later, outcome
 use Rattle.oai_repo.specs.State.{RepoState, empty_state}
 use Rattle.oai_laws.specs.Following.{AreNext, IsChain, IsFollowedThrough, IsNextRequest, ListRequest, answer_in, selection_in}
 use Rattle.oai_laws.specs.Runs.{Exchange, IsPart, run}
-use Rattle.oai_laws.proofs.ChainLemmas.{following}
+use Rattle.oai_laws.proofs.ChainLemmas.{chain_followed}
 use Rattle.oai_http.specs.declared.exchanges.Answer.{Answer}
 use Rattle.oai_http.specs.declared.exchanges.Call.{Call}
 use Rattle.oai_host.specs.Answers.{answer_of}
@@ -24,7 +24,7 @@ use Rattle.oai_headline.specs.Visits.{Visit, commands_in, found_by, steps_of, vi
 use Rattle.oai_headline.specs.Chains.{AreNextVisits, AreReached, IsFollowing, IsNextVisit, IsPageOf, IsRequest, IsStepOf}
 use Rattle.oai_headline.proofs.CarriedLemmas.{steps_run}
 use Rattle.oai_headline.proofs.PrintedLemmas.{not_later}
-use Rattle.oai_headline.proofs.TakenLemmas.{AreTaken, IsAsking, IsTaken, reachable_empty, taken, taken_command, taken_found, taken_offer, taken_step, taken_written}
+use Rattle.oai_headline.proofs.TakenLemmas.{AreTaken, IsAsking, IsReachable, IsTaken, reachable_empty, taken, taken_command, taken_found, taken_offer, taken_step, taken_written}
 
 -- ---- each visit of a chain is a request
 
@@ -98,13 +98,13 @@ pages_of config verb format (visit ∷ some) (step ∷ steps) (page ∷ pages) e
       pages_of config verb format some steps pages each.1 rest,
     )
 
-reached : (config : Config) (calls : List Call) (all : List Visit) (list_request : ListRequest) (first : Visit) (others : List Visit) (steps : List Exchange)
-    → IsConfig config → AreRepositoryFormats config.formats → IsFollowing config all list_request first others → AllZip (IsTaken config) (first ∷ others) steps
-    → IsPart steps (run config (empty_state config) (commands_in config.granularity calls)) → AreReached config list_request first others
-reached config calls all list_request first others [] rules formats chain each among = absurd each
-reached config calls all list_request first others (step ∷ steps) rules formats chain each among =
+reached : (config : Config) (state : RepoState) (calls : List Call) (all : List Visit) (list_request : ListRequest) (first : Visit) (others : List Visit) (steps : List Exchange)
+    → IsConfig config → AreRepositoryFormats config.formats → IsReachable config state → IsFollowing config all list_request first others → AllZip (IsTaken config) (first ∷ others) steps
+    → IsPart steps (run config state (commands_in config.granularity calls)) → AreReached config list_request first others
+reached config state calls all list_request first others [] rules formats reachable chain each among = absurd each
+reached config state calls all list_request first others (step ∷ steps) rules formats reachable chain each among =
     let found : step.found ≡ found_by first = taken_found config first step each.0 in
-    let its : IsChain config (run config (empty_state config) (commands_in config.granularity calls)) list_request step steps =
+    let its : IsChain config (run config state (commands_in config.granularity calls)) list_request step steps =
     record {
       among = among;
       verb = chain.verb;
@@ -114,7 +114,7 @@ reached config calls all list_request first others (step ∷ steps) rules format
       next = links config list_request.verb first others step steps rules formats each.0 each.1 chain.next;
     }
     in
-    let told = following config (commands_in config.granularity calls) list_request step steps rules its in
+    let told = chain_followed config (commands_in config.granularity calls) state list_request step steps rules reachable.sound its in
     let followed : IsFollowedThrough config list_request (selection_in (found_by first) list_request) (step ∷ steps) told.0 =
     subst (λ (state : RepoState). IsFollowedThrough config list_request (selection_in state list_request) (step ∷ steps) told.0) found told.1
     in
@@ -126,13 +126,18 @@ reached config calls all list_request first others (step ∷ steps) rules format
       printed = pages_of config list_request.verb followed.format (first ∷ others) (step ∷ steps) told.0 each followed.told;
     }
 
-pub visits_followed : (config : Config) (calls : List Call) (list_request : ListRequest) (first : Visit) (others : List Visit) → IsConfig config → AreRepositoryFormats config.formats
-    → IsFollowing config (visits config (empty_state config) calls) list_request first others → AreReached config list_request first others
-visits_followed config calls list_request first others rules formats chain =
-    let all : List Visit = visits config (empty_state config) calls in
+pub visits_followed_from : (config : Config) (state : RepoState) (calls : List Call) (list_request : ListRequest) (first : Visit) (others : List Visit) → IsConfig config → AreRepositoryFormats config.formats
+    → IsReachable config state → IsFollowing config (visits config state calls) list_request first others → AreReached config list_request first others
+visits_followed_from config state calls list_request first others rules formats reachable chain =
+    let all : List Visit = visits config state calls in
     let asks : AllByRecursion IsAsking (first ∷ others) =
     (record { arguments = chain.asked.arguments; asked = chain.asked.asked }, next_asking config list_request.verb first others chain.next)
     in
-    let steps : AreTaken config (first ∷ others) (flat_map (steps_of config) all) = taken config (empty_state config) calls (first ∷ others) (reachable_empty config rules) asks chain.among in
-    reached config calls all list_request first others steps.steps rules formats chain steps.each
-    (subst (IsPart steps.steps) (steps_run config (empty_state config) calls) steps.among)
+    let steps : AreTaken config (first ∷ others) (flat_map (steps_of config) all) = taken config state calls (first ∷ others) reachable asks chain.among in
+    reached config state calls all list_request first others steps.steps rules formats reachable chain steps.each
+    (subst (IsPart steps.steps) (steps_run config state calls) steps.among)
+
+pub visits_followed : (config : Config) (calls : List Call) (list_request : ListRequest) (first : Visit) (others : List Visit) → IsConfig config → AreRepositoryFormats config.formats
+    → IsFollowing config (visits config (empty_state config) calls) list_request first others → AreReached config list_request first others
+visits_followed config calls list_request first others rules formats chain =
+    visits_followed_from config (empty_state config) calls list_request first others rules formats (reachable_empty config rules) chain

@@ -8,6 +8,7 @@ pub mod FollowedLemmas
 pub mod CutLemmas
 pub mod GivenLemmas
 pub mod PartLemmas
+pub mod EraLemmas
 pub mod ThroughoutLemmas
 pub mod ClientHarvestLemmas
 pub mod MetLemmas

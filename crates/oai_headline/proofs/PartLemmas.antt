@@ -38,6 +38,12 @@ part_each {A} {B} f some (x ∷ all) (inr part) =
     subst (λ (xs : List A). IsPart (flat_map f xs) (f x ++ flat_map f all)) (sym part.1)
     (part_both (f x) (flat_map f part.0) (flat_map f all) (part_each f part.0 all part.2))
 
+pub part_append : {A : Type 0} (some all few others : List A) → IsPart some all → IsPart few others → IsPart (some ++ few) (all ++ others)
+part_append {A} some [] few others first second = subst (λ (xs : List A). IsPart (xs ++ few) others) (sym first) second
+part_append {A} some (x ∷ all) few others (inl first) second = inl (part_append some all few others first second)
+part_append {A} some (x ∷ all) few others (inr first) second =
+    subst (λ (xs : List A). IsPart (xs ++ few) (x ∷ (all ++ others))) (sym first.1) (inr (first.0 ++ few, refl, part_append first.0 all few others first.2 second))
+
 -- ---- chains
 
 pub following_more : (config : Config) (some all : List Visit) (list_request : ListRequest) (first : Visit) (others : List Visit) → IsPart some all
@@ -53,7 +59,7 @@ following_more config some all list_request first others part chain = record {
 
 -- ---- harvests
 
-harvest_more : (config : Config) (some all : List Exchange) (list_request : ListRequest) (harvest : Harvest) → IsPart some all → IsHarvest config some list_request harvest
+pub harvest_more : (config : Config) (some all : List Exchange) (list_request : ListRequest) (harvest : Harvest) → IsPart some all → IsHarvest config some list_request harvest
     → IsHarvest config all list_request harvest
 harvest_more config some all list_request harvest part its = record {
   asked = its.asked;

@@ -15,6 +15,7 @@ use Rattle.oai_answers.specs.Answers.{Attributes}
 use Rattle.oai_repo.specs.State.{RepoState, empty_state, moved}
 use Rattle.oai_repo.proofs.ClockLemmas.{in_years-config, in_years-tick}
 use Rattle.oai_laws.specs.Effects.{IsSound}
+use Rattle.oai_laws.specs.Eras.{left_behind}
 use Rattle.oai_laws.specs.Runs.{Exchange, IsPart, Timed, performed, run}
 use Rattle.oai_laws.proofs.EffectLemmas.{sound_act, sound_empty, sound_moved}
 use Rattle.oai_laws.proofs.ShownLemmas.{regular_act}
@@ -24,7 +25,7 @@ use Rattle.oai_host.specs.Answers.{answer_of}
 use Rattle.oai_host.specs.Tasks.{Task, asking, task_of}
 use Rattle.oai_headline.specs.Visits.{Visit, commands_by, commands_of, found_by, steps_of, timed_input, visit_in, visits}
 use Rattle.oai_headline.specs.Chains.{IsPrinted, IsStepOf}
-use Rattle.oai_headline.proofs.CarriedLemmas.{call_behind, state_behind}
+use Rattle.oai_headline.proofs.CarriedLemmas.{call_behind}
 use Rattle.oai_headline.proofs.EndLemmas.{SaidEnds, end_writable, request_ends}
 use Rattle.oai_headline.proofs.PrintedLemmas.{HasOffer, IsReplied, printed_offer}
 use Rattle.oai_laws.specs.Following.{TokenOffer, page_shown}
@@ -59,7 +60,7 @@ reachable_act config state command h = record {
   years = ap is_in_years (same_clock config state command) ∙ h.years;
 }
 
-reachable_behind : (config : Config) (state : RepoState) (commands : List Timed) → IsReachable config state → IsReachable config (state_behind config state commands)
+reachable_behind : (config : Config) (state : RepoState) (commands : List Timed) → IsReachable config state → IsReachable config (left_behind config state commands)
 reachable_behind config state [] h = h
 reachable_behind config state (timed ∷ commands) h =
     reachable_behind config (performed config state timed).left commands

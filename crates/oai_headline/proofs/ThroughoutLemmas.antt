@@ -5,9 +5,8 @@ use Rattle.std.proofs.lemmas.Bool.{cond-false}
 use Rattle.oai_item.specs.declared.faults.Fault.{Fault}
 use Rattle.oai_settings.specs.Config.{Config}
 use Rattle.oai_repo.specs.State.{RepoState, empty_state}
-use Rattle.oai_laws.specs.Runs.{IsPart, run}
 use Rattle.oai_config.specs.Configs.{HostConfig, NamedConfig}
-use Rattle.oai_laws.proofs.HarvestLemmas.{harvests_copied}
+use Rattle.oai_laws.proofs.EndedLemmas.{standing_empty}
 use Rattle.oai_http.specs.declared.exchanges.Answer.{Answer}
 use Rattle.oai_http.specs.declared.exchanges.Call.{Call}
 use Rattle.oai_host.specs.Alone.{exchanged_alone, own_answers, own_calls}
@@ -19,10 +18,8 @@ use Rattle.oai_cli.specs.Begun.{IsBegunOn}
 use Rattle.oai_headline.specs.Headline.{HasRules, HaveRules, IsMadeOf}
 use Rattle.oai_headline.specs.Throughout.{IsTrueVisit, IsTrueBy, IsThroughout, IsThroughoutAt, left_by, own_given, own_calls_done, calls_done, calls_done_in, calls_done_by, visits_given, whole_visits}
 use Rattle.oai_headline.specs.Visits.{Visit, commands_in, steps_of, visits}
-use Rattle.oai_headline.proofs.CarriedLemmas.{steps_run}
-use Rattle.oai_headline.proofs.FollowedLemmas.{visits_followed}
-use Rattle.oai_headline.proofs.GivenLemmas.{all_met, whole_among}
-use Rattle.oai_headline.proofs.PartLemmas.{following_more, part_each, successive_more}
+use Rattle.oai_headline.proofs.GivenLemmas.{all_met}
+use Rattle.oai_headline.proofs.EraLemmas.{throughout_from}
 
 -- ---- a repository
 
@@ -31,24 +28,11 @@ at_one : (calls : List Call) (answers : List Answer) (entry : NamedConfig) (old 
 at_one calls answers entry old new after rules honest own =
     let config : Config = entry.config in
     let state : RepoState = empty_state config in
-    let met = all_met config (own_calls entry.name calls) (own_answers entry.name calls answers) state old after.state new honest own.run in
-    let some : List Visit = whole_visits (own_given entry calls answers) in
-    let done : List Call = own_calls_done entry calls answers in
-    let among : IsPart some (visits config state done) = whole_among config state (own_calls entry.name calls) (own_answers entry.name calls answers) met.given in
-    let steps : IsPart (flat_map (steps_of config) some) (run config state (commands_in config.granularity done)) =
-    subst (IsPart (flat_map (steps_of config) some)) (steps_run config state done) (part_each (steps_of config) some (visits config state done) among)
-    in
-    record {
-      given = met.given;
-      among = among;
-      state = met.left;
-      followed = λ list_request first others chain.
-          visits_followed config done list_request first others rules.rules rules.formats (following_more config some (visits config state done) list_request first others among chain);
-      harvests = λ prefix first others keeps successive.
-          harvests_copied config (commands_in config.granularity done) prefix first others rules.rules keeps
-          (successive_more config (flat_map (steps_of config) some) (run config state (commands_in config.granularity done)) prefix first others steps successive);
-      alone = λ none. alone_from config (own_calls entry.name calls) (own_answers entry.name calls answers) state old after.state new honest own.run none;
-    }
+    let own_cs : List Call = own_calls entry.name calls in
+    let own_as : List Answer = own_answers entry.name calls answers in
+    let met = all_met config own_cs own_as state old after.state new honest own.run in
+    throughout_from config state own_cs own_as after.state rules.rules rules.formats (standing_empty config rules.rules)
+    (record { given = met.given; leaves = met.left; alone = λ none. alone_from config own_cs own_as state old after.state new honest own.run none })
 
 -- what is true of each is true of the first, and of each behind it
 each_rules : (entries : List NamedConfig) → All HasRules entries → AllByRecursion HasRules entries

@@ -2,6 +2,7 @@ pub mod Visits
 pub mod Chains
 pub mod Headline
 pub mod Throughout
+pub mod Eras
 pub mod Worked
 pub mod WorkedFaults
 pub mod ClientHarvests

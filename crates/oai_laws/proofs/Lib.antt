@@ -17,6 +17,7 @@ pub mod ReadLemmas
 pub mod SinceLemmas
 pub mod EndedLemmas
 pub mod ReachedLemmas
+pub mod EraTokenLemmas
 pub mod HarvestedLemmas
 pub mod HeldLemmas
 pub mod HarvestLemmas

@@ -1,0 +1,61 @@
+-- The exchanges with a repository whose open lists are all ended now and then, as a checkpoint ends them. OAI-PMH 2.0, sections 2.7.1 and 3.5; that
+-- lists are ended before they expire is this repository's own.
+use Rattle.std.specs.Prelude.{◌≡◌, ◌≤◌, ℕ, List, [], ◌∷◌}
+use Rattle.std.specs.List.{flat_map}
+use Rattle.oai_lists.specs.declared.lists.TheConstants.{LAST_NUMBER}
+use Rattle.oai_settings.specs.Config.{Config}
+use Rattle.oai_repo.specs.Saved.{ended}
+use Rattle.oai_repo.specs.State.{RepoState, empty_state}
+use Rattle.oai_laws.specs.Eras.{AreEnded, MissNothingWithin}
+use Rattle.oai_laws.specs.Runs.{Exchange}
+use Rattle.oai_http.specs.declared.exchanges.Answer.{Answer}
+use Rattle.oai_http.specs.declared.exchanges.Call.{Call}
+use Rattle.oai_headline.specs.Throughout.{IsThroughoutFrom, calls_done, left_by, visits_given, whole_visits}
+use Rattle.oai_headline.specs.Visits.{Visit, steps_of}
+
+-- an era begins as all open lists end, and the number of the next one is raised by so many; what is asked in it, and what is answered
+pub record VisitedEra : Type 0 where
+  pub raise : ℕ
+  pub calls : List Call
+  pub answers : List Answer
+
+-- the state in which it begins, behind that one
+abbrev pub era_begins : RepoState → VisitedEra → RepoState
+era_begins state era = ended era.raise state
+
+-- the state that it leaves: what was performed in it
+abbrev pub era_leaves : Config → RepoState → VisitedEra → RepoState
+era_leaves config state era = left_by config (era_begins state era) (calls_done era.calls era.answers)
+
+-- the state that eras leave
+abbrev pub eras_leave : Config → RepoState → List VisitedEra → RepoState
+eras_leave config state [] = state
+eras_leave config state (era ∷ eras) = eras_leave config (era_leaves config state era) eras
+
+-- the steps of the machine that come of the visits without a fault, for each era
+abbrev pub era_steps : Config → RepoState → VisitedEra → List Exchange
+era_steps config state era = flat_map (steps_of config) (whole_visits (visits_given config (era_begins state era) era.calls era.answers))
+
+abbrev pub steps_within : Config → RepoState → List VisitedEra → List (List Exchange)
+steps_within config state [] = []
+steps_within config state (era ∷ eras) = era_steps config state era ∷ steps_within config (era_leaves config state era) eras
+
+-- no number of a list is raised beyond the last one of 64 bits
+abbrev pub HaveNumbersIn : Config → RepoState → List VisitedEra → Type 0
+HaveNumbersIn config state [] = Unit {0}
+HaveNumbersIn config state (era ∷ eras) = ((era_begins state era).open_lists.next ≤ LAST_NUMBER) × HaveNumbersIn config (era_leaves config state era) eras
+
+-- the theorem holds of each era, from the state on that the one before it left, once all lists ended
+abbrev pub IsThroughoutEach : Config → RepoState → List VisitedEra → Type 0
+IsThroughoutEach config state [] = Unit {0}
+IsThroughoutEach config state (era ∷ eras) =
+    IsThroughoutFrom config (era_begins state era) era.calls era.answers (era_leaves config state era)
+    × IsThroughoutEach config (era_leaves config state era) eras
+
+-- the eras of a repository from its beginning on: the theorem holds of each; a token that was handed out in one is refused in all later ones; harvests
+-- of which each is made within an era miss nothing; and all that was performed leaves the state
+pub record IsThroughoutEras (config : Config) (eras : List VisitedEra) (left : RepoState) : Type 0 where
+  pub each : IsThroughoutEach config (empty_state config) eras
+  pub refused : AreEnded (steps_within config (empty_state config) eras)
+  pub harvests : MissNothingWithin config (steps_within config (empty_state config) eras)
+  pub state : left ≡ eras_leave config (empty_state config) eras
