@@ -1,84 +1,169 @@
 -- The theorem of a server over all its lives.
-use Rattle.std.proofs.Common.{ℕ, suc, List, [], ◌∷◌, map, Option, arith, sym, subst}
-use Rattle.std.specs.List.{All, AllByRecursion, AllZip, flat_map}
+use Rattle.std.proofs.Common.{◌≡◌, ◌∙◌, ◌≤◌, ℕ, suc, List, [], ◌∷◌, ◌++◌, map, Option, None, Some, arith, refl, sym, ap, ap₂, subst}
+use Rattle.std.specs.List.{All, AllByRecursion, AllZip}
+use Rattle.oai_lists.specs.declared.lists.TheConstants.{LAST_NUMBER}
 use Rattle.oai_settings.specs.Config.{Config}
 use Rattle.oai_repo.specs.State.{RepoState, empty_state}
-use Rattle.oai_laws.specs.Runs.{IsPart, run}
-use Rattle.oai_laws.proofs.HarvestLemmas.{harvests_copied}
 use Rattle.oai_config.specs.Configs.{HostConfig, NamedConfig}
-use Rattle.oai_http.specs.declared.exchanges.Answer.{Answer}
-use Rattle.oai_http.specs.declared.exchanges.Call.{Call}
-use Rattle.oai_host.specs.Alone.{own_answers, own_calls}
+use Rattle.oai_host.specs.Emptied.{emptied_redone, emptied_restored}
 use Rattle.oai_host.specs.Hosts.{HostState, Repository, begun}
+use Rattle.oai_host.specs.Saved.{emptied_in, ended_at, ended_in}
 use Rattle.oai_journal.specs.Journals.{IsLeft}
 use Rattle.oai_journal.specs.Records.{Entry}
 use Rattle.oai_journal.specs.declared.journals.Journal as journal
 use Rattle.oai_durable.specs.Records.{redone_all}
+use Rattle.oai_durable.proofs.CheckpointLemmas.{checkpoint_left}
+use Rattle.oai_headline.specs.Eras.{HaveNumbersIn, IsThroughoutEras, VisitedEra, era_leaves, eras_leave}
 use Rattle.oai_headline.specs.Headline.{HasRules, HaveRules}
-use Rattle.oai_headline.specs.Throughout.{IsThroughoutAt, own_given, own_calls_done, whole_visits}
-use Rattle.oai_headline.specs.Visits.{Visit, commands_in, steps_of, visits}
-use Rattle.oai_headline.proofs.CarriedLemmas.{steps_run}
-use Rattle.oai_headline.proofs.FollowedLemmas.{visits_followed}
-use Rattle.oai_headline.proofs.GivenLemmas.{whole_among}
-use Rattle.oai_headline.proofs.PartLemmas.{following_more, part_each, successive_more}
-use Rattle.oai_service.specs.Hosting.{hosting, leaving}
-use Rattle.oai_service.specs.Lives.{AreServerLives, ServerLife}
-use Rattle.oai_service.specs.Service.{IsServed, all_turns}
-use Rattle.oai_service.specs.Turns.{answers_in, calls_in}
-use Rattle.oai_service.proofs.LifeLemmas.{tell_all}
-use Rattle.oai_service.proofs.OwnLemmas.{IsOwnMet, turns_met}
+use Rattle.oai_headline.proofs.EraLemmas.{AreMetEach, AreMetFrom, throughout_eras}
+use Rattle.oai_service.specs.Hosting.{HaveNumbers, hosting, leaving, saving}
+use Rattle.oai_service.specs.Lives.{AreServerEras, BeginsEra, ServerEra, ServerLife}
+use Rattle.oai_service.specs.Service.{AreEndedBetween, AreKept, IsReceivedIn, IsServed, Told, all_turns, eras_told, left_behind, own_era, own_eras}
+use Rattle.oai_service.specs.Turns.{AreTurns, answers_in, calls_in, records_in}
+use Rattle.oai_service.proofs.LifeLemmas.{TellsAll, tell_all}
+use Rattle.oai_service.proofs.OwnLemmas.{IsMetAt, IsOwnMet, turns_met}
 
--- ---- a repository
+-- ---- how an era begins
 
-at_one : (calls : List Call) (answers : List Answer) (entry : NamedConfig) (after : Repository) → HasRules entry → IsOwnMet calls answers (begun entry) after → IsThroughoutAt calls answers entry after.state
-at_one calls answers entry after rules own =
-    let config : Config = entry.config in
-    let state : RepoState = empty_state config in
-    let some : List Visit = whole_visits (own_given entry calls answers) in
-    let done : List Call = own_calls_done entry calls answers in
-    let among : IsPart some (visits config state done) = whole_among config state (own_calls entry.name calls) (own_answers entry.name calls answers) own.met.given in
-    let steps : IsPart (flat_map (steps_of config) some) (run config state (commands_in config.granularity done)) =
-    subst (IsPart (flat_map (steps_of config) some)) (steps_run config state done) (part_each (steps_of config) some (visits config state done) among)
-    in
+-- where no list is open, and no number is raised, all is as it was
+none_ended : (entries : List NamedConfig) → map begun entries ≡ ended_in 0 (map begun entries)
+none_ended [] = refl
+none_ended (entry ∷ entries) = ap (λ (rs : List Repository). begun entry ∷ rs) (none_ended entries)
+
+begun_emptied : (entries : List NamedConfig) → emptied_in (map begun entries) ≡ map begun entries
+begun_emptied [] = refl
+begun_emptied (entry ∷ entries) = ap (λ (rs : List Repository). begun entry ∷ rs) (begun_emptied entries)
+
+-- what is before an era
+state_before : List NamedConfig → Option (List Entry) → List Repository
+state_before entries None = map begun entries
+state_before entries (Some before) = redone_all leaving (map begun entries) before
+
+era_begun : {S H J : Type 0} (entries : List NamedConfig) (before : Option (List Entry)) (era : ServerEra S H J) → BeginsEra saving (map begun entries) before era
+    → redone_all leaving (map begun entries) era.found ≡ ended_in era.raise (state_before entries before)
+unfolding state_before
+era_begun entries None era begins =
+    ap (redone_all leaving (map begun entries)) begins.0 ∙ none_ended entries ∙ ap (λ (n : ℕ). ended_in n (map begun entries)) (sym begins.1)
+era_begun entries (Some before) era begins =
+    checkpoint_left saving (map begun entries) before era.raise era.found (record { redone = emptied_redone; restored = emptied_restored }) (begun_emptied entries) begins
+
+-- ---- a repository over eras
+
+record IsOwnMetOver (eras : List VisitedEra) (before after : Repository) : Type 0 where
+  pub name : after.name ≡ before.name
+  pub config : after.config ≡ before.config
+  pub met : AreMetEach before.config before.state (own_eras before.name eras)
+  pub numbers : HaveNumbersIn before.config before.state (own_eras before.name eras)
+  pub leaves : after.state ≡ eras_leave before.config before.state (own_eras before.name eras)
+
+-- what is known of the eras behind a state
+record AreMetBehind (config : Config) (state : RepoState) (eras : List VisitedEra) (after : RepoState) : Type 0 where
+  pub met : AreMetEach config state eras
+  pub numbers : HaveNumbersIn config state eras
+  pub leaves : after ≡ eras_leave config state eras
+
+behind_of : (eras : List VisitedEra) (between after : Repository) → IsOwnMetOver eras between after → AreMetBehind between.config between.state (own_eras between.name eras) after.state
+behind_of eras between after over = record { met = over.met; numbers = over.numbers; leaves = over.leaves }
+
+own_over : (era : VisitedEra) (eras : List VisitedEra) (x y z : Repository) → (ended_at era.raise x).state.open_lists.next ≤ LAST_NUMBER → IsOwnMet era.calls era.answers (ended_at era.raise x) y
+    → IsOwnMetOver eras y z → IsOwnMetOver (era ∷ eras) x z
+own_over era eras x y z few own over =
+    let own_first : VisitedEra = own_era x.name era in
+    let left : y.state ≡ era_leaves x.config x.state own_first = own.met.left in
+    let named = subst (λ (name : List ℕ). AreMetBehind y.config y.state (own_eras name eras) z.state) own.name (behind_of eras y z over) in
+    let set = subst (λ (config : Config). AreMetBehind config y.state (own_eras x.name eras) z.state) own.config named in
+    let rest : AreMetBehind x.config (era_leaves x.config x.state own_first) (own_eras x.name eras) z.state =
+    subst (λ (state : RepoState). AreMetBehind x.config state (own_eras x.name eras) z.state) left set in
     record {
-      given = own.met.given;
-      among = among;
-      state = own.met.left;
-      followed = λ list_request first others chain.
-          visits_followed config done list_request first others rules.rules rules.formats (following_more config some (visits config state done) list_request first others among chain);
-      harvests = λ prefix first others keeps successive.
-          harvests_copied config (commands_in config.granularity done) prefix first others rules.rules keeps
-          (successive_more config (flat_map (steps_of config) some) (run config state (commands_in config.granularity done)) prefix first others steps successive);
-      alone = own.met.alone;
+      name = over.name ∙ own.name;
+      config = over.config ∙ own.config;
+      met = (record { given = own.met.given; leaves = refl; alone = own.met.alone }, rest.met);
+      numbers = (few, rest.numbers);
+      leaves = rest.leaves;
     }
+
+each_over : (era : VisitedEra) (eras : List VisitedEra) (before between after : List Repository) → HaveNumbers (ended_in era.raise before)
+    → AllZip (IsOwnMet era.calls era.answers) (ended_in era.raise before) between → AllZip (IsOwnMetOver eras) between after → AllZip (IsOwnMetOver (era ∷ eras)) before after
+each_over era eras [] [] [] few own over = tt
+each_over era eras [] [] (z ∷ after) few own over = absurd over
+each_over era eras [] (y ∷ between) after few own over = absurd own
+each_over era eras (x ∷ before) [] after few own over = absurd own
+each_over era eras (x ∷ before) (y ∷ between) [] few own over = absurd over
+each_over era eras (x ∷ before) (y ∷ between) (z ∷ after) few own over = (own_over era eras x y z few.0 own.0 over.0, each_over era eras before between after few.1 own.1 over.1)
+
+none_over : (repositories : List Repository) → AllZip (IsOwnMetOver []) repositories repositories
+none_over [] = tt
+none_over (x ∷ repositories) = (record { name = refl; config = refl; met = tt; numbers = tt; leaves = refl }, none_over repositories)
+
+-- ---- eras
+
+-- what is told of eras
+record TellsEras {S H J : Type 0} (contents remaining : S → Option (List ℕ)) (begins before : List Repository) (eras : List (ServerEra S H J)) : Type 0 where
+  pub told : List (List Told)
+  pub received : AllZip (λ (era : ServerEra S H J) (t : List Told). AllZip (IsReceivedIn contents remaining) era.lives t) eras told
+  pub recorded : AllZip (λ (era : ServerEra S H J) (t : List Told). AreTurns begins era.found (all_turns t)) eras told
+  pub kept : AllZip (λ (era : ServerEra S H J) (t : List Told). AreKept era.found era.lives t era.left) eras told
+  pub ended : AreEndedBetween begins before eras
+  pub met : AllZip (IsOwnMetOver (eras_told eras told)) before (left_behind begins before eras)
+
+module _ {S H J : Type 0} (view : H → HostState) (j : journal.Ghosts J) (contents remaining : S → Option (List ℕ))
+    (law : (journal : J) (entries : List Entry) (durable : ℕ) (found : List Entry) → j.holds journal entries durable → j.may_leave journal found → IsLeft durable entries found)
+    (entries : List NamedConfig) where
+  tell_eras : (before : Option (List Entry)) (eras : List (ServerEra S H J)) → AreServerEras (hosting view) saving j contents remaining (map begun entries) before eras
+      → AllByRecursion (λ (era : ServerEra S H J). HaveNumbers (redone_all leaving (map begun entries) era.found)) eras
+      → TellsEras contents remaining (map begun entries) (state_before entries before) eras
+  unfolding state_before
+  tell_eras before [] are numbers = record { told = []; received = tt; recorded = tt; kept = tt; ended = tt; met = none_over (state_before entries before) }
+  tell_eras before (era ∷ eras) are numbers =
+      let all = tell_all view j contents remaining law (map begun entries) era.found era.lives era.left are.1 in
+      let rest = tell_eras (Some era.left) eras are.2 numbers.1 in
+      let starts : redone_all leaving (map begun entries) era.found ≡ ended_in era.raise (state_before entries before) = era_begun entries before era are.0 in
+      let turns = all_turns all.told in
+      let own = turns_met (map begun entries) era.found turns all.turned in
+      let to_left = subst (λ (es : List Entry). AllZip (IsOwnMet (calls_in turns) (answers_in turns)) (redone_all leaving (map begun entries) era.found) (redone_all leaving (map begun entries) es))
+      (sym all.leaves) own in
+      let from = subst (λ (rs : List Repository). AllZip (IsOwnMet (calls_in turns) (answers_in turns)) rs (redone_all leaving (map begun entries) era.left)) starts to_left in
+      record {
+        told = all.told ∷ rest.told;
+        received = (all.received, rest.received);
+        recorded = (all.turned, rest.recorded);
+        kept = (all.kept, rest.kept);
+        ended = (starts, rest.ended);
+        met = each_over (record { raise = era.raise; calls = calls_in turns; answers = answers_in turns }) (eras_told eras rest.told) (state_before entries before)
+            (redone_all leaving (map begun entries) era.left) (left_behind (map begun entries) (redone_all leaving (map begun entries) era.left) eras)
+            (subst HaveNumbers starts numbers.0) from rest.met;
+      }
+
+-- ---- the server
 
 each_rules : (entries : List NamedConfig) → All HasRules entries → AllByRecursion HasRules entries
 each_rules [] h = tt
 each_rules (entry ∷ entries) h = (h 0 entry (omega arith), each_rules entries (λ k d within. h (suc k) d (omega (arith, within))))
 
-at_each : (calls : List Call) (answers : List Answer) (entries : List NamedConfig) (after : List Repository) → AllByRecursion HasRules entries
-    → AllZip (IsOwnMet calls answers) (map begun entries) after
-    → AllZip (λ (entry : NamedConfig) (repository : Repository). IsThroughoutAt calls answers entry repository.state) entries after
-at_each calls answers [] [] rules met = tt
-at_each calls answers [] (y ∷ after) rules met = absurd met
-at_each calls answers (entry ∷ entries) [] rules met = absurd met
-at_each calls answers (entry ∷ entries) (y ∷ after) rules met = (at_one calls answers entry y rules.0 met.0, at_each calls answers entries after rules.1 met.1)
-
--- ---- the server
+at_each : (eras : List VisitedEra) (entries : List NamedConfig) (after : List Repository) → AllByRecursion HasRules entries → AllZip (IsOwnMetOver eras) (map begun entries) after
+    → AllZip (λ (entry : NamedConfig) (repository : Repository). IsThroughoutEras entry.config (own_eras entry.name eras) repository.state) entries after
+at_each eras [] [] rules met = tt
+at_each eras [] (y ∷ after) rules met = absurd met
+at_each eras (entry ∷ entries) [] rules met = absurd met
+at_each eras (entry ∷ entries) (y ∷ after) rules met = (
+  throughout_eras entry.config (own_eras entry.name eras) y.state rules.0.rules rules.0.formats met.0.numbers met.0.met met.0.leaves,
+  at_each eras entries after rules.1 met.1,
+)
 
 pub served : {S H J : Type 0} (view : H → HostState) (j : journal.Ghosts J) (contents remaining : S → Option (List ℕ))
     → ((journal : J) (entries : List Entry) (durable : ℕ) (found : List Entry) → j.holds journal entries durable → j.may_leave journal found → IsLeft durable entries found)
-    → (config : HostConfig) (lives : List (ServerLife S H J)) (left : List Entry) → HaveRules config
-    → AreServerLives (hosting view) j contents remaining (map begun config.repositories) [] lives left → IsServed config contents remaining lives left
-served view j contents remaining law config lives left rules are =
-    let all = tell_all view j contents remaining law (map begun config.repositories) [] lives left are in
-    let turns = all_turns all.told in
-    let met = turns_met (map begun config.repositories) [] turns all.turned in
+    → (config : HostConfig) (eras : List (ServerEra S H J)) → HaveRules config
+    → AreServerEras (hosting view) saving j contents remaining (map begun config.repositories) None eras
+    → AllByRecursion (λ (era : ServerEra S H J). HaveNumbers (redone_all leaving (map begun config.repositories) era.found)) eras
+    → IsServed config contents remaining eras
+unfolding state_before
+served view j contents remaining law config eras rules are numbers =
+    let all = tell_eras view j contents remaining law config.repositories None eras are numbers in
     record {
       told = all.told;
       received = all.received;
-      recorded = all.turned;
+      recorded = all.recorded;
       kept = all.kept;
-      throughout = at_each (calls_in turns) (answers_in turns) config.repositories (redone_all leaving (map begun config.repositories) left) (each_rules config.repositories rules)
-          (subst (λ (es : List Entry). AllZip (IsOwnMet (calls_in turns) (answers_in turns)) (map begun config.repositories) (redone_all leaving (map begun config.repositories) es)) (sym all.leaves) met);
+      ended = all.ended;
+      throughout = at_each (eras_told eras all.told) config.repositories (left_behind (map begun config.repositories) (map begun config.repositories) eras) (each_rules config.repositories rules) all.met;
     }

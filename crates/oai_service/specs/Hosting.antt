@@ -1,11 +1,14 @@
 -- What is said of a handler that is a host, as its journal performs it again. This repository's own.
-use Rattle.std.specs.Prelude.{List}
+use Rattle.std.specs.Prelude.{◌≤◌, ℕ, List}
+use Rattle.std.specs.List.{AllByRecursion}
+use Rattle.oai_lists.specs.declared.lists.TheConstants.{LAST_NUMBER}
+use Rattle.oai_durable.specs.Checkpoints.{Saving}
 use Rattle.oai_durable.specs.Journaled.{Replaying}
 use Rattle.oai_durable.specs.Records.{Leaving}
 use Rattle.oai_host.specs.Exchanged.{IsHandled}
 use Rattle.oai_host.specs.Hosts.{HostState, Repository}
 use Rattle.oai_host.specs.Redone.{redone_all, reply_all}
-use Rattle.oai_host.specs.Saved.{restored_in}
+use Rattle.oai_host.specs.Saved.{emptied_in, ended_in, parts_in, restored_in}
 
 -- what calls and parts leave of repositories
 abbrev pub leaving : Leaving (List Repository)
@@ -22,3 +25,11 @@ hosting {H} view = record {
   leaving = leaving;
   reply = reply_all;
 }
+
+-- and how it is saved
+abbrev pub saving : Saving (List Repository)
+saving = record { leaving = leaving; reply = reply_all; parts = parts_in; ended = ended_in; emptied = emptied_in }
+
+-- the number of each next list is one of 64 bits
+abbrev pub HaveNumbers : List Repository → Type 0
+HaveNumbers repositories = AllByRecursion (λ (repository : Repository). repository.state.open_lists.next ≤ LAST_NUMBER) repositories

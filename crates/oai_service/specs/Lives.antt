@@ -1,10 +1,12 @@
--- Lives of a server, one behind the other: each as its service was, over what the one before it left. This repository's own.
-use Rattle.std.specs.Prelude.{◌≡◌, ℕ, IsTrue, List, [], ◌∷◌, length, Option, Result}
+-- Lives of a server, one behind the other: each as its service was, over what the one before it left, or over a checkpoint of it. This repository's own.
+use Rattle.std.specs.Prelude.{◌≡◌, ℕ, IsTrue, List, [], ◌∷◌, length, Option, None, Some, Result}
 use Rattle.oai_journal.specs.Records.{Entry}
 use Rattle.oai_journal.specs.declared.journals.Journal as journal
 use Rattle.oai_serving.specs.Rounds.{IsService, World}
 use Rattle.oai_serving.specs.declared.faults.ServeFault.{ServeFault}
+use Rattle.oai_durable.specs.Checkpoints.{IsCheckpoint, Saving}
 use Rattle.oai_durable.specs.Journaled.{IsExchange, IsHeld, IsSettled, Parts, Replaying}
+use Rattle.oai_durable.specs.Records.{redone_all}
 
 -- a life: the records that it found; the streams that were accepted before it and in it, where they are known; the world in which it began; how its
 -- service ended, in which world; and the records that the journal had when the next life began
@@ -34,3 +36,23 @@ AreServerLives h j contents remaining begun found (life ∷ lives) left =
     (life.found ≡ found)
     × IsServerLife h j contents remaining begun life
     × AreServerLives h j contents remaining begun life.left lives left
+
+-- an era: by how much the numbers of the next lists were raised as it began, its records then, its lives, and the records that the last of them left
+pub record ServerEra (S H J : Type 0) : Type 0 where
+  pub raise : ℕ
+  pub found : List Entry
+  pub lives : List (ServerLife S H J)
+  pub left : List Entry
+
+-- the first era begins with no record, and each other one with those of a checkpoint of what the records before it leave
+abbrev pub BeginsEra : {S H J K : Type 0} → Saving K → K → Option (List Entry) → ServerEra S H J → Type 0
+BeginsEra s begun None era = (era.found ≡ []) × (era.raise ≡ 0)
+BeginsEra s begun (Some before) era = IsCheckpoint s (redone_all s.leaving begun before) era.raise era.found
+
+-- eras, behind those records, if any are before them
+abbrev pub AreServerEras : {S H J : Type 0} (h : Replaying H) → Saving h.Kept → journal.Ghosts J → (S → Option (List ℕ)) → (S → Option (List ℕ)) → h.Kept → Option (List Entry) → List (ServerEra S H J) → Type 0
+AreServerEras h s j contents remaining begun before [] = Unit {0}
+AreServerEras h s j contents remaining begun before (era ∷ eras) =
+    BeginsEra s begun before era
+    × AreServerLives h j contents remaining begun era.found era.lives era.left
+    × AreServerEras h s j contents remaining begun (Some era.left) eras

@@ -6,13 +6,15 @@ use Rattle.oai_front.specs.Runs.{Served}
 use Rattle.oai_journal.specs.Records.{Entry}
 use Rattle.oai_serving.specs.Accepted.{Accepts}
 use Rattle.oai_serving.specs.Tables.{AreLinksAnswered}
-use Rattle.oai_config.specs.Configs.{HostConfig}
-use Rattle.oai_host.specs.Hosts.{begun}
+use Rattle.oai_config.specs.Configs.{HostConfig, NamedConfig}
+use Rattle.oai_host.specs.Alone.{own_answers, own_calls}
+use Rattle.oai_host.specs.Hosts.{Repository, begun}
+use Rattle.oai_host.specs.Saved.{ended_in}
 use Rattle.oai_durable.specs.Records.{redone_all}
 use Rattle.oai_durable.specs.Served.{AreThose}
-use Rattle.oai_headline.specs.Throughout.{IsThroughout}
+use Rattle.oai_headline.specs.Eras.{IsThroughoutEras, VisitedEra}
 use Rattle.oai_service.specs.Hosting.{leaving}
-use Rattle.oai_service.specs.Lives.{ServerLife}
+use Rattle.oai_service.specs.Lives.{ServerEra, ServerLife}
 use Rattle.oai_service.specs.Turns.{AreTurns, Turn, answers_in, calls_in, its, records_in}
 
 -- what of a life stands in the journal: the turns whose answers left, and those behind them whose answers were held back, and whose records are there
@@ -43,14 +45,46 @@ AreKept before [] (t ∷ told) left = ⊥
 AreKept before (life ∷ lives) [] left = ⊥
 AreKept before (life ∷ lives) (t ∷ told) left = (life.found ≡ before) × AreKept (before ++ records_in (turns_of t)) lives told left
 
--- the lives are one history, which is told. `received`: what each client read is the front of the answers to the messages that it sent.
--- `recorded`: what a turn did is what its own record leaves behind the records before it. `kept`: each life begins with the records of all turns
--- before it, those of the answers that left among them. `throughout`: at each repository each answer without a fault is the machine's after
--- what was performed before it, in whichever life, and one with a fault did what its number of lines says, or nothing; where visits without
--- a fault follow a list by its unexpired tokens, their pages, joined, are the records selected at the first of them; and harvests miss nothing
-pub record IsServed {S H J : Type 0} (config : HostConfig) (contents remaining : S → Option (List ℕ)) (lives : List (ServerLife S H J)) (left : List Entry) : Type 0 where
-  pub told : List Told
-  pub received : AllZip (IsReceivedIn contents remaining) lives told
-  pub recorded : AreTurns (map begun config.repositories) [] (all_turns told)
-  pub kept : AreKept [] lives told left
-  pub throughout : IsThroughout config (calls_in (all_turns told)) (answers_in (all_turns told)) (redone_all leaving (map begun config.repositories) left)
+-- ---- eras
+
+-- as a repository has them: by how much the number of its next list was raised, and what was performed
+abbrev pub eras_told : {S H J : Type 0} → List (ServerEra S H J) → List (List Told) → List VisitedEra
+eras_told [] told = []
+eras_told (era ∷ eras) [] = []
+eras_told (era ∷ eras) (t ∷ told) = record { raise = era.raise; calls = calls_in (all_turns t); answers = answers_in (all_turns t) } ∷ eras_told eras told
+
+-- what of them is the repository's own
+abbrev pub own_era : List ℕ → VisitedEra → VisitedEra
+own_era name era = record { raise = era.raise; calls = own_calls name era.calls; answers = own_answers name era.calls era.answers }
+
+abbrev pub own_eras : List ℕ → List VisitedEra → List VisitedEra
+own_eras name eras = map (own_era name) eras
+
+-- each era begins with what was before it, once all lists ended and the number of each next one was raised
+abbrev pub AreEndedBetween : {S H J : Type 0} → List Repository → List Repository → List (ServerEra S H J) → Type 0
+AreEndedBetween begun before [] = Unit {0}
+AreEndedBetween begun before (era ∷ eras) =
+    (redone_all leaving begun era.found ≡ ended_in era.raise before) × AreEndedBetween begun (redone_all leaving begun era.left) eras
+
+-- what the last of them leaves
+abbrev pub left_behind : {S H J : Type 0} → List Repository → List Repository → List (ServerEra S H J) → List Repository
+left_behind begun before [] = before
+left_behind begun before (era ∷ eras) = left_behind begun (redone_all leaving begun era.left) eras
+
+-- ---- the theorem
+
+-- the eras are one history, which is told. `received`: what each client read is the front of the answers to the messages that it sent.
+-- `recorded`: what a turn did is what its own record leaves behind the records before it. `kept`: in an era each life begins with the records of all
+-- turns before it, those of the answers that left among them. `ended`: each era begins with all that was kept before it but the open lists; the
+-- number of the next list is not lower. `throughout`: at each repository, in each era, each answer without a fault is the machine's after what was
+-- performed before it, in whichever life, and one with a fault did what its number of lines says, or nothing; where visits without a fault follow a
+-- list by its unexpired tokens, their pages, joined, are the records selected at the first of them; a token of an earlier era is refused; and
+-- harvests miss nothing, in whichever eras they are made
+pub record IsServed {S H J : Type 0} (config : HostConfig) (contents remaining : S → Option (List ℕ)) (eras : List (ServerEra S H J)) : Type 0 where
+  pub told : List (List Told)
+  pub received : AllZip (λ (era : ServerEra S H J) (t : List Told). AllZip (IsReceivedIn contents remaining) era.lives t) eras told
+  pub recorded : AllZip (λ (era : ServerEra S H J) (t : List Told). AreTurns (map begun config.repositories) era.found (all_turns t)) eras told
+  pub kept : AllZip (λ (era : ServerEra S H J) (t : List Told). AreKept era.found era.lives t era.left) eras told
+  pub ended : AreEndedBetween (map begun config.repositories) (map begun config.repositories) eras
+  pub throughout : AllZip (λ (entry : NamedConfig) (repository : Repository). IsThroughoutEras entry.config (own_eras entry.name (eras_told eras told)) repository.state)
+      config.repositories (left_behind (map begun config.repositories) (map begun config.repositories) eras)

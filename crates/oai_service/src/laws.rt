@@ -1,12 +1,14 @@
 //! What is so of every list of lives of a server: theorems, each on a function with an empty body.
-ghost use Rattle.std.specs.Prelude.{[], List, map};
+ghost use Rattle.std.specs.Prelude.{List, None, map};
+ghost use Rattle.std.specs.List.{AllByRecursion};
 ghost use Rattle.oai_config.specs.Configs.{HostConfig};
 ghost use Rattle.oai_headline.specs.Headline.{HaveRules};
 ghost use Rattle.oai_headline.specs.Visits.{Visit};
 ghost use Rattle.oai_host.specs.Hosts.{HostState, begun};
-ghost use Rattle.oai_journal.specs.Records.{Entry};
 ghost use Rattle.oai_laws.specs.Harvests.{Harvest};
-ghost use Rattle.oai_service.specs.Lives.{AreServerLives, ServerLife};
+ghost use Rattle.oai_durable.specs.Records.{redone_all};
+ghost use Rattle.oai_service.specs.Hosting.{HaveNumbers, leaving};
+ghost use Rattle.oai_service.specs.Lives.{AreServerEras, ServerEra};
 ghost use Rattle.oai_service.specs.Service.{IsServed};
 ghost use Rattle.oai_service.specs.WorkedLives.{AreWorkedLives, AreWorkedTurns};
 
@@ -22,31 +24,40 @@ use sqlite_disk::Disk;
 /// **The theorem.** A server lives any number of times, and each life is a service as `Server::serve` promises it: rounds in which
 /// messages come over connections, are performed by a host whose exchanges stand in a journal, and are answered once the
 /// journal is durable. However each ends, whatever a crash then leaves of its journal, whatever memory was refused and whichever
-/// device calls failed, the next one begins with what is left, performed again. Then all of them are one history: what each
-/// client received is the front of the answers to the messages that it sent, in order; each life begins with the records of
-/// every message that was answered before it, which are all that it left; and at each repository each answer without a fault is the
-/// machine's after what was performed before it, in whichever life; lists that are followed by their unexpired tokens, by
-/// requests without a fault, are what was selected at their first request; and harvests miss nothing, where deleted records are kept.
+/// device calls failed, the next one begins with what is left, performed again; or with a checkpoint of it. Then all of them are one
+/// history: what each client received is the front of the answers to the messages that it sent, in order; each life begins with the
+/// records of every message that was answered before it, which are all that it left, and a checkpoint ends the open lists and nothing
+/// else; and at each repository each answer without a fault is the machine's after what was performed before it, in whichever life; lists
+/// that are followed by their unexpired tokens, by requests without a fault, are what was selected at their first request; a token of a list
+/// that a checkpoint ended is refused; and harvests miss nothing, where deleted records are kept, also those of which each was made
+/// in another life, behind another checkpoint.
 ///
 /// The configuration is one that keeps its rules. The first life begins with no record, and each is over a store that gives back what was
-/// written to it. No checkpoint stands between the lives. It does nothing.
+/// written to it. The lives between two checkpoints are an era; a checkpoint raises no number of a list beyond 64 bits. It does nothing.
 pub fn service_law<S: Stream, V: Versions + Drop, J: Journal>()
-    ensures { (config : HostConfig) (lives : List (ServerLife S HostState J)) (left : List Entry) → HaveRules config
-        → AreServerLives (record {
+    ensures { (config : HostConfig) (eras : List (ServerEra S HostState J)) → HaveRules config
+        → AreServerEras (record {
           step = ⟦<Host<V> as Handler>⟧.step;
           Kept = ⟦<Host<V> as Replayed>⟧.Kept;
           kept = ⟦<Host<V> as Replayed>⟧.kept;
           is_honest = ⟦<Host<V> as Replayed>⟧.is_honest;
           leaving = record { redone = ⟦<Host<V> as Replayed>⟧.redone; restored = ⟦<Host<V> as Replayed>⟧.restored };
           reply = ⟦<Host<V> as Replayed>⟧.reply;
-        }) J.Journal S.contents S.remaining (map begun config.repositories) [] lives left
-        → IsServed config S.contents S.remaining lives left }
+        }) (record {
+          leaving = record { redone = ⟦<Host<V> as Replayed>⟧.redone; restored = ⟦<Host<V> as Replayed>⟧.restored };
+          reply = ⟦<Host<V> as Replayed>⟧.reply;
+          parts = ⟦<Host<V> as Replayed>⟧.parts;
+          ended = ⟦<Host<V> as Replayed>⟧.ended;
+          emptied = ⟦<Host<V> as Replayed>⟧.emptied;
+        }) J.Journal S.contents S.remaining (map begun config.repositories) None eras
+        → AllByRecursion (λ (era : ServerEra S HostState J). HaveNumbers (redone_all leaving (map begun config.repositories) era.found)) eras
+        → IsServed config S.contents S.remaining eras }
 {}
 
 /// The same at the types that the program runs: the store is the one of pages over a device, and the journal a file. It does nothing.
 pub fn service_on_files_law<S: Stream, P: PageDevice, D: Disk + Drop>()
-    ensures { (config : HostConfig) (lives : List (ServerLife S HostState _)) (left : List Entry) → HaveRules config
-        → AreServerLives (record {
+    ensures { (config : HostConfig) (eras : List (ServerEra S HostState _)) → HaveRules config
+        → AreServerEras (record {
           step = ⟦<Host<PagedVersions<P>> as Handler>⟧.step;
           Kept = ⟦<Host<PagedVersions<P>> as Replayed>⟧.Kept;
           kept = ⟦<Host<PagedVersions<P>> as Replayed>⟧.kept;
@@ -56,8 +67,18 @@ pub fn service_on_files_law<S: Stream, P: PageDevice, D: Disk + Drop>()
             restored = ⟦<Host<PagedVersions<P>> as Replayed>⟧.restored;
           };
           reply = ⟦<Host<PagedVersions<P>> as Replayed>⟧.reply;
-        }) ⟦<FileJournal<D> as Journal>⟧ S.contents S.remaining (map begun config.repositories) [] lives left
-        → IsServed config S.contents S.remaining lives left }
+        }) (record {
+          leaving = record {
+            redone = ⟦<Host<PagedVersions<P>> as Replayed>⟧.redone;
+            restored = ⟦<Host<PagedVersions<P>> as Replayed>⟧.restored;
+          };
+          reply = ⟦<Host<PagedVersions<P>> as Replayed>⟧.reply;
+          parts = ⟦<Host<PagedVersions<P>> as Replayed>⟧.parts;
+          ended = ⟦<Host<PagedVersions<P>> as Replayed>⟧.ended;
+          emptied = ⟦<Host<PagedVersions<P>> as Replayed>⟧.emptied;
+        }) ⟦<FileJournal<D> as Journal>⟧ S.contents S.remaining (map begun config.repositories) None eras
+        → AllByRecursion (λ (era : ServerEra S HostState _). HaveNumbers (redone_all leaving (map begun config.repositories) era.found)) eras
+        → IsServed config S.contents S.remaining eras }
 {}
 
 /// What the theorem speaks of is there: two lives of a server of two repositories, with an end in the middle of a list and of a harvest, and with a

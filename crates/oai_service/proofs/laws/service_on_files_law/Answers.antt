@@ -3,6 +3,6 @@ use Rattle.oai_service.proofs.ServiceLemmas.{served}
 use Rattle.oai_service.proofs.laws.service_on_files_law.Goals as goal
 
 pub returns : goal.returns
-returns g c = λ config lives left rules are.
+returns g c = λ config eras rules are numbers.
     served (λ host. host) _ g.S.Stream.contents g.S.Stream.remaining (λ journal entries durable found held leaves. journal_left g.D.Disk.seen g.D.Disk.may_leave journal entries durable found held leaves)
-    config lives left rules are
+    config eras rules are numbers
