@@ -1,5 +1,6 @@
 -- The two worked lives are turns, and what is asked of a list and of harvests is true of their visits.
-use Rattle.std.proofs.Common.{◌≡◌, ◌∙◌, ℕ, ◌+◌, pos, Bool, true, false, ◌&&◌, not, List, [], ◌∷◌, ◌++◌, map, codes, None, Some, is_none, refl, sym, ap, subst, arith, take, unwrap_or}
+use Rattle.std.proofs.Common.{◌≡◌, ◌∙◌, inl, inr, ℕ, ◌+◌, pos, Bool, true, false, ◌&&◌, not, List, [], ◌∷◌, ◌++◌, map, codes, None, Some, is_none, refl, sym, ap, subst, arith, take, unwrap_or}
+use Rattle.std.specs.Fmt as fmt
 use Rattle.std.specs.Prelude.{if◌then◌else◌}
 use Rattle.std.specs.List.{AllByRecursion, AllZip, flat_map, list_all}
 use Rattle.std.proofs.lemmas.Bool.{and_from, and_parts, cond-true, cond-false, false≢true}
@@ -36,7 +37,7 @@ use Rattle.oai_headline.proofs.WorkedCalls.{carried_a, carried_b}
 use Rattle.oai_headline.proofs.WorkedLemmas.{worked_beside, worked_list}
 use Rattle.oai_service.specs.Hosting.{leaving}
 use Rattle.oai_service.specs.Turns.{AreTurns, IsTurn, Turn, answers_in, calls_in, records_in, was_performed}
-use Rattle.oai_service.specs.WorkedLives.{AreWorkedTurns, Deed, done_once, done_whole, entry_in, exchanged_at, first_deeds, second_deeds, turns_at, worked_begun}
+use Rattle.oai_service.specs.WorkedLives.{AreWorkedTurns, Deed, done_once, done_whole, entry_in, exchanged_at, first_deeds, second_deeds, turns_at, worked_begun, worked_checkpoint}
 use Rattle.oai_service.proofs.MachineLemmas.{IsOnce, leads_to_one, names_in, names_left, once_exchanged, reply_whole, sound_host, whole_exchanged}
 use Rattle.oai_service.proofs.OwnLemmas.{IsMetAt, IsOwnMet, left_whole, other_answer, other_call, own_answer, own_call, turns_met}
 
@@ -222,13 +223,24 @@ asks_each : (first second last : Visit) → IsFollowing worked_config (own_visit
 asks_each first second last chain =
     (record { arguments = chain.asked.arguments; asked = chain.asked.asked }, next_asking worked_config all_records.verb first (second ∷ last ∷ []) chain.next)
 
-following_a : (calls : List Call) (answers : List Answer) (first second last : Visit) → AllByRecursion (IsTrueVisit worked_config) (own_given first_entry calls answers)
-    → calls_done (own_calls (codes "a") calls) (own_answers (codes "a") calls answers) ≡ own_calls (codes "a") worked_calls
+-- a part of visits is one of these and of more behind them
+part_none : (all : List Visit) → IsPart [] all
+part_none [] = refl
+part_none (visit ∷ all) = inl (part_none all)
+
+part_front : (config : Config) (state : RepoState) (calls others : List Call) (some : List Visit) → IsPart some (visits config state calls) → IsPart some (visits config state (calls ++ others))
+part_front config state [] others some part = subst (λ (vs : List Visit). IsPart vs (visits config state others)) (sym part) (part_none (visits config state others))
+part_front config state (call ∷ calls) others some (inl part) = inl (part_front config (exchanged_alone config state call).1 calls others some part)
+part_front config state (call ∷ calls) others some (inr part) = inr (part.0, part.1, part_front config (exchanged_alone config state call).1 calls others part.0 part.2)
+
+following_a : (calls : List Call) (answers : List Answer) (behind : List Call) (first second last : Visit) → AllByRecursion (IsTrueVisit worked_config) (own_given first_entry calls answers)
+    → calls_done (own_calls (codes "a") calls) (own_answers (codes "a") calls answers) ≡ own_calls (codes "a") worked_calls ++ behind
     → IsFollowing worked_config (own_visits first_entry worked_calls) all_records first (second ∷ last ∷ [])
     → IsFollowing worked_config (whole_visits (own_given first_entry calls answers)) all_records first (second ∷ last ∷ [])
-following_a calls answers first second last given same chain =
+following_a calls answers behind first second last given same chain =
     let among : IsPart (first ∷ second ∷ last ∷ []) (visits worked_config (empty_state worked_config) (calls_done (own_calls (codes "a") calls) (own_answers (codes "a") calls answers))) =
-    subst (λ (cs : List Call). IsPart (first ∷ second ∷ last ∷ []) (visits worked_config (empty_state worked_config) cs)) (sym same) chain.among
+    subst (λ (cs : List Call). IsPart (first ∷ second ∷ last ∷ []) (visits worked_config (empty_state worked_config) cs)) (sym same)
+    (part_front worked_config (empty_state worked_config) (own_calls (codes "a") worked_calls) behind (first ∷ second ∷ last ∷ []) chain.among)
     in
     record {
       among = asking_whole worked_config (empty_state worked_config) (own_calls (codes "a") calls) (own_answers (codes "a") calls answers) given (first ∷ second ∷ last ∷ []) (asks_each first second last chain) among;
@@ -266,14 +278,19 @@ first_fit = ((refl, refl), ((refl, refl), ((refl, refl), ((refl, refl), ((refl, 
 pub second_fit : AllByRecursion (IsFit (names_in worked_begun)) second_deeds
 second_fit = (
   (refl, refl),
-  ((refl, refl), ((refl, refl, once), ((refl, refl), ((refl, refl), ((refl, refl), ((refl, refl), ((refl, refl), ((refl, refl), ((refl, refl), ((refl, refl), ((refl, refl), tt))))))))))),
+  ((refl, refl), ((refl, refl, once), ((refl, refl), ((refl, refl), ((refl, refl), ((refl, refl), ((refl, refl), ((refl, refl), ((refl, refl), ((refl, refl), ((refl, refl), ((refl, refl), tt)))))))))))),
 )
 
 all_fit : (names : List (List ℕ)) (front back : List Deed) → AllByRecursion (IsFit names) front → AllByRecursion (IsFit names) back → AllByRecursion (IsFit names) (front ++ back)
 all_fit names [] back first second = second
 all_fit names (deed ∷ front) back first second = (first.0, all_fit names front back first.1 second)
 
-same_a : planned (codes "a") (first_deeds ++ second_deeds) ≡ own_calls (codes "a") worked_calls
+-- the deposit that is repeated
+repeated : List Call
+repeated = call_in (record { moment = pos (1_704_067_200 + 124); kind = kind.Deposit; name = codes "a"; body = deposit_line (codes "oai:a:6") ++ deposit_line (codes "oai:a:7") }) ∷ []
+
+same_a : planned (codes "a") (first_deeds ++ second_deeds) ≡ own_calls (codes "a") worked_calls ++ repeated
+unfolding repeated
 same_a = refl
 
 same_b : own_calls (codes "b") (map call_of_deed (first_deeds ++ second_deeds)) ≡ own_calls (codes "b") worked_calls
@@ -285,27 +302,34 @@ whole_b = refl
 asked_b : list_all (λ (call : Call). is_asked (task_of call)) (own_calls (codes "b") worked_calls) ≡ true
 asked_b = refl
 
-with_deeds : (its : List Deed) → AllByRecursion (IsFit (names_in worked_begun)) its → planned (codes "a") its ≡ own_calls (codes "a") worked_calls
+with_deeds : (its : List Deed) (found : List Entry) → redone_all leaving worked_begun found ≡ worked_begun → AllByRecursion (IsFit (names_in worked_begun)) its
+    → planned (codes "a") its ≡ own_calls (codes "a") worked_calls ++ repeated
     → own_calls (codes "b") (map call_of_deed its) ≡ own_calls (codes "b") worked_calls → are_whole (codes "b") its ≡ true
     → (first second last : Visit) (one two three : Harvest)
     → IsFollowing worked_config (own_visits first_entry worked_calls) all_records first (second ∷ last ∷ [])
     → AreSuccessive archive_b (own_steps second_entry worked_calls) prefix one (two ∷ three ∷ [])
     → (let turns = turns_at worked_begun its in
-    AreTurns worked_begun [] turns
+    AreTurns worked_begun found turns
     × IsFollowing worked_config (whole_visits (own_given first_entry (calls_in turns) (answers_in turns))) all_records first (second ∷ last ∷ [])
     × AreSuccessive archive_b (flat_map (steps_of archive_b) (whole_visits (own_given second_entry (calls_in turns) (answers_in turns)))) prefix one (two ∷ three ∷ []))
-with_deeds its fits at_a at_b whole first second last one two three chain successive =
+with_deeds its found starts fits at_a at_b whole first second last one two three chain successive =
     let turns : List Turn = turns_at worked_begun its in
-    let turned : AreTurns worked_begun [] turns = deeds_turned worked_begun worked_begun [] its refl fits in
-    let both : AreMetBoth (calls_in turns) (answers_in turns) = both_met (calls_in turns) (answers_in turns) (redone_all leaving worked_begun (records_in turns)) (turns_met worked_begun [] turns turned) in (
+    let turned : AreTurns worked_begun found turns = deeds_turned worked_begun worked_begun found its starts fits in
+    let met = subst (λ (rs : List Repository). AllZip (IsOwnMet (calls_in turns) (answers_in turns)) rs (redone_all leaving worked_begun (found ++ records_in turns))) starts (turns_met worked_begun found turns turned) in
+    let both : AreMetBoth (calls_in turns) (answers_in turns) = both_met (calls_in turns) (answers_in turns) (redone_all leaving worked_begun (found ++ records_in turns)) met in (
       turned,
-      following_a (calls_in turns) (answers_in turns) first second last both.met_a.given (done_planned (codes "a") worked_begun its ∙ at_a) chain,
+      following_a (calls_in turns) (answers_in turns) repeated first second last both.met_a.given (done_planned (codes "a") worked_begun its ∙ at_a) chain,
       successive_b (calls_in turns) (answers_in turns) both.state_b one two three both.met_b (none_of_deeds (codes "b") worked_begun its whole) (ap (own_calls (codes "b")) (calls_are worked_begun its) ∙ at_b) asked_b successive,
     )
+
+-- the checkpoint leaves what was there
+pub checkpoint_leaves : redone_all leaving worked_begun worked_checkpoint ≡ worked_begun
+unfolding fmt.digits
+checkpoint_leaves = refl
 
 pub worked_turned : (first : Visit) × (second : Visit) × (last : Visit) × (one : Harvest) × (two : Harvest) × (three : Harvest) × AreWorkedTurns first second last one two three
 worked_turned =
     let list = worked_list carried_a in
     let beside = worked_beside carried_b in
-    let all = with_deeds (first_deeds ++ second_deeds) (all_fit (names_in worked_begun) first_deeds second_deeds first_fit second_fit) same_a same_b whole_b list.0 list.2 list.3 beside.0 beside.1 beside.2 list.4.following beside.3.successive in
+    let all = with_deeds (first_deeds ++ second_deeds) worked_checkpoint checkpoint_leaves (all_fit (names_in worked_begun) first_deeds second_deeds first_fit second_fit) same_a same_b whole_b list.0 list.2 list.3 beside.0 beside.1 beside.2 list.4.following beside.3.successive in
     (list.0, list.2, list.3, beside.0, beside.1, beside.2, record { turned = all.0; following = all.1; successive = all.2 })

@@ -1,4 +1,4 @@
--- The two worked lives are lives of a server.
+-- The worked lives are lives of a server.
 use Rattle.std.proofs.Common.{◌≡◌, ◌∙◌, inl, ℕ, zero, suc, false, List, [], ◌∷◌, ◌++◌, length, map, codes, None, Some, Ok, Err, take, refl, sym, ap, subst, arith}
 use Rattle.std.specs.List.{AllByRecursion}
 use Rattle.std.proofs.lemmas.List.{append-nil, append_assoc}
@@ -16,13 +16,13 @@ use Rattle.oai_serving.specs.declared.faults.ServeFault.TheVariants.{Wait}
 use Rattle.oai_durable.specs.Journaled.{IsExchange, IsHeld, IsSettled, Parts}
 use Rattle.oai_durable.specs.Records.{call_in, left_by, redone_all}
 use Rattle.oai_headline.specs.Worked.{deposit_line}
-use Rattle.oai_service.specs.Hosting.{hosting, leaving}
+use Rattle.oai_service.specs.Hosting.{HaveNumbers, hosting, leaving}
 use Rattle.oai_service.specs.Lives.{AreServerLives, IsServerLife, ServerLife}
 use Rattle.oai_service.specs.Service.{AreKept, Told, all_turns}
 use Rattle.oai_service.specs.Turns.{Turn, records_in, was_performed}
-use Rattle.oai_service.specs.WorkedLives.{AreWorkedLives, Deed, Memory, deposited, done_once, done_whole, entry_in, exchanged_at, first_deeds, in_memory, second_deeds, turns_at, worked_begun}
+use Rattle.oai_service.specs.WorkedLives.{AreWorkedLives, Deed, Memory, deposited, done_once, done_whole, entry_in, exchanged_at, first_deeds, in_memory, second_deeds, turns_at, worked_begun, worked_checkpoint}
 use Rattle.oai_service.proofs.MachineLemmas.{names_in, once_exchanged, sound_host, whole_exchanged}
-use Rattle.oai_service.proofs.WorkedLemmas.{IsFit, deed_kind, first_fit, left_call, names_after, own_entry, redone_append, second_fit}
+use Rattle.oai_service.proofs.WorkedLemmas.{IsFit, checkpoint_leaves, deed_kind, first_fit, left_call, names_after, own_entry, redone_append, second_fit}
 
 -- ---- a message
 
@@ -182,21 +182,33 @@ turns_behind : (kept : List Repository) (deeds others : List Deed) → turns_at 
 turns_behind kept [] others = refl
 turns_behind kept (deed ∷ deeds) others = ap (λ (ts : List Turn). was_performed (exchanged_at kept deed) ∷ ts) (turns_behind (left_by leaving kept (entry_in deed)) deeds others)
 
-two_lives : (begun : List Repository) (front back lost : List Deed) → AllByRecursion (IsFit (names_in begun)) front → AllByRecursion (IsFit (names_in begun)) back → AllByRecursion (IsFit (names_in begun)) lost
-    → (let one = life_of begun [] front lost in
-    let two = life_of begun (entries_in front) back [] in
+two_lives : (begun : List Repository) (found : List Entry) (front back lost : List Deed) → redone_all leaving begun found ≡ begun → AllByRecursion (IsFit (names_in begun)) front
+    → AllByRecursion (IsFit (names_in begun)) back → AllByRecursion (IsFit (names_in begun)) lost
+    → (let one = life_of begun found front lost in
+    let two = life_of begun (found ++ entries_in front) back [] in
     let told : List Told = record { answered = turns_at begun front; held = [] } ∷ record { answered = turns_at (redone_all leaving begun (entries_in front)) back; held = [] } ∷ [] in
-    AreServerLives (hosting (λ (h : HostState). h)) in_memory (λ stream. None) (λ stream. None) begun [] (one ∷ two ∷ []) (entries_in front ++ entries_in back)
-    × AreKept [] (one ∷ two ∷ []) told (entries_in front ++ entries_in back)
+    AreServerLives (hosting (λ (h : HostState). h)) in_memory (λ stream. None) (λ stream. None) begun found (one ∷ two ∷ []) ((found ++ entries_in front) ++ entries_in back)
+    × AreKept found (one ∷ two ∷ []) told ((found ++ entries_in front) ++ entries_in back)
     × (all_turns told ≡ turns_at begun (front ++ back)))
-two_lives begun front back lost front_fit back_fit lost_fit =
+two_lives begun found front back lost starts front_fit back_fit lost_fit =
     let now : List Repository = redone_all leaving begun (entries_in front) in
     let names : names_in now ≡ names_in begun = names_redone begun front front_fit in
-    let as_now : (deeds : List Deed) → AllByRecursion (IsFit (names_in begun)) deeds → AllByRecursion (IsFit (names_in now)) deeds = λ deeds fit. subst (λ (ns : List (List ℕ)). AllByRecursion (IsFit ns) deeds) (sym names) fit in
+    let fits : (rs : List Repository) → names_in rs ≡ names_in begun → (deeds : List Deed) → AllByRecursion (IsFit (names_in begun)) deeds → AllByRecursion (IsFit (names_in rs)) deeds =
+    λ rs same deeds fit. subst (λ (ns : List (List ℕ)). AllByRecursion (IsFit ns) deeds) (sym same) fit in
+    let there : names_in (redone_all leaving begun found) ≡ names_in begun = ap names_in starts in
+    let performed : redone_all leaving (redone_all leaving begun found) (entries_in front) ≡ now = ap (λ (rs : List Repository). redone_all leaving rs (entries_in front)) starts in
+    let later : redone_all leaving begun (found ++ entries_in front) ≡ now = redone_append begun found (entries_in front) ∙ performed in
     let first_told : records_in (turns_at begun front ++ []) ≡ entries_in front = ap records_in (append-nil (turns_at begun front)) ∙ records_of_turns begun front in
-    let second_told : records_in (turns_at now back ++ []) ≡ entries_in back = ap records_in (append-nil (turns_at now back)) ∙ records_of_turns now back in (
-      (refl, is_life begun [] front lost front_fit (as_now lost lost_fit), (refl, is_life begun (entries_in front) back [] (as_now back back_fit) tt, refl)),
-      (refl, (sym first_told, ap (λ (es : List Entry). entries_in front ++ es) (sym second_told) ∙ ap (λ (es : List Entry). es ++ records_in (turns_at now back ++ [])) (sym first_told))),
+    let second_told : records_in (turns_at now back ++ []) ≡ entries_in back = ap records_in (append-nil (turns_at now back)) ∙ records_of_turns now back in
+    let front_left : List Entry = found ++ entries_in front in
+    let kept_first : front_left ≡ found ++ records_in (turns_at begun front ++ []) = ap (λ (es : List Entry). found ++ es) (sym first_told) in (
+      (
+        refl,
+        is_life begun found front lost (fits (redone_all leaving begun found) there front front_fit)
+            (fits (redone_all leaving (redone_all leaving begun found) (entries_in front)) (ap names_in performed ∙ names) lost lost_fit),
+        (refl, is_life begun front_left back [] (fits (redone_all leaving begun front_left) (ap names_in later ∙ names) back back_fit) tt, refl),
+      ),
+      (refl, (kept_first, ap (λ (es : List Entry). front_left ++ es) (sym second_told) ∙ ap (λ (es : List Entry). es ++ records_in (turns_at now back ++ [])) kept_first)),
       ap (λ (ts : List Turn). ts ++ ((turns_at now back ++ []) ++ [])) (append-nil (turns_at begun front))
           ∙ ap (λ (ts : List Turn). turns_at begun front ++ ts) (append-nil (turns_at now back ++ []) ∙ append-nil (turns_at now back))
           ∙ sym (turns_behind begun front back),
@@ -204,12 +216,24 @@ two_lives begun front back lost front_fit back_fit lost_fit =
 
 pub worked_lived : AreWorkedLives
 worked_lived =
-    let all = two_lives worked_begun first_deeds second_deeds lost_deeds first_fit second_fit ((refl, refl), tt) in
+    let all = two_lives worked_begun worked_checkpoint first_deeds second_deeds lost_deeds checkpoint_leaves first_fit second_fit ((refl, refl), tt) in
+    let numbers : HaveNumbers worked_begun = (omega arith, (omega arith, tt)) in
     record {
-      lives = life_of worked_begun [] first_deeds lost_deeds ∷ life_of worked_begun (entries_in first_deeds) second_deeds [] ∷ [];
+      first = record { raise = 0; found = []; lives = life_of worked_begun [] [] [] ∷ []; left = [] };
+      one = refl;
+      second = record {
+        raise = 0;
+        found = worked_checkpoint;
+        lives = life_of worked_begun worked_checkpoint first_deeds lost_deeds ∷ life_of worked_begun (worked_checkpoint ++ entries_in first_deeds) second_deeds [] ∷ [];
+        left = (worked_checkpoint ++ entries_in first_deeds) ++ entries_in second_deeds;
+      };
       two = refl;
-      left = entries_in first_deeds ++ entries_in second_deeds;
-      are = all.0;
+      are = (
+        (refl, refl),
+        (refl, is_life worked_begun [] [] [] tt tt, refl),
+        (record { is = refl; leaves = checkpoint_leaves }, all.0, tt),
+      );
+      numbers = (numbers, (subst HaveNumbers (sym checkpoint_leaves) numbers, tt));
       told = record { answered = turns_at worked_begun first_deeds; held = [] } ∷ record { answered = turns_at (redone_all leaving worked_begun (entries_in first_deeds)) second_deeds; held = [] } ∷ [];
       kept = all.1;
       turns = all.2;

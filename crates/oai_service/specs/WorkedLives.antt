@@ -1,7 +1,8 @@
--- Two worked lives of a server of two repositories, as turns: what the theorem asks of lists and harvests can be met across an end. OAI-PMH 2.0,
+-- Worked lives of a server of two repositories, as turns: what the theorem asks of lists and harvests can be met across an end, and behind a
+-- checkpoint. OAI-PMH 2.0,
 -- sections 2.7.1, 3.1.2.2 and 3.5; deposits and lives are this repository's own.
 use Rattle.std.specs.Prelude.{◌≡◌, ℕ, pos, ◌+◌, List, [], ◌∷◌, ◌++◌, codes, length, map, None, Some}
-use Rattle.std.specs.List.{flat_map}
+use Rattle.std.specs.List.{AllByRecursion, flat_map}
 use Rattle.oai_item.specs.declared.faults.Fault.TheVariants.{NoMemory}
 use Rattle.oai_laws.specs.Harvests.{AreSuccessive, Harvest}
 use Rattle.oai_laws.specs.Worked.{all_records, worked_config}
@@ -11,18 +12,20 @@ use Rattle.oai_http.specs.Exchanges.{Asked}
 use Rattle.oai_http.specs.declared.exchanges.Call.{Call}
 use Rattle.oai_host.specs.Hosts.{HostState, Repository, begun}
 use Rattle.oai_host.specs.Redone.{reply_all}
+use Rattle.oai_host.specs.Saved.{ended_in, parts_in}
 use Rattle.oai_journal.specs.Journals.{IsLeft}
 use Rattle.oai_journal.specs.Records.{Entry}
 use Rattle.oai_journal.specs.declared.journals.Journal as journal
 use Rattle.oai_journal.specs.declared.records.Kind.TheVariants as kind
+use Rattle.oai_durable.specs.Checkpoints.{records_of}
 use Rattle.oai_durable.specs.Lives.{Exchanged}
-use Rattle.oai_durable.specs.Records.{call_in, left_by}
+use Rattle.oai_durable.specs.Records.{call_in, left_by, redone_all}
 use Rattle.oai_headline.specs.Chains.{IsFollowing}
 use Rattle.oai_headline.specs.Throughout.{own_given, whole_visits}
 use Rattle.oai_headline.specs.Visits.{Visit, steps_of}
 use Rattle.oai_headline.specs.Worked.{delete_line, deposit_line, first_entry, post, second_entry, worked_host}
-use Rattle.oai_service.specs.Hosting.{hosting, leaving}
-use Rattle.oai_service.specs.Lives.{AreServerLives, ServerLife}
+use Rattle.oai_service.specs.Hosting.{HaveNumbers, hosting, leaving, saving}
+use Rattle.oai_service.specs.Lives.{AreServerEras, ServerEra}
 use Rattle.oai_service.specs.Service.{AreKept, Told, all_turns}
 use Rattle.oai_service.specs.Turns.{AreTurns, Turn, answers_in, calls_in, was_performed}
 
@@ -75,7 +78,8 @@ first_deeds =
     ∷ requested 60 (codes "a") (codes "verb=ListRecords&metadataPrefix=oai_dc")
     ∷ []
 
--- in the second life both lists are followed to their ends, and two further harvests are made; a deposit of two lines fails behind its first
+-- in the second life both lists are followed to their ends, and two further harvests are made; a deposit of two lines fails behind its first, and at
+-- the end it is repeated, and done whole
 abbrev pub second_deeds : List Deed
 second_deeds =
     requested 6 (codes "b") (codes "verb=ListRecords&resumptionToken=1.2")
@@ -91,10 +95,15 @@ second_deeds =
     ∷ deposited 70 (codes "a") (deposit_line (codes "oai:a:5"))
     ∷ requested 8 (codes "b") (codes "verb=ListRecords&metadataPrefix=oai_dc&from=2024-01-01T00:00:07Z")
     ∷ requested 123 (codes "a") (codes "verb=ListRecords&resumptionToken=2.4")
+    ∷ deposited 124 (codes "a") (deposit_line (codes "oai:a:6") ++ deposit_line (codes "oai:a:7"))
     ∷ []
 
 abbrev pub worked_begun : List Repository
 worked_begun = map begun worked_host.repositories
+
+-- the records of a checkpoint of the two, as nothing is held in them
+abbrev pub worked_checkpoint : List Entry
+worked_checkpoint = records_of (parts_in (ended_in 0 worked_begun))
 
 abbrev pub worked_turns : List Turn
 worked_turns = turns_at worked_begun (first_deeds ++ second_deeds)
@@ -105,10 +114,10 @@ worked_given_a = whole_visits (own_given first_entry (calls_in worked_turns) (an
 abbrev pub worked_given_b : List Visit
 worked_given_b = whole_visits (own_given second_entry (calls_in worked_turns) (answers_in worked_turns))
 
--- they are turns behind no record; a list is followed over three pages at the first repository, and three harvests are made of the second, among
+-- they are turns behind those records; a list is followed over three pages at the first repository, and three harvests are made of the second, among
 -- visits of both lives
 pub record AreWorkedTurns (first second last : Visit) (one two three : Harvest) : Type 0 where
-  pub turned : AreTurns worked_begun [] worked_turns
+  pub turned : AreTurns worked_begun worked_checkpoint worked_turns
   pub following : IsFollowing worked_config worked_given_a all_records first (second ∷ last ∷ [])
   pub successive : AreSuccessive archive_b (flat_map (steps_of archive_b) worked_given_b) prefix one (two ∷ three ∷ [])
 
@@ -126,13 +135,16 @@ in_memory = record {
   has_room = λ journal bytes. Unit {0};
 }
 
--- two lives of a server, over streams of which nothing is known. At the end of the first one a further deposit was performed, whose record the
--- crash did not leave. What they leave is the records of these turns
+-- three lives of a server, over streams of which nothing is known. In the first one nothing is asked, and a checkpoint is made behind it. At the end of
+-- the second one a further deposit was performed, whose record the crash did not leave. What the last two leave is, behind those of the checkpoint,
+-- the records of these turns
 pub record AreWorkedLives : Type 0 where
-  pub lives : List (ServerLife (Unit {0}) HostState Memory)
-  pub two : length lives ≡ 2
-  pub left : List Entry
-  pub are : AreServerLives (hosting (λ (host : HostState). host)) in_memory (λ stream. None) (λ stream. None) worked_begun [] lives left
+  pub first : ServerEra (Unit {0}) HostState Memory
+  pub one : length first.lives ≡ 1
+  pub second : ServerEra (Unit {0}) HostState Memory
+  pub two : length second.lives ≡ 2
+  pub are : AreServerEras (hosting (λ (host : HostState). host)) saving in_memory (λ stream. None) (λ stream. None) worked_begun None (first ∷ second ∷ [])
+  pub numbers : AllByRecursion (λ (era : ServerEra (Unit {0}) HostState Memory). HaveNumbers (redone_all leaving worked_begun era.found)) (first ∷ second ∷ [])
   pub told : List Told
-  pub kept : AreKept [] lives told left
+  pub kept : AreKept worked_checkpoint second.lives told second.left
   pub turns : all_turns told ≡ worked_turns

@@ -81,9 +81,10 @@ pub fn service_on_files_law<S: Stream, P: PageDevice, D: Disk + Drop>()
         → IsServed config S.contents S.remaining eras }
 {}
 
-/// What the theorem speaks of is there: two lives of a server of two repositories, with an end in the middle of a list and of a harvest, and with a
-/// deposit whose record that end took. A further deposit is refused memory behind its first line. At the first repository a list is followed over
-/// three pages, at the second three harvests are made, by the visits of both lives. It is computed from the bytes of the records on, and does nothing.
+/// What the theorem speaks of is there: three lives of a server of two repositories. In the first nothing is asked; a checkpoint of it follows. The
+/// second ends in the middle of a list and of a harvest, and with a deposit whose record that end took. In the third a deposit is refused memory
+/// behind its first line, and is repeated. At the first repository a list is followed over three pages, at the second three harvests are made, by
+/// the visits of both lives. It is computed from the bytes of the records on, and does nothing.
 pub fn worked_lives_law()
     ensures lived { AreWorkedLives }
     ensures turned { (first : Visit) × (second : Visit) × (last : Visit) × (one : Harvest) × (two : Harvest) × (three : Harvest)
