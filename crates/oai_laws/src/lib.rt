@@ -2,9 +2,11 @@
 //! tokens, changes, and what a harvester that harvests it again and again has of it.
 #![tactic(auto)]
 
+mod eras;
 mod harvests;
 mod laws;
 
+pub use eras::ended_lists_law;
 pub use harvests::{harvest_law, worked_harvests_law};
 pub use laws::{
     change_law, effect_law, following_law, number_law, selected_law, shown_law, token_law,
