@@ -169,7 +169,7 @@ parts_of_runs config state [] met = tt
 parts_of_runs config state (era ∷ eras) met = (
   steps_among config (era_begins state era) era.calls era.answers met.0.given,
   subst (λ (s : RepoState). AreParts (steps_within config (era_leaves config state era) eras) (runs config s (machine_eras config eras))) (sym (leaves_same config state era))
-  (parts_of_runs config (era_leaves config state era) eras met.1),
+      (parts_of_runs config (era_leaves config state era) eras met.1),
 )
 
 pub throughout_eras : (config : Config) (eras : List VisitedEra) (left : RepoState) → IsConfig config → AreRepositoryFormats config.formats → HaveNumbersIn config (empty_state config) eras

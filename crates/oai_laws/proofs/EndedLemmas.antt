@@ -1,13 +1,15 @@
 -- What stands of a state whose open lists are all ended.
-use Rattle.std.proofs.Common.{◌≡◌, ℕ, ℤ, ◌≤ℤ◌, ◌≤◌, List, [], ◌∷◌, refl}
+use Rattle.std.proofs.Common.{ℕ, ℤ, ◌≤◌, List, [], ◌∷◌, refl}
+use Rattle.std.specs.List.{AllByRecursion}
 use Rattle.oai_item.specs.Item.{ItemState}
 use Rattle.oai_lists.specs.declared.lists.TheConstants.{LAST_NUMBER}
 use Rattle.oai_settings.specs.Config.{Config, IsConfig}
 use Rattle.oai_repo.specs.Saved.{ended}
 use Rattle.oai_repo.specs.State.{RepoState, empty_state, moved}
 use Rattle.oai_laws.specs.Effects.{IsSound}
-use Rattle.oai_laws.specs.Eras.{Era, left_behind}
+use Rattle.oai_laws.specs.Eras.{AreFollowed, Era, HaveNumbers, left_behind, left_by_era, runs}
 use Rattle.oai_laws.specs.Runs.{Timed, performed}
+use Rattle.oai_laws.proofs.ChainLemmas.{chain_followed}
 use Rattle.oai_laws.proofs.EffectLemmas.{sound_act, sound_empty, sound_moved}
 use Rattle.oai_laws.proofs.SelectingLemmas.{IsTimed, timed_act, timed_empty, timed_moved}
 use Rattle.oai_laws.proofs.SinceLemmas.{IsAfter}
@@ -43,3 +45,17 @@ standing_behind config state (timed ∷ commands) good standing =
       sound = sound_act config (moved timed.moment state) timed.command found;
       timed = timed_act config (moved timed.moment state) timed.command good found (timed_moved config timed.moment state standing.timed);
     })
+
+-- ---- over eras
+
+pub standing_by : (config : Config) (state : RepoState) (era : Era) → IsConfig config → (ended era.raise state).open_lists.next ≤ LAST_NUMBER → IsStanding config state → IsStanding config (left_by_era config state era)
+standing_by config state era good few standing = standing_behind config (ended era.raise state) era.commands good (standing_ended config era.raise state few standing)
+
+-- each list that is followed within an era
+pub followed_within : (config : Config) (state : RepoState) (eras : List Era) → IsConfig config → IsStanding config state → HaveNumbers config state eras → AllByRecursion (AreFollowed config) (runs config state eras)
+followed_within config state [] good standing numbers = tt
+followed_within config state (era ∷ eras) good standing numbers = (
+  (λ list_request first others chain.
+      chain_followed config era.commands (ended era.raise state) list_request first others good (sound_ended config era.raise state numbers.0 standing.sound) chain),
+  followed_within config (left_by_era config state era) eras good (standing_by config state era good numbers.0 standing) numbers.1,
+)

@@ -242,7 +242,7 @@ from_effected config from state (list_opened list) possible h = record {
   numbers =
       list_all-append (is_from from) state.open_lists.lists (list ∷ [])
       ∙ and_from (list_all (is_from from) state.open_lists.lists) (is_from from list && true) h.numbers
-        (and_from (is_from from list) true (le-leb from list.number (subst (λ (n : ℕ). from ≤ n) (sym possible.number) h.next)) refl);
+      (and_from (is_from from list) true (le-leb from list.number (subst (λ (n : ℕ). from ≤ n) (sym possible.number) h.next)) refl);
   next = let low = h.next in omega (arith, low);
 }
 

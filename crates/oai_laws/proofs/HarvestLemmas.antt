@@ -21,7 +21,7 @@ use Rattle.oai_laws.specs.Following.{ListRequest, selection_in}
 use Rattle.oai_laws.specs.Runs.{Exchange, IsPart, Throughout, Timed, run}
 use Rattle.oai_laws.specs.Selecting.{IsSelection}
 use Rattle.oai_laws.specs.Eras.{AreHarvestsWithin, AreSuccessiveWithin, Era, HaveNumbers, IsHarvestWithin, left_behind, left_by_era, runs}
-use Rattle.oai_laws.proofs.EndedLemmas.{IsStanding, standing_behind, standing_empty, standing_ended}
+use Rattle.oai_laws.proofs.EndedLemmas.{IsStanding, standing_by, standing_empty, standing_ended}
 use Rattle.oai_laws.proofs.ReachedLemmas.{IsReached, all_from, left_after, reached}
 use Rattle.oai_laws.proofs.SelectingLemmas.{selected_from}
 use Rattle.oai_copy.specs.Copies.{are_listed, caught_up, caught_up_with}
@@ -210,8 +210,7 @@ made_within config state [] list_request harvest good standing numbers its = abs
 made_within config state (era ∷ eras) list_request harvest good standing numbers (inl its) =
     record { state = ended era.raise state; commands = era.commands; standing = standing_ended config era.raise state numbers.0 standing; among = its.0; its = its.1 }
 made_within config state (era ∷ eras) list_request harvest good standing numbers (inr its) =
-    made_within config (left_by_era config state era) eras list_request harvest good
-    (standing_behind config (ended era.raise state) era.commands good (standing_ended config era.raise state numbers.0 standing)) numbers.1 its
+    made_within config (left_by_era config state era) eras list_request harvest good (standing_by config state era good numbers.0 standing) numbers.1 its
 
 all_made_within : (config : Config) (state : RepoState) (eras : List Era) (prefix : List ℕ) (from : Option (List ℕ)) (harvests : List Harvest) → IsConfig config → IsStanding config state → HaveNumbers config state eras
     → AreHarvestsWithin config (runs config state eras) prefix from harvests → AreMade config prefix from harvests

@@ -1,6 +1,6 @@
 -- A repository whose open lists are all ended now and then, as a checkpoint ends them. OAI-PMH 2.0, sections 2.7.1 and 3.5; that lists are ended
 -- before they expire is this repository's own.
-use Rattle.std.specs.Prelude.{◌≡◌, ◌⊎◌, ◌≤◌, ℕ, true, List, [], ◌∷◌, ◌++◌, map, Option, None, Some}
+use Rattle.std.specs.Prelude.{◌≡◌, ◌⊎◌, ◌≤◌, ℕ, List, [], ◌∷◌, ◌++◌, map, Option, None, Some}
 use Rattle.std.specs.List.{AllByRecursion}
 use Rattle.oai_names.specs.declared.list_verbs.ListVerb.{ListVerb}
 use Rattle.oai_answers.specs.Answers.{fails}

@@ -1,9 +1,9 @@
 -- The theorem of a server over all its lives.
-use Rattle.std.proofs.Common.{◌≡◌, ◌∙◌, ◌≤◌, ℕ, suc, List, [], ◌∷◌, ◌++◌, map, Option, None, Some, arith, refl, sym, ap, ap₂, subst}
+use Rattle.std.proofs.Common.{◌≡◌, ◌∙◌, ◌≤◌, ℕ, suc, List, [], ◌∷◌, map, Option, None, Some, arith, refl, sym, ap, subst}
 use Rattle.std.specs.List.{All, AllByRecursion, AllZip}
 use Rattle.oai_lists.specs.declared.lists.TheConstants.{LAST_NUMBER}
 use Rattle.oai_settings.specs.Config.{Config}
-use Rattle.oai_repo.specs.State.{RepoState, empty_state}
+use Rattle.oai_repo.specs.State.{RepoState}
 use Rattle.oai_config.specs.Configs.{HostConfig, NamedConfig}
 use Rattle.oai_host.specs.Emptied.{emptied_redone, emptied_restored}
 use Rattle.oai_host.specs.Hosts.{HostState, Repository, begun}
@@ -15,13 +15,13 @@ use Rattle.oai_durable.specs.Records.{redone_all}
 use Rattle.oai_durable.proofs.CheckpointLemmas.{checkpoint_left}
 use Rattle.oai_headline.specs.Eras.{HaveNumbersIn, IsThroughoutEras, VisitedEra, era_leaves, eras_leave}
 use Rattle.oai_headline.specs.Headline.{HasRules, HaveRules}
-use Rattle.oai_headline.proofs.EraLemmas.{AreMetEach, AreMetFrom, throughout_eras}
-use Rattle.oai_service.specs.Hosting.{HaveNumbers, hosting, leaving, saving}
-use Rattle.oai_service.specs.Lives.{AreServerEras, BeginsEra, ServerEra, ServerLife}
-use Rattle.oai_service.specs.Service.{AreEndedBetween, AreKept, IsReceivedIn, IsServed, Told, all_turns, eras_told, left_behind, own_era, own_eras}
-use Rattle.oai_service.specs.Turns.{AreTurns, answers_in, calls_in, records_in}
-use Rattle.oai_service.proofs.LifeLemmas.{TellsAll, tell_all}
-use Rattle.oai_service.proofs.OwnLemmas.{IsMetAt, IsOwnMet, turns_met}
+use Rattle.oai_headline.proofs.EraLemmas.{AreMetEach, throughout_eras}
+use Rattle.oai_service.specs.Hosting.{AreNumbered, hosting, leaving, saving}
+use Rattle.oai_service.specs.Lives.{AreServerEras, BeginsEra, ServerEra}
+use Rattle.oai_service.specs.Service.{AreEndedBetween, AreKept, IsReceivedIn, IsServed, Told, all_turns, eras_told, eras_left, own_era, own_eras}
+use Rattle.oai_service.specs.Turns.{AreTurns, answers_in, calls_in}
+use Rattle.oai_service.proofs.LifeLemmas.{tell_all}
+use Rattle.oai_service.proofs.OwnLemmas.{IsOwnMet, turns_met}
 
 -- ---- how an era begins
 
@@ -82,7 +82,7 @@ own_over era eras x y z few own over =
       leaves = rest.leaves;
     }
 
-each_over : (era : VisitedEra) (eras : List VisitedEra) (before between after : List Repository) → HaveNumbers (ended_in era.raise before)
+each_over : (era : VisitedEra) (eras : List VisitedEra) (before between after : List Repository) → AreNumbered (ended_in era.raise before)
     → AllZip (IsOwnMet era.calls era.answers) (ended_in era.raise before) between → AllZip (IsOwnMetOver eras) between after → AllZip (IsOwnMetOver (era ∷ eras)) before after
 each_over era eras [] [] [] few own over = tt
 each_over era eras [] [] (z ∷ after) few own over = absurd over
@@ -104,13 +104,13 @@ record TellsEras {S H J : Type 0} (contents remaining : S → Option (List ℕ))
   pub recorded : AllZip (λ (era : ServerEra S H J) (t : List Told). AreTurns begins era.found (all_turns t)) eras told
   pub kept : AllZip (λ (era : ServerEra S H J) (t : List Told). AreKept era.found era.lives t era.left) eras told
   pub ended : AreEndedBetween begins before eras
-  pub met : AllZip (IsOwnMetOver (eras_told eras told)) before (left_behind begins before eras)
+  pub met : AllZip (IsOwnMetOver (eras_told eras told)) before (eras_left begins before eras)
 
 module _ {S H J : Type 0} (view : H → HostState) (j : journal.Ghosts J) (contents remaining : S → Option (List ℕ))
     (law : (journal : J) (entries : List Entry) (durable : ℕ) (found : List Entry) → j.holds journal entries durable → j.may_leave journal found → IsLeft durable entries found)
     (entries : List NamedConfig) where
   tell_eras : (before : Option (List Entry)) (eras : List (ServerEra S H J)) → AreServerEras (hosting view) saving j contents remaining (map begun entries) before eras
-      → AllByRecursion (λ (era : ServerEra S H J). HaveNumbers (redone_all leaving (map begun entries) era.found)) eras
+      → AllByRecursion (λ (era : ServerEra S H J). AreNumbered (redone_all leaving (map begun entries) era.found)) eras
       → TellsEras contents remaining (map begun entries) (state_before entries before) eras
   unfolding state_before
   tell_eras before [] are numbers = record { told = []; received = tt; recorded = tt; kept = tt; ended = tt; met = none_over (state_before entries before) }
@@ -130,8 +130,8 @@ module _ {S H J : Type 0} (view : H → HostState) (j : journal.Ghosts J) (conte
         kept = (all.kept, rest.kept);
         ended = (starts, rest.ended);
         met = each_over (record { raise = era.raise; calls = calls_in turns; answers = answers_in turns }) (eras_told eras rest.told) (state_before entries before)
-            (redone_all leaving (map begun entries) era.left) (left_behind (map begun entries) (redone_all leaving (map begun entries) era.left) eras)
-            (subst HaveNumbers starts numbers.0) from rest.met;
+            (redone_all leaving (map begun entries) era.left) (eras_left (map begun entries) (redone_all leaving (map begun entries) era.left) eras)
+            (subst AreNumbered starts numbers.0) from rest.met;
       }
 
 -- ---- the server
@@ -154,7 +154,7 @@ pub served : {S H J : Type 0} (view : H → HostState) (j : journal.Ghosts J) (c
     → ((journal : J) (entries : List Entry) (durable : ℕ) (found : List Entry) → j.holds journal entries durable → j.may_leave journal found → IsLeft durable entries found)
     → (config : HostConfig) (eras : List (ServerEra S H J)) → HaveRules config
     → AreServerEras (hosting view) saving j contents remaining (map begun config.repositories) None eras
-    → AllByRecursion (λ (era : ServerEra S H J). HaveNumbers (redone_all leaving (map begun config.repositories) era.found)) eras
+    → AllByRecursion (λ (era : ServerEra S H J). AreNumbered (redone_all leaving (map begun config.repositories) era.found)) eras
     → IsServed config contents remaining eras
 unfolding state_before
 served view j contents remaining law config eras rules are numbers =
@@ -165,5 +165,5 @@ served view j contents remaining law config eras rules are numbers =
       recorded = all.recorded;
       kept = all.kept;
       ended = all.ended;
-      throughout = at_each (eras_told eras all.told) config.repositories (left_behind (map begun config.repositories) (map begun config.repositories) eras) (each_rules config.repositories rules) all.met;
+      throughout = at_each (eras_told eras all.told) config.repositories (eras_left (map begun config.repositories) (map begun config.repositories) eras) (each_rules config.repositories rules) all.met;
     }

@@ -16,7 +16,7 @@ use Rattle.oai_serving.specs.declared.faults.ServeFault.TheVariants.{Wait}
 use Rattle.oai_durable.specs.Journaled.{IsExchange, IsHeld, IsSettled, Parts}
 use Rattle.oai_durable.specs.Records.{call_in, left_by, redone_all}
 use Rattle.oai_headline.specs.Worked.{deposit_line}
-use Rattle.oai_service.specs.Hosting.{HaveNumbers, hosting, leaving}
+use Rattle.oai_service.specs.Hosting.{AreNumbered, hosting, leaving}
 use Rattle.oai_service.specs.Lives.{AreServerLives, IsServerLife, ServerLife}
 use Rattle.oai_service.specs.Service.{AreKept, Told, all_turns}
 use Rattle.oai_service.specs.Turns.{Turn, records_in, was_performed}
@@ -217,7 +217,7 @@ two_lives begun found front back lost starts front_fit back_fit lost_fit =
 pub worked_lived : AreWorkedLives
 worked_lived =
     let all = two_lives worked_begun worked_checkpoint first_deeds second_deeds lost_deeds checkpoint_leaves first_fit second_fit ((refl, refl), tt) in
-    let numbers : HaveNumbers worked_begun = (omega arith, (omega arith, tt)) in
+    let numbers : AreNumbered worked_begun = (omega arith, (omega arith, tt)) in
     record {
       first = record { raise = 0; found = []; lives = life_of worked_begun [] [] [] ∷ []; left = [] };
       one = refl;
@@ -233,7 +233,7 @@ worked_lived =
         (refl, is_life worked_begun [] [] [] tt tt, refl),
         (record { is = refl; leaves = checkpoint_leaves }, all.0, tt),
       );
-      numbers = (numbers, (subst HaveNumbers (sym checkpoint_leaves) numbers, tt));
+      numbers = (numbers, (subst AreNumbered (sym checkpoint_leaves) numbers, tt));
       told = record { answered = turns_at worked_begun first_deeds; held = [] } ∷ record { answered = turns_at (redone_all leaving worked_begun (entries_in first_deeds)) second_deeds; held = [] } ∷ [];
       kept = all.1;
       turns = all.2;

@@ -1,5 +1,5 @@
 -- What is said of a handler that is a host, as its journal performs it again. This repository's own.
-use Rattle.std.specs.Prelude.{◌≤◌, ℕ, List}
+use Rattle.std.specs.Prelude.{◌≤◌, List}
 use Rattle.std.specs.List.{AllByRecursion}
 use Rattle.oai_lists.specs.declared.lists.TheConstants.{LAST_NUMBER}
 use Rattle.oai_durable.specs.Checkpoints.{Saving}
@@ -31,5 +31,5 @@ abbrev pub saving : Saving (List Repository)
 saving = record { leaving = leaving; reply = reply_all; parts = parts_in; ended = ended_in; emptied = emptied_in }
 
 -- the number of each next list is one of 64 bits
-abbrev pub HaveNumbers : List Repository → Type 0
-HaveNumbers repositories = AllByRecursion (λ (repository : Repository). repository.state.open_lists.next ≤ LAST_NUMBER) repositories
+abbrev pub AreNumbered : List Repository → Type 0
+AreNumbered repositories = AllByRecursion (λ (repository : Repository). repository.state.open_lists.next ≤ LAST_NUMBER) repositories

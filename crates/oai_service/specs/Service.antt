@@ -67,9 +67,9 @@ AreEndedBetween begun before (era ∷ eras) =
     (redone_all leaving begun era.found ≡ ended_in era.raise before) × AreEndedBetween begun (redone_all leaving begun era.left) eras
 
 -- what the last of them leaves
-abbrev pub left_behind : {S H J : Type 0} → List Repository → List Repository → List (ServerEra S H J) → List Repository
-left_behind begun before [] = before
-left_behind begun before (era ∷ eras) = left_behind begun (redone_all leaving begun era.left) eras
+abbrev pub eras_left : {S H J : Type 0} → List Repository → List Repository → List (ServerEra S H J) → List Repository
+eras_left begun before [] = before
+eras_left begun before (era ∷ eras) = eras_left begun (redone_all leaving begun era.left) eras
 
 -- ---- the theorem
 
@@ -87,4 +87,4 @@ pub record IsServed {S H J : Type 0} (config : HostConfig) (contents remaining :
   pub kept : AllZip (λ (era : ServerEra S H J) (t : List Told). AreKept era.found era.lives t era.left) eras told
   pub ended : AreEndedBetween (map begun config.repositories) (map begun config.repositories) eras
   pub throughout : AllZip (λ (entry : NamedConfig) (repository : Repository). IsThroughoutEras entry.config (own_eras entry.name (eras_told eras told)) repository.state)
-      config.repositories (left_behind (map begun config.repositories) (map begun config.repositories) eras)
+      config.repositories (eras_left (map begun config.repositories) (map begun config.repositories) eras)

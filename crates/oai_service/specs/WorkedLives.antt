@@ -24,7 +24,7 @@ use Rattle.oai_headline.specs.Chains.{IsFollowing}
 use Rattle.oai_headline.specs.Throughout.{own_given, whole_visits}
 use Rattle.oai_headline.specs.Visits.{Visit, steps_of}
 use Rattle.oai_headline.specs.Worked.{delete_line, deposit_line, first_entry, post, second_entry, worked_host}
-use Rattle.oai_service.specs.Hosting.{HaveNumbers, hosting, leaving, saving}
+use Rattle.oai_service.specs.Hosting.{AreNumbered, hosting, leaving, saving}
 use Rattle.oai_service.specs.Lives.{AreServerEras, ServerEra}
 use Rattle.oai_service.specs.Service.{AreKept, Told, all_turns}
 use Rattle.oai_service.specs.Turns.{AreTurns, Turn, answers_in, calls_in, was_performed}
@@ -144,7 +144,7 @@ pub record AreWorkedLives : Type 0 where
   pub second : ServerEra (Unit {0}) HostState Memory
   pub two : length second.lives ≡ 2
   pub are : AreServerEras (hosting (λ (host : HostState). host)) saving in_memory (λ stream. None) (λ stream. None) worked_begun None (first ∷ second ∷ [])
-  pub numbers : AllByRecursion (λ (era : ServerEra (Unit {0}) HostState Memory). HaveNumbers (redone_all leaving worked_begun era.found)) (first ∷ second ∷ [])
+  pub numbers : AllByRecursion (λ (era : ServerEra (Unit {0}) HostState Memory). AreNumbered (redone_all leaving worked_begun era.found)) (first ∷ second ∷ [])
   pub told : List Told
   pub kept : AreKept worked_checkpoint second.lives told second.left
   pub turns : all_turns told ≡ worked_turns

@@ -7,7 +7,7 @@ ghost use Rattle.oai_headline.specs.Visits.{Visit};
 ghost use Rattle.oai_host.specs.Hosts.{HostState, begun};
 ghost use Rattle.oai_laws.specs.Harvests.{Harvest};
 ghost use Rattle.oai_durable.specs.Records.{redone_all};
-ghost use Rattle.oai_service.specs.Hosting.{HaveNumbers, leaving};
+ghost use Rattle.oai_service.specs.Hosting.{AreNumbered, leaving};
 ghost use Rattle.oai_service.specs.Lives.{AreServerEras, ServerEra};
 ghost use Rattle.oai_service.specs.Service.{IsServed};
 ghost use Rattle.oai_service.specs.WorkedLives.{AreWorkedLives, AreWorkedTurns};
@@ -50,7 +50,7 @@ pub fn service_law<S: Stream, V: Versions + Drop, J: Journal>()
           ended = ⟦<Host<V> as Replayed>⟧.ended;
           emptied = ⟦<Host<V> as Replayed>⟧.emptied;
         }) J.Journal S.contents S.remaining (map begun config.repositories) None eras
-        → AllByRecursion (λ (era : ServerEra S HostState J). HaveNumbers (redone_all leaving (map begun config.repositories) era.found)) eras
+        → AllByRecursion (λ (era : ServerEra S HostState J). AreNumbered (redone_all leaving (map begun config.repositories) era.found)) eras
         → IsServed config S.contents S.remaining eras }
 {}
 
@@ -77,7 +77,7 @@ pub fn service_on_files_law<S: Stream, P: PageDevice, D: Disk + Drop>()
           ended = ⟦<Host<PagedVersions<P>> as Replayed>⟧.ended;
           emptied = ⟦<Host<PagedVersions<P>> as Replayed>⟧.emptied;
         }) ⟦<FileJournal<D> as Journal>⟧ S.contents S.remaining (map begun config.repositories) None eras
-        → AllByRecursion (λ (era : ServerEra S HostState _). HaveNumbers (redone_all leaving (map begun config.repositories) era.found)) eras
+        → AllByRecursion (λ (era : ServerEra S HostState _). AreNumbered (redone_all leaving (map begun config.repositories) era.found)) eras
         → IsServed config S.contents S.remaining eras }
 {}
 
