@@ -6,12 +6,12 @@ ghost use Rattle.oai_settings.specs.Config.{Config, IsConfig};
 ghost use Rattle.oai_repo.specs.State.{empty_state};
 ghost use Rattle.oai_laws.specs.Eras.{AreEnded, AreFollowed, Era, HaveNumbers, MissNothingWithin, runs};
 
-/// Lists that end before they expire (OAI-PMH 2.0, sections 2.7.1 and 3.5). A repository may end all its open lists,
-/// and raise the number of the next one, now and then, as a checkpoint does; what is asked of it between
-/// is an era. Whatever it is asked and whatever is deposited in each: a list that is followed within an era is
-/// what was selected at its first request; a token that was handed out in one era is answered with
-/// badResumptionToken in every later one, and never with a page of another list; and harvests of which each is
-/// made within an era, in whichever eras, miss nothing, where deleted records are kept.
+/// Lists that end before they expire (OAI-PMH 2.0, sections 2.7.1 and 3.5). A repository may end all its open lists now
+/// and then, and raise the number of the next one, as a checkpoint does; what is asked of it between two such ends is
+/// an era. Whatever is asked and deposited in each, where no number is raised beyond the last one of 64 bits: a list
+/// that is followed within an era is what was selected at its first request; a token that was handed out in one era is
+/// answered with badResumptionToken in every later one; and harvests of which each is made within an era, in whichever
+/// eras, miss nothing, where deleted records are kept.
 pub fn ended_lists_law()
     ensures followed { (config : Config) (eras : List Era) → IsConfig config
         → HaveNumbers config (empty_state config) eras
