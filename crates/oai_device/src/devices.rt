@@ -1,5 +1,5 @@
 ghost use Rattle.std.specs.Prelude.{◌≡◌, ◌≢◌, ◌<◌, ℕ, Bool, List, Option, Some, IsErrOf, IsSome, IsTrue, OnOk};
-ghost use Rattle.oai_device.specs.Device.{IsDeviceCounted};
+ghost use Rattle.oai_device.specs.Device.{CountsFailures};
 ghost use Rattle.oai_device.specs.declared.devices.DeviceFault.TheVariants as fault;
 
 use std::alloc::{AllocError, AllocFailed};
@@ -67,7 +67,7 @@ pub trait PageDevice: Drop {
         requires { IsSome (pages self.old no) }
         ensures value { OnOk result (IsTrue (honest self.old) → pages self.old no ≡ Some page.new) }
         ensures same { pages self.new ≡ pages self.old }
-        ensures device { IsDeviceCounted result (failures self.old) (failures self.new) }
+        ensures device { CountsFailures fault.Failed result (failures self.old) (failures self.new) }
         ensures memory { IsErrOf result DeviceFault.NoMemory → IsTrue reads_take_memory }
         ensures honesty { honest self.new ≡ honest self.old };
 
@@ -76,7 +76,7 @@ pub trait PageDevice: Drop {
     fn write(&mut self, no: u32, page: &Page) -> Result<(), DeviceFault>
         ensures written { OnOk result (pages self.new no ≡ Some page.now) }
         ensures others { (n : ℕ) → n ≢ no → pages self.new n ≡ pages self.old n }
-        ensures device { IsDeviceCounted result (failures self.old) (failures self.new) }
+        ensures device { CountsFailures fault.Failed result (failures self.old) (failures self.new) }
         ensures memory { IsErrOf result DeviceFault.NoMemory → IsTrue writes_take_memory }
         ensures honesty { honest self.new ≡ honest self.old };
 

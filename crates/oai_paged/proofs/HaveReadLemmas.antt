@@ -42,7 +42,7 @@ read_more g result p q r h k =
 
 -- a page was read
 pub read_page : {P A : Type 0} (g : Ghosts P) (result : Result A PoolFault) (p q : P) → g.counts q ≡ g.counts p → g.pages q ≡ g.pages p
-    → pools.SpendsPool g.room g.failures g.cache_size g.honest 0 result p q → HaveRead g p q
+    → pools.SpendsNumbers g.room g.failures g.cache_size g.honest 0 result p q → HaveRead g p q
 read_page g result p q counts same pool = record {
   counts = counts;
   same = same;

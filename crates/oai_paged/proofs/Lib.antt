@@ -38,7 +38,7 @@ mod GroupLemmas
 mod HaveReadLemmas
 mod StretchLemmas
 mod SumLemmas
-mod TakenLemmas
+mod SpendingLemmas
 mod TestedLemmas
 mod ReadPlaces
 mod InsidePlaces

@@ -2,6 +2,7 @@
 use Rattle.std.proofs.Common.{◌≡◌, ◌∙◌, ◌+◌, ◌<◌, ◌≤◌, ◌==◌, if◌then◌else◌, ℕ, List, [], ◌∷◌, ◌++◌, length, take, drop, get_or, inl, inr, refl, sym, ap, subst, arith}
 use Rattle.std.proofs.lemmas.List.{append-nil, take-append-drop, take_more}
 use Rattle.std.specs.Cmp.{nat_eq_equiv}
+use Rattle.oai_catalogue.specs.Store.{Spares}
 use Rattle.oai_item.specs.declared.faults.Fault.{Fault}
 use Rattle.oai_item.specs.declared.faults.Fault.TheVariants as told
 use Rattle.oai_pool.specs.Counts.{AddsName, KeepsNamed, count_of}
@@ -9,7 +10,7 @@ use Rattle.oai_pool.specs.Names.{times}
 use Rattle.oai_pool.specs.Calls as pools
 use Rattle.oai_pool.specs.declared.pools.PagePool.{Ghosts}
 use Rattle.oai_pool.specs.declared.pools.TheConstants.{MAX_PAGES}
-use Rattle.oai_paged.specs.Calls.{FreesPages, IsShareFault, Renames, RunsOut}
+use Rattle.oai_paged.specs.Calls.{IsShareFault, Renames}
 use Rattle.oai_paged.specs.Places.{PlaceState, named_in, page_numbers}
 use Rattle.oai_paged.specs.Recounts.{HasFull, Recounts}
 use Rattle.oai_paged.proofs.NameLemmas.{named_in-append, named_in-cons, page_numbers-append, times-append, times-nil, times-one}
@@ -193,10 +194,10 @@ module _ {P : Type 0} (g : Ghosts P) where
       → ((n : ℕ) → named_in places n ≤ 1) → (n : ℕ) → times n place.pages ≤ 1
   place_once i place places within is once n = omega (arith, named_in-own n i place places within is, once n)
 
-  pub runs_out : (i : ℕ) (place : PlaceState) (places : List PlaceState) (p q : P) → i < length places → place ≡ get_or places i place
+  pub full_place : (i : ℕ) (place : PlaceState) (places : List PlaceState) (p q : P) → i < length places → place ≡ get_or places i place
       → ((n : ℕ) → named_in places n ≤ 1)
-      → Recounts g [] (page_numbers (take i places)) p q → HasFull g place.pages q → RunsOut g places p
-  runs_out i place places p q within is once so_far full =
+      → Recounts g [] (page_numbers (take i places)) p q → HasFull g place.pages q → HasFull g (page_numbers places) p
+  full_place i place places p q within is once so_far full =
       let own = named_in-own full.0 i place places within is in
       let one = once full.0 in
       let counts = so_far.counts full.0 in
@@ -259,16 +260,16 @@ module _ {P : Type 0} (g : Ghosts P) where
 
   -- ---- what it leaves of the pool
 
-  pub frees_none : (p : P) → FreesPages g p p
-  frees_none p = record { room = omega arith; count = refl; honesty = refl }
+  pub spares_none : (p : P) → Spares g.room g.failures g.honest p p
+  spares_none p = record { room = omega arith; count = refl; honesty = refl }
 
-  pub frees_then : (p q r : P) → FreesPages g p q → FreesPages g q r → FreesPages g p r
-  frees_then p q r first second =
+  pub spares_then : (p q r : P) → Spares g.room g.failures g.honest p q → Spares g.room g.failures g.honest q r → Spares g.room g.failures g.honest p r
+  spares_then p q r first second =
       record {
         room = let a = first.room in let b = second.room in omega (arith, a, b);
         count = second.count ∙ first.count;
         honesty = second.honesty ∙ first.honesty;
       }
 
-  pub frees_from : (p q : P) → pools.SparesPool g.room g.failures g.cache_size g.honest p q → FreesPages g p q
-  frees_from p q call = record { room = call.room; count = call.failures; honesty = call.honesty }
+  pub spares_from : (p q : P) → pools.SparesNumbers g.room g.failures g.cache_size g.honest p q → Spares g.room g.failures g.honest p q
+  spares_from p q call = record { room = call.room; count = call.failures; honesty = call.honesty }

@@ -3,13 +3,14 @@ use Rattle.std.proofs.Common.{◌≡◌, ◌+◌, ◌-◌, ◌/◌, ◌<◌, ◌
 use Rattle.std.specs.Prelude.{Ok, Err}
 use Rattle.std.proofs.lemmas.Result.{IfErr-weaker}
 use Rattle.oai_catalogue.specs.Store.{IsCounted, IsHonest, NeedsRoom}
+use Rattle.oai_paged.specs.Recounts.{HasFull}
 use Rattle.oai_item.specs.declared.faults.Fault.{Fault}
 use Rattle.oai_item.specs.declared.faults.Fault.TheVariants.{TooManyPages}
 use Rattle.oai_pool.specs.Counts.{count_of}
 use Rattle.oai_pool.specs.declared.pools.PagePool.{Ghosts}
 use Rattle.oai_pool.specs.declared.pools.TheConstants.{MAX_PAGES}
-use Rattle.oai_paged.specs.Calls.{Changes, IsShareFault, Renames, RunsOut}
-use Rattle.oai_paged.specs.Places.{PlaceState, named_in}
+use Rattle.oai_paged.specs.Calls.{Changes, IsShareFault, Renames}
+use Rattle.oai_paged.specs.Places.{PlaceState, named_in, page_numbers}
 use Rattle.oai_paged.specs.Shelves.{calls_left, most_of}
 use Rattle.oai_paged.proofs.NameLemmas.{named_in-nil}
 use Rattle.oai_paged.proofs.RecountLemmas.{not_damaged, not_device, only_full}
@@ -100,20 +101,20 @@ module _ {P : Type 0} (g : Ghosts P) where
   dropped_left places p q names room = calls_left-same (g.room p) (g.room q) (g.counts p) (g.counts q) room
       (λ n. omega (arith, names.counts n, named_in-nil n))
 
-  pub runs_out_left : (places : List PlaceState) (p : P) → RunsOut g places p → calls_left (g.room p) (g.counts p) < 1
-  runs_out_left places p out = let most = out.2 in none_left (g.room p) MAX_PAGES (most_of (g.counts p))
+  pub full_left : (places : List PlaceState) (p : P) → HasFull g (page_numbers places) p → calls_left (g.room p) (g.counts p) < 1
+  full_left places p out = let most = out.2 in none_left (g.room p) MAX_PAGES (most_of (g.counts p))
       (omega (arith, most, count_of-le-most (g.counts p) out.0))
 
 -- ---- where a copy of a directory was refused
 
 module _ {P A : Type 0} (g : Ghosts P) (result : Result A Fault) (cause : Fault) (is : result ≡ Err cause) (places : List PlaceState) (p q : P)
-    (fault : IsShareFault (RunsOut g places p) cause) where
+    (fault : IsShareFault (HasFull g (page_numbers places) p) cause) where
   pub refused_room : Renames g [] [] p q → g.room p ≤ g.room q
       → NeedsRoom 1 result (calls_left (g.room p) (g.counts p)) (calls_left (g.room q) (g.counts q))
   refused_room names room =
       let less = kept_left g p q names room in
       subst (λ (r : Result A Fault). NeedsRoom 1 r (calls_left (g.room p) (g.counts p)) (calls_left (g.room q) (g.counts q))) (sym is)
-      record { enough = λ full. runs_out_left g places p (only_full _ _ fault full); used = omega (arith, less) }
+      record { enough = λ full. full_left g places p (only_full _ _ fault full); used = omega (arith, less) }
 
   pub refused_count : g.failures q ≡ g.failures p → IsCounted result (g.failures p) (g.failures q)
   refused_count count =

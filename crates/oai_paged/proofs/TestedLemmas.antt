@@ -24,8 +24,8 @@ use Rattle.oai_paged.proofs.InsidePlaces.{few_items}
 use Rattle.oai_paged.proofs.OverflowLemmas.{joined-one, long_from, overflow-one, pages-one}
 use Rattle.oai_paged.proofs.PageLemmas.{behind_number, entries_of-cons, entries_of-nil, entry_parts, length-entry, number_back, page_parts}
 use Rattle.oai_paged.proofs.ReadLemmas.{has_entry, no_entries, one_more, page_read, some_from}
-use Rattle.oai_paged.proofs.RecountLemmas.{frees_from, frees_none, frees_then}
-use Rattle.oai_paged.proofs.TakenLemmas.{err_of, takes_freed_err}
+use Rattle.oai_paged.proofs.RecountLemmas.{spares_from, spares_none, spares_then}
+use Rattle.oai_paged.proofs.SpendingLemmas.{err_of, spends_freed_err}
 
 -- ---- what is read
 
@@ -163,16 +163,16 @@ pub reads_forgotten : {P A B : Type 0} (g : Ghosts P) (fault : Fault) (p q r : P
 reads_forgotten g fault p q r h k = record {
   counts = k.counts ∙ h.counts;
   same = k.same ∙ h.same;
-  pool = takes_freed_err g 0 fault p q r h.pool k.pool;
+  pool = spends_freed_err g 0 fault p q r h.pool k.pool;
 }
 
 pub forgets_none : {P : Type 0} (g : Ghosts P) (p : P) → Forgets g p p
-forgets_none g p = record { counts = refl; same = refl; pool = frees_none g p }
+forgets_none g p = record { counts = refl; same = refl; pool = spares_none g p }
 
 pub forgets_more : {P : Type 0} (g : Ghosts P) (p q r : P) → Forgets g p q → g.counts r ≡ g.counts q → g.pages r ≡ g.pages q
-    → pools.SparesPool g.room g.failures g.cache_size g.honest q r → Forgets g p r
+    → pools.SparesNumbers g.room g.failures g.cache_size g.honest q r → Forgets g p r
 forgets_more g p q r h counts same pool = record {
   counts = counts ∙ h.counts;
   same = same ∙ h.same;
-  pool = frees_then g p q r h.pool (frees_from g q r pool);
+  pool = spares_then g p q r h.pool (spares_from g q r pool);
 }

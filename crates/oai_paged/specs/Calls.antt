@@ -7,7 +7,6 @@ use Rattle.oai_item.specs.declared.faults.Fault.{Fault}
 use Rattle.oai_item.specs.declared.faults.Fault.TheVariants as told
 use Rattle.oai_pool.specs.declared.pools.PoolFault.{PoolFault}
 use Rattle.oai_pool.specs.declared.pools.PoolFault.TheVariants as pool
-use Rattle.oai_pool.specs.declared.pools.TheConstants.{MAX_PAGES}
 use Rattle.oai_pool.specs.Counts.{count_of}
 use Rattle.oai_pool.specs.declared.pools.PagePool.{Ghosts}
 use Rattle.oai_paged.specs.Directory.{IsDirectory, StandsIn}
@@ -17,10 +16,6 @@ use Rattle.oai_paged.specs.declared.changes.Changed.{Changed}
 use Rattle.oai_paged.specs.declared.sizes.TheConstants.{MAX_OVERFLOW_PAGES}
 use Rattle.std.specs.List.{AllByRecursion}
 
--- it takes at most so many numbers of the pool, and may reach the device
-abbrev pub Takes : {P A : Type 0} → Ghosts P → ℕ → Result A Fault → P → P → Type 0
-Takes g numbers result old new = Spends g.room g.failures g.honest numbers result old new
-
 -- what a call that cannot fail returns, as what one returns that can
 abbrev pub returned : {A : Type 0} → A → Result A Fault
 returned a = Ok a
@@ -29,7 +24,7 @@ returned a = Ok a
 pub record ReadsPages {P A : Type 0} (g : Ghosts P) (result : Result A Fault) (old new : P) : Type 0 where
   pub counts : g.counts new ≡ g.counts old
   pub same : g.pages new ≡ g.pages old
-  pub pool : Takes g 0 result old new
+  pub pool : Spends g.room g.failures g.honest 0 result old new
 
 -- the pages that the places before named are named once less, and those that the places after name once more; a page that others
 -- named too is as it was
@@ -47,26 +42,18 @@ pub record Changes {P A : Type 0} (g : Ghosts P) (numbers : ℕ) (result : Resul
   pub directory : OnOk result (IsDirectory (g.pages new) after)
   pub names : OnOk result (Renames g before after old new)
   pub err : OnErr result (ChangesNothing g before after old new)
-  pub pool : Takes g numbers result old new
+  pub pool : Spends g.room g.failures g.honest numbers result old new
 
 -- it adds the pages of entries: three and the overflow pages of one item at most, and one at most where all of them fit on one
 pub record AddsPages {P A : Type 0} (g : Ghosts P) (entries : List ItemState) (result : Result A Fault) (old new : P) : Type 0 where
-  pub pool : Takes g (3 + MAX_OVERFLOW_PAGES) result old new
-  pub few : fit_one entries ≡ true → Takes g 1 result old new
-
--- it takes no number, and does not reach the device
-abbrev pub FreesPages : {P : Type 0} → Ghosts P → P → P → Type 0
-FreesPages g old new = Spares g.room g.failures g.honest old new
+  pub pool : Spends g.room g.failures g.honest (3 + MAX_OVERFLOW_PAGES) result old new
+  pub few : fit_one entries ≡ true → Spends g.room g.failures g.honest 1 result old new
 
 -- pages that were kept in memory are kept no more, and nothing else changes
 pub record Forgets {P : Type 0} (g : Ghosts P) (old new : P) : Type 0 where
   pub counts : g.counts new ≡ g.counts old
   pub same : g.pages new ≡ g.pages old
-  pub pool : FreesPages g old new
-
--- a page that the places name is named as often as it can be
-abbrev pub RunsOut : {P : Type 0} → Ghosts P → List PlaceState → P → Type 0
-RunsOut g places pool = (n : ℕ) × (0 < named_in places n) × (MAX_PAGES ≤ count_of (g.counts pool) n)
+  pub pool : Spares g.room g.failures g.honest old new
 
 -- names once more are refused for want of memory, or since one of the pages is named as often as it can be
 abbrev pub IsShareFault : Type 0 → Fault → Type 0

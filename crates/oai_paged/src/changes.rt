@@ -1,10 +1,11 @@
 //! A directory changed where it stands: pages of new entries are added, and then their places put in for old ones, by steps that cannot
 //! fail.
 ghost use Rattle.std.specs.Prelude.{◌≡◌, ◌+◌, ◌*◌, ◌<◌, ◌≤◌, ◌++◌, ◌∷◌, ℕ, List, [], true, length, take, drop, vec_capacity, vec_len, IfOk, OnErr, OnOk};
+ghost use Rattle.oai_catalogue.specs.Store.{Spares, Spends};
 ghost use Rattle.oai_item.specs.Item.{ItemState};
 ghost use Rattle.oai_item.specs.Order.{are_in_order};
 ghost use Rattle.oai_pool.specs.Counts.{count_of};
-ghost use Rattle.oai_paged.specs.Calls.{Adds, AddsPages, ChangesNothing, FreesPages, HasWayBack, IsDirectoryChanged, Renames, Takes};
+ghost use Rattle.oai_paged.specs.Calls.{Adds, AddsPages, ChangesNothing, HasWayBack, IsDirectoryChanged, Renames};
 ghost use Rattle.oai_paged.specs.Directory.{IsRunWithin, MayStand, StandsIn};
 ghost use Rattle.oai_paged.specs.Pages.{AreCuts, FitAlone, between, kind_for, overflow_of, pages_of};
 ghost use Rattle.oai_paged.specs.Places.{have_records, named_in};
@@ -98,7 +99,7 @@ pub(crate) fn undo<P: PagePool>(
     ensures places { places.new.items ≡ take changed.at places.old.items
         ++ (changed.gone.items ++ drop (changed.at + changed.len) places.old.items) }
     ensures names { Renames P.PagePool (take changed.len (drop changed.at places.old.items)) [] pages.old pages.new }
-    ensures pool { FreesPages P.PagePool pages.old pages.new }
+    ensures pool { Spares P.room P.failures P.honest pages.old pages.new }
     ensures groups { AreGroups places.old.items groups.old → AreGroups places.new.items groups.new }
 {
     let mut others = changed.gone;
@@ -190,8 +191,8 @@ fn add_part<P: PagePool>(
     ensures err { (items : List ItemState) (first : P) → Adds P.PagePool items added.old.items first pages.old
         → OnErr result (Adds P.PagePool items added.new.items first pages.new) }
     ensures left { vec_capacity added.old + vec_len added.new ≤ vec_capacity added.new + vec_len added.old + 1 }
-    ensures none { from ≡ to → Takes P.PagePool 0 result pages.old pages.new }
-    ensures pool { Takes P.PagePool (1 + overflow_of (between from to entries.now)) result pages.old pages.new }
+    ensures none { from ≡ to → Spends P.room P.failures P.honest 0 result pages.old pages.new }
+    ensures pool { Spends P.room P.failures P.honest (1 + overflow_of (between from to entries.now)) result pages.old pages.new }
 {
     if from == to {
         return Ok(());
@@ -219,7 +220,7 @@ fn add_page<P: PagePool>(
     requires rising { are_in_order entries.now ≡ true }
     ensures added { IfOk result (λ place. Adds P.PagePool (between from to entries.now) (place ∷ []) pages.old pages.new) }
     ensures undone { OnErr result (Renames P.PagePool [] [] pages.old pages.new) }
-    ensures pool { Takes P.PagePool (1 + overflow_of (between from to entries.now)) result pages.old pages.new }
+    ensures pool { Spends P.room P.failures P.honest (1 + overflow_of (between from to entries.now)) result pages.old pages.new }
 {
     let _all = entries.len();
     let stamp = entries.stamp(from);
@@ -284,7 +285,7 @@ fn add_numbers<P: PagePool>(
     requires alone { FitAlone (between from to entries.now) }
     ensures added { IfOk result (λ numbers. AddsNumbers P.PagePool (pages_of (between from to entries.now)) numbers.items pages.old pages.new) }
     ensures undone { OnErr result (Recounts P.PagePool [] [] pages.old pages.new) }
-    ensures pool { Takes P.PagePool (1 + overflow_of (between from to entries.now)) result pages.old pages.new }
+    ensures pool { Spends P.room P.failures P.honest (1 + overflow_of (between from to entries.now)) result pages.old pages.new }
 {
     let _all = entries.len();
     let overflow = entries.overflow(from, to);

@@ -1,7 +1,9 @@
 ghost use Rattle.std.specs.Prelude.{◌≡◌, ◌<◌, ◌≤◌, ℕ, [], OnErr, OnOk, IfErr, IfOk};
+ghost use Rattle.oai_catalogue.specs.Store.{Spares};
+ghost use Rattle.oai_paged.specs.Recounts.{HasFull};
 ghost use Rattle.oai_pool.specs.Counts.{count_of};
-ghost use Rattle.oai_paged.specs.Calls.{FreesPages, IsShareFault, Renames, RunsOut};
-ghost use Rattle.oai_paged.specs.Places.{named_in};
+ghost use Rattle.oai_paged.specs.Calls.{IsShareFault, Renames};
+ghost use Rattle.oai_paged.specs.Places.{named_in, page_numbers};
 ghost use Rattle.oai_paged.specs.Props.{group_props};
 ghost use Rattle.oai_paged.specs.Sums.{AreGroups};
 
@@ -52,8 +54,8 @@ impl Directory {
         ensures copy { IfOk result (λ copy. copy ≡ record { places = self.now.places; versions = 1 }) }
         ensures names { OnOk result (Renames P.PagePool [] self.now.places pages.old pages.new) }
         ensures undone { OnErr result (Renames P.PagePool [] [] pages.old pages.new) }
-        ensures fault { IfErr result (λ cause. IsShareFault (RunsOut P.PagePool self.now.places pages.old) cause) }
-        ensures pool { FreesPages P.PagePool pages.old pages.new }
+        ensures fault { IfErr result (λ cause. IsShareFault (HasFull P.PagePool (page_numbers self.now.places) pages.old) cause) }
+        ensures pool { Spares P.room P.failures P.honest pages.old pages.new }
     {
         let groups = self.groups.copy(alloc);
         match share_all(alloc, pages, self.places.as_slice()) {

@@ -1,10 +1,11 @@
 //! The names that places give to the pages of a pool.
 ghost use Rattle.std.specs.Prelude.{◌≡◌, ◌<◌, ◌≤◌, ℕ, [], OnErr, OnOk, IfErr, IfOk};
+ghost use Rattle.oai_catalogue.specs.Store.{Spares};
 ghost use Rattle.oai_item.specs.declared.faults.Fault.TheVariants as fault;
 ghost use Rattle.oai_pool.specs.Counts.{count_of};
 ghost use Rattle.oai_pool.specs.Names.{times};
-ghost use Rattle.oai_paged.specs.Calls.{Forgets, FreesPages, IsShareFault, Renames, RunsOut};
-ghost use Rattle.oai_paged.specs.Places.{named_in};
+ghost use Rattle.oai_paged.specs.Calls.{Forgets, IsShareFault, Renames};
+ghost use Rattle.oai_paged.specs.Places.{named_in, page_numbers};
 ghost use Rattle.oai_paged.specs.Recounts.{HasFull, Recounts};
 
 use crate::faults::fault_of;
@@ -17,7 +18,7 @@ use std::alloc::Global;
 pub(crate) fn drop_all<P: PagePool>(pages: &mut P, places: Vec<SharedPlace>)
     requires { (n : ℕ) → named_in places.items n ≤ count_of (P.counts pages.old) n }
     ensures names { Renames P.PagePool places.items [] pages.old pages.new }
-    ensures pool { FreesPages P.PagePool pages.old pages.new }
+    ensures pool { Spares P.room P.failures P.honest pages.old pages.new }
 {
     for place in places {
         drop_numbers(pages, place.pages());
@@ -28,7 +29,7 @@ pub(crate) fn drop_all<P: PagePool>(pages: &mut P, places: Vec<SharedPlace>)
 pub(crate) fn drop_numbers<P: PagePool>(pages: &mut P, numbers: &[PageNo])
     requires { (n : ℕ) → times n numbers.now ≤ count_of (P.counts pages.old) n }
     ensures names { Recounts P.PagePool numbers.now [] pages.old pages.new }
-    ensures pool { FreesPages P.PagePool pages.old pages.new }
+    ensures pool { Spares P.room P.failures P.honest pages.old pages.new }
 {
     for number in numbers {
         pages.drop_ref(*number);
@@ -56,8 +57,8 @@ pub(crate) fn share_all<P: PagePool>(
     ensures copies { IfOk result (λ copies. copies.items ≡ places.now) }
     ensures names { OnOk result (Renames P.PagePool [] places.now pages.old pages.new) }
     ensures undone { OnErr result (Renames P.PagePool [] [] pages.old pages.new) }
-    ensures fault { IfErr result (λ cause. IsShareFault (RunsOut P.PagePool places.now pages.old) cause) }
-    ensures pool { FreesPages P.PagePool pages.old pages.new }
+    ensures fault { IfErr result (λ cause. IsShareFault (HasFull P.PagePool (page_numbers places.now) pages.old) cause) }
+    ensures pool { Spares P.room P.failures P.honest pages.old pages.new }
 {
     let mut copies = Vec::with_capacity(alloc, places.len())?;
     for at in 0..places.len() {
@@ -81,7 +82,7 @@ fn share_place<P: PagePool>(pages: &mut P, place: &SharedPlace) -> Result<Shared
     ensures names { OnOk result (Recounts P.PagePool [] place.now.pages pages.old pages.new) }
     ensures undone { OnErr result (Recounts P.PagePool [] [] pages.old pages.new) }
     ensures fault { IfErr result (λ cause. IsShareFault (HasFull P.PagePool place.now.pages pages.old) cause) }
-    ensures pool { FreesPages P.PagePool pages.old pages.new }
+    ensures pool { Spares P.room P.failures P.honest pages.old pages.new }
 {
     let copy = place.copy()?;
     share_numbers(pages, copy.pages())?;
@@ -97,7 +98,7 @@ fn share_numbers<P: PagePool>(pages: &mut P, numbers: &[PageNo]) -> Result<(), F
     ensures undone { OnErr result (Recounts P.PagePool [] [] pages.old pages.new) }
     ensures fault { IfErr result (λ cause. cause ≡ fault.TooManyPages) }
     ensures full { OnErr result (HasFull P.PagePool numbers.now pages.old) }
-    ensures pool { FreesPages P.PagePool pages.old pages.new }
+    ensures pool { Spares P.room P.failures P.honest pages.old pages.new }
 {
     for at in 0..numbers.len() {
         match pages.share(numbers[at]) {

@@ -1,9 +1,10 @@
 //! Items put into a directory, and taken out.
 ghost use Rattle.std.specs.Prelude.{◌≡◌, ◌+◌, ◌<◌, ◌≤◌, ℕ, [], true, length, take, drop, is_some, HoldsAt, vec_capacity, vec_len, IfOk, IfSome, IsTrue, OnErr, OnOk};
+ghost use Rattle.oai_catalogue.specs.Store.{Spends};
 ghost use Rattle.oai_item.specs.Encoding.{encoded};
 ghost use Rattle.oai_item.specs.Items.{item_at, with_item, without_at};
 ghost use Rattle.oai_item.specs.declared.sizes.TheConstants.{MAX_ITEM_BYTES};
-ghost use Rattle.oai_paged.specs.Calls.{Changes, ChangesNothing, HasWayBack, PutsItem, Stages, Takes, TakesItemOut};
+ghost use Rattle.oai_paged.specs.Calls.{Changes, ChangesNothing, HasWayBack, PutsItem, Stages, TakesItemOut};
 ghost use Rattle.oai_paged.specs.Directory.{IsRunWithin, MayReplace, PutsAt, StandsIn, items_with_run};
 ghost use Rattle.oai_paged.specs.Places.{items_on};
 ghost use Rattle.oai_paged.specs.Searches.{IsPlaceFor};
@@ -126,7 +127,7 @@ fn put_in<P: PagePool>(
     requires fits { length (encoded item.now) ≤ MAX_ITEM_BYTES }
     ensures item { PutsItem P.PagePool item.now result places.old.items places.new.items pages.old pages.new }
     ensures capacity { vec_capacity places.old ≤ vec_capacity places.new }
-    ensures pool { Takes P.PagePool (3 + MAX_OVERFLOW_PAGES) result pages.old pages.new }
+    ensures pool { Spends P.room P.failures P.honest (3 + MAX_OVERFLOW_PAGES) result pages.old pages.new }
     ensures groups { AreGroups places.old.items groups.old → AreGroups places.new.items groups.new }
 {
     if places.is_empty() {
@@ -155,7 +156,7 @@ fn put_among<P: PagePool>(
     requires fits { length (encoded item.now) ≤ MAX_ITEM_BYTES }
     ensures item { PutsItem P.PagePool item.now result places.old.items places.new.items pages.old pages.new }
     ensures capacity { vec_capacity places.old ≤ vec_capacity places.new }
-    ensures pool { Takes P.PagePool (3 + MAX_OVERFLOW_PAGES) result pages.old pages.new }
+    ensures pool { Spends P.room P.failures P.honest (3 + MAX_OVERFLOW_PAGES) result pages.old pages.new }
     ensures groups { AreGroups places.old.items groups.old → AreGroups places.new.items groups.new }
 {
     let old = read_place(alloc, pages, places.as_slice(), at)?;
@@ -181,7 +182,7 @@ fn put_by_long<P: PagePool>(
     requires fits { length (encoded item.now) ≤ MAX_ITEM_BYTES }
     ensures item { PutsItem P.PagePool item.now result places.old.items places.new.items pages.old pages.new }
     ensures capacity { vec_capacity places.old ≤ vec_capacity places.new }
-    ensures pool { Takes P.PagePool (3 + MAX_OVERFLOW_PAGES) result pages.old pages.new }
+    ensures pool { Spends P.room P.failures P.honest (3 + MAX_OVERFLOW_PAGES) result pages.old pages.new }
     ensures groups { AreGroups places.old.items groups.old → AreGroups places.new.items groups.new }
 {
     match places[at].order_to(item.stamp(), item.identifier().as_str()) {
@@ -209,7 +210,7 @@ fn put_alone<P: PagePool>(
     requires puts { PutsAt (P.pages pages.old) places.old.items item.now at len }
     ensures item { PutsItem P.PagePool item.now result places.old.items places.new.items pages.old pages.new }
     ensures capacity { vec_capacity places.old ≤ vec_capacity places.new }
-    ensures pool { Takes P.PagePool (3 + MAX_OVERFLOW_PAGES) result pages.old pages.new }
+    ensures pool { Spends P.room P.failures P.honest (3 + MAX_OVERFLOW_PAGES) result pages.old pages.new }
     ensures groups { AreGroups places.old.items groups.old → AreGroups places.new.items groups.new }
 {
     let (entries, cuts) = Entries::new(alloc).put(alloc, item, false)?;
@@ -231,7 +232,7 @@ fn take_out<P: PagePool>(
     ensures item { TakesItemOut P.PagePool stamp identifier.now result places.old.items places.new.items pages.old pages.new }
     ensures back { IfOk result (λ changed. IfSome changed (λ some. HasWayBack some.at some.len
         (vec_len places.new) (vec_capacity places.new) (vec_len some.gone) (vec_capacity some.gone))) }
-    ensures pool { Takes P.PagePool 1 result pages.old pages.new }
+    ensures pool { Spends P.room P.failures P.honest 1 result pages.old pages.new }
     ensures groups { AreGroups places.old.items groups.old → AreGroups places.new.items groups.new }
 {
     if places.is_empty() {
@@ -261,7 +262,7 @@ fn take_out_among<P: PagePool>(
     ensures item { TakesItemOut P.PagePool stamp identifier.now result places.old.items places.new.items pages.old pages.new }
     ensures back { IfOk result (λ changed. IfSome changed (λ some. HasWayBack some.at some.len
         (vec_len places.new) (vec_capacity places.new) (vec_len some.gone) (vec_capacity some.gone))) }
-    ensures pool { Takes P.PagePool 1 result pages.old pages.new }
+    ensures pool { Spends P.room P.failures P.honest 1 result pages.old pages.new }
     ensures groups { AreGroups places.old.items groups.old → AreGroups places.new.items groups.new }
 {
     let old = read_place(alloc, pages, places.as_slice(), at)?;
@@ -291,7 +292,7 @@ fn take_out_long<P: PagePool>(
     ensures item { TakesItemOut P.PagePool stamp identifier.now result places.old.items places.new.items pages.old pages.new }
     ensures back { IfOk result (λ changed. IfSome changed (λ some. HasWayBack some.at some.len
         (vec_len places.new) (vec_capacity places.new) (vec_len some.gone) (vec_capacity some.gone))) }
-    ensures pool { Takes P.PagePool 1 result pages.old pages.new }
+    ensures pool { Spends P.room P.failures P.honest 1 result pages.old pages.new }
     ensures groups { AreGroups places.old.items groups.old → AreGroups places.new.items groups.new }
 {
     if places[at].order_to(stamp, identifier) != Ordering::Equal {
@@ -320,7 +321,7 @@ fn leave<P: PagePool>(
     ensures err { OnErr result (ChangesNothing P.PagePool places.old.items places.new.items pages.old pages.new) }
     ensures back { IfOk result (λ changed. HasWayBack changed.at changed.len
         (vec_len places.new) (vec_capacity places.new) (vec_len changed.gone) (vec_capacity changed.gone)) }
-    ensures pool { Takes P.PagePool 1 result pages.old pages.new }
+    ensures pool { Spends P.room P.failures P.honest 1 result pages.old pages.new }
     ensures groups { AreGroups places.old.items groups.old → AreGroups places.new.items groups.new }
 {
     let merged = merge(alloc, pages, places.as_slice(), at, entries);

@@ -1,10 +1,12 @@
 ghost use Rattle.std.specs.Prelude.{◌≡◌, ◌≢◌, ◌+◌, ◌*◌, ◌/◌, ◌≤◌, ◌<◌, ℕ, List, [], None, Some, IsSome, IsTrue, IfErr, IfOk, OnErr, OnOk, option_copied, length};
 ghost use Rattle.std.specs.List.{Contains};
-ghost use Rattle.oai_catalogue.specs.Store.{list_at, no_lists};
+ghost use Rattle.oai_catalogue.specs.Store.{Spares, list_at, no_lists};
+ghost use Rattle.oai_paged.specs.Places.{page_numbers};
+ghost use Rattle.oai_paged.specs.Recounts.{HasFull};
 ghost use Rattle.oai_item.specs.Item.{ItemState};
 ghost use Rattle.oai_pool.specs.Counts.{used_of};
 ghost use Rattle.oai_pool.specs.declared.pools.TheConstants.{MAX_PAGES};
-ghost use Rattle.oai_paged.specs.Calls.{FreesPages, IsShareFault, Renames, RunsOut};
+ghost use Rattle.oai_paged.specs.Calls.{IsShareFault, Renames};
 ghost use Rattle.oai_paged.specs.Props.{shelved_props};
 ghost use Rattle.oai_paged.specs.Shelves.{AreShelved, StandsOnPages, calls_left, directory_at, items_below, lists_on};
 ghost use Rattle.oai_paged.specs.Versions.{AreShared, places_in, places_of, shelf_at};
@@ -278,8 +280,8 @@ impl<P: PagePool + Drop> VersionsOver<P> {
         ensures own { IfOk result (λ number. IsOwn v number self.old self.new) }
         ensures lists { lists_on (P.pages (pool_of self.new)) (directories_of self.new) ≡ lists_on (P.pages (pool_of self.old)) (directories_of self.old) }
         ensures undone { OnErr result (Renames P.PagePool [] [] (pool_of self.old) (pool_of self.new)) }
-        ensures fault { IfErr result (λ cause. IsShareFault (RunsOut P.PagePool (places_at self.old v) (pool_of self.old)) cause) }
-        ensures pool { FreesPages P.PagePool (pool_of self.old) (pool_of self.new) }
+        ensures fault { IfErr result (λ cause. IsShareFault (HasFull P.PagePool (page_numbers (places_at self.old v)) (pool_of self.old)) cause) }
+        ensures pool { Spares P.room P.failures P.honest (pool_of self.old) (pool_of self.new) }
     {
         let number = self.number_of(v);
         let Some(directory) = self.directories.get(number) else {
@@ -299,8 +301,8 @@ impl<P: PagePool + Drop> VersionsOver<P> {
         ensures own { IfOk result (λ number. IsOwn v number self.old self.new) }
         ensures lists { lists_on (P.pages (pool_of self.new)) (directories_of self.new) ≡ lists_on (P.pages (pool_of self.old)) (directories_of self.old) }
         ensures undone { OnErr result (Renames P.PagePool [] [] (pool_of self.old) (pool_of self.new)) }
-        ensures fault { IfErr result (λ cause. IsShareFault (RunsOut P.PagePool (places_at self.old v) (pool_of self.old)) cause) }
-        ensures pool { FreesPages P.PagePool (pool_of self.old) (pool_of self.new) }
+        ensures fault { IfErr result (λ cause. IsShareFault (HasFull P.PagePool (page_numbers (places_at self.old v)) (pool_of self.old)) cause) }
+        ensures pool { Spares P.room P.failures P.honest (pool_of self.old) (pool_of self.new) }
     {
         self.directories.reserve(1)?;
         let Some(directory) = self.directories.get_mut(number) else {

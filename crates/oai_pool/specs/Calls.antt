@@ -1,27 +1,21 @@
 -- What a call does to a pool beside what it is for: to the numbers that are left, to the device, and to the size of the cache.
-use Rattle.std.specs.Prelude.{◌≡◌, ◌⊎◌, ◌+◌, ◌<◌, ◌≤◌, ℕ, Bool, false, Result, IsErrOf}
-use Rattle.oai_device.specs.declared.devices.TheConstants.{MAX_FAILURES}
+use Rattle.std.specs.Prelude.{◌≡◌, ◌+◌, ◌<◌, ◌≤◌, ℕ, Bool, false, Result, IsErrOf}
+use Rattle.oai_device.specs.Device.{CountsFailures}
 use Rattle.oai_pool.specs.declared.pools.PoolFault.{PoolFault}
 use Rattle.oai_pool.specs.declared.pools.PoolFault.TheVariants.{Damaged, Device, TooManyPages}
 
--- the count of the device's failures never falls; and the device is named as the cause only where it rose, or stands at the last number
--- that it can have
-pub record IsPoolCounted {A : Type 0} (result : Result A PoolFault) (old new : ℕ) : Type 0 where
-  pub count : old ≤ new
-  pub device : IsErrOf result Device → (old < new) ⊎ (old ≡ MAX_FAILURES)
-
 -- a call that takes at most so many numbers, and reaches the device: it lacks a number only where fewer were sure to be left, and so
 -- never if it takes none; and it finds damage only over a device that is not honest
-pub record SpendsPool {V A : Type 0} (room_of failures_of size_of : V → ℕ) (honest_of : V → Bool) (numbers : ℕ) (result : Result A PoolFault) (old new : V) : Type 0 where
+pub record SpendsNumbers {V A : Type 0} (room_of failures_of size_of : V → ℕ) (honest_of : V → Bool) (numbers : ℕ) (result : Result A PoolFault) (old new : V) : Type 0 where
   pub enough : IsErrOf result TooManyPages → room_of old < numbers
   pub room : room_of old ≤ room_of new + numbers
-  pub device : IsPoolCounted result (failures_of old) (failures_of new)
+  pub device : CountsFailures Device result (failures_of old) (failures_of new)
   pub honesty : honest_of new ≡ honest_of old
   pub damaged : IsErrOf result Damaged → honest_of old ≡ false
   pub cache : size_of new ≡ size_of old
 
 -- a call that takes no number, and does not reach the device
-pub record SparesPool {V : Type 0} (room_of failures_of size_of : V → ℕ) (honest_of : V → Bool) (old new : V) : Type 0 where
+pub record SparesNumbers {V : Type 0} (room_of failures_of size_of : V → ℕ) (honest_of : V → Bool) (old new : V) : Type 0 where
   pub room : room_of old ≤ room_of new
   pub failures : failures_of new ≡ failures_of old
   pub honesty : honest_of new ≡ honest_of old

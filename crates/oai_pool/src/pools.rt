@@ -1,6 +1,6 @@
 ghost use Rattle.std.specs.Prelude.{◌≡◌, ◌+◌, ◌<◌, ◌≤◌, ℕ, Bool, true, List, Option, Some, max, length, IfErr, IfOk, IsSome, IsTrue, OnErr, OnOk};
 ghost use Rattle.oai_pool.specs.Counts.{AddsName, KeepsNamed, StaysNamed, count_of, used_of};
-ghost use Rattle.oai_pool.specs.Calls.{SparesPool, SpendsPool};
+ghost use Rattle.oai_pool.specs.Calls.{SparesNumbers, SpendsNumbers};
 ghost use Rattle.oai_pool.specs.Kinds.{is_of};
 ghost use Rattle.oai_pool.specs.declared.pools.PoolFault.TheVariants as fault;
 ghost use Rattle.oai_pool.specs.declared.pools.TheConstants.{MAX_PAGES};
@@ -89,7 +89,7 @@ pub trait PagePool {
 
         ensures kept { KeepsNamed (counts self.old) (pages self.old) (pages self.new) }
         ensures named { StaysNamed (counts self.old) (counts self.new) }
-        ensures pool { SpendsPool room failures cache_size honest 1 result self.old self.new };
+        ensures pool { SpendsNumbers room failures cache_size honest 1 result self.old self.new };
 
     /// Names a page that is named once more. TooManyPages, where it is named 4,294,967,295 times. It takes
     /// no memory, and calls no device.
@@ -102,7 +102,7 @@ pub trait PagePool {
 
         ensures same { pages self.new ≡ pages self.old }
         ensures named { StaysNamed (counts self.old) (counts self.new) }
-        ensures pool { SparesPool room failures cache_size honest self.old self.new };
+        ensures pool { SparesNumbers room failures cache_size honest self.old self.new };
 
     /// Names a page that is named once less. Where it is then named no more, its number is free to be given
     /// again, and it leaves the cache. It takes no memory, calls no device, and cannot fail.
@@ -111,7 +111,7 @@ pub trait PagePool {
         ensures counts { AddsName no (counts self.new) (counts self.old) }
 
         ensures kept { KeepsNamed (counts self.new) (pages self.old) (pages self.new) }
-        ensures pool { SparesPool room failures cache_size honest self.old self.new };
+        ensures pool { SparesNumbers room failures cache_size honest self.old self.new };
 
     /// The page of a number that is named, which was of that kind when it was added: over an honest device
     /// that page, and over any a page of that kind. It is tested when it comes from the device; where it
@@ -124,14 +124,14 @@ pub trait PagePool {
             (λ page. IsTrue (honest self.old) → pages self.old no ≡ Some page.value) }
         ensures counts { counts self.new ≡ counts self.old }
         ensures same { pages self.new ≡ pages self.old }
-        ensures pool { SpendsPool room failures cache_size honest 0 result self.old self.new };
+        ensures pool { SpendsNumbers room failures cache_size honest 0 result self.old self.new };
 
     /// Keeps no page under that number in memory, so that the next call reads it again. It takes no memory,
     /// calls no device, and cannot fail.
     fn forget(&mut self, no: PageNo)
         ensures counts { counts self.new ≡ counts self.old }
         ensures same { pages self.new ≡ pages self.old }
-        ensures pool { SparesPool room failures cache_size honest self.old self.new };
+        ensures pool { SparesNumbers room failures cache_size honest self.old self.new };
 
     /// How many pages are named.
     fn used(&self) -> usize

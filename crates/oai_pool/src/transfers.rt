@@ -1,6 +1,6 @@
 //! Pages between a device and memory.
 ghost use Rattle.std.specs.Prelude.{◌≡◌, ◌≢◌, ℕ, Some, IfErr, IfOk, IsSome, IsTrue, OnOk};
-ghost use Rattle.oai_pool.specs.Calls.{IsPoolCounted};
+ghost use Rattle.oai_device.specs.Device.{CountsFailures};
 ghost use Rattle.oai_pool.specs.declared.pools.PoolFault.TheVariants as fault;
 
 use crate::pools::PoolFault;
@@ -14,7 +14,7 @@ pub(crate) fn store<D: PageDevice>(device: &mut D, no: u32, page: &Page) -> Resu
     ensures others { (n : ℕ) → n ≢ no → D.pages device.new n ≡ D.pages device.old n }
     ensures fault { IfErr result (λ cause. cause ≢ fault.TooManyPages) }
     ensures whole { IfErr result (λ cause. cause ≢ fault.Damaged) }
-    ensures device { IsPoolCounted result (D.failures device.old) (D.failures device.new) }
+    ensures device { CountsFailures fault.Device result (D.failures device.old) (D.failures device.new) }
     ensures honesty { D.honest device.new ≡ D.honest device.old }
 {
     match device.write(no, page) {
@@ -38,7 +38,7 @@ pub(crate) fn load<D: PageDevice>(
     ensures same { D.pages device.new ≡ D.pages device.old }
     ensures fault { IfErr result (λ cause. cause ≢ fault.TooManyPages) }
     ensures whole { IfErr result (λ cause. cause ≢ fault.Damaged) }
-    ensures device { IsPoolCounted result (D.failures device.old) (D.failures device.new) }
+    ensures device { CountsFailures fault.Device result (D.failures device.old) (D.failures device.new) }
     ensures honesty { D.honest device.new ≡ D.honest device.old }
 {
     let mut page = room_for_a_page(alloc, spare)?;
@@ -77,7 +77,7 @@ fn load_anew<D: PageDevice>(alloc: Global, device: &mut D, no: u32) -> Result<Rc
     ensures same { D.pages device.new ≡ D.pages device.old }
     ensures fault { IfErr result (λ cause. cause ≢ fault.TooManyPages) }
     ensures whole { IfErr result (λ cause. cause ≢ fault.Damaged) }
-    ensures device { IsPoolCounted result (D.failures device.old) (D.failures device.new) }
+    ensures device { CountsFailures fault.Device result (D.failures device.old) (D.failures device.new) }
     ensures honesty { D.honest device.new ≡ D.honest device.old }
 {
     let mut bytes = [0; PAGE_BYTES];
@@ -94,7 +94,7 @@ fn fetch<D: PageDevice>(device: &mut D, no: u32, page: &mut Page) -> Result<(), 
     ensures same { D.pages device.new ≡ D.pages device.old }
     ensures fault { IfErr result (λ cause. cause ≢ fault.TooManyPages) }
     ensures whole { IfErr result (λ cause. cause ≢ fault.Damaged) }
-    ensures device { IsPoolCounted result (D.failures device.old) (D.failures device.new) }
+    ensures device { CountsFailures fault.Device result (D.failures device.old) (D.failures device.new) }
     ensures honesty { D.honest device.new ≡ D.honest device.old }
 {
     match device.read(no, page) {

@@ -8,7 +8,7 @@ use Rattle.oai_paged.proofs.AddedLemmas.{adds_no_number, adds_number, recounts_k
 use Rattle.oai_paged.proofs.EntryLemmas.{storable-between}
 use Rattle.oai_paged.proofs.OverflowLemmas.{few_overflow, length-pages}
 use Rattle.oai_paged.proofs.RecountLemmas.{named_while_shared, undone_after}
-use Rattle.oai_paged.proofs.TakenLemmas.{err_of, ok_of, takes_both, takes_call, takes_fault, takes_freed_err, takes_more, takes_none, takes_ok}
+use Rattle.oai_paged.proofs.SpendingLemmas.{err_of, ok_of, spends_both, spends_call, spends_fault, spends_freed_err, spends_more, spends_none, spends_ok}
 use Rattle.oai_paged.proofs.TestedLemmas.{kind_fits}
 use Rattle.oai_paged.proofs.changes.add_numbers.Goals as goal
 
@@ -20,7 +20,7 @@ overflow_add-overflow g c =
 pub loop-at-init : goal.loop-at-init
 loop-at-init g c = record {
   added = subst (λ (ns : List ℕ). AddsNumbers g.P.PagePool [] ns c.args.pages.now c.args.pages.now) (sym c.in_ok-numbers.ensures.items) (adds_no_number g.P.PagePool c.args.pages.now);
-  taken = takes_none g.P.PagePool 0 c.args.pages.now;
+  taken = spends_none g.P.PagePool 0 c.args.pages.now;
   len = c.in_ok-numbers.ensures.len;
   room = c.in_ok-numbers.ensures.capacity;
 }
@@ -54,7 +54,7 @@ loop-at-preserved g c =
     let next : take (at + 1) all ≡ take at all ++ c.fill_page.new.page ∷ [] = take_more all at [] within ∙ ap (λ page. take at all ++ page ∷ []) (sym (c.fill_page.ensures [])) in
     record {
       added = rw (next, pushed) (adds_number G (take at all) c.loop-at.numbers.items c.in-Ok.number c.fill_page.new.page p q r so_far.added c.in-Ok.ensures.free c.in-Ok.ensures.counts c.add.ensures.kept c.in-Ok.ensures.page);
-      taken = takes_both G at 1 at (ok_of (at + 1)) p q r so_far.taken (takes_call G 1 c.in-Ok.number (at + 1) q r c.in-Ok.ensures.pool);
+      taken = spends_both G at 1 at (ok_of (at + 1)) p q r so_far.taken (spends_call G 1 c.in-Ok.number (at + 1) q r c.in-Ok.ensures.pool);
       len = rw done at c.push.ensures.len ∙ ap (λ n. n + 1) so_far.len;
       room = omega (arith, so_far.room, c.push.ensures.capacity);
     }
@@ -84,10 +84,10 @@ returns-in-Err-clause-pool g c =
     let items : List ItemState = between c.args.from c.args.to c.args.entries.now in
     let at = c.loop-at.at in
     let few : at + 1 ≤ 1 + overflow_of items = omega (arith, c.loop-at-test.true, c.overflow-overflow.ensures) in
-    let failed = takes_fault G 1 c.in-Err.fault q r c.in-Err.ensures.pool in
-    let all = takes_both G at 1 at (err_of (List ℕ) (fault_of c.in-Err.fault)) p q r c.loop-at.invariant.taken failed in
+    let failed = spends_fault G 1 c.in-Err.fault q r c.in-Err.ensures.pool in
+    let all = spends_both G at 1 at (err_of (List ℕ) (fault_of c.in-Err.fault)) p q r c.loop-at.invariant.taken failed in
     rw c.fault_of.ensures
-    (takes_freed_err G (1 + overflow_of items) (fault_of c.in-Err.fault) p r s (takes_more G (at + 1) (1 + overflow_of items) (err_of (List ℕ) (fault_of c.in-Err.fault)) p r few all) c.drop_numbers.ensures.pool)
+    (spends_freed_err G (1 + overflow_of items) (fault_of c.in-Err.fault) p r s (spends_more G (at + 1) (1 + overflow_of items) (err_of (List ℕ) (fault_of c.in-Err.fault)) p r few all) c.drop_numbers.ensures.pool)
 
 pub returns-clause-added : goal.returns-clause-added
 returns-clause-added g c =
@@ -104,4 +104,4 @@ returns-clause-pool g c =
     let items : List ItemState = between c.args.from c.args.to c.args.entries.now in
     let at = c.loop-at.at in
     let few : at ≤ 1 + overflow_of items = omega (arith, c.loop-at.auto.at-end, c.overflow-overflow.ensures) in
-    takes_more G at (1 + overflow_of items) (ok_of c.loop-at.numbers) p q few (takes_ok G at at c.loop-at.numbers p q c.loop-at.invariant.taken)
+    spends_more G at (1 + overflow_of items) (ok_of c.loop-at.numbers) p q few (spends_ok G at at c.loop-at.numbers p q c.loop-at.invariant.taken)

@@ -6,7 +6,7 @@ use Rattle.oai_paged.specs.Places.{PlaceState}
 use Rattle.oai_paged.proofs.BetweenLemmas.{between-none}
 use Rattle.oai_paged.proofs.ChangedLemmas.{on_err_of}
 use Rattle.oai_paged.proofs.RenamedLemmas.{adds_both, adds_then_nothing}
-use Rattle.oai_paged.proofs.TakenLemmas.{takes_failed, takes_ok}
+use Rattle.oai_paged.proofs.SpendingLemmas.{spends_failed, spends_ok}
 use Rattle.oai_paged.proofs.changes.add_part.Goals as goal
 
 pub returns-then-from-to-clause-ok : goal.returns-then-from-to-clause-ok
@@ -33,8 +33,8 @@ pub returns-in_err-place-clause-pool : goal.returns-in_err-place-clause-pool
 returns-in_err-place-clause-pool g c =
     let is : c.from_residual.result ≡ Err c.in_err-place.field-0.0 = search rules in
     let taken : ℕ = 1 + overflow_of (between c.args.from c.args.to c.args.entries.now) in
-    takes_failed g.P.PagePool taken taken c.in_err-place.field-0.0 c.from_residual.result c.args.pages.now c.add_page.new.pages is (omega arith) c.in_err-place.ensures.pool
+    spends_failed g.P.PagePool taken taken c.in_err-place.field-0.0 c.from_residual.result c.args.pages.now c.add_page.new.pages is (omega arith) c.in_err-place.ensures.pool
 
 pub returns-clause-pool : goal.returns-clause-pool
 returns-clause-pool g c =
-    takes_ok g.P.PagePool (1 + overflow_of (between c.args.from c.args.to c.args.entries.now)) c.in_ok-place.place tt c.args.pages.now c.add_page.new.pages c.in_ok-place.ensures.pool
+    spends_ok g.P.PagePool (1 + overflow_of (between c.args.from c.args.to c.args.entries.now)) c.in_ok-place.place tt c.args.pages.now c.add_page.new.pages c.in_ok-place.ensures.pool

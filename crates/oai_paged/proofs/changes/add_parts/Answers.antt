@@ -7,7 +7,7 @@ use Rattle.oai_paged.proofs.ChangedLemmas.{on_err_map, on_err_of}
 use Rattle.oai_paged.proofs.EntryLemmas.{storable-between}
 use Rattle.oai_paged.proofs.OverflowLemmas.{few_overflow, overflow-one}
 use Rattle.oai_paged.proofs.RenamedLemmas.{adds_none}
-use Rattle.oai_paged.proofs.TakenLemmas.{ok_of, takes_both, takes_failed, takes_more}
+use Rattle.oai_paged.proofs.SpendingLemmas.{ok_of, spends_both, spends_failed, spends_more}
 use Rattle.oai_paged.proofs.changes.add_parts.Goals as goal
 
 -- where all stand on one page, that is the first
@@ -64,8 +64,8 @@ returns-in_err-add_part-clause-pool g c =
     let is : c.from_residual.result ≡ Err c.in_err-add_part.field-0.0 = search rules in
     let none = overflow-one one c.requires.cuts.one in
     record {
-      pool = takes_failed G (1 + overflow_of one) 67 c.in_err-add_part.field-0.0 c.from_residual.result p q is (omega (arith, none)) c.in_err-add_part.ensures.pool;
-      few = λ whole. takes_failed G (1 + overflow_of one) 1 c.in_err-add_part.field-0.0 c.from_residual.result p q is (omega (arith, none)) c.in_err-add_part.ensures.pool;
+      pool = spends_failed G (1 + overflow_of one) 67 c.in_err-add_part.field-0.0 c.from_residual.result p q is (omega (arith, none)) c.in_err-add_part.ensures.pool;
+      few = λ whole. spends_failed G (1 + overflow_of one) 1 c.in_err-add_part.field-0.0 c.from_residual.result p q is (omega (arith, none)) c.in_err-add_part.ensures.pool;
     }
 
 pub returns-in_err-add_part-2-clause-pool : goal.returns-in_err-add_part-2-clause-pool
@@ -80,13 +80,13 @@ returns-in_err-add_part-2-clause-pool g c =
     let two : List ItemState = between c.args.cuts.first c.args.cuts.second entries in
     let result = c.from_residual-in_err-add_part-2.result in
     let is : result ≡ Err c.in_err-add_part-2.field-0.0 = search rules in
-    let first = takes_more G (1 + overflow_of one) 1 (ok_of tt) p q (omega (arith, overflow-one one cuts.one)) c.in_ok-add_part.ensures.pool in
+    let first = spends_more G (1 + overflow_of one) 1 (ok_of tt) p q (omega (arith, overflow-one one cuts.one)) c.in_ok-add_part.ensures.pool in
     let most = few_overflow two (storable-between c.args.cuts.first c.args.cuts.second entries c.len-len.ensures.storable) cuts.two in
-    let second = takes_failed G (1 + overflow_of two) 66 c.in_err-add_part-2.field-0.0 result q r is (omega (arith, most)) c.in_err-add_part-2.ensures.pool in
+    let second = spends_failed G (1 + overflow_of two) 66 c.in_err-add_part-2.field-0.0 result q r is (omega (arith, most)) c.in_err-add_part-2.ensures.pool in
     record {
-      pool = takes_both G 1 66 tt result p q r first second;
-      few = λ fits. takes_both G 1 0 tt result p q r first
-          (takes_failed G 0 0 c.in_err-add_part-2.field-0.0 result q r is (omega arith) (c.in_err-add_part-2.ensures.none (whole_first c.args.cuts.first c.args.cuts.second entries cuts fits)));
+      pool = spends_both G 1 66 tt result p q r first second;
+      few = λ fits. spends_both G 1 0 tt result p q r first
+          (spends_failed G 0 0 c.in_err-add_part-2.field-0.0 result q r is (omega arith) (c.in_err-add_part-2.ensures.none (whole_first c.args.cuts.first c.args.cuts.second entries cuts fits)));
     }
 
 pub returns-clause-pool : goal.returns-clause-pool
@@ -102,15 +102,15 @@ returns-clause-pool g c =
     let one : List ItemState = between 0 c.args.cuts.first entries in
     let two : List ItemState = between c.args.cuts.first c.args.cuts.second entries in
     let three : List ItemState = between c.args.cuts.second c.len-len.result entries in
-    let first = takes_more G (1 + overflow_of one) 1 (ok_of tt) p q (omega (arith, overflow-one one cuts.one)) c.in_ok-add_part.ensures.pool in
+    let first = spends_more G (1 + overflow_of one) 1 (ok_of tt) p q (omega (arith, overflow-one one cuts.one)) c.in_ok-add_part.ensures.pool in
     let most = few_overflow two (storable-between c.args.cuts.first c.args.cuts.second entries c.len-len.ensures.storable) cuts.two in
-    let second = takes_more G (1 + overflow_of two) 65 (ok_of tt) q r (omega (arith, most)) c.in_ok-add_part-2.ensures.pool in
+    let second = spends_more G (1 + overflow_of two) 65 (ok_of tt) q r (omega (arith, most)) c.in_ok-add_part-2.ensures.pool in
     let fits_third : fit_one three ≡ true = ap (λ n. fit_one (between c.args.cuts.second n entries)) c.len-len.ensures.len ∙ cuts.three in
-    let third = takes_more G (1 + overflow_of three) 1 result r s (omega (arith, overflow-one three fits_third)) c.add_part-3.ensures.pool in
+    let third = spends_more G (1 + overflow_of three) 1 result r s (omega (arith, overflow-one three fits_third)) c.add_part-3.ensures.pool in
     record {
-      pool = takes_both G 66 1 tt result p r s (takes_both G 1 65 tt (ok_of tt) p q r first second) third;
+      pool = spends_both G 66 1 tt result p r s (spends_both G 1 65 tt (ok_of tt) p q r first second) third;
       few = λ fits.
           let whole : c.args.cuts.first ≡ c.args.cuts.second = whole_first c.args.cuts.first c.args.cuts.second entries cuts fits in
           let all : c.args.cuts.second ≡ c.len-len.result = sym whole ∙ cuts.whole fits ∙ sym c.len-len.ensures.len in
-          takes_both G 1 0 tt result p r s (takes_both G 1 0 tt (ok_of tt) p q r first (c.in_ok-add_part-2.ensures.none whole)) (c.add_part-3.ensures.none all);
+          spends_both G 1 0 tt result p r s (spends_both G 1 0 tt (ok_of tt) p q r first (c.in_ok-add_part-2.ensures.none whole)) (c.add_part-3.ensures.none all);
     }

@@ -3,7 +3,7 @@ use Rattle.std.proofs.lemmas.List.{nil_from_length}
 use Rattle.std.specs.Vec.Iter.{into_iter_items}
 use Rattle.oai_paged.specs.Places.{PlaceState, page_numbers}
 use Rattle.oai_paged.specs.Recounts.{Recounts}
-use Rattle.oai_paged.proofs.RecountLemmas.{all_left, frees_none, frees_then, next_dropped, next_named, page_numbers-nil, renames_dropped}
+use Rattle.oai_paged.proofs.RecountLemmas.{all_left, spares_none, spares_then, next_dropped, next_named, page_numbers-nil, renames_dropped}
 use Rattle.oai_paged.proofs.names.drop_all.Goals as goal
 
 pub loop-place-init : goal.loop-place-init
@@ -11,7 +11,7 @@ loop-place-init g c =
     let all = c.into_iter-place-iterator.ensures.into_iter_gives in
     record {
       names = rw all.0 (all_left g.P.PagePool c.args.places.items c.args.pages.now);
-      pool = frees_none g.P.PagePool c.args.pages.now;
+      pool = spares_none g.P.PagePool c.args.pages.now;
       left = all.1 ∙ c.args.places.ok.0 ∙ ap length (sym all.0);
     }
 
@@ -35,7 +35,7 @@ loop-place-preserved g c =
     record {
       names = next_dropped G place (into_iter_items c.next.new.self) c.args.places.items p q r (rw steps at at.invariant.names)
           (rw c.pages.ensures at c.drop_numbers.ensures.names);
-      pool = frees_then G p q r at.invariant.pool c.drop_numbers.ensures.pool;
+      pool = spares_then G p q r at.invariant.pool c.drop_numbers.ensures.pool;
       left =
           let was = at.invariant.left in
           let gone = c.in-Some.ensures.steps.1 in

@@ -1,13 +1,13 @@
 use Rattle.std.proofs.Common.{List, ℕ, [], arith, refl, subst}
 use Rattle.std.proofs.lemmas.List.{take_all}
 use Rattle.oai_paged.specs.Recounts.{Recounts}
-use Rattle.oai_paged.proofs.RecountLemmas.{dropped_more, frees_from, frees_none, frees_then, named_after_drops, recounts_dropped, recounts_none}
+use Rattle.oai_paged.proofs.RecountLemmas.{dropped_more, spares_from, spares_none, spares_then, named_after_drops, recounts_dropped, recounts_none}
 use Rattle.oai_paged.proofs.names.drop_numbers.Goals as goal
 
 pub loop-number-init : goal.loop-number-init
 loop-number-init g c = record {
   names = recounts_none g.P.PagePool c.args.pages.now;
-  pool = frees_none g.P.PagePool c.args.pages.now;
+  pool = spares_none g.P.PagePool c.args.pages.now;
 }
 
 pub drop_ref-requires : goal.drop_ref-requires
@@ -26,7 +26,7 @@ loop-number-preserved g c =
       names = dropped_more G c.loop-number.number-index _ c.args.numbers.now p q r c.loop-number-test.true refl
           c.loop-number.invariant.names
           (recounts_dropped G _ q r c.drop_ref.ensures.counts c.drop_ref.ensures.kept);
-      pool = frees_then G p q r c.loop-number.invariant.pool (frees_from G q r c.drop_ref.ensures.pool);
+      pool = spares_then G p q r c.loop-number.invariant.pool (spares_from G q r c.drop_ref.ensures.pool);
     }
 
 pub returns : goal.returns

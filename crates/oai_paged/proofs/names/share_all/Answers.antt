@@ -2,7 +2,7 @@ use Rattle.std.proofs.Common.{◌≡◌, ◌∙◌, ◌+◌, ◌++◌, ◌∷◌
 use Rattle.std.proofs.lemmas.List.{take_all, take_more}
 use Rattle.oai_paged.specs.Places.{PlaceState, page_numbers}
 use Rattle.oai_paged.specs.Recounts.{Recounts}
-use Rattle.oai_paged.proofs.RecountLemmas.{frees_none, frees_then, full_of, named_while_shared, page_numbers-nil, place_after_shares, place_once, recounts_dropped_all, recounts_none, renames_none, renames_shared, runs_out, shared_place, undone_after}
+use Rattle.oai_paged.proofs.RecountLemmas.{spares_none, spares_then, full_of, named_while_shared, page_numbers-nil, place_after_shares, place_once, recounts_dropped_all, recounts_none, renames_none, renames_shared, full_place, shared_place, undone_after}
 use Rattle.oai_paged.proofs.names.share_all.Goals as goal
 
 pub loop-at-init : goal.loop-at-init
@@ -10,7 +10,7 @@ loop-at-init g c = record {
   copies = c.in_ok-copies.ensures.items;
   names = subst (λ (some : List ℕ). Recounts g.P.PagePool [] some c.args.pages.now c.args.pages.now) (sym page_numbers-nil)
       (recounts_none g.P.PagePool c.args.pages.now);
-  pool = frees_none g.P.PagePool c.args.pages.now;
+  pool = spares_none g.P.PagePool c.args.pages.now;
   len = c.in_ok-copies.ensures.len;
   room = c.in_ok-copies.ensures.capacity;
 }
@@ -44,7 +44,7 @@ loop-at-preserved g c =
     record {
       copies = pushed ∙ (λ k. so_far.copies k ++ c.in-Ok.ensures.copy k ∷ []) ∙ sym next;
       names = shared_place G at place places p q r c.loop-at-test.true c.index-places-at.is so_far.names c.in-Ok.ensures.names;
-      pool = frees_then G p q r so_far.pool c.share_place.ensures.pool;
+      pool = spares_then G p q r so_far.pool c.share_place.ensures.pool;
       len = rw done at c.push.ensures.len ∙ ap (λ n. n + 1) so_far.len;
       room = omega (arith, so_far.room, c.push.ensures.capacity);
     }
@@ -69,9 +69,9 @@ returns-in-Err g c =
       names = tt;
       undone = renames_none G p s (undone_after G (page_numbers front) p q r s so_far.names c.in-Err.ensures.undone
           (recounts_dropped_all G front r s (rw so_far.copies at c.drop_all.ensures.names)));
-      fault = full_of _ _ (runs_out G c.loop-at.at place c.args.places.now p q c.loop-at-test.true c.index-places-at.is c.requires.once
+      fault = full_of _ _ (full_place G c.loop-at.at place c.args.places.now p q c.loop-at-test.true c.index-places-at.is c.requires.once
           so_far.names) c.in-Err.fault c.in-Err.ensures.fault;
-      pool = frees_then G p q s so_far.pool (frees_then G q r s c.share_place.ensures.pool c.drop_all.ensures.pool);
+      pool = spares_then G p q s so_far.pool (spares_then G q r s c.share_place.ensures.pool c.drop_all.ensures.pool);
     }
 
 pub returns : goal.returns

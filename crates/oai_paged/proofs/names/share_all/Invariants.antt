@@ -1,5 +1,5 @@
 use Rattle.std.proofs.Common.{◌≡◌, ◌≤◌, [], length, take, vec_capacity, vec_len}
-use Rattle.oai_paged.specs.Calls.{FreesPages}
+use Rattle.oai_catalogue.specs.Store.{Spares}
 use Rattle.oai_paged.specs.Places.{page_numbers}
 use Rattle.oai_paged.specs.Recounts.{Recounts}
 use Rattle.oai_paged.proofs.names.share_all.Given as goal
@@ -9,7 +9,7 @@ abbrev pub invariant-loop-at : goal.invariant-loop-at
 invariant-loop-at g l = record {
   copies : l.copies.items ≡ take l.at l.places;
   names : Recounts g.P.PagePool [] (page_numbers (take l.at l.places)) l.initial.pages l.pages;
-  pool : FreesPages g.P.PagePool l.initial.pages l.pages;
+  pool : Spares g.P.PagePool.room g.P.PagePool.failures g.P.PagePool.honest l.initial.pages l.pages;
   len : vec_len l.copies ≡ l.at;
   room : length l.places ≤ vec_capacity l.copies;
 }

@@ -2,13 +2,13 @@ use Rattle.std.proofs.Common.{List, ℕ, [], ◌∙◌, ap, arith, refl, subst, 
 use Rattle.std.proofs.lemmas.List.{take_all}
 use Rattle.oai_paged.specs.Calls.{fault_of}
 use Rattle.oai_paged.specs.Recounts.{Recounts}
-use Rattle.oai_paged.proofs.RecountLemmas.{frees_from, frees_none, frees_then, full_after_shares, named_after_shares, named_while_shared, recounts_none, recounts_same, recounts_shared, shared_more, undone_after}
+use Rattle.oai_paged.proofs.RecountLemmas.{spares_from, spares_none, spares_then, full_after_shares, named_after_shares, named_while_shared, recounts_none, recounts_same, recounts_shared, shared_more, undone_after}
 use Rattle.oai_paged.proofs.names.share_numbers.Goals as goal
 
 pub loop-at-init : goal.loop-at-init
 loop-at-init g c = record {
   names = recounts_none g.P.PagePool c.args.pages.now;
-  pool = frees_none g.P.PagePool c.args.pages.now;
+  pool = spares_none g.P.PagePool c.args.pages.now;
 }
 
 pub share-requires : goal.share-requires
@@ -26,7 +26,7 @@ loop-at-preserved g c =
     record {
       names = shared_more G c.loop-at.at _ c.args.numbers.now p q r c.loop-at-test.true refl c.loop-at.invariant.names
           (recounts_shared G _ q r c.in-Ok.ensures.counts c.share.ensures.same);
-      pool = frees_then G p q r c.loop-at.invariant.pool (frees_from G q r c.share.ensures.pool);
+      pool = spares_then G p q r c.loop-at.invariant.pool (spares_from G q r c.share.ensures.pool);
     }
 
 pub drop_numbers-requires : goal.drop_numbers-requires
@@ -51,7 +51,7 @@ returns-in-Err g c =
       fault = c.fault_of.ensures ∙ ap fault_of c.in-Err.ensures.fault;
       full = full_after_shares G c.loop-at.at _ c.args.numbers.now p q c.loop-at-test.true refl c.requires.once c.loop-at.invariant.names
           c.in-Err.ensures.full;
-      pool = frees_then G p q s c.loop-at.invariant.pool (frees_then G q r s (frees_from G q r c.share.ensures.pool)
+      pool = spares_then G p q s c.loop-at.invariant.pool (spares_then G q r s (spares_from G q r c.share.ensures.pool)
           c.drop_numbers.ensures.pool);
     }
 

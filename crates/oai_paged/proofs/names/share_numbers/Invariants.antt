@@ -1,5 +1,5 @@
 use Rattle.std.proofs.Common.{[], take}
-use Rattle.oai_paged.specs.Calls.{FreesPages}
+use Rattle.oai_catalogue.specs.Store.{Spares}
 use Rattle.oai_paged.specs.Recounts.{Recounts}
 use Rattle.oai_paged.proofs.names.share_numbers.Given as goal
 
@@ -7,5 +7,5 @@ use Rattle.oai_paged.proofs.names.share_numbers.Given as goal
 abbrev pub invariant-loop-at : goal.invariant-loop-at
 invariant-loop-at g l = record {
   names : Recounts g.P.PagePool [] (take l.at l.numbers) l.initial.pages l.pages;
-  pool : FreesPages g.P.PagePool l.initial.pages l.pages;
+  pool : Spares g.P.PagePool.room g.P.PagePool.failures g.P.PagePool.honest l.initial.pages l.pages;
 }

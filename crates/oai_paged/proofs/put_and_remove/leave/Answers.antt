@@ -7,7 +7,7 @@ use Rattle.oai_paged.specs.declared.changes.Changed.{Changed}
 use Rattle.oai_paged.proofs.ChangedLemmas.{changed_items, on_ok_from}
 use Rattle.oai_paged.proofs.DirectoryChanges.{stands_read}
 use Rattle.oai_paged.proofs.ShortLemmas.{fit_parts}
-use Rattle.oai_paged.proofs.TakenLemmas.{ok_of}
+use Rattle.oai_paged.proofs.SpendingLemmas.{ok_of}
 use Rattle.oai_paged.proofs.put_and_remove.leave.Goals as goal
 
 pub cuts-cuts-requires-clause-size : goal.cuts-cuts-requires-clause-size

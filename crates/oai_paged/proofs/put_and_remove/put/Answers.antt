@@ -1,6 +1,6 @@
 use Rattle.std.proofs.Common.{◌∙◌}
 use Rattle.oai_paged.proofs.RenamedLemmas.{gone_named, settled}
-use Rattle.oai_paged.proofs.TakenLemmas.{takes_freed_ok}
+use Rattle.oai_paged.proofs.SpendingLemmas.{spends_freed_ok}
 use Rattle.oai_paged.proofs.put_and_remove.put.Goals as goal
 
 pub drop_all-requires : goal.drop_all-requires
@@ -27,5 +27,5 @@ returns-clause-changes g c =
       directory = end.directory;
       names = end.names;
       err = tt;
-      pool = takes_freed_ok g.P.PagePool 67 changed tt c.args.pages.now c.put_in.new.pages c.drop_all.new.pages c.in_ok-changed.ensures.pool c.drop_all.ensures.pool;
+      pool = spends_freed_ok g.P.PagePool 67 changed tt c.args.pages.now c.put_in.new.pages c.drop_all.new.pages c.in_ok-changed.ensures.pool c.drop_all.ensures.pool;
     }

@@ -4,7 +4,7 @@ use Rattle.oai_item.specs.Items.{without_at}
 use Rattle.oai_paged.specs.Places.{items_on}
 use Rattle.oai_paged.proofs.RenamedLemmas.{gone_named, settled}
 use Rattle.oai_paged.proofs.ReplaceLemmas.{changed_nothing}
-use Rattle.oai_paged.proofs.TakenLemmas.{takes_freed_ok}
+use Rattle.oai_paged.proofs.SpendingLemmas.{spends_freed_ok}
 use Rattle.oai_paged.proofs.put_and_remove.remove.Goals as goal
 
 pub drop_all-requires : goal.drop_all-requires
@@ -34,7 +34,7 @@ returns-in-Some-clause-changes g c =
       directory = end.directory;
       names = end.names;
       err = tt;
-      pool = takes_freed_ok g.P.PagePool 1 c.in_ok-changed.field-0 true c.args.pages.now c.take_out.new.pages c.drop_all.new.pages c.in_ok-changed.ensures.pool c.drop_all.ensures.pool;
+      pool = spends_freed_ok g.P.PagePool 1 c.in_ok-changed.field-0 true c.args.pages.now c.take_out.new.pages c.drop_all.new.pages c.in_ok-changed.ensures.pool c.drop_all.ensures.pool;
     }
 
 pub returns-in-None-clause-changes : goal.returns-in-None-clause-changes

@@ -5,7 +5,7 @@ use Rattle.oai_item.specs.Items.{with_item, without_at}
 use Rattle.oai_paged.specs.Places.{PlaceState, items_on}
 use Rattle.oai_paged.proofs.RenamedLemmas.{gone_named}
 use Rattle.oai_paged.proofs.ReplaceLemmas.{changes_after, first_gone_named, replaced, stands_same, taken_back}
-use Rattle.oai_paged.proofs.TakenLemmas.{ok_of, takes_both, takes_freed_ok}
+use Rattle.oai_paged.proofs.SpendingLemmas.{ok_of, spends_both, spends_freed_ok}
 use Rattle.oai_paged.proofs.put_and_remove.replace.Goals as goal
 
 pub put-requires-clause-stands : goal.put-requires-clause-stands
@@ -100,13 +100,13 @@ returns-in-Ok-clause-changes g c =
     let new = c.drop_all-in-Ok.new.pages in
     let end = replaced G first.at first.len first.gone.items second.at second.len second.gone.items before between after old mid made late new
     c.requires.stands s t c.drop_all.ensures.names c.drop_all-in-Ok.ensures.names in
-    let both = takes_both G 1 67 c.in_ok-first.field-0 (ok_of second) old mid made c.in_ok-first.ensures.pool c.in-Ok.ensures.pool in
-    let freed = takes_freed_ok G 68 second true old made late both c.drop_all.ensures.pool in
+    let both = spends_both G 1 67 c.in_ok-first.field-0 (ok_of second) old mid made c.in_ok-first.ensures.pool c.in-Ok.ensures.pool in
+    let freed = spends_freed_ok G 68 second true old made late both c.drop_all.ensures.pool in
     record {
       directory = end.directory;
       names = end.names;
       err = tt;
-      pool = takes_freed_ok G 68 true true old late new freed c.drop_all-in-Ok.ensures.pool;
+      pool = spends_freed_ok G 68 true true old late new freed c.drop_all-in-Ok.ensures.pool;
     }
 
 pub returns-in-Err-clause-changes : goal.returns-in-Err-clause-changes

@@ -7,7 +7,7 @@ use Rattle.oai_paged.specs.Places.{Pages, PlaceState, items_at}
 use Rattle.oai_paged.specs.Searches.{MayBeAt}
 use Rattle.oai_paged.proofs.DirectoryChanges.{left_removed, none_removed, stands_read}
 use Rattle.oai_paged.proofs.DirectoryLemmas.{may_stand_without, no_place}
-use Rattle.oai_paged.proofs.TakenLemmas.{err_of, ok_of, takes_failed, takes_ok, takes_read}
+use Rattle.oai_paged.proofs.SpendingLemmas.{err_of, ok_of, spends_failed, spends_ok, spends_read}
 use Rattle.oai_paged.specs.declared.changes.Changed.{Changed}
 use Rattle.oai_paged.proofs.put_and_remove.take_out_among.Goals as goal
 
@@ -43,8 +43,8 @@ returns-in_err-changed-in-Some-clause-pool g c =
     let p = c.args.pages.now in
     let mid = c.read_place.new.pages in
     let q = c.leave.new.pages in
-    takes_failed G 1 1 c.in_err-changed-in-Some.field-0.0 c.from_residual-in_err-changed-in-Some.result p q is (omega arith)
-    (takes_read G 1 c.read_place.result (err_of Changed c.in_err-changed-in-Some.field-0.0) p mid q c.read_place.ensures.pages c.in_err-changed-in-Some.ensures.pool)
+    spends_failed G 1 1 c.in_err-changed-in-Some.field-0.0 c.from_residual-in_err-changed-in-Some.result p q is (omega arith)
+    (spends_read G 1 c.read_place.result (err_of Changed c.in_err-changed-in-Some.field-0.0) p mid q c.read_place.ensures.pages c.in_err-changed-in-Some.ensures.pool)
 
 pub returns-in-Some-clause-pool : goal.returns-in-Some-clause-pool
 returns-in-Some-clause-pool g c =
@@ -53,7 +53,7 @@ returns-in-Some-clause-pool g c =
     let mid = c.read_place.new.pages in
     let q = c.leave.new.pages in
     let changed = c.in_ok-changed-in-Some.changed in
-    takes_ok G 1 changed (Some changed) p q (takes_read G 1 c.read_place.result (ok_of changed) p mid q c.read_place.ensures.pages c.in_ok-changed-in-Some.ensures.pool)
+    spends_ok G 1 changed (Some changed) p q (spends_read G 1 c.read_place.result (ok_of changed) p mid q c.read_place.ensures.pages c.in_ok-changed-in-Some.ensures.pool)
 
 pub returns-in-Some-clause-item : goal.returns-in-Some-clause-item
 returns-in-Some-clause-item g c =

@@ -9,7 +9,7 @@ use Rattle.oai_paged.proofs.DirectoryChanges.{none_removed}
 use Rattle.oai_paged.proofs.DirectoryLemmas.{no_place, placed-cut}
 use Rattle.oai_paged.proofs.LoneLemmas.{equal_from, lone, lone_other, lone_removed, may_stand_left, unequal_from}
 use Rattle.oai_paged.proofs.ShortLemmas.{fit-nil}
-use Rattle.oai_paged.proofs.TakenLemmas.{takes_failed, takes_ok}
+use Rattle.oai_paged.proofs.SpendingLemmas.{spends_failed, spends_ok}
 use Rattle.oai_paged.specs.Pages.{fit_one}
 use Rattle.oai_paged.proofs.put_and_remove.take_out_long.Goals as goal
 
@@ -62,7 +62,7 @@ leave-requires-clause-may g c =
 pub returns-in_err-changed-clause-pool : goal.returns-in_err-changed-clause-pool
 returns-in_err-changed-clause-pool g c =
     let is : c.from_residual.result ≡ Err c.in_err-changed.field-0.0 = search rules in
-    takes_failed g.P.PagePool 1 1 c.in_err-changed.field-0.0 c.from_residual.result c.args.pages.now c.leave.new.pages is (omega arith) c.in_err-changed.ensures.pool
+    spends_failed g.P.PagePool 1 1 c.in_err-changed.field-0.0 c.from_residual.result c.args.pages.now c.leave.new.pages is (omega arith) c.in_err-changed.ensures.pool
 
 pub returns-clause-item : goal.returns-clause-item
 returns-clause-item g c =
@@ -93,4 +93,4 @@ returns-clause-item g c =
 pub returns-clause-pool : goal.returns-clause-pool
 returns-clause-pool g c =
     let changed = c.in_ok-changed.changed in
-    takes_ok g.P.PagePool 1 changed (Some changed) c.args.pages.now c.leave.new.pages c.in_ok-changed.ensures.pool
+    spends_ok g.P.PagePool 1 changed (Some changed) c.args.pages.now c.leave.new.pages c.in_ok-changed.ensures.pool
