@@ -10,8 +10,8 @@ use std::os::unix::fs::FileExt;
 /// A file that is read and written at offsets. A call may come short: it reads or writes fewer bytes than
 /// it was asked to, and returns how many; none where the file ends there.
 pub trait PageFile: Drop {
-    /// The byte that was last written at each offset, or by a write that failed there whatever that left;
-    /// None where nothing was written.
+    /// Of a file that is honest, the byte that was last written at each offset, or by a write that failed
+    /// there whatever that left; None where nothing was written.
     ghost bytes: { Self → Bytes };
 
     /// Whether the file gives back what was written to it.
