@@ -3,7 +3,6 @@ use Rattle.std.proofs.Common.{◌≡◌, ◌+◌, ◌-◌, ◌/◌, ◌<◌, ◌
 use Rattle.std.specs.Prelude.{Ok, Err}
 use Rattle.std.proofs.lemmas.Result.{IfErr-weaker}
 use Rattle.oai_catalogue.specs.Store.{IsCounted, IsHonest, NeedsRoom}
-use Rattle.oai_paged.specs.Recounts.{HasFull}
 use Rattle.oai_item.specs.declared.faults.Fault.{Fault}
 use Rattle.oai_item.specs.declared.faults.Fault.TheVariants.{TooManyPages}
 use Rattle.oai_pool.specs.Counts.{count_of}
@@ -11,6 +10,7 @@ use Rattle.oai_pool.specs.declared.pools.PagePool.{Ghosts}
 use Rattle.oai_pool.specs.declared.pools.TheConstants.{MAX_PAGES}
 use Rattle.oai_paged.specs.Calls.{Changes, IsShareFault, Renames}
 use Rattle.oai_paged.specs.Places.{PlaceState, named_in, page_numbers}
+use Rattle.oai_paged.specs.Recounts.{HasFull}
 use Rattle.oai_paged.specs.Shelves.{calls_left, most_of}
 use Rattle.oai_paged.proofs.NameLemmas.{named_in-nil}
 use Rattle.oai_paged.proofs.RecountLemmas.{not_damaged, not_device, only_full}

@@ -1,10 +1,10 @@
 ghost use Rattle.std.specs.Prelude.{◌≡◌, ◌<◌, ◌≤◌, ℕ, [], OnErr, OnOk, IfErr, IfOk};
 ghost use Rattle.oai_catalogue.specs.Store.{Spares};
-ghost use Rattle.oai_paged.specs.Recounts.{HasFull};
 ghost use Rattle.oai_pool.specs.Counts.{count_of};
 ghost use Rattle.oai_paged.specs.Calls.{IsShareFault, Renames};
 ghost use Rattle.oai_paged.specs.Places.{named_in, page_numbers};
 ghost use Rattle.oai_paged.specs.Props.{group_props};
+ghost use Rattle.oai_paged.specs.Recounts.{HasFull};
 ghost use Rattle.oai_paged.specs.Sums.{AreGroups};
 
 use crate::groups::Groups;

@@ -1,13 +1,13 @@
 ghost use Rattle.std.specs.Prelude.{◌≡◌, ◌≢◌, ◌+◌, ◌*◌, ◌/◌, ◌≤◌, ◌<◌, ℕ, List, [], None, Some, IsSome, IsTrue, IfErr, IfOk, OnErr, OnOk, option_copied, length};
 ghost use Rattle.std.specs.List.{Contains};
 ghost use Rattle.oai_catalogue.specs.Store.{Spares, list_at, no_lists};
-ghost use Rattle.oai_paged.specs.Places.{page_numbers};
-ghost use Rattle.oai_paged.specs.Recounts.{HasFull};
 ghost use Rattle.oai_item.specs.Item.{ItemState};
 ghost use Rattle.oai_pool.specs.Counts.{used_of};
 ghost use Rattle.oai_pool.specs.declared.pools.TheConstants.{MAX_PAGES};
 ghost use Rattle.oai_paged.specs.Calls.{IsShareFault, Renames};
+ghost use Rattle.oai_paged.specs.Places.{page_numbers};
 ghost use Rattle.oai_paged.specs.Props.{shelved_props};
+ghost use Rattle.oai_paged.specs.Recounts.{HasFull};
 ghost use Rattle.oai_paged.specs.Shelves.{AreShelved, StandsOnPages, calls_left, directory_at, items_below, lists_on};
 ghost use Rattle.oai_paged.specs.Versions.{AreShared, places_in, places_of, shelf_at};
 
