@@ -1,5 +1,5 @@
 -- What a call does to the pool of pages and to a directory.
-use Rattle.std.specs.Prelude.{◌≡◌, ◌⊎◌, ◌+◌, ◌<◌, ◌≤◌, ℕ, ℤ, Bool, true, List, [], ◌++◌, take, drop, is_some, IfNone, IfOk, IfSome, IsTrue, Option, Result, Ok, OnErr, OnOk}
+use Rattle.std.specs.Prelude.{◌≡◌, ◌⊎◌, ◌+◌, ◌<◌, ◌≤◌, ℕ, ℤ, Bool, true, List, [], ◌++◌, take, drop, is_some, IfNone, IfOk, IfSome, IsTrue, Option, Result, Ok, OnErr, OnOk, Vec, vec_capacity, vec_len}
 use Rattle.oai_catalogue.specs.Store.{Spares, Spends}
 use Rattle.oai_item.specs.Item.{ItemState}
 use Rattle.oai_item.specs.Items.{item_at, with_item, without_at}
@@ -12,9 +12,11 @@ use Rattle.oai_pool.specs.declared.pools.PagePool.{Ghosts}
 use Rattle.oai_paged.specs.Directory.{IsDirectory, StandsIn}
 use Rattle.oai_paged.specs.Pages.{fit_one}
 use Rattle.oai_paged.specs.Places.{IsSoundPlace, PlaceState, items_on, named_in}
+use Rattle.oai_paged.specs.Sums.{AreGroups, GroupState}
 use Rattle.oai_paged.specs.declared.changes.Changed.{Changed}
 use Rattle.oai_paged.specs.declared.sizes.TheConstants.{MAX_OVERFLOW_PAGES}
 use Rattle.std.specs.List.{AllByRecursion}
+use Rattle.std.specs.declared.alloc.Global.{Global}
 
 -- what a call that cannot fail returns, as what one returns that can
 abbrev pub returned : {A : Type 0} → A → Result A Fault
@@ -102,16 +104,24 @@ pub record IsRemoved (stamp : ℤ) (identifier : List ℕ) (found : Bool) (old n
   pub was : found ≡ is_some (item_at stamp identifier old)
   pub left : new ≡ without_at stamp identifier old
 
--- the item is put in, and the pages of the places that are gone are still named; where it fails, directory and pages are as they were
-pub record PutsItem {P : Type 0} (g : Ghosts P) (item : ItemState) (result : Result Changed Fault) (before after : List PlaceState) (old new : P) : Type 0 where
-  pub list : OnOk result (IsTrue (g.honest old) → items_on (g.pages new) after ≡ with_item item (items_on (g.pages old) before))
-  pub staged : IfOk result (λ changed. Stages g changed.at changed.len changed.gone.items before after old new)
-  pub err : OnErr result (ChangesNothing g before after old new)
+-- the item is put in, by at most so many new pages as it may need, and the pages of the places that are gone are still named; where it fails, directory
+-- and pages are as they were. The places lose no room, and what was known of groups of them is known of the new ones
+pub record PutsItem {P : Type 0} (g : Ghosts P) (item : ItemState) (result : Result Changed Fault) (before after : Vec PlaceState Global) (known known_after : List GroupState) (old new : P) : Type 0 where
+  pub list : OnOk result (IsTrue (g.honest old) → items_on (g.pages new) after.items ≡ with_item item (items_on (g.pages old) before.items))
+  pub staged : IfOk result (λ changed. Stages g changed.at changed.len changed.gone.items before.items after.items old new)
+  pub err : OnErr result (ChangesNothing g before.items after.items old new)
+  pub capacity : vec_capacity before ≤ vec_capacity after
+  pub pool : Spends g.room g.failures g.honest (3 + MAX_OVERFLOW_PAGES) result old new
+  pub groups : AreGroups before.items known → AreGroups after.items known_after
 
--- the item of a datestamp and identifier is taken out, where there is one, and the pages that it was on are still named; where there is none
--- or it fails, directory and pages are as they were
-pub record TakesItemOut {P : Type 0} (g : Ghosts P) (stamp : ℤ) (identifier : List ℕ) (result : Result (Option Changed) Fault) (before after : List PlaceState) (old new : P) : Type 0 where
-  pub list : IfOk result (λ changed. IsTrue (g.honest old) → IsRemoved stamp identifier (is_some changed) (items_on (g.pages old) before) (items_on (g.pages new) after))
-  pub staged : IfOk result (λ changed. IfSome changed (λ some. Stages g some.at some.len some.gone.items before after old new))
-  pub none : IfOk result (λ changed. IfNone changed (ChangesNothing g before after old new))
-  pub err : OnErr result (ChangesNothing g before after old new)
+-- the item of a datestamp and identifier is taken out, where there is one, by one new page at most, and the pages that it was on are still named; where
+-- there is none or it fails, directory and pages are as they were. The change can be taken back, and what was known of groups of places is known of the
+-- new ones
+pub record TakesItemOut {P : Type 0} (g : Ghosts P) (stamp : ℤ) (identifier : List ℕ) (result : Result (Option Changed) Fault) (before after : Vec PlaceState Global) (known known_after : List GroupState) (old new : P) : Type 0 where
+  pub list : IfOk result (λ changed. IsTrue (g.honest old) → IsRemoved stamp identifier (is_some changed) (items_on (g.pages old) before.items) (items_on (g.pages new) after.items))
+  pub staged : IfOk result (λ changed. IfSome changed (λ some. Stages g some.at some.len some.gone.items before.items after.items old new))
+  pub back : IfOk result (λ changed. IfSome changed (λ some. HasWayBack some.at some.len (vec_len after) (vec_capacity after) (vec_len some.gone) (vec_capacity some.gone)))
+  pub none : IfOk result (λ changed. IfNone changed (ChangesNothing g before.items after.items old new))
+  pub err : OnErr result (ChangesNothing g before.items after.items old new)
+  pub pool : Spends g.room g.failures g.honest 1 result old new
+  pub groups : AreGroups before.items known → AreGroups after.items known_after

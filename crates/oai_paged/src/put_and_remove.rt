@@ -125,10 +125,7 @@ fn put_in<P: PagePool>(
 ) -> Result<Changed, Fault>
     requires stands { StandsIn P.PagePool pages.old places.old.items }
     requires fits { length (encoded item.now) ≤ MAX_ITEM_BYTES }
-    ensures item { PutsItem P.PagePool item.now result places.old.items places.new.items pages.old pages.new }
-    ensures capacity { vec_capacity places.old ≤ vec_capacity places.new }
-    ensures pool { Spends P.room P.failures P.honest (3 + MAX_OVERFLOW_PAGES) result pages.old pages.new }
-    ensures groups { AreGroups places.old.items groups.old → AreGroups places.new.items groups.new }
+    ensures { PutsItem P.PagePool item.now result places.old places.new groups.old groups.new pages.old pages.new }
 {
     if places.is_empty() {
         return put_alone(alloc, pages, names, places, groups, 0, 0, item);
@@ -154,10 +151,7 @@ fn put_among<P: PagePool>(
     requires place { IsPlaceFor (λ place. length place.pages ≤ 1) places.old.items (vec_len places.old) item.now.stamp item.now.identifier at }
     requires stands { StandsIn P.PagePool pages.old places.old.items }
     requires fits { length (encoded item.now) ≤ MAX_ITEM_BYTES }
-    ensures item { PutsItem P.PagePool item.now result places.old.items places.new.items pages.old pages.new }
-    ensures capacity { vec_capacity places.old ≤ vec_capacity places.new }
-    ensures pool { Spends P.room P.failures P.honest (3 + MAX_OVERFLOW_PAGES) result pages.old pages.new }
-    ensures groups { AreGroups places.old.items groups.old → AreGroups places.new.items groups.new }
+    ensures { PutsItem P.PagePool item.now result places.old places.new groups.old groups.new pages.old pages.new }
 {
     let old = read_place(alloc, pages, places.as_slice(), at)?;
     let comes_last = at + 1 == places.len()
@@ -180,10 +174,7 @@ fn put_by_long<P: PagePool>(
     requires place { IsPlaceFor (λ place. 1 < length place.pages) places.old.items (vec_len places.old) item.now.stamp item.now.identifier at }
     requires stands { StandsIn P.PagePool pages.old places.old.items }
     requires fits { length (encoded item.now) ≤ MAX_ITEM_BYTES }
-    ensures item { PutsItem P.PagePool item.now result places.old.items places.new.items pages.old pages.new }
-    ensures capacity { vec_capacity places.old ≤ vec_capacity places.new }
-    ensures pool { Spends P.room P.failures P.honest (3 + MAX_OVERFLOW_PAGES) result pages.old pages.new }
-    ensures groups { AreGroups places.old.items groups.old → AreGroups places.new.items groups.new }
+    ensures { PutsItem P.PagePool item.now result places.old places.new groups.old groups.new pages.old pages.new }
 {
     match places[at].order_to(item.stamp(), item.identifier().as_str()) {
         Ordering::Less => put_alone(alloc, pages, names, places, groups, at + 1, 0, item),
@@ -208,10 +199,7 @@ fn put_alone<P: PagePool>(
     requires stands { StandsIn P.PagePool pages.old places.old.items }
     requires fits { length (encoded item.now) ≤ MAX_ITEM_BYTES }
     requires puts { PutsAt (P.pages pages.old) places.old.items item.now at len }
-    ensures item { PutsItem P.PagePool item.now result places.old.items places.new.items pages.old pages.new }
-    ensures capacity { vec_capacity places.old ≤ vec_capacity places.new }
-    ensures pool { Spends P.room P.failures P.honest (3 + MAX_OVERFLOW_PAGES) result pages.old pages.new }
-    ensures groups { AreGroups places.old.items groups.old → AreGroups places.new.items groups.new }
+    ensures { PutsItem P.PagePool item.now result places.old places.new groups.old groups.new pages.old pages.new }
 {
     let (entries, cuts) = Entries::new(alloc).put(alloc, item, false)?;
     change(alloc, pages, names, places, groups, at, len, &entries, cuts)
@@ -229,11 +217,7 @@ fn take_out<P: PagePool>(
     identifier: &str,
 ) -> Result<Option<Changed>, Fault>
     requires { StandsIn P.PagePool pages.old places.old.items }
-    ensures item { TakesItemOut P.PagePool stamp identifier.now result places.old.items places.new.items pages.old pages.new }
-    ensures back { IfOk result (λ changed. IfSome changed (λ some. HasWayBack some.at some.len
-        (vec_len places.new) (vec_capacity places.new) (vec_len some.gone) (vec_capacity some.gone))) }
-    ensures pool { Spends P.room P.failures P.honest 1 result pages.old pages.new }
-    ensures groups { AreGroups places.old.items groups.old → AreGroups places.new.items groups.new }
+    ensures { TakesItemOut P.PagePool stamp identifier.now result places.old places.new groups.old groups.new pages.old pages.new }
 {
     if places.is_empty() {
         return Ok(None);
@@ -259,11 +243,7 @@ fn take_out_among<P: PagePool>(
 ) -> Result<Option<Changed>, Fault>
     requires place { IsPlaceFor (λ place. length place.pages ≤ 1) places.old.items (vec_len places.old) stamp identifier.now at }
     requires stands { StandsIn P.PagePool pages.old places.old.items }
-    ensures item { TakesItemOut P.PagePool stamp identifier.now result places.old.items places.new.items pages.old pages.new }
-    ensures back { IfOk result (λ changed. IfSome changed (λ some. HasWayBack some.at some.len
-        (vec_len places.new) (vec_capacity places.new) (vec_len some.gone) (vec_capacity some.gone))) }
-    ensures pool { Spends P.room P.failures P.honest 1 result pages.old pages.new }
-    ensures groups { AreGroups places.old.items groups.old → AreGroups places.new.items groups.new }
+    ensures { TakesItemOut P.PagePool stamp identifier.now result places.old places.new groups.old groups.new pages.old pages.new }
 {
     let old = read_place(alloc, pages, places.as_slice(), at)?;
     match old.remove(alloc, stamp, identifier)? {
@@ -289,11 +269,7 @@ fn take_out_long<P: PagePool>(
 ) -> Result<Option<Changed>, Fault>
     requires place { IsPlaceFor (λ place. 1 < length place.pages) places.old.items (vec_len places.old) stamp identifier.now at }
     requires stands { StandsIn P.PagePool pages.old places.old.items }
-    ensures item { TakesItemOut P.PagePool stamp identifier.now result places.old.items places.new.items pages.old pages.new }
-    ensures back { IfOk result (λ changed. IfSome changed (λ some. HasWayBack some.at some.len
-        (vec_len places.new) (vec_capacity places.new) (vec_len some.gone) (vec_capacity some.gone))) }
-    ensures pool { Spends P.room P.failures P.honest 1 result pages.old pages.new }
-    ensures groups { AreGroups places.old.items groups.old → AreGroups places.new.items groups.new }
+    ensures { TakesItemOut P.PagePool stamp identifier.now result places.old places.new groups.old groups.new pages.old pages.new }
 {
     if places[at].order_to(stamp, identifier) != Ordering::Equal {
         return Ok(None);

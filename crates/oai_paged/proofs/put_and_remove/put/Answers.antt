@@ -5,21 +5,21 @@ use Rattle.oai_paged.proofs.put_and_remove.put.Goals as goal
 
 pub drop_all-requires : goal.drop_all-requires
 drop_all-requires g c =
-    let s = c.in_ok-changed.ensures.item.staged in
+    let s = c.in_ok-changed.ensures.staged in
     let changed = c.in_ok-changed.changed in
     gone_named g.P.PagePool changed.at changed.len changed.gone.items c.args.places.now.items c.put_in.new.places.items c.args.pages.now c.put_in.new.pages c.requires.stands s
 
 pub returns-clause-list : goal.returns-clause-list
 returns-clause-list g c =
-    let s = c.in_ok-changed.ensures.item.staged in
+    let s = c.in_ok-changed.ensures.staged in
     let changed = c.in_ok-changed.changed in
     let end = settled g.P.PagePool changed.at changed.len changed.gone.items c.args.places.now.items c.put_in.new.places.items c.args.pages.now c.put_in.new.pages c.drop_all.new.pages
     c.requires.stands s c.drop_all.ensures.names in
-    λ honest. end.items ∙ c.in_ok-changed.ensures.item.list honest
+    λ honest. end.items ∙ c.in_ok-changed.ensures.list honest
 
 pub returns-clause-changes : goal.returns-clause-changes
 returns-clause-changes g c =
-    let s = c.in_ok-changed.ensures.item.staged in
+    let s = c.in_ok-changed.ensures.staged in
     let changed = c.in_ok-changed.changed in
     let end = settled g.P.PagePool changed.at changed.len changed.gone.items c.args.places.now.items c.put_in.new.places.items c.args.pages.now c.put_in.new.pages c.drop_all.new.pages
     c.requires.stands s c.drop_all.ensures.names in

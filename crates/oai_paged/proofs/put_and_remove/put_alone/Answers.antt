@@ -22,8 +22,8 @@ change-requires-clause-may_stand g c =
     let made : c.in_ok-entries.entries ≡ item ∷ [] = c.in_ok-entries.ensures.with ∙ ap (with_item item) c.new.ensures ∙ put_none item in
     subst (λ (es : List ItemState). MayStand pages places c.args.at c.args.len es) (sym made) (may_stand_put pages places item c.args.at c.args.len c.requires.stands.directory c.requires.puts)
 
-pub returns-clause-item : goal.returns-clause-item
-returns-clause-item g c =
+pub returns : goal.returns
+returns g c =
     let G = g.P.PagePool in
     let p = c.args.pages.now in
     let q = c.change.new.pages in
@@ -42,4 +42,7 @@ returns-clause-item g c =
           c.change.ensures.ok;
       staged = search rules;
       err = search rules;
+      capacity = search rules;
+      pool = search rules;
+      groups = search rules;
     }

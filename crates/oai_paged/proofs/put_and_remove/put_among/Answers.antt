@@ -29,8 +29,8 @@ change-requires-clause-may_stand g c =
     let stands = stands_read G c.read_place.result before p c.read_place.new.pages c.requires.stands c.read_place.ensures.pages in
     rw c.in_ok-entries.ensures.with (may_stand_with (G.pages c.read_place.new.pages) before item at old stands.directory within c.requires.place.belongs read)
 
-pub returns-clause-item : goal.returns-clause-item
-returns-clause-item g c =
+pub returns : goal.returns
+returns g c =
     let G = g.P.PagePool in
     let p = c.args.pages.now in
     let item : ItemState = c.args.item.now in
@@ -52,4 +52,7 @@ returns-clause-item g c =
           c.change.ensures.ok;
       staged = search rules;
       err = search rules;
+      capacity = search rules;
+      pool = search rules;
+      groups = search rules;
     }

@@ -9,14 +9,14 @@ use Rattle.oai_paged.proofs.put_and_remove.remove.Goals as goal
 
 pub drop_all-requires : goal.drop_all-requires
 drop_all-requires g c =
-    let s = rw c.in-Some.is at c.in_ok-changed.ensures.item.staged in
+    let s = rw c.in-Some.is at c.in_ok-changed.ensures.staged in
     let changed = c.in-Some.changed in
     gone_named g.P.PagePool changed.at changed.len changed.gone.items c.args.places.now.items c.take_out.new.places.items c.args.pages.now c.take_out.new.pages c.requires s
 
 pub returns-in-Some-clause-list : goal.returns-in-Some-clause-list
 returns-in-Some-clause-list g c =
-    let s = rw c.in-Some.is at c.in_ok-changed.ensures.item.staged in
-    let list = rw c.in-Some.is at c.in_ok-changed.ensures.item.list in
+    let s = rw c.in-Some.is at c.in_ok-changed.ensures.staged in
+    let list = rw c.in-Some.is at c.in_ok-changed.ensures.list in
     let changed = c.in-Some.changed in
     let end = settled g.P.PagePool changed.at changed.len changed.gone.items c.args.places.now.items c.take_out.new.places.items c.args.pages.now c.take_out.new.pages c.drop_all.new.pages
     c.requires s c.drop_all.ensures.names in
@@ -26,7 +26,7 @@ returns-in-Some-clause-list g c =
 
 pub returns-in-Some-clause-changes : goal.returns-in-Some-clause-changes
 returns-in-Some-clause-changes g c =
-    let s = rw c.in-Some.is at c.in_ok-changed.ensures.item.staged in
+    let s = rw c.in-Some.is at c.in_ok-changed.ensures.staged in
     let changed = c.in-Some.changed in
     let end = settled g.P.PagePool changed.at changed.len changed.gone.items c.args.places.now.items c.take_out.new.places.items c.args.pages.now c.take_out.new.pages c.drop_all.new.pages
     c.requires s c.drop_all.ensures.names in
@@ -39,5 +39,5 @@ returns-in-Some-clause-changes g c =
 
 pub returns-in-None-clause-changes : goal.returns-in-None-clause-changes
 returns-in-None-clause-changes g c =
-    let same = rw c.in-None.is at c.in_ok-changed.ensures.item.none in
+    let same = rw c.in-None.is at c.in_ok-changed.ensures.none in
     changed_nothing g.P.PagePool 1 c.in_ok-changed.field-0 false c.args.places.now.items c.take_out.new.places.items c.args.pages.now c.take_out.new.pages c.requires same.places same.names c.in_ok-changed.ensures.pool

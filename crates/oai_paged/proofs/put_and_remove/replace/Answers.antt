@@ -15,7 +15,7 @@ put-requires-clause-stands g c =
     let mid = c.take_out.new.pages in
     let before : List PlaceState = c.args.places.now.items in
     let between : List PlaceState = c.take_out.new.places.items in
-    let same = rw c.in_default.is at c.in_ok-first.ensures.item.none in
+    let same = rw c.in_default.is at c.in_ok-first.ensures.none in
     rw same.places (stands_same G before old mid c.requires.stands same.names)
 
 pub returns-in_default-clause-changes : goal.returns-in_default-clause-changes
@@ -25,7 +25,7 @@ returns-in_default-clause-changes g c =
     let mid = c.take_out.new.pages in
     let before : List PlaceState = c.args.places.now.items in
     let between : List PlaceState = c.take_out.new.places.items in
-    let same = rw c.in_default.is at c.in_ok-first.ensures.item.none in
+    let same = rw c.in_default.is at c.in_ok-first.ensures.none in
     changes_after G 1 67 c.in_ok-first.field-0 tt false before between c.put.new.places.items old mid c.put.new.pages same.places same.names c.in_ok-first.ensures.pool c.in_ok-put.ensures.changes
 
 pub drop_all-requires : goal.drop_all-requires
@@ -36,11 +36,11 @@ drop_all-requires g c =
     let before : List PlaceState = c.args.places.now.items in
     let between : List PlaceState = c.take_out.new.places.items in
     let first = c.in-Some.first in
-    let s = rw c.in-Some.is at c.in_ok-first.ensures.item.staged in
+    let s = rw c.in-Some.is at c.in_ok-first.ensures.staged in
     let made = c.put_in.new.pages in
     let after : List PlaceState = c.put_in.new.places.items in
     let second = c.in-Ok.second in
-    let t = c.in-Ok.ensures.item.staged in
+    let t = c.in-Ok.ensures.staged in
     gone_named G second.at second.len second.gone.items between after mid made s.stands t
 
 pub drop_all-requires-in-Ok : goal.drop_all-requires-in-Ok
@@ -51,11 +51,11 @@ drop_all-requires-in-Ok g c =
     let before : List PlaceState = c.args.places.now.items in
     let between : List PlaceState = c.take_out.new.places.items in
     let first = c.in-Some.first in
-    let s = rw c.in-Some.is at c.in_ok-first.ensures.item.staged in
+    let s = rw c.in-Some.is at c.in_ok-first.ensures.staged in
     let made = c.put_in.new.pages in
     let after : List PlaceState = c.put_in.new.places.items in
     let second = c.in-Ok.second in
-    let t = c.in-Ok.ensures.item.staged in
+    let t = c.in-Ok.ensures.staged in
     first_gone_named G first.at first.len first.gone.items second.at second.len second.gone.items before between after old mid made c.drop_all.new.pages
     c.requires.stands s t c.drop_all.ensures.names
 
@@ -67,21 +67,21 @@ returns-in-Ok-clause-list g c =
     let before : List PlaceState = c.args.places.now.items in
     let between : List PlaceState = c.take_out.new.places.items in
     let first = c.in-Some.first in
-    let s = rw c.in-Some.is at c.in_ok-first.ensures.item.staged in
+    let s = rw c.in-Some.is at c.in_ok-first.ensures.staged in
     let made = c.put_in.new.pages in
     let after : List PlaceState = c.put_in.new.places.items in
     let second = c.in-Ok.second in
-    let t = c.in-Ok.ensures.item.staged in
+    let t = c.in-Ok.ensures.staged in
     let late = c.drop_all.new.pages in
     let new = c.drop_all-in-Ok.new.pages in
     let end = replaced G first.at first.len first.gone.items second.at second.len second.gone.items before between after old mid made late new
     c.requires.stands s t c.drop_all.ensures.names c.drop_all-in-Ok.ensures.names in
-    let list = rw c.in-Some.is at c.in_ok-first.ensures.item.list in
+    let list = rw c.in-Some.is at c.in_ok-first.ensures.list in
     λ honest.
     let removed = list honest in
     let still : IsTrue (G.honest mid) = rw c.in_ok-first.ensures.pool.honesty.same honest in
     let left = removed.left ∙ ap (λ (stamp : ℤ). without_at stamp c.args.identifier.now (items_on (G.pages old) before)) (to_z-of_z w64 c.args.stamp c.ranges.stamp) in
-    end.items ∙ c.in-Ok.ensures.item.list still ∙ ap (λ (items : List ItemState). with_item c.args.item.now items) left
+    end.items ∙ c.in-Ok.ensures.list still ∙ ap (λ (items : List ItemState). with_item c.args.item.now items) left
 
 pub returns-in-Ok-clause-changes : goal.returns-in-Ok-clause-changes
 returns-in-Ok-clause-changes g c =
@@ -91,11 +91,11 @@ returns-in-Ok-clause-changes g c =
     let before : List PlaceState = c.args.places.now.items in
     let between : List PlaceState = c.take_out.new.places.items in
     let first = c.in-Some.first in
-    let s = rw c.in-Some.is at c.in_ok-first.ensures.item.staged in
+    let s = rw c.in-Some.is at c.in_ok-first.ensures.staged in
     let made = c.put_in.new.pages in
     let after : List PlaceState = c.put_in.new.places.items in
     let second = c.in-Ok.second in
-    let t = c.in-Ok.ensures.item.staged in
+    let t = c.in-Ok.ensures.staged in
     let late = c.drop_all.new.pages in
     let new = c.drop_all-in-Ok.new.pages in
     let end = replaced G first.at first.len first.gone.items second.at second.len second.gone.items before between after old mid made late new
@@ -117,8 +117,8 @@ returns-in-Err-clause-changes g c =
     let before : List PlaceState = c.args.places.now.items in
     let between : List PlaceState = c.take_out.new.places.items in
     let first = c.in-Some.first in
-    let s = rw c.in-Some.is at c.in_ok-first.ensures.item.staged in
+    let s = rw c.in-Some.is at c.in_ok-first.ensures.staged in
     let late = c.put_in.new.pages in
     let stood : List PlaceState = c.put_in.new.places.items in
     taken_back G 1 67 first.at first.len c.in_ok-first.field-0 c.in-Err.fault first.gone.items before between stood c.undo.new.places.items old mid late c.undo.new.pages
-    s c.in-Err.ensures.item.err.places c.in-Err.ensures.item.err.names c.undo.ensures.places c.undo.ensures.names c.in_ok-first.ensures.pool c.in-Err.ensures.pool c.undo.ensures.pool
+    s c.in-Err.ensures.err.places c.in-Err.ensures.err.names c.undo.ensures.places c.undo.ensures.names c.in_ok-first.ensures.pool c.in-Err.ensures.pool c.undo.ensures.pool

@@ -5,13 +5,16 @@ use Rattle.oai_paged.specs.Places.{PlaceState}
 use Rattle.oai_paged.proofs.DirectoryChanges.{nothing_removed}
 use Rattle.oai_paged.proofs.put_and_remove.take_out.Goals as goal
 
-pub returns-then-is_empty-clause-item : goal.returns-then-is_empty-clause-item
-returns-then-is_empty-clause-item g c =
+pub returns-then-is_empty : goal.returns-then-is_empty
+returns-then-is_empty g c =
     let before : List PlaceState = c.args.places.now.items in
     let none : before ≡ [] = nil_from_length before (omega (arith, eqb-true (vec_len c.args.places.now) 0 (sym c.is_empty.ensures ∙ c.if-is_empty.true), c.args.places.now.ok.0)) in
     record {
       list = λ honest. nothing_removed (g.P.PagePool.pages c.args.pages.now) c.args.stamp c.args.identifier.now before none;
       staged = search rules;
+      back = search rules;
       none = search rules;
       err = search rules;
+      pool = search rules;
+      groups = search rules;
     }

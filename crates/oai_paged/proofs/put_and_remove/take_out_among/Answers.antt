@@ -36,27 +36,26 @@ leave-requires-clause-may g c =
       order = rw removal.1 (may_stand_without (G.pages c.read_place.new.pages) before stamp identifier at old stands.directory within c.requires.place.belongs read);
     }
 
-pub returns-in_err-changed-in-Some-clause-pool : goal.returns-in_err-changed-in-Some-clause-pool
-returns-in_err-changed-in-Some-clause-pool g c =
+pub returns-in_err-changed-in-Some : goal.returns-in_err-changed-in-Some
+returns-in_err-changed-in-Some g c =
     let is : c.from_residual-in_err-changed-in-Some.result ≡ Err c.in_err-changed-in-Some.field-0.0 = search rules in
     let G = g.P.PagePool in
     let p = c.args.pages.now in
     let mid = c.read_place.new.pages in
     let q = c.leave.new.pages in
-    spends_failed G 1 1 c.in_err-changed-in-Some.field-0.0 c.from_residual-in_err-changed-in-Some.result p q is (omega arith)
-    (spends_read G 1 c.read_place.result (err_of Changed c.in_err-changed-in-Some.field-0.0) p mid q c.read_place.ensures.pages c.in_err-changed-in-Some.ensures.pool)
+    record {
+      list = search rules;
+      staged = search rules;
+      back = search rules;
+      none = search rules;
+      err = search rules;
+      pool = spends_failed G 1 1 c.in_err-changed-in-Some.field-0.0 c.from_residual-in_err-changed-in-Some.result p q is (omega arith)
+          (spends_read G 1 c.read_place.result (err_of Changed c.in_err-changed-in-Some.field-0.0) p mid q c.read_place.ensures.pages c.in_err-changed-in-Some.ensures.pool);
+      groups = search rules;
+    }
 
-pub returns-in-Some-clause-pool : goal.returns-in-Some-clause-pool
-returns-in-Some-clause-pool g c =
-    let G = g.P.PagePool in
-    let p = c.args.pages.now in
-    let mid = c.read_place.new.pages in
-    let q = c.leave.new.pages in
-    let changed = c.in_ok-changed-in-Some.changed in
-    spends_ok G 1 changed (Some changed) p q (spends_read G 1 c.read_place.result (ok_of changed) p mid q c.read_place.ensures.pages c.in_ok-changed-in-Some.ensures.pool)
-
-pub returns-in-Some-clause-item : goal.returns-in-Some-clause-item
-returns-in-Some-clause-item g c =
+pub returns-in-Some : goal.returns-in-Some
+returns-in-Some g c =
     let G = g.P.PagePool in
     let p = c.args.pages.now in
     let stamp : ℤ = c.args.stamp in
@@ -78,12 +77,16 @@ returns-in-Some-clause-item g c =
           (c.in_ok-changed-in-Some.ensures.list still ∙ ap (λ (pages : Pages). items_with_run pages before at 1 c.in-Some.entries) same.same) (sym removal.0) removal.1
           (held ∙ ap (λ (ps : List PlaceState). items_at (G.pages p) (get_or ps at no_place)) c.as_slice.ensures.value);
       staged = search rules;
+      back = search rules;
       none = search rules;
       err = search rules;
+      pool = spends_ok G 1 changed (Some changed) p c.leave.new.pages
+          (spends_read G 1 c.read_place.result (ok_of changed) p c.read_place.new.pages c.leave.new.pages same c.in_ok-changed-in-Some.ensures.pool);
+      groups = search rules;
     }
 
-pub returns-clause-item : goal.returns-clause-item
-returns-clause-item g c =
+pub returns : goal.returns
+returns g c =
     let G = g.P.PagePool in
     let p = c.args.pages.now in
     let stamp : ℤ = c.args.stamp in
@@ -101,6 +104,9 @@ returns-clause-item g c =
           none_removed (G.pages p) (G.pages c.read_place.new.pages) stamp identifier old at before c.requires.stands.directory within c.requires.place.belongs removal
           (held ∙ ap (λ (ps : List PlaceState). items_at (G.pages p) (get_or ps at no_place)) c.as_slice.ensures.value) c.read_place.ensures.pages.same;
       staged = search rules;
+      back = search rules;
       none = search rules;
       err = search rules;
+      pool = search rules;
+      groups = search rules;
     }

@@ -13,8 +13,8 @@ use Rattle.oai_paged.proofs.SpendingLemmas.{spends_failed, spends_ok}
 use Rattle.oai_paged.specs.Pages.{fit_one}
 use Rattle.oai_paged.proofs.put_and_remove.take_out_long.Goals as goal
 
-pub returns-then-ne-clause-item : goal.returns-then-ne-clause-item
-returns-then-ne-clause-item g c =
+pub returns-then-ne : goal.returns-then-ne
+returns-then-ne g c =
     let G = g.P.PagePool in
     let p = c.args.pages.now in
     let pages = G.pages p in
@@ -33,8 +33,11 @@ returns-then-ne-clause-item g c =
       list = λ honest. none_removed pages pages stamp identifier (items_at pages place) at places c.requires.stands.directory within c.requires.place.belongs
           (lone_other pages places stamp identifier at c.requires.stands.directory within c.requires.place.belongs one other) refl refl;
       staged = search rules;
+      back = search rules;
       none = search rules;
       err = search rules;
+      pool = search rules;
+      groups = search rules;
     }
 
 pub leave-requires-clause-may : goal.leave-requires-clause-may
@@ -59,13 +62,21 @@ leave-requires-clause-may g c =
       order = subst (λ (es : List ItemState). MayStand pages places at 1 es) (sym c.new.ensures) (may_stand_left pages places stamp identifier at c.requires.stands.directory within c.requires.place.belongs one same);
     }
 
-pub returns-in_err-changed-clause-pool : goal.returns-in_err-changed-clause-pool
-returns-in_err-changed-clause-pool g c =
+pub returns-in_err-changed : goal.returns-in_err-changed
+returns-in_err-changed g c =
     let is : c.from_residual.result ≡ Err c.in_err-changed.field-0.0 = search rules in
-    spends_failed g.P.PagePool 1 1 c.in_err-changed.field-0.0 c.from_residual.result c.args.pages.now c.leave.new.pages is (omega arith) c.in_err-changed.ensures.pool
+    record {
+      list = search rules;
+      staged = search rules;
+      back = search rules;
+      none = search rules;
+      err = search rules;
+      pool = spends_failed g.P.PagePool 1 1 c.in_err-changed.field-0.0 c.from_residual.result c.args.pages.now c.leave.new.pages is (omega arith) c.in_err-changed.ensures.pool;
+      groups = search rules;
+    }
 
-pub returns-clause-item : goal.returns-clause-item
-returns-clause-item g c =
+pub returns : goal.returns
+returns g c =
     let G = g.P.PagePool in
     let p = c.args.pages.now in
     let pages = G.pages p in
@@ -81,16 +92,15 @@ returns-clause-item g c =
     c.order_to.ensures ∙ (λ i. first_cmp (here i) (to_z-of_z w64 stamp c.ranges.stamp i) identifier) in
     let same : first_cmp place stamp identifier ≡ Equal = sym seen ∙ equal_from c.order_to.result (sym c.ne.ensures ∙ c.if-ne.false) in
     let q = c.leave.new.pages in
+    let changed = c.in_ok-changed.changed in
     let after : List PlaceState = c.leave.new.places.items in
     record {
       list = λ honest. lone_removed pages (G.pages q) stamp identifier at places after c.requires.stands.directory within c.requires.place.belongs one same
           (c.in_ok-changed.ensures.list honest ∙ ap (λ (es : List ItemState). items_with_run pages places at 1 es) c.new.ensures);
       staged = search rules;
+      back = search rules;
       none = search rules;
       err = search rules;
+      pool = spends_ok G 1 changed (Some changed) p q c.in_ok-changed.ensures.pool;
+      groups = search rules;
     }
-
-pub returns-clause-pool : goal.returns-clause-pool
-returns-clause-pool g c =
-    let changed = c.in_ok-changed.changed in
-    spends_ok g.P.PagePool 1 changed (Some changed) c.args.pages.now c.leave.new.pages c.in_ok-changed.ensures.pool
