@@ -42,7 +42,8 @@ use Rattle.oai_http.specs.declared.exchanges.Call.{Call}
 use Rattle.oai_host.specs.Tasks.{asking}
 use Rattle.oai_headline.specs.ClientHarvests.{AreClientHarvests, AreNextSeen, AreSuccessiveByClient, ClientHarvest, IsClientHarvest, IsNextSeen, IsRecordIn, IsSeenVisit, IsWholeClientCopy, SeenVisit, client_copy, datestamp_in, is_harvest_end, last_client_harvest, last_of_each, last_visit, records_of, records_seen, visits_of}
 use Rattle.oai_headline.specs.Headline.{HasRules}
-use Rattle.oai_headline.specs.Throughout.{IsThroughoutAt, own_calls_done, own_given, whole_visits}
+use Rattle.oai_host.specs.Alone.{own_answers, own_calls}
+use Rattle.oai_headline.specs.Throughout.{AreTrueFrom, own_calls_done, own_given, whole_visits}
 use Rattle.oai_headline.specs.Visits.{Visit, commands_in, found_by, visits}
 use Rattle.oai_headline.proofs.CarriedLemmas.{steps_run}
 use Rattle.oai_headline.proofs.ClientCopyLemmas.{client_copied}
@@ -556,9 +557,9 @@ client_harvests_copied config calls all prefix first others rules formats keeps 
 
 -- at a repository of a host
 pub client_harvests_given : (calls : List Call) (answers : List HttpAnswer) (entry : NamedConfig) (left : RepoState) (prefix : List ℕ) (first : ClientHarvest) (others : List ClientHarvest) → HasRules entry
-    → entry.config.deleted ≡ Persistent → IsThroughoutAt calls answers entry left
+    → entry.config.deleted ≡ Persistent → AreTrueFrom entry.config (empty_state entry.config) (own_calls entry.name calls) (own_answers entry.name calls answers) left
     → AreSuccessiveByClient entry.config (whole_visits (own_given entry calls answers)) prefix first others
     → IsWholeClientCopy entry.config prefix (found_by (last_client_harvest first others).first.visit) (client_copy (first ∷ others))
-client_harvests_given calls answers entry left prefix first others has keeps throughout successive =
+client_harvests_given calls answers entry left prefix first others has keeps are successive =
     client_harvests_copied entry.config (own_calls_done entry calls answers) (whole_visits (own_given entry calls answers)) prefix first others has.rules has.formats keeps
-    throughout.among successive
+    are.among successive

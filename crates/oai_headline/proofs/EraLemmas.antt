@@ -18,8 +18,8 @@ use Rattle.oai_http.specs.declared.exchanges.Answer.{Answer}
 use Rattle.oai_http.specs.declared.exchanges.Call.{Call}
 use Rattle.oai_host.specs.Alone.{answers_alone}
 use Rattle.oai_host.specs.Hosts.{none_failed}
-use Rattle.oai_headline.specs.Eras.{HaveNumbersIn, IsThroughoutEach, IsThroughoutEras, VisitedEra, era_begins, era_leaves, era_steps, eras_leave, steps_within}
-use Rattle.oai_headline.specs.Throughout.{IsThroughoutFrom, IsTrueVisit, calls_done, left_by, visits_given, whole_visits}
+use Rattle.oai_headline.specs.Eras.{AreTrueEach, FollowListsEach, FollowListsOver, HaveNumbersIn, MissNothingOver, VisitedEra, era_begins, era_leaves, era_steps, eras_leave, steps_within}
+use Rattle.oai_headline.specs.Throughout.{AreTrueFrom, FollowLists, IsThroughoutFrom, IsTrueVisit, calls_done, left_by, visits_given, whole_visits}
 use Rattle.oai_headline.specs.Visits.{Visit, commands_in, steps_of, visits}
 use Rattle.oai_headline.proofs.CarriedLemmas.{calls_behind, steps_run}
 use Rattle.oai_headline.proofs.FollowedLemmas.{visits_followed_from}
@@ -42,25 +42,29 @@ steps_among config begun calls answers given =
     let done : List Call = calls_done calls answers in
     subst (IsPart (flat_map (steps_of config) some)) (steps_run config begun done) (part_each (steps_of config) some (visits config begun done) (whole_among config begun calls answers given))
 
-pub throughout_from : (config : Config) (begun : RepoState) (calls : List Call) (answers : List Answer) (left : RepoState) → IsConfig config → AreRepositoryFormats config.formats → IsStanding config begun
-    → AreMetFrom config begun calls answers left → IsThroughoutFrom config begun calls answers left
-throughout_from config begun calls answers left rules formats standing met =
+true_from : (config : Config) (begun : RepoState) (calls : List Call) (answers : List Answer) (left : RepoState) → AreMetFrom config begun calls answers left → AreTrueFrom config begun calls answers left
+true_from config begun calls answers left met = record { given = met.given; among = whole_among config begun calls answers met.given; state = met.leaves; alone = met.alone }
+
+followed_from : (config : Config) (begun : RepoState) (calls : List Call) (answers : List Answer) → IsConfig config → AreRepositoryFormats config.formats → IsStanding config begun
+    → AllByRecursion (IsTrueVisit config) (visits_given config begun calls answers) → FollowLists config (visits_given config begun calls answers)
+followed_from config begun calls answers rules formats standing given = λ list_request first others chain.
     let some : List Visit = whole_visits (visits_given config begun calls answers) in
     let done : List Call = calls_done calls answers in
-    let among : IsPart some (visits config begun done) = whole_among config begun calls answers met.given in
-    record {
-      given = met.given;
-      among = among;
-      state = met.leaves;
-      followed = λ list_request first others chain.
-          visits_followed_from config begun done list_request first others rules formats (record { sound = standing.sound; years = standing.timed.years })
-          (following_more config some (visits config begun done) list_request first others among chain);
-      harvests = λ prefix first others keeps successive.
-          harvests_copied_from config begun (commands_in config.granularity done) prefix first others rules keeps standing
-          (successive_more config (flat_map (steps_of config) some) (run config begun (commands_in config.granularity done)) prefix first others
-          (steps_among config begun calls answers met.given) successive);
-      alone = met.alone;
-    }
+    visits_followed_from config begun done list_request first others rules formats (record { sound = standing.sound; years = standing.timed.years })
+    (following_more config some (visits config begun done) list_request first others (whole_among config begun calls answers given) chain)
+
+pub throughout_from : (config : Config) (begun : RepoState) (calls : List Call) (answers : List Answer) (left : RepoState) → IsConfig config → AreRepositoryFormats config.formats → IsStanding config begun
+    → AreMetFrom config begun calls answers left → IsThroughoutFrom config begun calls answers left
+throughout_from config begun calls answers left rules formats standing met = record {
+  answered = true_from config begun calls answers left met;
+  followed = followed_from config begun calls answers rules formats standing met.given;
+  harvests = λ prefix first others keeps successive.
+      let some : List Visit = whole_visits (visits_given config begun calls answers) in
+      let done : List Call = calls_done calls answers in
+      harvests_copied_from config begun (commands_in config.granularity done) prefix first others rules keeps standing
+      (successive_more config (flat_map (steps_of config) some) (run config begun (commands_in config.granularity done)) prefix first others
+      (steps_among config begun calls answers met.given) successive);
+}
 
 -- ---- the eras of the machine
 
@@ -156,12 +160,16 @@ AreMetEach config state [] = Unit {0}
 AreMetEach config state (era ∷ eras) =
     AreMetFrom config (era_begins state era) era.calls era.answers (era_leaves config state era) × AreMetEach config (era_leaves config state era) eras
 
-throughout_each : (config : Config) (state : RepoState) (eras : List VisitedEra) → IsConfig config → AreRepositoryFormats config.formats → IsStanding config state → HaveNumbersIn config state eras
-    → AreMetEach config state eras → IsThroughoutEach config state eras
-throughout_each config state [] rules formats standing numbers met = tt
-throughout_each config state (era ∷ eras) rules formats standing numbers met = (
-  throughout_from config (era_begins state era) era.calls era.answers (era_leaves config state era) rules formats (standing_ended config era.raise state numbers.0 standing) met.0,
-  throughout_each config (era_leaves config state era) eras rules formats (standing_leaves config state era rules numbers.0 standing) numbers.1 met.1,
+pub true_each : (config : Config) (state : RepoState) (eras : List VisitedEra) → AreMetEach config state eras → AreTrueEach config state eras
+true_each config state [] met = tt
+true_each config state (era ∷ eras) met = (true_from config (era_begins state era) era.calls era.answers (era_leaves config state era) met.0, true_each config (era_leaves config state era) eras met.1)
+
+followed_each : (config : Config) (state : RepoState) (eras : List VisitedEra) → IsConfig config → AreRepositoryFormats config.formats → IsStanding config state → HaveNumbersIn config state eras
+    → AreMetEach config state eras → FollowListsEach config state eras
+followed_each config state [] rules formats standing numbers met = tt
+followed_each config state (era ∷ eras) rules formats standing numbers met = (
+  followed_from config (era_begins state era) era.calls era.answers rules formats (standing_ended config era.raise state numbers.0 standing) met.0.given,
+  followed_each config (era_leaves config state era) eras rules formats (standing_leaves config state era rules numbers.0 standing) numbers.1 met.1,
 )
 
 parts_of_runs : (config : Config) (state : RepoState) (eras : List VisitedEra) → AreMetEach config state eras → AreParts (steps_within config state eras) (runs config state (machine_eras config eras))
@@ -172,24 +180,27 @@ parts_of_runs config state (era ∷ eras) met = (
       (parts_of_runs config (era_leaves config state era) eras met.1),
 )
 
-pub throughout_eras : (config : Config) (eras : List VisitedEra) (left : RepoState) → IsConfig config → AreRepositoryFormats config.formats → HaveNumbersIn config (empty_state config) eras
-    → AreMetEach config (empty_state config) eras → left ≡ eras_leave config (empty_state config) eras → IsThroughoutEras config eras left
-throughout_eras config eras left rules formats numbers met leaves =
+pub followed_over : (config : Config) (eras : List VisitedEra) → IsConfig config → AreRepositoryFormats config.formats → HaveNumbersIn config (empty_state config) eras
+    → AreMetEach config (empty_state config) eras → FollowListsOver config eras
+followed_over config eras rules formats numbers met =
     let state : RepoState = empty_state config in
     let standing = standing_empty config rules in
     let machine : List Era = machine_eras config eras in
-    let same = machine_numbers config state eras numbers in
+    record {
+      each = followed_each config state eras rules formats standing numbers met;
+      refused = ended_fewer (steps_within config state eras) (runs config state machine) (parts_of_runs config state eras met)
+          (era_tokens_refused config machine state rules standing.sound (machine_numbers config state eras numbers));
+    }
+
+pub harvested_over : (config : Config) (eras : List VisitedEra) → IsConfig config → HaveNumbersIn config (empty_state config) eras → AreMetEach config (empty_state config) eras → MissNothingOver config eras
+harvested_over config eras rules numbers met = λ prefix first others keeps s.
+    let state : RepoState = empty_state config in
+    let machine : List Era = machine_eras config eras in
     let parts = parts_of_runs config state eras met in
     let steps : List (List Exchange) = steps_within config state eras in
     let whole : List (List Exchange) = runs config state machine in
-    record {
-      each = throughout_each config state eras rules formats standing numbers met;
-      refused = ended_fewer steps whole parts (era_tokens_refused config machine state rules standing.sound same);
-      harvests = λ prefix first others keeps s.
-          harvests_within config state machine prefix first others rules keeps standing same
-          (record {
-            begun = part_twice (map (λ (harvest : Harvest). harvest.first) (first ∷ others)) (all_exchanges steps) (all_exchanges whole) s.begun (parts_joined steps whole parts);
-            harvests = all_within_more config steps whole prefix None (first ∷ others) parts s.harvests;
-          });
-      state = leaves;
-    }
+    harvests_within config state machine prefix first others rules keeps (standing_empty config rules) (machine_numbers config state eras numbers)
+    (record {
+      begun = part_twice (map (λ (harvest : Harvest). harvest.first) (first ∷ others)) (all_exchanges steps) (all_exchanges whole) s.begun (parts_joined steps whole parts);
+      harvests = all_within_more config steps whole prefix None (first ∷ others) parts s.harvests;
+    })

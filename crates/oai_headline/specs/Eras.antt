@@ -10,7 +10,7 @@ use Rattle.oai_laws.specs.Eras.{AreEnded, MissNothingWithin}
 use Rattle.oai_laws.specs.Runs.{Exchange}
 use Rattle.oai_http.specs.declared.exchanges.Answer.{Answer}
 use Rattle.oai_http.specs.declared.exchanges.Call.{Call}
-use Rattle.oai_headline.specs.Throughout.{IsThroughoutFrom, calls_done, left_by, visits_given, whole_visits}
+use Rattle.oai_headline.specs.Throughout.{AreTrueFrom, FollowLists, calls_done, left_by, visits_given, whole_visits}
 use Rattle.oai_headline.specs.Visits.{Visit, steps_of}
 
 -- an era begins as all open lists end, and the number of the next one is raised by so many; what is asked in it, and what is answered
@@ -45,17 +45,31 @@ abbrev pub HaveNumbersIn : Config → RepoState → List VisitedEra → Type 0
 HaveNumbersIn config state [] = Unit {0}
 HaveNumbersIn config state (era ∷ eras) = ((era_begins state era).open_lists.next ≤ LAST_NUMBER) × HaveNumbersIn config (era_leaves config state era) eras
 
--- the theorem holds of each era, from the state on that the one before it left, once all lists ended
-abbrev pub IsThroughoutEach : Config → RepoState → List VisitedEra → Type 0
-IsThroughoutEach config state [] = Unit {0}
-IsThroughoutEach config state (era ∷ eras) =
-    IsThroughoutFrom config (era_begins state era) era.calls era.answers (era_leaves config state era)
-    × IsThroughoutEach config (era_leaves config state era) eras
+-- ---- the theorem
 
--- the eras of a repository from its beginning on: the theorem holds of each; a token that was handed out in one is refused in all later ones; harvests
--- of which each is made within an era miss nothing; and all that was performed leaves the state
-pub record IsThroughoutEras (config : Config) (eras : List VisitedEra) (left : RepoState) : Type 0 where
-  pub each : IsThroughoutEach config (empty_state config) eras
-  pub refused : AreEnded (steps_within config (empty_state config) eras)
-  pub harvests : MissNothingWithin config (steps_within config (empty_state config) eras)
+-- in each era the answers are true, from the state on that the one before it left, once all lists ended
+abbrev pub AreTrueEach : Config → RepoState → List VisitedEra → Type 0
+AreTrueEach config state [] = Unit {0}
+AreTrueEach config state (era ∷ eras) =
+    AreTrueFrom config (era_begins state era) era.calls era.answers (era_leaves config state era)
+    × AreTrueEach config (era_leaves config state era) eras
+
+-- of a repository from its beginning on, and all that was performed leaves the state
+pub record AreTrueOver (config : Config) (eras : List VisitedEra) (left : RepoState) : Type 0 where
+  pub each : AreTrueEach config (empty_state config) eras
   pub state : left ≡ eras_leave config (empty_state config) eras
+
+-- in each era lists are followed
+abbrev pub FollowListsEach : Config → RepoState → List VisitedEra → Type 0
+FollowListsEach config state [] = Unit {0}
+FollowListsEach config state (era ∷ eras) =
+    FollowLists config (visits_given config (era_begins state era) era.calls era.answers) × FollowListsEach config (era_leaves config state era) eras
+
+-- and a token that was handed out in one era is refused in all later ones
+pub record FollowListsOver (config : Config) (eras : List VisitedEra) : Type 0 where
+  pub each : FollowListsEach config (empty_state config) eras
+  pub refused : AreEnded (steps_within config (empty_state config) eras)
+
+-- harvests, of which each is made within an era, miss nothing
+abbrev pub MissNothingOver : Config → List VisitedEra → Type 0
+MissNothingOver config eras = MissNothingWithin config (steps_within config (empty_state config) eras)

@@ -95,20 +95,28 @@ own_given entry calls answers = visits_given entry.config (empty_state entry.con
 abbrev pub own_calls_done : NamedConfig → List Call → List Answer → List Call
 own_calls_done entry calls answers = calls_done (own_calls entry.name calls) (own_answers entry.name calls answers)
 
--- exchanges with a repository that begins in that state: each answer without a fault is the machine's after what was performed before it, and one
+-- answers to exchanges with a repository that begins in that state: each without a fault is the machine's after what was performed before it, and one
 -- with a fault did what its number of lines says, or nothing; those without a fault are, in order, among the visits of the machine to which what was
--- performed comes; what was performed leaves the state; where visits without a fault follow a list by its unexpired tokens, also by repeating what
--- failed, their pages, joined, are the records selected at the first of them, each once, in order; harvests by visits without a fault miss nothing;
--- and where no answer has a fault, all of them are those that the repository alone gives
-pub record IsThroughoutFrom (config : Config) (begun : RepoState) (calls : List Call) (answers : List Answer) (left : RepoState) : Type 0 where
+-- performed comes; what was performed leaves the state; and where no answer has a fault, all of them are those that the repository alone gives
+pub record AreTrueFrom (config : Config) (begun : RepoState) (calls : List Call) (answers : List Answer) (left : RepoState) : Type 0 where
   pub given : AllByRecursion (IsTrueVisit config) (visits_given config begun calls answers)
   pub among : IsPart (whole_visits (visits_given config begun calls answers)) (visits config begun (calls_done calls answers))
   pub state : left ≡ left_by config begun (calls_done calls answers)
-  pub followed : (list_request : ListRequest) (first : Visit) (others : List Visit)
-      → IsFollowing config (whole_visits (visits_given config begun calls answers)) list_request first others
-      → AreReached config list_request first others
-  pub harvests : MissNothing config (flat_map (steps_of config) (whole_visits (visits_given config begun calls answers)))
   pub alone : none_failed answers ≡ true → answers ≡ answers_alone config begun calls
+
+-- where visits without a fault follow a list by its unexpired tokens, also by repeating what failed, their pages, joined, are the records selected at
+-- the first of them, each once, in order
+abbrev pub FollowLists : Config → List Visit → Type 0
+FollowLists config all =
+    (list_request : ListRequest) (first : Visit) (others : List Visit)
+    → IsFollowing config (whole_visits all) list_request first others
+    → AreReached config list_request first others
+
+-- of exchanges with a repository that begins in that state the answers are true, lists are followed, and harvests by visits without a fault miss nothing
+pub record IsThroughoutFrom (config : Config) (begun : RepoState) (calls : List Call) (answers : List Answer) (left : RepoState) : Type 0 where
+  pub answered : AreTrueFrom config begun calls answers left
+  pub followed : FollowLists config (visits_given config begun calls answers)
+  pub harvests : MissNothing config (flat_map (steps_of config) (whole_visits (visits_given config begun calls answers)))
 
 -- at a repository from its beginning on
 abbrev pub IsThroughoutAt : List Call → List Answer → NamedConfig → RepoState → Type 0

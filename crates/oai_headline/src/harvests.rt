@@ -11,14 +11,15 @@ ghost use Rattle.oai_laws.specs.Runs.{IsPart, run};
 ghost use Rattle.oai_config.specs.Configs.{NamedConfig};
 ghost use Rattle.oai_http.specs.declared.exchanges.Answer.{Answer};
 ghost use Rattle.oai_http.specs.declared.exchanges.Call.{Call};
+ghost use Rattle.oai_host.specs.Alone.{own_answers, own_calls};
 ghost use Rattle.oai_headline.specs.Chains.{IsStepOf};
 ghost use Rattle.oai_headline.specs.ClientHarvests.{AreSuccessiveByClient, ClientHarvest, IsSeen, IsSomeClientHarvest, IsWholeClientCopy, client_copy, last_client_harvest};
 ghost use Rattle.oai_headline.specs.Headline.{HasRules};
-ghost use Rattle.oai_headline.specs.Throughout.{IsThroughoutAt, own_given, whole_visits};
+ghost use Rattle.oai_headline.specs.Throughout.{AreTrueFrom, own_given, whole_visits};
 ghost use Rattle.oai_headline.specs.Visits.{Visit, commands_in, found_by, visits};
 
-/// Harvests miss nothing, in a client's words (OAI-PMH 2.0, sections 2.5.1, 2.7.1 and 3.5). At a repository of which
-/// the theorem ([`throughout_law`](crate::throughout_law)) holds and which keeps its deleted records, a client asks for
+/// Harvests miss nothing, in a client's words (OAI-PMH 2.0, sections 2.5.1, 2.7.1 and 3.5). At a repository whose
+/// answers are true ([`throughout_law`](crate::throughout_law)) and which keeps its deleted records, a client asks for
 /// all records in a metadataPrefix, follows the list by the tokens that it sees in the answers, each before its
 /// expirationDate, and does so again any number of times, each time from the day or the second of the responseDate on
 /// that it saw in the first answer of the time before. Whatever else is asked and deposited between and amid its
@@ -31,7 +32,9 @@ ghost use Rattle.oai_headline.specs.Visits.{Visit, commands_in, found_by, visits
 pub fn client_harvests_law()
     ensures copied { (calls : List Call) (answers : List Answer) (entry : NamedConfig) (left : RepoState)
         (prefix : List ℕ) (first : ClientHarvest) (others : List ClientHarvest) → HasRules entry
-        → entry.config.deleted ≡ Persistent → IsThroughoutAt calls answers entry left
+        → entry.config.deleted ≡ Persistent
+        → AreTrueFrom entry.config (empty_state entry.config) (own_calls entry.name calls)
+        (own_answers entry.name calls answers) left
         → AreSuccessiveByClient entry.config (whole_visits (own_given entry calls answers)) prefix first others
         → IsWholeClientCopy entry.config prefix (found_by (last_client_harvest first others).first.visit)
         (client_copy (first ∷ others)) }

@@ -3,7 +3,7 @@ use Rattle.std.proofs.Common.{◌≡◌, ◌∙◌, ◌≤◌, ℕ, suc, List, [
 use Rattle.std.specs.List.{All, AllByRecursion, AllZip}
 use Rattle.oai_lists.specs.declared.lists.TheConstants.{LAST_NUMBER}
 use Rattle.oai_settings.specs.Config.{Config}
-use Rattle.oai_repo.specs.State.{RepoState}
+use Rattle.oai_repo.specs.State.{RepoState, empty_state}
 use Rattle.oai_config.specs.Configs.{HostConfig, NamedConfig}
 use Rattle.oai_host.specs.Emptied.{emptied_redone, emptied_restored}
 use Rattle.oai_host.specs.Hosts.{HostState, Repository, begun}
@@ -13,9 +13,9 @@ use Rattle.oai_journal.specs.Records.{Entry}
 use Rattle.oai_journal.specs.declared.journals.Journal as journal
 use Rattle.oai_durable.specs.Records.{redone_all}
 use Rattle.oai_durable.proofs.CheckpointLemmas.{checkpoint_left}
-use Rattle.oai_headline.specs.Eras.{HaveNumbersIn, IsThroughoutEras, VisitedEra, era_leaves, eras_leave}
+use Rattle.oai_headline.specs.Eras.{AreTrueOver, FollowListsOver, HaveNumbersIn, MissNothingOver, VisitedEra, era_leaves, eras_leave}
 use Rattle.oai_headline.specs.Headline.{HasRules, HaveRules}
-use Rattle.oai_headline.proofs.EraLemmas.{AreMetEach, throughout_eras}
+use Rattle.oai_headline.proofs.EraLemmas.{AreMetEach, followed_over, harvested_over, true_each}
 use Rattle.oai_service.specs.Hosting.{AreNumbered, hosting, leaving, saving}
 use Rattle.oai_service.specs.Lives.{AreServerEras, BeginsEra, ServerEra}
 use Rattle.oai_service.specs.Service.{AreEndedBetween, AreKept, IsReceivedIn, IsServed, Told, all_turns, eras_told, eras_left, own_era, own_eras}
@@ -140,15 +140,27 @@ each_rules : (entries : List NamedConfig) → All HasRules entries → AllByRecu
 each_rules [] h = tt
 each_rules (entry ∷ entries) h = (h 0 entry (omega arith), each_rules entries (λ k d within. h (suc k) d (omega (arith, within))))
 
-at_each : (eras : List VisitedEra) (entries : List NamedConfig) (after : List Repository) → AllByRecursion HasRules entries → AllZip (IsOwnMetOver eras) (map begun entries) after
-    → AllZip (λ (entry : NamedConfig) (repository : Repository). IsThroughoutEras entry.config (own_eras entry.name eras) repository.state) entries after
-at_each eras [] [] rules met = tt
-at_each eras [] (y ∷ after) rules met = absurd met
-at_each eras (entry ∷ entries) [] rules met = absurd met
-at_each eras (entry ∷ entries) (y ∷ after) rules met = (
-  throughout_eras entry.config (own_eras entry.name eras) y.state rules.0.rules rules.0.formats met.0.numbers met.0.met met.0.leaves,
-  at_each eras entries after rules.1 met.1,
-)
+true_at : (eras : List VisitedEra) (entries : List NamedConfig) (after : List Repository) → AllZip (IsOwnMetOver eras) (map begun entries) after
+    → AllZip (λ (entry : NamedConfig) (repository : Repository). AreTrueOver entry.config (own_eras entry.name eras) repository.state) entries after
+true_at eras [] [] met = tt
+true_at eras [] (y ∷ after) met = absurd met
+true_at eras (entry ∷ entries) [] met = absurd met
+true_at eras (entry ∷ entries) (y ∷ after) met =
+    (record { each = true_each entry.config (empty_state entry.config) (own_eras entry.name eras) met.0.met; state = met.0.leaves }, true_at eras entries after met.1)
+
+followed_at : (eras : List VisitedEra) (entries : List NamedConfig) (after : List Repository) → AllByRecursion HasRules entries → AllZip (IsOwnMetOver eras) (map begun entries) after
+    → AllByRecursion (λ (entry : NamedConfig). FollowListsOver entry.config (own_eras entry.name eras)) entries
+followed_at eras [] after rules met = tt
+followed_at eras (entry ∷ entries) [] rules met = absurd met
+followed_at eras (entry ∷ entries) (y ∷ after) rules met =
+    (followed_over entry.config (own_eras entry.name eras) rules.0.rules rules.0.formats met.0.numbers met.0.met, followed_at eras entries after rules.1 met.1)
+
+harvested_at : (eras : List VisitedEra) (entries : List NamedConfig) (after : List Repository) → AllByRecursion HasRules entries → AllZip (IsOwnMetOver eras) (map begun entries) after
+    → AllByRecursion (λ (entry : NamedConfig). MissNothingOver entry.config (own_eras entry.name eras)) entries
+harvested_at eras [] after rules met = tt
+harvested_at eras (entry ∷ entries) [] rules met = absurd met
+harvested_at eras (entry ∷ entries) (y ∷ after) rules met =
+    (harvested_over entry.config (own_eras entry.name eras) rules.0.rules met.0.numbers met.0.met, harvested_at eras entries after rules.1 met.1)
 
 pub served : {S H J : Type 0} (view : H → HostState) (j : journal.Ghosts J) (contents remaining : S → Option (List ℕ))
     → ((journal : J) (entries : List Entry) (durable : ℕ) (found : List Entry) → j.holds journal entries durable → j.may_leave journal found → IsLeft durable entries found)
@@ -158,12 +170,18 @@ pub served : {S H J : Type 0} (view : H → HostState) (j : journal.Ghosts J) (c
     → IsServed config contents remaining eras
 unfolding state_before
 served view j contents remaining law config eras rules are numbers =
-    let all = tell_eras view j contents remaining law config.repositories None eras are numbers in
+    let entries : List NamedConfig = config.repositories in
+    let all = tell_eras view j contents remaining law entries None eras are numbers in
+    let its : List VisitedEra = eras_told eras all.told in
+    let left : List Repository = eras_left (map begun entries) (map begun entries) eras in
+    let each = each_rules entries rules in
     record {
       told = all.told;
       received = all.received;
       recorded = all.recorded;
+      answered = true_at its entries left all.met;
       kept = all.kept;
       ended = all.ended;
-      throughout = at_each (eras_told eras all.told) config.repositories (eras_left (map begun config.repositories) (map begun config.repositories) eras) (each_rules config.repositories rules) all.met;
+      followed = followed_at its entries left each all.met;
+      harvested = harvested_at its entries left each all.met;
     }

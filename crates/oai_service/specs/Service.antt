@@ -1,7 +1,7 @@
 -- The theorem of a server over all its lives, in one record. OAI-PMH 2.0, sections 2.7, 3.1.2.2 and 3.5; connections, deposits, lives, and that many
 -- repositories are behind one door are this repository's own.
 use Rattle.std.specs.Prelude.{◌≡◌, ℕ, List, [], ◌∷◌, ◌++◌, map, Option}
-use Rattle.std.specs.List.{AllZip, flat_map}
+use Rattle.std.specs.List.{AllByRecursion, AllZip, flat_map}
 use Rattle.oai_front.specs.Runs.{Served}
 use Rattle.oai_journal.specs.Records.{Entry}
 use Rattle.oai_serving.specs.Accepted.{Accepts}
@@ -12,7 +12,7 @@ use Rattle.oai_host.specs.Hosts.{Repository, begun}
 use Rattle.oai_host.specs.Saved.{ended_in}
 use Rattle.oai_durable.specs.Records.{redone_all}
 use Rattle.oai_durable.specs.Served.{AreThose}
-use Rattle.oai_headline.specs.Eras.{IsThroughoutEras, VisitedEra}
+use Rattle.oai_headline.specs.Eras.{AreTrueOver, FollowListsOver, MissNothingOver, VisitedEra}
 use Rattle.oai_service.specs.Hosting.{leaving}
 use Rattle.oai_service.specs.Lives.{ServerEra, ServerLife}
 use Rattle.oai_service.specs.Turns.{AreTurns, Turn, answers_in, calls_in, its, records_in}
@@ -73,18 +73,20 @@ eras_left begun before (era ∷ eras) = eras_left begun (redone_all leaving begu
 
 -- ---- the theorem
 
--- the eras are one history, which is told. `received`: what each client read is the front of the answers to the messages that it sent.
--- `recorded`: what a turn did is what its own record leaves behind the records before it. `kept`: in an era each life begins with the records of all
--- turns before it, those of the answers that left among them. `ended`: each era begins with all that was kept before it but the open lists; the
--- number of the next list is not lower. `throughout`: at each repository, in each era, each answer without a fault is the machine's after what was
--- performed before it, in whichever life, and one with a fault did what its number of lines says, or nothing; where visits without a fault follow a
--- list by its unexpired tokens, their pages, joined, are the records selected at the first of them; a token of an earlier era is refused; and
--- harvests miss nothing, in whichever eras they are made
+-- the eras are one history, which is told. `received`: what each client read is the front of the answers to the messages that it sent. `recorded`:
+-- what a turn did is what its own record leaves behind the records before it. `answered`: at each repository each answer without a fault is the
+-- machine's after what was performed before it in its era, in whichever life, and one with a fault did what its number of lines says, or nothing.
+-- `kept`: in an era each life begins with the records of all turns before it, those of the answers that left among them. `ended`: each era begins with
+-- all that was kept before it but the open lists. `followed`: where visits without a fault follow a list by its unexpired tokens within an era, their
+-- pages, joined, are the records selected at the first of them; a token of an earlier era is refused. `harvested`: harvests miss nothing, in whichever
+-- eras they are made
 pub record IsServed {S H J : Type 0} (config : HostConfig) (contents remaining : S → Option (List ℕ)) (eras : List (ServerEra S H J)) : Type 0 where
   pub told : List (List Told)
   pub received : AllZip (λ (era : ServerEra S H J) (t : List Told). AllZip (IsReceivedIn contents remaining) era.lives t) eras told
   pub recorded : AllZip (λ (era : ServerEra S H J) (t : List Told). AreTurns (map begun config.repositories) era.found (all_turns t)) eras told
+  pub answered : AllZip (λ (entry : NamedConfig) (repository : Repository). AreTrueOver entry.config (own_eras entry.name (eras_told eras told)) repository.state)
+      config.repositories (eras_left (map begun config.repositories) (map begun config.repositories) eras)
   pub kept : AllZip (λ (era : ServerEra S H J) (t : List Told). AreKept era.found era.lives t era.left) eras told
   pub ended : AreEndedBetween (map begun config.repositories) (map begun config.repositories) eras
-  pub throughout : AllZip (λ (entry : NamedConfig) (repository : Repository). IsThroughoutEras entry.config (own_eras entry.name (eras_told eras told)) repository.state)
-      config.repositories (eras_left (map begun config.repositories) (map begun config.repositories) eras)
+  pub followed : AllByRecursion (λ (entry : NamedConfig). FollowListsOver entry.config (own_eras entry.name (eras_told eras told))) config.repositories
+  pub harvested : AllByRecursion (λ (entry : NamedConfig). MissNothingOver entry.config (own_eras entry.name (eras_told eras told))) config.repositories
