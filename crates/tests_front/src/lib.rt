@@ -1,5 +1,5 @@
-//! Tests of connections (`oai_front`), over a handler that repeats what it was asked, and over a host. It
-//! holds nothing else.
+//! Tests of connections (`oai_front`), over a handler that repeats what it was asked, and over a host; and of the loop of many
+//! connections (`oai_serving`), over sockets in memory. It holds nothing else.
 #![tactic(auto)]
 
 #[cfg(test)]
@@ -11,10 +11,20 @@ mod bounds;
 #[cfg(test)]
 mod connections;
 #[cfg(test)]
+mod handler;
+#[cfg(test)]
 mod hostile_heads;
 #[cfg(test)]
 mod hosts;
 #[cfg(test)]
+mod limits;
+#[cfg(test)]
+mod memory;
+#[cfg(test)]
 mod pieces;
 #[cfg(test)]
+mod received;
+#[cfg(test)]
 mod recording_handler;
+#[cfg(test)]
+mod rounds;
