@@ -11,6 +11,7 @@ GROUPS = {
         "pages": "pages",
         "lives": "fuzz",
         "planted": "planted",
+        "marks": "marks",
         "tools": "layout",
     },
     "What the programs answer": {

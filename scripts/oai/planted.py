@@ -15,7 +15,8 @@ import tempfile
 from concurrent.futures import ThreadPoolExecutor, as_completed
 
 from oai.crates import below
-from oai.programs import needs
+from oai.marks import mark, write_sentence
+from oai.programs import TOP, needs
 
 # How many bugs share a check at most: more would print more than a check tells of.
 MOST = 16
@@ -35,8 +36,11 @@ IMPL = re.compile(r"^impl(?:<[^\n]*?>)? (?:([\w:<>, ]+) for )?(\w+)", re.M)
 # What a check says of a proof file that names something which the edit took away.
 TAKEN_AWAY = re.compile(r"has no field|is not in scope|has no `|which was (?:not admitted|rejected)")
 
-# What a check says of a proof file that stands in the folder of no function: of its lemmas.
-OF_LEMMAS = re.compile(r"^(?:\./)?proofs/\w+\.antt:\S+: error: (.*)$", re.M)
+# The head of what a check says at a place of a file; the lines behind it, up to the next head or the next verdict, are of the same.
+PLACED = re.compile(r"^(?:note: )?(?:\./)?(\S+?):\d+:\d+: (?:(error)\b)?")
+
+# A line that belongs to no place.
+APART = re.compile(r"^(?:fn|enum|struct|trait|impl|help|warning|statements|crate|logic|logic=\S+|so far|axioms|empty contracts)\b")
 
 # What a check says of a definition that the edit made one that cannot be read: then nothing was tried.
 OF_SPECS = re.compile(r"^(?:\./)?specs/\S+: error: ", re.M)
@@ -212,21 +216,42 @@ def unproved(said):
     return {path for path, why in told if "it calls `" not in why}
 
 
+def errors_in(said, folder, deep=True):
+    """The errors that a check tells of files in the folder, whole: an error goes on over several lines, and what it says of a name may stand on any."""
+    errors, is_own = [], False
+    for line in said.split("\n"):
+        head = PLACED.match(line)
+        if head:
+            inside = head[1].startswith(f"{folder}/") and (deep or "/" not in head[1][len(folder) + 1 :])
+            is_own = inside and head[2] is not None
+            if is_own:
+                errors.append(line)
+        elif is_own and line and not APART.match(line):
+            errors[-1] += "\n" + line
+        else:
+            is_own = False
+    return errors
+
+
+def are_of_names(errors):
+    """Whether each of the errors is that a proof file names what is gone."""
+    return all(TAKEN_AWAY.search(it) for it in errors)
+
+
 def is_only_named(said, functions):
     """Whether all that a check says against these functions is that a proof file names what is gone."""
     for function in functions:
         if re.search(rf"^fn \w+?::{re.escape(function)}: .*did not prove", said, re.M):
             return False
-        folder = re.escape(function.replace("::", "/"))
-        told = re.findall(rf"^(?:\./)?proofs/{folder}/\S+: error: (.*)$", said, re.M)
-        if not told or not all(TAKEN_AWAY.search(it) for it in told):
+        errors = errors_in(said, f"proofs/{function.replace('::', '/')}")
+        if not errors or not are_of_names(errors):
             return False
     return True
 
 
 def refutes_a_lemma(said):
     """Whether a check says of a lemma more than that it names what is gone: then a function whose proof stands on it is not refused for a name."""
-    return not all(TAKEN_AWAY.search(it) for it in OF_LEMMAS.findall(said))
+    return not are_of_names(errors_in(said, "proofs", deep=False))
 
 
 def batches_of(edits, texts):
@@ -314,10 +339,12 @@ def tried(name):
 
 
 def told(name, edits, found):
-    """Prints what became of the edits of a crate; how many were refused."""
+    """Prints what became of the edits of a crate, and marks those that are refused by a name; how many were refused."""
     for edit in edits:
         if found[edit] != REFUSED:
             print(f"{name}/{edit.name}: {found[edit]}")
+        if found[edit] in (REFUSED, NAMED):
+            mark(TOP / "crates" / name / "planted" / f"{edit.name}.edit", found[edit] == NAMED)
     refused = sum(it in (REFUSED, NAMED) for it in found.values())
     print(f"{name}: {refused} of {len(edits)} refused", flush=True)
     return refused
@@ -330,7 +357,8 @@ def planted(*names):
     functions share one check. It works on copies, a crate in each, and over kept work. What became of each bug is kept
     in crates/NAME/out, under a digest of the texts that it was judged on, so a run that was stopped goes on where it
     ended. It names each bug that got through, and each that was refused only because a proof file names what the edit
-    took away, which says little of the contract. Its last line is `N refused, M not`; the status is 0 where M is 0.
+    took away, which says little of the contract: the file of such a bug gets the line `refused: by a name`, and
+    docs/PROVING.md counts these. Its last line is `N refused, M not`; the status is 0 where M is 0.
 
     Usage: scripts/run planted [CRATE..]
     """
@@ -348,5 +376,6 @@ def planted(*names):
             edits, found = done.result()
             good = told(tries[done], edits, found)
             refused, others = refused + good, others + len(edits) - good
+    write_sentence()
     print(f"{refused} refused, {others} not")
     return 1 if others else 0

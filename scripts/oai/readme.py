@@ -5,6 +5,7 @@ import re
 
 from oai.contracts import page as contracts_page
 from oai.crates import proved
+from oai.marks import is_counted
 from oai.names import GROUPS
 from oai.programs import TOP
 
@@ -206,6 +207,12 @@ def check_testing():
                 problem(f"docs/TESTING.md: the entry of {crate} does not name {file.name}")
 
 
+def check_marks():
+    """docs/PROVING.md says how many edits there are."""
+    if not is_counted():
+        problem("docs/PROVING.md: count the edits anew by scripts/run marks")
+
+
 def readme():
     """Checks the pages: their sizes and links, and the names that stand in them.
 
@@ -218,8 +225,8 @@ def readme():
     in the tables of docs/ARCHITECTURE.md, each definition stands in the file that is named before it, and each other
     word in backquotes is a word of src/ or specs/. docs/CONTRACTS.md is as the script `contracts` writes it. No
     sentence stands in two of CONFIGURATION, OPERATIONS and PROTOCOL. docs/TESTING.md names each file of tests in an
-    entry of its crate. scripts/README.md names each script, and each script that a page or a comment calls is there.
-    The last line is `N problems`.
+    entry of its crate. docs/PROVING.md counts the edits as the script `marks` does. scripts/README.md names each script,
+    and each script that a page or a comment calls is there. The last line is `N problems`.
 
     Usage: scripts/run readme
     """
@@ -234,6 +241,7 @@ def readme():
     check_contracts()
     check_sentences()
     check_testing()
+    check_marks()
     check_scripts()
     for text in problems:
         print(text)
