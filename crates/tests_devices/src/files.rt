@@ -1,6 +1,7 @@
 //! A device over a file.
 use crate::assertions::{assert_page, assert_same, page_of};
-use crate::short_files::{ByteFile, ShortFile};
+use crate::byte_file::ByteFile;
+use crate::short_files::ShortFile;
 use crate::steps::{add, assert_both, assert_read_fails, assert_written, write};
 use oai_device::{DeviceFault, FileDevice, PAGE_BYTES, PageDevice};
 use oai_pool::{PageKind, PagePool, Pool, PoolFault};

@@ -1,9 +1,11 @@
 //! Tests of page devices (`oai_device`) and of the pool of pages (`oai_pool`); and devices for the tests of what stands on pools
-//! too: one that counts its calls, one that gives a byte inverted, and one that is refused memory.
+//! too: one that counts its calls, one that gives a byte inverted, one that is refused memory, and an honest one over a file in
+//! memory.
 #![tactic(auto)]
 
 #[cfg(test)]
 mod assertions;
+mod byte_file;
 mod counting;
 #[cfg(test)]
 mod devices;
@@ -24,6 +26,7 @@ mod short_files;
 #[cfg(test)]
 mod steps;
 
+pub use byte_file::{ByteFile, device_in_memory, read_back};
 pub use counting::CountingDevice;
 pub use lying::LyingDevice;
 pub use refusing::RefusingDevice;

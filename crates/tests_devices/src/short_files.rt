@@ -1,58 +1,9 @@
-//! Files in memory and over another, of which each call comes short, and one call fails or finds the end.
+//! A file over another, of which each call comes short, and one call fails.
 ghost use Rattle.std.specs.Prelude.{None, false};
 
 use oai_device::PageFile;
-use std::alloc::Global;
-use std::collections::HashMap;
 use std::io;
 use std::io::ErrorKind;
-
-/// A file in memory, of which each call reads or writes one byte, at any offset. Where one byte is lost, a
-/// read of it finds the end of the file.
-#[derive(Drop)]
-pub(crate) struct ByteFile {
-    bytes: HashMap<u64, u8>,
-    lost: Option<u64>,
-}
-
-impl PageFile for ByteFile {
-    ghost bytes = { λ _ _. None };
-
-    ghost honest = { λ _. false };
-
-    fn read_some(&mut self, offset: u64, into: &mut [u8]) -> io::Result<usize> {
-        if into.is_empty() || self.lost == Some(offset) {
-            return Ok(0);
-        }
-        match self.bytes.get(&offset) {
-            Some(byte) => {
-                into[0] = *byte;
-                Ok(1)
-            }
-            None => Ok(0),
-        }
-    }
-
-    fn write_some(&mut self, offset: u64, from: &[u8]) -> io::Result<usize> {
-        if from.is_empty() {
-            return Ok(0);
-        }
-        match self.bytes.insert(offset, from[0]) {
-            Ok(_) => Ok(1),
-            Err(_) => Err(ErrorKind::OutOfMemory.into()),
-        }
-    }
-}
-
-impl ByteFile {
-    /// An empty file, of which the byte at `lost` will not be read.
-    pub(crate) fn new(alloc: Global, lost: Option<u64>) -> ByteFile {
-        ByteFile {
-            bytes: HashMap::new(alloc),
-            lost,
-        }
-    }
-}
 
 /// A file over another, of which each call reads or writes at most so many bytes, and one call fails.
 #[derive(Drop)]
