@@ -45,8 +45,11 @@ APART = re.compile(r"^(?:fn|enum|struct|trait|impl|help|warning|statements|crate
 # What a check says of a definition that the edit made one that cannot be read: then nothing was tried.
 OF_SPECS = re.compile(r"^(?:\./)?specs/\S+: error: ", re.M)
 
+# The line of an edit that names the crate of tests that refuses it, where no clause does.
+BY_TESTS = re.compile(r"^refused: by (tests_\w+)$", re.M)
+
 # What is told of a bug that a check judged.
-REFUSED, NAMED, PROVED = "refused", "only named", "NOT REFUSED"
+REFUSED, NAMED, TESTED, PROVED = "refused", "only named", "proved: refused by its tests alone", "NOT REFUSED"
 
 
 class Edit:
@@ -55,6 +58,7 @@ class Edit:
     def __init__(self, path, texts):
         self.name = os.path.basename(path).removesuffix(".edit")
         self.changes = read_changes(path)
+        self.tests = tests_of(path)
         self.functions = functions_of(self.changes, texts)
         self.digest = digest_of(self.changes)
 
@@ -106,6 +110,13 @@ def read_changes(path):
             elif line.startswith("new:"):
                 changes.append((file, old, line.removeprefix("new:").removeprefix(" ")))
     return changes
+
+
+def tests_of(path):
+    """The crate of tests that an edit names as the one that refuses it, or None."""
+    with open(path, encoding="utf-8") as it:
+        named = BY_TESTS.search(it.read())
+    return named and named[1]
 
 
 def functions_of(changes, texts):
@@ -278,7 +289,7 @@ def try_alone(crate, edit, texts):
         return "CANNOT BE APPLIED"
     said = check(crate, changed, texts)
     if "logic=proved" in said:
-        return PROVED
+        return TESTED if edit.tests else PROVED
     if "logic=not-proved" not in said or OF_SPECS.search(said):
         return "CANNOT BE READ"
     return NAMED if is_only_named(said, unproved(said)) and not refutes_a_lemma(said) else REFUSED
@@ -302,7 +313,7 @@ def try_all(crate, edits, texts, judged):
     found = {}
     for edit in edits:
         found[edit] = judged.of(edit) or try_alone(crate, edit, texts)
-        if found[edit] in (REFUSED, NAMED, PROVED):
+        if found[edit] in (REFUSED, NAMED, TESTED, PROVED):
             judged.add(edit, found[edit])
     return found
 
@@ -345,7 +356,7 @@ def told(name, edits, found):
             print(f"{name}/{edit.name}: {found[edit]}")
         if found[edit] in (REFUSED, NAMED):
             mark(TOP / "crates" / name / "planted" / f"{edit.name}.edit", found[edit] == NAMED)
-    refused = sum(it in (REFUSED, NAMED) for it in found.values())
+    refused = sum(it in (REFUSED, NAMED, TESTED) for it in found.values())
     print(f"{name}: {refused} of {len(edits)} refused", flush=True)
     return refused
 
@@ -358,7 +369,8 @@ def planted(*names):
     in crates/NAME/out, under a digest of the texts that it was judged on, so a run that was stopped goes on where it
     ended. It names each bug that got through, and each that was refused only because a proof file names what the edit
     took away, which says little of the contract: the file of such a bug gets the line `refused: by a name`, and
-    docs/PROVING.md counts these. Its last line is `N refused, M not`; the status is 0 where M is 0.
+    docs/PROVING.md counts these. A bug with a line `refused: by TESTS` is proved, and named; these tests refuse it, and
+    are not run here. Its last line is `N refused, M not`; the status is 0 where M is 0.
 
     Usage: scripts/run planted [CRATE..]
     """
