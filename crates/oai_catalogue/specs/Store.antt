@@ -1,13 +1,13 @@
 -- The store of all versions of all repositories' items: lists of items under numbers. This repository's own view of OAI-PMH 2.0, sections
 -- 2.7 and 3.5: a list request is answered from the items as they stood.
-use Rattle.std.specs.Prelude.{◌≡◌, ◌⊎◌, ◌+◌, ◌<◌, ◌≤◌, ℕ, Bool, true, false, not, ◌==◌, if◌then◌else◌, List, [], Option, None, Some, filter, unwrap_or, Result, IfErr}
+use Rattle.std.specs.Prelude.{◌≡◌, ◌+◌, ◌<◌, ◌≤◌, ℕ, Bool, true, false, not, ◌==◌, if◌then◌else◌, List, [], Option, None, Some, filter, unwrap_or, Result, IfErr}
 use Rattle.std.specs.List.{list_any}
 use Rattle.oai_item.specs.Item.{ItemState}
 use Rattle.oai_item.specs.Items.{is_at}
 use Rattle.oai_item.specs.Order.{are_in_order}
 use Rattle.oai_item.specs.declared.faults.Fault.{Fault}
 use Rattle.oai_item.specs.declared.faults.Fault.TheVariants.{Device, Damaged, TooManyPages}
-use Rattle.oai_catalogue.specs.declared.versions.TheConstants.{MAX_FAILURES}
+use Rattle.oai_device.specs.Device.{CountsFailures}
 
 -- ---- the lists
 
@@ -41,12 +41,6 @@ AreInOrder lists = (v : ℕ) → are_in_order (list_at lists v) ≡ true
 
 -- ---- the faults
 
--- the count of the device's failures never falls; and the device is named as the cause only where it rose, or stands at the last
--- number that it can have
-pub record IsCounted {A : Type 0} (result : Result A Fault) (old new : ℕ) : Type 0 where
-  pub count : old ≤ new
-  pub device : IfErr result (λ fault. fault ≡ Device → (old < new) ⊎ (old ≡ MAX_FAILURES))
-
 -- the device is as honest as before; and damage is found only over one that is not
 pub record IsHonest {A : Type 0} (result : Result A Fault) (old new : Bool) : Type 0 where
   pub same : new ≡ old
@@ -62,7 +56,7 @@ pub record NeedsRoom {A : Type 0} (calls : ℕ) (result : Result A Fault) (old n
 -- are counted, and the device stays as honest as it was
 pub record Spends {V A : Type 0} (room_of failures_of : V → ℕ) (honest_of : V → Bool) (calls : ℕ) (result : Result A Fault) (old new : V) : Type 0 where
   pub room : NeedsRoom calls result (room_of old) (room_of new)
-  pub device : IsCounted result (failures_of old) (failures_of new)
+  pub device : CountsFailures Device result (failures_of old) (failures_of new)
   pub honesty : IsHonest result (honest_of old) (honest_of new)
 
 -- what a call that cannot fail spends: it leaves no less room, and the count of failures and the honesty as they were

@@ -11,4 +11,4 @@ mod versions;
 pub use filters::Filter;
 pub use plain::{LAST_VERSION, PlainVersions};
 pub use removals::remove_items;
-pub use versions::{MAX_FAILURES, Versions};
+pub use versions::Versions;

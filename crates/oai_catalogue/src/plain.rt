@@ -115,6 +115,8 @@ impl Versions for PlainVersions {
     fn release(&mut self, v: u64) {
         self.versions.remove(&v);
     }
+
+    ghost rising = { λ s. s.rising };
 }
 
 impl PlainVersions {

@@ -1,6 +1,6 @@
 ghost use Rattle.std.specs.Prelude.{◌≡◌, ◌+◌, None, length, IfOk, IsSome, IsTrue, OnErr, OnOk};
 ghost use Rattle.oai_catalogue.specs.Calls.{Uses};
-ghost use Rattle.oai_catalogue.specs.Store.{AreInOrder, ChangesOnly, list_at, without_each, without_list};
+ghost use Rattle.oai_catalogue.specs.Store.{ChangesOnly, list_at, without_each, without_list};
 
 use crate::versions::Versions;
 use oai_item::{Fault, Item};
@@ -17,7 +17,6 @@ pub fn remove_items<V: Versions>(store: &mut V, v: u64, gone: &[Item]) -> Result
     ensures list { IfOk result (λ w. IsTrue (V.honest store.old) → list_at (V.lists store.new) w
         ≡ without_each gone.now (list_at (V.lists store.old) v)) }
     ensures err { OnErr result (V.lists store.new ≡ V.lists store.old) }
-    ensures rising { OnOk result (AreInOrder (V.lists store.old) × AreInOrder (V.lists store.new)) }
     ensures store { Uses V.Versions (length gone.now + 1) result store.old store.new }
 {
     let next = store.freeze(v)?;

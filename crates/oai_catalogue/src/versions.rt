@@ -10,9 +10,6 @@ use crate::filters::Filter;
 use oai_item::{Fault, Item};
 use oai_names::{Identifier, Sequence};
 
-/// The last number that the count of a device's failures can have; it then stays there.
-pub const MAX_FAILURES: u64 = 18_446_744_073_709_551_615;
-
 /// A store of versions: lists of items, each under a number of its own, and each in the order of
 /// datestamps and, where these are equal, of identifiers. A list stands under its number until it is
 /// released. Versions may share what they are kept in, on a device that may fail; what a call does to
@@ -39,7 +36,6 @@ pub trait Versions {
         ensures unused { IfOk result (λ v. lists self.old v ≡ None) }
         ensures ok { IfOk result (λ v. lists self.new ≡ with_list v [] (lists self.old)) }
         ensures err { OnErr result (lists self.new ≡ lists self.old) }
-        ensures rising { OnOk result (AreInOrder (lists self.old) × AreInOrder (lists self.new)) }
         ensures store { Spends room failures honest 1 result self.old self.new };
 
     /// A number that was not in use, for what `v` holds now. Any fault may come.
@@ -49,7 +45,6 @@ pub trait Versions {
         ensures ok { IfOk result
             (λ w. lists self.new ≡ with_list w (list_at (lists self.old) v) (lists self.old)) }
         ensures err { OnErr result (lists self.new ≡ lists self.old) }
-        ensures rising { OnOk result (AreInOrder (lists self.old) × AreInOrder (lists self.new)) }
         ensures store { Spends room failures honest 1 result self.old self.new };
 
     /// Puts the item into the list, in place of the one of its datestamp and identifier where there is
@@ -61,7 +56,6 @@ pub trait Versions {
         ensures list { OnOk result (IsTrue (honest self.old)
             → list_at (lists self.new) v ≡ with_item item.now (list_at (lists self.old) v)) }
         ensures err { OnErr result (lists self.new ≡ lists self.old) }
-        ensures rising { OnOk result (AreInOrder (lists self.old) × AreInOrder (lists self.new)) }
         ensures store { Spends room failures honest 1 result self.old self.new };
 
     /// Takes the item of that datestamp, in seconds from 1970 on, and identifier out of the list, and
@@ -74,7 +68,6 @@ pub trait Versions {
         ensures list { OnOk result (IsTrue (honest self.old) → list_at (lists self.new) v
             ≡ without_at stamp identifier.now (list_at (lists self.old) v)) }
         ensures err { OnErr result (lists self.new ≡ lists self.old) }
-        ensures rising { OnOk result (AreInOrder (lists self.old) × AreInOrder (lists self.new)) }
         ensures store { Spends room failures honest 1 result self.old self.new };
 
     /// Takes the item of that datestamp, in seconds from 1970 on, and identifier out of the list and puts
@@ -96,7 +89,6 @@ pub trait Versions {
         ensures list { OnOk result (IsTrue (honest self.old) → list_at (lists self.new) v
             ≡ with_item item.now (without_at stamp identifier.now (list_at (lists self.old) v))) }
         ensures err { OnErr result (lists self.new ≡ lists self.old) }
-        ensures rising { OnOk result (AreInOrder (lists self.old) × AreInOrder (lists self.new)) }
         ensures store { Spends room failures honest 1 result self.old self.new };
 
     /// The item of that datestamp, in seconds from 1970 on, and identifier, or None. Any fault but
@@ -106,7 +98,6 @@ pub trait Versions {
         ensures found { IfOk result (λ item. IsTrue (honest self.old)
             → item ≡ item_at stamp identifier.now (list_at (lists self.old) v)) }
         ensures same { lists self.new ≡ lists self.old }
-        ensures rising { OnOk result (AreInOrder (lists self.old)) }
         ensures store { Spends room failures honest 0 result self.old self.new };
 
     /// How many items are selected. Any fault but `TooManyPages` may come.
@@ -115,7 +106,6 @@ pub trait Versions {
         ensures number { IfOk result (λ n. IsTrue (honest self.old)
             → n ≡ length (selected filter.now (list_at (lists self.old) v))) }
         ensures same { lists self.new ≡ lists self.old }
-        ensures rising { OnOk result (AreInOrder (lists self.old)) }
         ensures store { Spends room failures honest 0 result self.old self.new };
 
     /// Of the selected items, in their order, those after the first `skip`, at most `most` of them.
@@ -131,7 +121,6 @@ pub trait Versions {
         ensures part { IfOk result (λ items. IsTrue (honest self.old)
             → items ≡ take most (drop skip (selected filter.now (list_at (lists self.old) v)))) }
         ensures same { lists self.new ≡ lists self.old }
-        ensures rising { OnOk result (AreInOrder (lists self.old)) }
         ensures store { Spends room failures honest 0 result self.old self.new };
 
     /// Of the selected items, in their order, those that stand behind this datestamp, in seconds from 1970
@@ -150,13 +139,14 @@ pub trait Versions {
             → items ≡ take most (selected filter.now
             (items_after stamp identifier.now (list_at (lists self.old) v)))) }
         ensures same { lists self.new ≡ lists self.old }
-        ensures rising { OnOk result (AreInOrder (lists self.old)) }
         ensures store { Spends room failures honest 0 result self.old self.new };
 
     /// Lets the list go; its number is in use no more. It takes no memory and cannot fail.
     fn release(&mut self, v: u64)
         requires { IsSome (lists self.old v) }
         ensures ok { lists self.new ≡ without_list v (lists self.old) }
-        ensures rising { AreInOrder (lists self.old) × AreInOrder (lists self.new) }
         ensures store { Spares room failures honest self.old self.new };
+
+    /// Each list is in order.
+    ghost rising: { (s : Self) → AreInOrder (lists s) };
 }

@@ -6,8 +6,9 @@ use Rattle.std.specs.List.{AllByRecursion}
 use Rattle.std.proofs.lemmas.Bool.{and_from, cases_Bool, cond-true, cond-false, not_from_false}
 use Rattle.oai_item.specs.declared.faults.Fault.{Fault}
 use Rattle.oai_item.specs.declared.faults.Fault.TheVariants.{Damaged, Device, NoMemory, TooManyPages}
-use Rattle.oai_catalogue.specs.Store.{IsCounted, IsHonest}
-use Rattle.oai_catalogue.specs.declared.versions.TheConstants.{MAX_FAILURES}
+use Rattle.oai_catalogue.specs.Store.{IsHonest}
+use Rattle.oai_device.specs.Device.{CountsFailures}
+use Rattle.oai_device.specs.declared.devices.TheConstants.{MAX_FAILURES}
 use Rattle.oai_settings.specs.Config.{Config}
 use Rattle.oai_repo.specs.State.{RepoState}
 use Rattle.oai_http.specs.Answers.{answered, answered_with, asked_to_wait, failed}
@@ -36,16 +37,16 @@ of_device (Some Device) is = refl
 of_device (Some Damaged) is = cc
 
 -- where the count is below its last number, it rose
-rose : (fault : Option Fault) (old new : ℕ) → is_of_device fault ≡ true → IsCounted (failure fault) old new → new < MAX_FAILURES → old < new
+rose : (fault : Option Fault) (old new : ℕ) → is_of_device fault ≡ true → CountsFailures Device (failure fault) old new → new < MAX_FAILURES → old < new
 rose fault old new is counted below =
-    let device = subst (λ (f : Option Fault). IsCounted (failure f) old new) (of_device fault is) counted in
+    let device = subst (λ (f : Option Fault). CountsFailures Device (failure f) old new) (of_device fault is) counted in
     let count = counted.count in
     elim (device.device refl) [
       | inl more ↦ more
       | inr last ↦ absurd (omega (arith, last, count, below))
     ]
 
-one_more : (answer : Answer) (answers : List Answer) (old mid new : ℕ) → IsCounted (failure_in answer) old mid → mid ≤ new → new < MAX_FAILURES → length (filter tells_of_device answers) + mid ≤ new
+one_more : (answer : Answer) (answers : List Answer) (old mid new : ℕ) → CountsFailures Device (failure_in answer) old mid → mid ≤ new → new < MAX_FAILURES → length (filter tells_of_device answers) + mid ≤ new
     → length (filter tells_of_device (answer ∷ answers)) + old ≤ new
 one_more answer answers old mid new counted later below others =
     let count = counted.count in

@@ -2,15 +2,17 @@
 use Rattle.std.proofs.Common.{◌≡◌, ◌∙◌, ◌<◌, ◌≤◌, ◌⊎◌, inl, inr, ℕ, Bool, List, [], ◌∷◌, Result, Ok, Err, sym, subst, arith}
 use Rattle.std.proofs.lemmas.Bool.{cases_lt}
 use Rattle.oai_item.specs.declared.faults.Fault.{Fault}
-use Rattle.oai_catalogue.specs.Store.{IsCounted, IsHonest}
-use Rattle.oai_catalogue.specs.declared.versions.TheConstants.{MAX_FAILURES}
+use Rattle.oai_catalogue.specs.Store.{IsHonest}
+use Rattle.oai_device.specs.Device.{CountsFailures}
+use Rattle.oai_item.specs.declared.faults.Fault.TheVariants.{Device}
+use Rattle.oai_device.specs.declared.devices.TheConstants.{MAX_FAILURES}
 use Rattle.oai_host.specs.Answers.{AreCounted, AreHonest, failure_in}
 use Rattle.oai_http.specs.declared.exchanges.Answer.{Answer}
 
 -- ---- the count of failures
 
 -- the count rises later
-pub counted_on : (r : Result (Unit {0}) Fault) (old mid new : ℕ) → IsCounted r old mid → mid ≤ new → IsCounted r old new
+pub counted_on : (r : Result (Unit {0}) Fault) (old mid new : ℕ) → CountsFailures Device r old mid → mid ≤ new → CountsFailures Device r old new
 counted_on (Ok done) old mid new c later = record { count = omega (arith, c.count, later); device = tt }
 counted_on (Err fault) old mid new c later = record {
   count = omega (arith, c.count, later);
@@ -28,7 +30,7 @@ rose_since old mid new before (inr last) later = elim (cases_lt old mid) [
 ]
 
 -- it rose before
-pub counted_since : (r : Result (Unit {0}) Fault) (old mid new : ℕ) → old ≤ mid → IsCounted r mid new → IsCounted r old new
+pub counted_since : (r : Result (Unit {0}) Fault) (old mid new : ℕ) → old ≤ mid → CountsFailures Device r mid new → CountsFailures Device r old new
 counted_since (Ok done) old mid new before c = record { count = omega (arith, before, c.count); device = tt }
 counted_since (Err fault) old mid new before c =
     record { count = omega (arith, before, c.count); device = λ is. rose_since old mid new before (c.device is) c.count }

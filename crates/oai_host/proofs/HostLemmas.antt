@@ -3,7 +3,9 @@ use Rattle.std.proofs.Common.{◌≡◌, ◌∙◌, ℕ, zero, suc, true, false,
 use Rattle.std.specs.List.{list_all, list_any, slice_get}
 use Rattle.std.specs.Str.{bytes_eq}
 use Rattle.std.proofs.lemmas.Bool.{and_parts, false_from_ne_true, not-true, or_from, or_parts}
-use Rattle.oai_catalogue.specs.Store.{IsCounted, IsHonest, Lists}
+use Rattle.oai_catalogue.specs.Store.{IsHonest, Lists}
+use Rattle.oai_device.specs.Device.{CountsFailures}
+use Rattle.oai_item.specs.declared.faults.Fault.TheVariants.{Device}
 use Rattle.oai_item.specs.Rules.{has_repeat}
 use Rattle.oai_config.specs.Configs.{AreNamed, NamedConfig, names_of}
 use Rattle.oai_host.specs.Answers.{failure_in}
@@ -76,7 +78,7 @@ pub exchanged_nowhere : (repos : List NamedRepo) (lists : Lists) (host : HostSta
 exchanged_nowhere repos lists host call answer here nowhere is = record {
   each = subst (λ (rs : List Repository). AreSteps call answer (store_of host) (store_of host) rs rs) (sym here) (none_steps repos lists call answer (store_of host) (store_of host) nowhere);
   none = λ _. (is, refl);
-  device = subst (λ (a : Answer). IsCounted (failure_in a) host.failures host.failures) (sym is) (record { count = omega arith; device = tt });
+  device = subst (λ (a : Answer). CountsFailures Device (failure_in a) host.failures host.failures) (sym is) (record { count = omega arith; device = tt });
   honesty = subst (λ (a : Answer). IsHonest (failure_in a) host.honest host.honest) (sym is) (record { same = refl; damaged = tt });
 }
 

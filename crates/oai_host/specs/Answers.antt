@@ -1,7 +1,8 @@
 -- What an exchange is answered, and which answers it may have: OAI-PMH 2.0, section 3.1.2, and this repository's own words.
 use Rattle.std.specs.Prelude.{◌≡◌, ℕ, Bool, true, false, List, Option, None, Some, MatchOption, Result, Ok, Err}
 use Rattle.std.specs.List.{AllByRecursion}
-use Rattle.oai_catalogue.specs.Store.{IsCounted, IsHonest}
+use Rattle.oai_catalogue.specs.Store.{IsHonest}
+use Rattle.oai_device.specs.Device.{CountsFailures}
 use Rattle.oai_item.specs.declared.faults.Fault.{Fault}
 use Rattle.oai_item.specs.declared.faults.Fault.TheVariants.{Damaged, Device, NoMemory, TooManyPages}
 use Rattle.oai_repo.specs.Machine.{Output, bytes, wait}
@@ -24,13 +25,13 @@ abbrev pub failure : Option Fault → Result (Unit {0}) Fault
 failure None = Ok tt
 failure (Some fault) = Err fault
 
--- Ok, or why the exchange with that answer failed, as the store's words `IsCounted` and `IsHonest` take it
+-- Ok, or why the exchange with that answer failed, as the words `CountsFailures` and `IsHonest` take it
 abbrev pub failure_in : Answer → Result (Unit {0}) Fault
 failure_in answer = failure answer.fault
 
 -- an answer says that a device failed only where it did, from the one count of failures to the other
 abbrev pub AreCounted : List Answer → ℕ → ℕ → Type 0
-AreCounted answers old new = AllByRecursion (λ (answer : Answer). IsCounted (failure_in answer) old new) answers
+AreCounted answers old new = AllByRecursion (λ (answer : Answer). CountsFailures Device (failure_in answer) old new) answers
 
 -- an answer says that something is damaged only over a device that does not give back what was written to it
 abbrev pub AreHonest : List Answer → Bool → Bool → Type 0

@@ -1,7 +1,9 @@
 -- Many repositories, and what exchanges with their host do to each. This repository's own.
 use Rattle.std.specs.Prelude.{◌≡◌, ◌≤◌, ℕ, Bool, true, false, not, is_none, if◌then◌else◌, List, [], ◌∷◌}
 use Rattle.std.specs.List.{AllByRecursion, AllZip, list_all}
-use Rattle.oai_catalogue.specs.Store.{IsCounted, IsHonest}
+use Rattle.oai_catalogue.specs.Store.{IsHonest}
+use Rattle.oai_device.specs.Device.{CountsFailures}
+use Rattle.oai_item.specs.declared.faults.Fault.TheVariants.{Device}
 use Rattle.oai_settings.specs.Config.{Config}
 use Rattle.oai_repo.specs.State.{RepoState, empty_state}
 use Rattle.oai_http.specs.Answers.{answered}
@@ -65,7 +67,7 @@ refused call = answered (if is_rooted call.target then status.NotFound else stat
 pub record IsExchanged (call : Call) (answer : Answer) (before after : HostState) : Type 0 where
   pub each : AreSteps call answer (store_of before) (store_of after) before.repositories after.repositories
   pub none : is_of_none before.repositories call ≡ true → (answer ≡ refused call) × (after ≡ before)
-  pub device : IsCounted (failure_in answer) before.failures after.failures
+  pub device : CountsFailures Device (failure_in answer) before.failures after.failures
   pub honesty : IsHonest (failure_in answer) before.honest after.honest
 
 -- ---- exchanges one after the other

@@ -8,7 +8,9 @@ use Rattle.oai_item.specs.declared.changes.Change.{Change}
 use Rattle.oai_item.specs.declared.faults.Fault.{Fault}
 use Rattle.oai_item.specs.declared.refusals.ChangeRefusal.{ChangeRefusal}
 use Rattle.oai_item.specs.declared.refusals.LineRefusal.{LineRefusal}
-use Rattle.oai_catalogue.specs.Store.{IsCounted, IsHonest, NeedsRoom}
+use Rattle.oai_catalogue.specs.Store.{IsHonest, NeedsRoom}
+use Rattle.oai_device.specs.Device.{CountsFailures}
+use Rattle.oai_item.specs.declared.faults.Fault.TheVariants.{Device}
 use Rattle.oai_deposit.specs.Lines.{line_of}
 use Rattle.oai_settings.specs.Config.{Config}
 use Rattle.oai_repo.specs.Accepted.{sets_with}
@@ -98,5 +100,5 @@ pub record IsPerformed (config : Config) (moment : ℤ) (task : Task) (answer : 
   pub ended : IsDone old.honest config moment task before answer after
       ⊎ ((fault : Fault) × HasStopped old.honest config moment task fault before answer after)
   pub room : NeedsRoom (room_for_task config task) (failure_in answer) old.room new.room
-  pub device : IsCounted (failure_in answer) old.failures new.failures
+  pub device : CountsFailures Device (failure_in answer) old.failures new.failures
   pub honesty : IsHonest (failure_in answer) old.honest new.honest

@@ -3,8 +3,9 @@ use Rattle.std.specs.Prelude.{◌≡◌, ◌≤◌, ◌⊎◌, ℕ, ℤ, Bool, f
 use Rattle.std.specs.List.{list_any}
 use Rattle.std.specs.Str.{bytes_eq}
 use Rattle.oai_item.specs.declared.faults.Fault.{Fault}
-use Rattle.oai_item.specs.declared.faults.Fault.TheVariants.{Damaged}
-use Rattle.oai_catalogue.specs.Store.{IsCounted, IsHonest}
+use Rattle.oai_item.specs.declared.faults.Fault.TheVariants.{Damaged, Device}
+use Rattle.oai_catalogue.specs.Store.{IsHonest}
+use Rattle.oai_device.specs.Device.{CountsFailures}
 use Rattle.oai_settings.specs.Config.{Config}
 use Rattle.oai_repo.specs.State.{RepoState, at_clock}
 use Rattle.oai_http.specs.Exchanges.{call_of}
@@ -116,7 +117,7 @@ AreRedone call result old new before after =
     (answer : Answer)
     × (result ≡ failure_in answer)
     × AreSteps call answer old new before after
-    × IsCounted (failure_in answer) old.failures new.failures
+    × CountsFailures Device (failure_in answer) old.failures new.failures
     × IsHonest (failure_in answer) old.honest new.honest
 
 -- a repository has that name

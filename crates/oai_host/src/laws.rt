@@ -1,5 +1,5 @@
 //! What is true of the exchanges with a host, in a law: an empty function whose contract is the statement.
-ghost use Rattle.oai_catalogue.specs.declared.versions.TheConstants.{MAX_FAILURES};
+ghost use Rattle.oai_device.specs.declared.devices.TheConstants.{MAX_FAILURES};
 ghost use Rattle.oai_host.specs.Answers.{tells_of_device};
 ghost use Rattle.oai_host.specs.Hosts.{AreExchanged, HostState, IsRun};
 ghost use Rattle.oai_host.specs.Performed.{StoreState};

@@ -1,6 +1,8 @@
 //! The repositories of a host.
 ghost use Rattle.oai_catalogue.specs.Calls.{Uses};
-ghost use Rattle.oai_catalogue.specs.Store.{IsCounted, IsHonest};
+ghost use Rattle.oai_catalogue.specs.Store.{IsHonest};
+ghost use Rattle.oai_device.specs.Device.{CountsFailures};
+ghost use Rattle.oai_item.specs.declared.faults.Fault.TheVariants as fault;
 ghost use Rattle.oai_host.specs.Answers.{failure_in};
 ghost use Rattle.oai_host.specs.Exchanged.{store_state};
 ghost use Rattle.oai_host.specs.Hosts.{AreSteps, begun};
@@ -145,7 +147,7 @@ impl Repositories {
             (store_state V.Versions store.new) (repositories_of self.old (V.lists store.old))
             (repositories_of self.new (V.lists store.new)) }
         ensures repos { AreNamedRepos (V.honest store.new) self.new (V.lists store.new) }
-        ensures device { IsCounted (failure_in result) (V.failures store.old) (V.failures store.new) }
+        ensures device { CountsFailures fault.Device (failure_in result) (V.failures store.old) (V.failures store.new) }
         ensures honesty { IsHonest (failure_in result) (V.honest store.old) (V.honest store.new) }
     {
         let repo = &mut self.repos[place].repo;
@@ -174,7 +176,7 @@ impl Repositories {
             (repositories_of self.new (V.lists store.new)) }
         ensures size { IsNoLonger exchange.now (option_copied result.1) }
         ensures repos { AreNamedRepos (V.honest store.new) self.new (V.lists store.new) }
-        ensures device { IsCounted (failure_in result.0) (V.failures store.old) (V.failures store.new) }
+        ensures device { CountsFailures fault.Device (failure_in result.0) (V.failures store.old) (V.failures store.new) }
         ensures honesty { IsHonest (failure_in result.0) (V.honest store.old) (V.honest store.new) }
     {
         let own = &mut self.repos[place].repo;

@@ -2,9 +2,10 @@
 use Rattle.std.proofs.Common.{◌≡◌, ◌+◌, ◌-◌, ◌/◌, ◌<◌, ◌≤◌, ℕ, suc, zero, List, [], ◌∷◌, min, Result, arith, subst, sym}
 use Rattle.std.specs.Prelude.{Ok, Err}
 use Rattle.std.proofs.lemmas.Result.{IfErr-weaker}
-use Rattle.oai_catalogue.specs.Store.{IsCounted, IsHonest, NeedsRoom}
+use Rattle.oai_catalogue.specs.Store.{IsHonest, NeedsRoom}
+use Rattle.oai_device.specs.Device.{CountsFailures}
 use Rattle.oai_item.specs.declared.faults.Fault.{Fault}
-use Rattle.oai_item.specs.declared.faults.Fault.TheVariants.{TooManyPages}
+use Rattle.oai_item.specs.declared.faults.Fault.TheVariants.{Device, TooManyPages}
 use Rattle.oai_pool.specs.Counts.{count_of}
 use Rattle.oai_pool.specs.declared.pools.PagePool.{Ghosts}
 use Rattle.oai_pool.specs.declared.pools.TheConstants.{MAX_PAGES}
@@ -116,9 +117,9 @@ module _ {P A : Type 0} (g : Ghosts P) (result : Result A Fault) (cause : Fault)
       subst (λ (r : Result A Fault). NeedsRoom 1 r (calls_left (g.room p) (g.counts p)) (calls_left (g.room q) (g.counts q))) (sym is)
       record { enough = λ full. full_left g places p (only_full _ _ fault full); used = omega (arith, less) }
 
-  pub refused_count : g.failures q ≡ g.failures p → IsCounted result (g.failures p) (g.failures q)
+  pub refused_count : g.failures q ≡ g.failures p → CountsFailures Device result (g.failures p) (g.failures q)
   refused_count count =
-      subst (λ (r : Result A Fault). IsCounted r (g.failures p) (g.failures q)) (sym is)
+      subst (λ (r : Result A Fault). CountsFailures Device r (g.failures p) (g.failures q)) (sym is)
       record { count = omega (arith, count); device = λ failed. absurd (not_device _ _ fault failed) }
 
   pub refused_honest : g.honest q ≡ g.honest p → IsHonest result (g.honest p) (g.honest q)

@@ -1,9 +1,9 @@
 -- The directories of a store after one of them changed.
-use Rattle.std.proofs.Common.{◌≡◌, ◌≢◌, ◌∙◌, ◌+◌, ◌<◌, ◌≤◌, ℕ, eqb, List, [], Option, None, Some, Result, OnErr, OnOk, unwrap_or, true, refl, sym, ap, subst, arith, inl, inr}
+use Rattle.std.proofs.Common.{◌≡◌, ◌≢◌, ◌∙◌, ◌+◌, ◌<◌, ◌≤◌, ℕ, eqb, List, [], Option, None, Some, Result, OnErr, OnOk, unwrap_or, refl, sym, ap, subst, arith, inl, inr}
 use Rattle.std.specs.Prelude.{Ok, Err, option_map}
 use Rattle.std.proofs.lemmas.Bool.{cases_Bool, cases_eq, cond-false, cond-true, eqb-false, eqb-true}
 use Rattle.std.proofs.lemmas.Option.{none-some, same_Some}
-use Rattle.oai_catalogue.specs.Store.{AreInOrder, ChangesOnly, Lists, list_at, with_list, without_list}
+use Rattle.oai_catalogue.specs.Store.{ChangesOnly, Lists, list_at, with_list, without_list}
 use Rattle.oai_catalogue.proofs.ListsLemmas.{same_lists}
 use Rattle.oai_item.specs.Item.{ItemState}
 use Rattle.oai_item.specs.Order.{are_in_order}
@@ -56,15 +56,6 @@ directory_of_none pages = record {
 }
 
 module _ (counts : List ℕ) (pages : Pages) (slots : Directories) (h : AreShelved counts pages slots) where
-  list_in_order : (v : ℕ) (o : Option (List PlaceState)) → directory_at slots v ≡ o
-      → are_in_order (unwrap_or (option_map (items_on pages) o) []) ≡ true
-  list_in_order v None is = refl
-  list_in_order v (Some places) is = (h.directories v places is).rising
-
-  -- the lists are in order
-  pub shelved_in_order : AreInOrder (lists_on pages slots)
-  shelved_in_order v = list_in_order v (directory_at slots v) refl
-
   pub shelved_named : (v : ℕ) (places : List PlaceState) → directory_at slots v ≡ Some places → (n : ℕ)
       → named_in places n ≤ count_of counts n
   shelved_named v places is n =
@@ -290,7 +281,6 @@ module _ {P : Type 0} (g : Ghosts P) (v : ℕ) (old new : Directories) (before a
 pub record AreTurned {A : Type 0} (v : ℕ) (result : Result A Fault) (old new : Lists) : Type 0 where
   pub ok : OnOk result (ChangesOnly v old new)
   pub err : OnErr result (new ≡ old)
-  pub rising : OnOk result (AreInOrder old × AreInOrder new)
 
 module _ {P A : Type 0} (g : Ghosts P) (numbers v : ℕ) (old new : Directories) (before after : List PlaceState) (p q : P)
     (h : AreShelved (g.counts p) (g.pages p) old) (others : AreBut v old new)
@@ -317,14 +307,8 @@ module _ {P A : Type 0} (g : Ghosts P) (numbers v : ℕ) (old new : Directories)
   change_turned (Ok x) changes = record {
     ok = changes_only (Ok x) changes;
     err = tt;
-    rising = (
-      shelved_in_order (g.counts p) (g.pages p) old h,
-      shelved_in_order (g.counts q) (g.pages q) new
-          (change_shelved (Ok x) changes),
-    );
   }
   change_turned (Err x) changes = record {
     ok = tt;
     err = unchanged_lists g v old new before after p q h others was now changes.err.places changes.err.names;
-    rising = tt;
   }

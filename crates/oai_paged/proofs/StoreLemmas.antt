@@ -4,7 +4,7 @@ use Rattle.std.specs.Prelude.{Ok, Err, unwrap_or, option_map, slice_set, length}
 use Rattle.std.proofs.lemmas.Bool.{cases_lt}
 use Rattle.std.proofs.lemmas.List.{get_or-set_other, get_or-set_same, get_or_past}
 use Rattle.std.proofs.lemmas.Option.{none-some}
-use Rattle.oai_catalogue.specs.Store.{AreInOrder, Lists, list_at, with_list, without_list}
+use Rattle.oai_catalogue.specs.Store.{Lists, list_at, with_list, without_list}
 use Rattle.oai_item.specs.Item.{ItemState}
 use Rattle.oai_item.specs.declared.faults.Fault.{Fault}
 use Rattle.oai_pool.specs.Counts.{count_of}
@@ -16,8 +16,8 @@ use Rattle.oai_paged.specs.Shelves.{AreShelved, directory_at, lists_on}
 use Rattle.oai_paged.specs.Versions.{AreShared, DirectoryState, Shelves, Versions, directories_named, names_of, number_at, places_in, places_of, shelf_at, told_at}
 use Rattle.oai_paged.proofs.PlaceLemmas.{items_on-nil}
 use Rattle.oai_paged.proofs.RecountLemmas.{recounts_none, renames_none}
-use Rattle.oai_paged.proofs.ShelfLemmas.{AreBut, AreTurned, Turns, change_shelved, change_turned, copied_lists, directory_of_none, list_of, removed_lists, shelved_in_order, shelved_stands, turn_copied, turn_kept, turn_put_in, turn_taken_out, turned_lists, turned_shelved, unchanged_lists}
-use Rattle.oai_paged.proofs.VersionLemmas.{NameBut, StandBut, lists-named, lists_fresh, lists_less, lists_more, lists_moved, lists_named, lists_none, named_in_order, named_list, named_turned, places-at, places-some, shared_changed, shared_less, shared_more, shared_moved, shared_none, told_of, vacant_unnamed}
+use Rattle.oai_paged.proofs.ShelfLemmas.{AreBut, AreTurned, Turns, change_shelved, change_turned, copied_lists, directory_of_none, list_of, removed_lists, shelved_stands, turn_copied, turn_kept, turn_put_in, turn_taken_out, turned_lists, turned_shelved, unchanged_lists}
+use Rattle.oai_paged.proofs.VersionLemmas.{NameBut, StandBut, lists-named, lists_fresh, lists_less, lists_more, lists_moved, lists_named, lists_none, named_list, named_turned, places-at, places-some, shared_changed, shared_less, shared_more, shared_moved, shared_none, told_of, vacant_unnamed}
 
 places_but : (d : ℕ) (before after : Shelves) → StandBut d before after → AreBut d (places_of before) (places_of after)
 places_but d before after stand e apart = places-at after e ∙ ap places_in (stand e apart) ∙ sym (places-at before e)
@@ -63,12 +63,6 @@ if_ok_after (Err e) p f = tt
 
 abbrev pub lists_by : Pages → Versions → Shelves → Lists
 lists_by pages versions shelves = lists_on pages (directories_named versions shelves)
-
-pub store_in_order : (counts : List ℕ) (pages : Pages) (versions : Versions) (shelves : Shelves) → AreShelved counts pages (places_of shelves)
-    → AreInOrder (lists_by pages versions shelves)
-store_in_order counts pages versions shelves h =
-    subst AreInOrder (sym (lists-named pages versions shelves))
-    (named_in_order (lists_on pages (places_of shelves)) versions (shelved_in_order counts pages (places_of shelves) h))
 
 pub list_by : (pages : Pages) (versions : Versions) (shelves : Shelves) (v d : ℕ) (directory : DirectoryState) → number_at versions v ≡ Some d
     → shelf_at shelves d ≡ Some directory → list_at (lists_by pages versions shelves) v ≡ items_on pages directory.places

@@ -1,15 +1,14 @@
 -- Versions that name directories, and the lists that they stand for.
-use Rattle.std.proofs.Common.{◌≡◌, ◌≢◌, ◌∙◌, ◌+◌, ◌<◌, ◌≤◌, ℕ, suc, zero, cond, eqb, List, [], ◌∷◌, Option, None, Some, IsSome, Result, unwrap_or, map, get_or, set, true, refl, sym, ap, subst, arith, inl, inr}
+use Rattle.std.proofs.Common.{◌≡◌, ◌≢◌, ◌∙◌, ◌+◌, ◌<◌, ◌≤◌, ℕ, suc, zero, cond, eqb, List, [], ◌∷◌, Option, None, Some, IsSome, Result, unwrap_or, map, get_or, set, refl, sym, ap, subst, arith, inl, inr}
 use Rattle.std.specs.Prelude.{Ok, Err, is_some, count_by, length, option_map, sum_by}
 use Rattle.std.proofs.lemmas.Bool.{cases_Bool, cases_eq, cases_lt, cond-false, cond-true, eq-eqb, eqb-false, eqb-true, ne_eqb}
 use Rattle.std.proofs.lemmas.List.{get_or-set_other, get_or-set_same, get_or_past}
 use Rattle.std.proofs.lemmas.List.Sums.{sum_by-cons}
 use Rattle.std.proofs.lemmas.Option.{none-some}
 use Rattle.slab.specs.Slab.{Slab, Updates, get}
-use Rattle.oai_catalogue.specs.Store.{AreInOrder, ChangesOnly, Lists, list_at, with_list, without_list}
+use Rattle.oai_catalogue.specs.Store.{ChangesOnly, Lists, list_at, with_list, without_list}
 use Rattle.oai_catalogue.proofs.ListsLemmas.{same_lists}
 use Rattle.oai_item.specs.Item.{ItemState}
-use Rattle.oai_item.specs.Order.{are_in_order}
 use Rattle.oai_item.specs.declared.faults.Fault.{Fault}
 use Rattle.oai_paged.specs.Places.{Pages, PlaceState, items_on}
 use Rattle.oai_paged.specs.Shelves.{directory_at, lists_on}
@@ -309,13 +308,6 @@ lists-named pages versions shelves =
 pub named_list : (lists : Lists) (versions : Versions) (v d : ℕ) → number_at versions v ≡ Some d → lists_named lists versions v ≡ lists d
 named_list lists versions v d is = ap (list_named lists) is
 
-order_named : (lists : Lists) → AreInOrder lists → (o : Option ℕ) → are_in_order (unwrap_or (list_named lists o) []) ≡ true
-order_named lists h None = refl
-order_named lists h (Some d) = h d
-
-pub named_in_order : (lists : Lists) (versions : Versions) → AreInOrder lists → AreInOrder (lists_named lists versions)
-named_in_order lists versions h v = order_named lists h (number_at versions v)
-
 some_list : (o : Option (List ItemState)) → IsSome o → Some (unwrap_or o []) ≡ o
 some_list None h = cc
 some_list (Some items) h = refl
@@ -412,12 +404,10 @@ module _ (versions : Versions) (v d : ℕ) (one : names_of d versions ≡ 1) (na
   named_turned (Ok x) first last turned = record {
     ok = lists_changed first last turned.ok;
     err = tt;
-    rising = (named_in_order first versions turned.rising.0, named_in_order last versions turned.rising.1);
   }
   named_turned (Err x) first last turned = record {
     ok = tt;
     err = ap (λ (lists : Lists). lists_named lists versions) turned.err;
-    rising = tt;
   }
 
 -- ---- sums over directories, and over the versions that name them

@@ -12,4 +12,5 @@ pub mod Calls
 pub mod Recounts
 pub mod Shelves
 pub mod Props
+pub mod InOrder
 pub mod Store

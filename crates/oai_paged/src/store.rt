@@ -46,6 +46,7 @@ pub struct VersionsOver<P: PagePool + Drop> {
 impl<P: PagePool + Drop> Versions for VersionsOver<P> {
     ghost use Rattle.oai_paged.specs.Store.{directories_of, pool_of};
     ghost use Rattle.oai_paged.specs.Shelves.{calls_left, lists_on};
+    ghost use Rattle.oai_paged.specs.InOrder.{named_in_order};
 
     ghost lists = { λ s. lists_on (P.pages (pool_of s)) (directories_of s) };
 
@@ -221,6 +222,8 @@ impl<P: PagePool + Drop> Versions for VersionsOver<P> {
         let directory = self.directories.remove(number);
         drop_all(&mut self.pool, directory.places);
     }
+
+    ghost rising = { λ s. named_in_order (P.counts s.pool) (P.pages s.pool) s.directories.slots s.shelved s.versions.slots };
 }
 
 impl<P: PagePool + Drop> VersionsOver<P> {

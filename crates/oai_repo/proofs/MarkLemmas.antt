@@ -176,7 +176,7 @@ after_mark asked items mark order place =
 
 -- what the store gives behind the item of a list's mark
 pub part_after_mark : (result : Result (List ItemState) Fault) (Honest : Type 0) (all : Lists) (list : OpenList) (mark : Mark) (most cursor : ℕ) → list.mark ≡ Some mark → mark.cursor ≡ cursor
-    → (Honest → is_marked all list ≡ true) → OnOk result (AreInOrder all)
+    → (Honest → is_marked all list ≡ true) → AreInOrder all
     → IfOk result (λ items. Honest → items ≡ take most (selected list.filter (items_after mark.stamp mark.identifier (list_at all list.version))))
     → IfOk result (λ items. Honest → items ≡ take most (drop cursor (items_frozen all list)))
 part_after_mark (Ok items) Honest all list mark most cursor is at marked order part =

@@ -6,11 +6,12 @@ use Rattle.std.proofs.lemmas.Bool.{and_parts, cond-true, cond-false, false≢tru
 use Rattle.oai_item.specs.declared.changes.Change.{Change}
 use Rattle.oai_item.specs.declared.changes.Change.TheVariants as change
 use Rattle.oai_item.specs.declared.faults.Fault.{Fault}
-use Rattle.oai_item.specs.declared.faults.Fault.TheVariants.{NoMemory}
+use Rattle.oai_item.specs.declared.faults.Fault.TheVariants.{Device, NoMemory}
 use Rattle.oai_item.specs.declared.refusals.ChangeRefusal.{ChangeRefusal}
 use Rattle.oai_item.specs.declared.refusals.LineRefusal.{LineRefusal}
 use Rattle.oai_deposit.specs.Lines.{line_of}
-use Rattle.oai_catalogue.specs.Store.{IsCounted, IsHonest, NeedsRoom}
+use Rattle.oai_catalogue.specs.Store.{IsHonest, NeedsRoom}
+use Rattle.oai_device.specs.Device.{CountsFailures}
 use Rattle.oai_settings.specs.Config.{Config}
 use Rattle.oai_repo.specs.Accepted.{sets_with}
 use Rattle.oai_repo.specs.Changes.{changed, refusal_of, stamp_at}
@@ -96,8 +97,8 @@ room_enough : (calls : ℕ) (answer : Answer) (fault : Option Fault) → answer.
 room_enough calls answer fault is none =
     subst (λ (f : Option Fault). NeedsRoom calls (failure f) 0 0) (sym (is ∙ none)) (record { enough = tt; used = omega arith })
 
-counted_none : (answer : Answer) → answer.fault ≡ None → IsCounted (failure_in answer) 0 0
-counted_none answer none = subst (λ (f : Option Fault). IsCounted (failure f) 0 0) (sym none) (record { count = omega arith; device = tt })
+counted_none : (answer : Answer) → answer.fault ≡ None → CountsFailures Device (failure_in answer) 0 0
+counted_none answer none = subst (λ (f : Option Fault). CountsFailures Device (failure f) 0 0) (sym none) (record { count = omega arith; device = tt })
 
 honest_none : (answer : Answer) → answer.fault ≡ None → IsHonest (failure_in answer) true true
 honest_none answer none = subst (λ (f : Option Fault). IsHonest (failure f) true true) (sym none) (record { same = refl; damaged = tt })

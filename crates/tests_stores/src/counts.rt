@@ -1,6 +1,6 @@
 //! A store that counts its calls.
 ghost use Rattle.std.specs.Prelude.{◌≡◌, ◌+◌, true, false, min};
-ghost use Rattle.oai_catalogue.specs.declared.versions.TheConstants.{MAX_FAILURES};
+ghost use Rattle.oai_device.specs.declared.devices.TheConstants.{MAX_FAILURES};
 
 use crate::hooked::{CallKind, Hook, HookedVersions};
 use oai_catalogue::Versions;

@@ -1,7 +1,7 @@
 //! A store of whose calls one fails.
 ghost use Rattle.std.specs.Prelude.{◌≡◌, ◌==◌, ◌+◌, ◌-◌, true, false, min, is_err, IfErr, OnErr, OnOk};
-ghost use Rattle.oai_catalogue.specs.Store.{IsCounted};
-ghost use Rattle.oai_catalogue.specs.declared.versions.TheConstants.{MAX_FAILURES};
+ghost use Rattle.oai_device.specs.Device.{CountsFailures};
+ghost use Rattle.oai_device.specs.declared.devices.TheConstants.{MAX_FAILURES};
 ghost use Rattle.oai_item.specs.declared.faults.Fault.TheVariants as fault;
 
 use crate::countdown::Countdown;
@@ -40,7 +40,7 @@ impl FailingHook {
         ensures fault { IfErr result (λ f. f ≡ fault.Device) }
         ensures ok { OnOk result (self.new.failed ≡ self.old.failed) }
         ensures err { OnErr result (self.new.failed ≡ min (self.old.failed + 1) MAX_FAILURES) }
-        ensures counted { IsCounted result self.old.failed self.new.failed }
+        ensures counted { CountsFailures fault.Device result self.old.failed self.new.failed }
     {
         if self.countdown.is_due() {
             self.failed = self.failed.saturating_add(1);

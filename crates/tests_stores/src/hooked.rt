@@ -1,7 +1,7 @@
 //! A store over another one, with a hook at each call.
 ghost use Rattle.std.specs.Prelude.{◌≡◌, ◌+◌, ◌&&◌, if◌then◌else◌, ℕ, Bool, true, false, [], min, IfErr, OnOk};
-ghost use Rattle.oai_catalogue.specs.Store.{IsCounted};
-ghost use Rattle.oai_catalogue.specs.declared.versions.TheConstants.{MAX_FAILURES};
+ghost use Rattle.oai_device.specs.Device.{CountsFailures};
+ghost use Rattle.oai_device.specs.declared.devices.TheConstants.{MAX_FAILURES};
 ghost use Rattle.oai_item.specs.declared.faults.Fault.TheVariants as fault;
 ghost use Rattle.tests_stores.specs.declared.hooked.CallKind.TheVariants as call;
 
@@ -32,7 +32,7 @@ pub trait Hook {
     /// Before a call: an error is the fault with which the call fails, without reaching the store. There
     /// are too many pages only at a call that asks for room.
     fn turn(&mut self, kind: CallKind) -> Result<(), Fault>
-        ensures counted { IsCounted result (failures self.old) (failures self.new) }
+        ensures counted { CountsFailures fault.Device result (failures self.old) (failures self.new) }
         ensures ok { OnOk result (failures self.new ≡ failures self.old) }
         ensures damaged { IfErr result (λ f. f ≡ fault.Damaged → is_truthful ≡ false) }
         ensures room { IfErr result (λ f. f ≡ fault.TooManyPages
@@ -134,6 +134,8 @@ impl<V: Versions + Drop, H: Hook + Drop> Versions for HookedVersions<V, H> {
     fn release(&mut self, v: u64) {
         self.inner.release(v);
     }
+
+    ghost rising = { λ s. V.rising s.inner };
 }
 
 impl<V: Versions + Drop, H: Hook + Drop> HookedVersions<V, H> {

@@ -5,8 +5,7 @@ use Rattle.oai_paged.specs.Directory.{StandsIn}
 use Rattle.oai_paged.specs.Places.{PlaceState}
 use Rattle.oai_paged.specs.Versions.{DirectoryState, shelf_at}
 use Rattle.oai_paged.proofs.FewLemmas.{few_places}
-use Rattle.oai_paged.proofs.ShelfLemmas.{on_ok}
-use Rattle.oai_paged.proofs.StoreLemmas.{lists_by, read_names, store_in_order, store_stands, stored_again}
+use Rattle.oai_paged.proofs.StoreLemmas.{lists_by, read_names, store_stands, stored_again}
 use Rattle.oai_paged.proofs.store.VersionsOverVersions.count.Goals as goal
 
 pub count-requires-clause-stands : goal.count-requires-clause-stands
@@ -43,9 +42,3 @@ returns-clause-same g c =
     ≡ lists_by (G.pages self.pool) self.versions.slots self.directories.slots) (sym c.tend.ensures)
     (stored_again G self.versions.slots self.directories.slots number was self.pool q self.shelved self.shared stood
     (read_names G c.count.result self.pool q c.count.ensures.pages)).lists
-
-pub returns-clause-rising : goal.returns-clause-rising
-returns-clause-rising g c =
-    let self = c.args.self.now in
-    on_ok c.count.result (store_in_order (g.P.PagePool.counts self.pool) (g.P.PagePool.pages self.pool) self.versions.slots self.directories.slots
-    self.shelved)

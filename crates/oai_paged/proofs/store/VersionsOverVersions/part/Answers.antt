@@ -3,8 +3,7 @@ use Rattle.std.specs.Prelude.{slice_set}
 use Rattle.oai_paged.specs.Directory.{StandsIn}
 use Rattle.oai_paged.specs.Places.{PlaceState}
 use Rattle.oai_paged.specs.Versions.{DirectoryState, shelf_at}
-use Rattle.oai_paged.proofs.ShelfLemmas.{on_ok}
-use Rattle.oai_paged.proofs.StoreLemmas.{lists_by, read_names, store_in_order, store_stands, stored_again}
+use Rattle.oai_paged.proofs.StoreLemmas.{lists_by, read_names, store_stands, stored_again}
 use Rattle.oai_paged.proofs.store.VersionsOverVersions.part.Goals as goal
 
 pub part-requires-clause-stands : goal.part-requires-clause-stands
@@ -30,9 +29,3 @@ returns-clause-same g c =
     ≡ lists_by (G.pages self.pool) self.versions.slots self.directories.slots) (sym c.tend.ensures)
     (stored_again G self.versions.slots self.directories.slots number was self.pool q self.shelved self.shared stood
     (read_names G c.part.result self.pool q c.part.ensures.pages)).lists
-
-pub returns-clause-rising : goal.returns-clause-rising
-returns-clause-rising g c =
-    let self = c.args.self.now in
-    on_ok c.part.result (store_in_order (g.P.PagePool.counts self.pool) (g.P.PagePool.pages self.pool) self.versions.slots self.directories.slots
-    self.shelved)

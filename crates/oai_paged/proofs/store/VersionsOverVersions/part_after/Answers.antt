@@ -1,7 +1,6 @@
 use Rattle.std.proofs.Common.{◌≡◌, Some, sym}
 use Rattle.oai_paged.specs.Versions.{shelf_at}
-use Rattle.oai_paged.proofs.ShelfLemmas.{on_ok}
-use Rattle.oai_paged.proofs.StoreLemmas.{store_in_order, store_stands}
+use Rattle.oai_paged.proofs.StoreLemmas.{store_stands}
 use Rattle.oai_paged.proofs.store.VersionsOverVersions.part_after.Goals as goal
 
 pub part_after-requires-clause-stands : goal.part_after-requires-clause-stands
@@ -10,9 +9,3 @@ part_after-requires-clause-stands g c =
     let self = c.args.self.now in
     let found : Some c.in-Some.directory.now ≡ shelf_at self.directories.slots c.number_of-number.result = c.in-Some.ensures in
     rw c.places-places.ensures (store_stands G self.directories.slots c.number_of-number.result c.in-Some.directory.now self.pool self.shelved (sym found))
-
-pub returns-clause-rising : goal.returns-clause-rising
-returns-clause-rising g c =
-    let self = c.args.self.now in
-    on_ok c.part_after.result (store_in_order (g.P.PagePool.counts self.pool) (g.P.PagePool.pages self.pool) self.versions.slots self.directories.slots
-    self.shelved)

@@ -6,7 +6,7 @@ use Rattle.oai_paged.specs.Calls.{Renames}
 use Rattle.oai_paged.specs.Places.{PlaceState, named_in}
 use Rattle.oai_paged.specs.Versions.{DirectoryState, shelf_at}
 use Rattle.oai_paged.proofs.RoomLemmas.{dropped_left}
-use Rattle.oai_paged.proofs.StoreLemmas.{set_but, set_stands, store_in_order, store_stands, stored_less, stored_none}
+use Rattle.oai_paged.proofs.StoreLemmas.{set_but, set_stands, store_stands, stored_less, stored_none}
 use Rattle.oai_paged.proofs.store.VersionsOverVersions.release.Goals as goal
 
 pub invariant_of-self : goal.invariant_of-self
@@ -40,25 +40,6 @@ returns-then-directory-gt0-clause-ok g c =
     (set_but self.directories.slots number left) stood (set_stands self.directories.slots number was left stood) refl (omega (arith, more))
     (omega (arith, more)) c.number_of-number.ensures.named c.remove.ensures.updates.changed in
     stored.lists
-
-pub returns-then-directory-gt0-clause-rising : goal.returns-then-directory-gt0-clause-rising
-returns-then-directory-gt0-clause-rising g c =
-    let G = g.P.PagePool in
-    let self = c.args.self.now in
-    let number = c.number_of-number.result in
-    let was : DirectoryState = record { places = c.directory.inside.places.items; versions = c.directory.inside.versions } in
-    let left : DirectoryState = record { places = c.directory.inside.places.items; versions = c.directory.inside.versions - 1 } in
-    let found : Some c.in-Some.directory.now ≡ shelf_at self.directories.slots number = c.in-Some.ensures.value in
-    let stood : shelf_at self.directories.slots number ≡ Some was = sym found ∙ ap Some (cc (c.directory.view_is)) in
-    let more = c.if-directory-gt0.true in
-    let stored = stored_less G c.args.v self.versions.slots c.remove.new.self.slots self.directories.slots
-    (slice_set self.directories.slots number (Some left)) self.pool self.shelved self.shared c.remove.ensures.updates.others number was left
-    (set_but self.directories.slots number left) stood (set_stands self.directories.slots number was left stood) refl (omega (arith, more))
-    (omega (arith, more)) c.number_of-number.ensures.named c.remove.ensures.updates.changed in (
-      store_in_order (G.counts self.pool) (G.pages self.pool) self.versions.slots self.directories.slots self.shelved,
-      store_in_order (G.counts self.pool) (G.pages self.pool) c.remove.new.self.slots
-          (slice_set self.directories.slots number (Some left)) stored.shelved,
-    )
 
 pub drop_all-requires : goal.drop_all-requires
 drop_all-requires g c =
@@ -129,35 +110,6 @@ returns-clause-ok g c =
     (omega (arith, last, some)) c.remove-directory.ensures.updates.changed c.number_of-number.ensures.named c.remove.ensures.updates.changed
     names in
     stored.lists
-
-pub returns-clause-rising : goal.returns-clause-rising
-returns-clause-rising g c =
-    let G = g.P.PagePool in
-    let self = c.args.self.now in
-    let number = c.number_of-number.result in
-    let was : DirectoryState = record { places = c.directory.inside.places.items; versions = c.directory.inside.versions } in
-    let left : DirectoryState = record { places = c.directory.inside.places.items; versions = c.directory.inside.versions - 1 } in
-    let found : Some c.in-Some.directory.now ≡ shelf_at self.directories.slots number = c.in-Some.ensures.value in
-    let stood : shelf_at self.directories.slots number ≡ Some was = sym found ∙ ap Some (cc (c.directory.view_is)) in
-    let stands = set_stands self.directories.slots number was left stood in
-    let out : Some c.remove-directory.result ≡ Some left = sym c.remove-directory.ensures.value ∙ stands in
-    let shown : record { places = c.directory-2.inside.places.items; versions = c.directory-2.inside.versions } ≡ c.remove-directory.result
-    = cc (c.directory-2.view_is) in
-    let same : c.directory-2.inside.places.items ≡ was.places = ap (λ (directory : DirectoryState). directory.places)
-    (shown ∙ same_Some c.remove-directory.result left out) in
-    let last = c.if-directory-gt0.false in
-    let some = self.shared.named number was stood in
-    let names : Renames G was.places [] self.pool c.drop_all.new.pages = subst (λ (places : List PlaceState). Renames G places [] self.pool
-    c.drop_all.new.pages) same c.drop_all.ensures.names in
-    let stored = stored_none G c.args.v self.versions.slots c.remove.new.self.slots self.directories.slots c.remove-directory.new.self.slots
-    self.pool self.shelved self.shared c.remove.ensures.updates.others number was c.drop_all.new.pages
-    (λ e apart. c.remove-directory.ensures.updates.others e apart ∙ set_but self.directories.slots number left e apart) stood
-    (omega (arith, last, some)) c.remove-directory.ensures.updates.changed c.number_of-number.ensures.named c.remove.ensures.updates.changed
-    names in (
-      store_in_order (G.counts self.pool) (G.pages self.pool) self.versions.slots self.directories.slots self.shelved,
-      store_in_order (G.counts c.drop_all.new.pages) (G.pages c.drop_all.new.pages) c.remove.new.self.slots
-          c.remove-directory.new.self.slots stored.shelved,
-    )
 
 pub returns-clause-store : goal.returns-clause-store
 returns-clause-store g c =

@@ -1,7 +1,9 @@
 use Rattle.std.proofs.Common.{◌≡◌, ◌∙◌, ℕ, Bool, FitsSigned, List, Some, Err, ap, arith, refl, rules, subst, sym, w64}
 use Rattle.std.proofs.lemmas.Int.{to_z-of_z}
 use Rattle.std.specs.Prelude.{slice_set}
-use Rattle.oai_catalogue.specs.Store.{IsCounted, IsHonest, Lists, list_at}
+use Rattle.oai_catalogue.specs.Store.{IsHonest, Lists, list_at}
+use Rattle.oai_device.specs.Device.{CountsFailures}
+use Rattle.oai_item.specs.declared.faults.Fault.TheVariants.{Device}
 use Rattle.oai_paged.specs.Places.{PlaceState, items_on, named_in}
 use Rattle.oai_paged.specs.Store.{places_at}
 use Rattle.oai_paged.specs.Versions.{DirectoryState, shelf_at}
@@ -103,22 +105,6 @@ returns-clause-err g c =
     own.named in
     turned.err
 
-pub returns-clause-rising : goal.returns-clause-rising
-returns-clause-rising g c =
-    let G = g.P.PagePool in
-    let self = c.args.self.now in
-    let made = c.own.new.self in
-    let number = c.in_ok-number.number in
-    let was : DirectoryState = record { places = c.directory.inside.places.items; versions = c.directory.inside.versions } in
-    let found : Some c.in-Some.directory.now ≡ shelf_at made.directories.slots number = c.in-Some.ensures.value in
-    let stood : shelf_at made.directories.slots number ≡ Some was = sym found ∙ ap Some (cc (c.directory.view_is)) in
-    let is : DirectoryState = record { places = c.replace.new.places.items; versions = c.directory.inside.versions } in
-    let own = c.in_ok-number.ensures.own in
-    let turned = changed_turned G 68 c.args.v number made.versions.slots made.directories.slots was is made.pool c.replace.new.pages made.shelved made.shared stood
-    c.replace.result c.replace.ensures.changes (lists_by (G.pages self.pool) self.versions.slots self.directories.slots) c.own.ensures.lists own.alone
-    own.named in
-    turned.rising
-
 pub returns-clause-list : goal.returns-clause-list
 returns-clause-list g c =
     let G = g.P.PagePool in
@@ -157,6 +143,6 @@ returns-clause-store g c =
     record {
       room = copied_room G 68 c.replace.result was.places is.places self.pool made.pool c.replace.new.pages (omega arith) c.own.ensures.pool.room stands.directory.once
           (λ n. let same = ap (λ (places : List PlaceState). named_in places n) places in let few = own.pages n in omega (arith, same, few)) changes;
-      device = subst (λ (failures : ℕ). IsCounted c.replace.result failures (G.failures c.replace.new.pages)) c.own.ensures.pool.count changes.pool.device;
+      device = subst (λ (failures : ℕ). CountsFailures Device c.replace.result failures (G.failures c.replace.new.pages)) c.own.ensures.pool.count changes.pool.device;
       honesty = subst (λ (honest : Bool). IsHonest c.replace.result honest (G.honest c.replace.new.pages)) c.own.ensures.pool.honesty changes.pool.honesty;
     }
