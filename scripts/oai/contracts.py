@@ -20,7 +20,7 @@ as `Word` (File). The file is the crate's own where no other crate is named. Wha
 """
 USE = re.compile(r"ghost use Rattle\.(oai_\w+)\.specs\.(\w+)\.\{([^}]*)\}")
 OWNER = re.compile(r"^(?:impl(?:<[^{]*?>)? (?:(?!.* for )(\w+))|pub trait (\w+))", re.MULTILINE)
-RELATION = re.compile(r"^(?:Is|Are|Has|Have|Was|Can|Does|Uses|[A-Z][a-z]+[^aeiou]s)(?:[A-Z]\w*)?$")
+RELATION = re.compile(r"^(?:Is|Are|Has|Have|Was|Can|Does|[A-Z][a-z]+[^aeiou]s)(?:[A-Z]\w*)?$")
 FUNCTION = re.compile(r"((?:^ *///.*\n)+)(?:^ *#\[.*\n)*^( *)(?:pub )?fn (\w+)", re.MULTILINE)
 
 

@@ -1,6 +1,5 @@
 ghost use Rattle.std.specs.Prelude.{◌≡◌, ◌+◌, None, length, IfOk, IsSome, IsTrue, OnErr, OnOk};
-ghost use Rattle.oai_catalogue.specs.Calls.{Uses};
-ghost use Rattle.oai_catalogue.specs.Store.{ChangesOnly, list_at, without_each, without_list};
+ghost use Rattle.oai_catalogue.specs.Store.{ChangesOnly, Spends, list_at, without_each, without_list};
 
 use crate::versions::Versions;
 use oai_item::{Fault, Item};
@@ -17,7 +16,7 @@ pub fn remove_items<V: Versions>(store: &mut V, v: u64, gone: &[Item]) -> Result
     ensures list { IfOk result (λ w. IsTrue (V.honest store.old) → list_at (V.lists store.new) w
         ≡ without_each gone.now (list_at (V.lists store.old) v)) }
     ensures err { OnErr result (V.lists store.new ≡ V.lists store.old) }
-    ensures store { Uses V.Versions (length gone.now + 1) result store.old store.new }
+    ensures store { Spends V.room V.failures V.honest (length gone.now + 1) result store.old store.new }
 {
     let next = store.freeze(v)?;
     match take_out_each(store, next, gone) {
@@ -39,7 +38,7 @@ fn take_out_each<V: Versions>(store: &mut V, v: u64, gone: &[Item]) -> Result<()
     ensures others { ChangesOnly v (V.lists store.old) (V.lists store.new) }
     ensures list { OnOk result (IsTrue (V.honest store.old) → list_at (V.lists store.new) v
         ≡ without_each gone.now (list_at (V.lists store.old) v)) }
-    ensures store { Uses V.Versions (length gone.now) result store.old store.new }
+    ensures store { Spends V.room V.failures V.honest (length gone.now) result store.old store.new }
 {
     for item in gone {
         store.remove(v, item.stamp(), item.identifier())?;

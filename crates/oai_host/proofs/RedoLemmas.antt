@@ -14,8 +14,7 @@ use Rattle.oai_args.specs.Pairs.{decoded_pairs}
 use Rattle.oai_args.specs.Requests.{request_of}
 use Rattle.std.specs.Int.Signed.{≤ℤ_refl}
 use Rattle.oai_repo.proofs.OpenListLemmas.{still_same}
-use Rattle.oai_catalogue.specs.Calls.{Uses}
-use Rattle.oai_catalogue.specs.Store.{Lists}
+use Rattle.oai_catalogue.specs.Store.{Lists, Spends}
 use Rattle.oai_catalogue.specs.declared.versions.Versions.{Ghosts}
 use Rattle.oai_http.specs.declared.targets.Endpoint.{Endpoint}
 use Rattle.oai_http.specs.declared.targets.Endpoint.TheVariants.{Deposits, Requests}
@@ -177,7 +176,7 @@ reply_of_output (wait seconds) = refl
 pub passed_in : {V : Type 0} (g : Ghosts V) (moment : ℤ) (arguments : List ℕ) (result : Result (Unit {0}) Fault) (old : RepoFields) (before : V) (new : RepoFields) (after : V)
     → OnOk result (IsTrue (g.honest before) → IsLeftByStep old (g.lists before) moment arguments new (g.lists after)) → IsClockAt result moment old (g.lists before) new (g.lists after)
     → holdings_of new.index new.sets (g.lists after) ≡ holdings_of old.index old.sets (g.lists before) → Keeps (g.honest before) old (g.lists before) new (g.lists after)
-    → Uses g (room_to_ask (request_of old.config.granularity (decoded_pairs arguments))) result before after → RedoesIn g moment (asking arguments) result old before new after
+    → Spends g.room g.failures g.honest (room_to_ask (request_of old.config.granularity (decoded_pairs arguments))) result before after → RedoesIn g moment (asking arguments) result old before new after
 passed_in g moment arguments (Ok done) old before new after passed clock kept keeps store =
     let was : RepoState = state_of old (g.lists before) in
     let alone : Answer × RepoState = done_alone old.config was moment (asking arguments) in

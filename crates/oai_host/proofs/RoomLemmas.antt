@@ -4,8 +4,7 @@ use Rattle.oai_item.specs.declared.changes.Change.{Change}
 use Rattle.oai_item.specs.declared.changes.Change.TheVariants as change
 use Rattle.oai_item.specs.declared.faults.Fault.{Fault}
 use Rattle.oai_item.specs.declared.faults.Fault.TheVariants.{Damaged, Device, NoMemory, TooManyPages}
-use Rattle.oai_catalogue.specs.Calls.{Frees, Uses}
-use Rattle.oai_catalogue.specs.Store.{NeedsRoom}
+use Rattle.oai_catalogue.specs.Store.{NeedsRoom, Spares, Spends}
 use Rattle.oai_catalogue.specs.declared.versions.Versions.{Ghosts}
 use Rattle.oai_deposit.specs.Lines.{line_of}
 use Rattle.oai_settings.specs.Config.{Config}
@@ -23,12 +22,12 @@ room_less n m (Ok value) old new more need = let used = need.used in record { en
 room_less n m (Err fault) old new more need =
     let used = need.used in record { enough = λ is. let few = need.enough is in omega (arith, more, few); used = omega (arith, more, used) }
 
-pub uses_less : {V A : Type 0} (g : Ghosts V) (n m : ℕ) (result : Result A Fault) (old new : V) → n ≤ m → Uses g n result old new → Uses g m result old new
-uses_less g n m result old new more uses = record { room = room_less n m result (g.room old) (g.room new) more uses.room; device = uses.device; honesty = uses.honesty }
+pub spends_less : {V A : Type 0} (g : Ghosts V) (n m : ℕ) (result : Result A Fault) (old new : V) → n ≤ m → Spends g.room g.failures g.honest n result old new → Spends g.room g.failures g.honest m result old new
+spends_less g n m result old new more uses = record { room = room_less n m result (g.room old) (g.room new) more uses.room; device = uses.device; honesty = uses.honesty }
 
 -- what cannot fail needs no room
-pub uses_none : {V : Type 0} (g : Ghosts V) (old new : V) → Frees g old new → Uses {A = Unit {0}} g 0 (Ok tt) old new
-uses_none g old new frees =
+pub spends_none : {V : Type 0} (g : Ghosts V) (old new : V) → Spares g.room g.failures g.honest old new → Spends {A = Unit {0}} g.room g.failures g.honest 0 (Ok tt) old new
+spends_none g old new frees =
     let room = frees.room in
     let count = frees.count in record {
       room = record { enough = tt; used = omega (arith, room) };

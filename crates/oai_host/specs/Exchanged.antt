@@ -1,6 +1,6 @@
 -- How a front has its messages performed by a host, and what that does to what the host keeps in a store. This repository's own.
 use Rattle.std.specs.Prelude.{◌≡◌, ◌++◌, ℕ, ℤ, List, Result, OnErr, OnOk}
-use Rattle.oai_catalogue.specs.Calls.{Uses}
+use Rattle.oai_catalogue.specs.Store.{Spends}
 use Rattle.oai_catalogue.specs.declared.versions.Versions.{Ghosts}
 use Rattle.oai_item.specs.declared.changes.Change.{Change}
 use Rattle.oai_item.specs.declared.faults.Fault.{Fault}
@@ -46,4 +46,4 @@ pub record PerformsLine {V : Type 0} (g : Ghosts V) (moment : ℤ) (read : Resul
   pub ok : OnOk result (IsLineAdded g moment read old before was new after is)
   pub err : OnErr result ((new ≡ old) × (g.lists after ≡ g.lists before))
   pub kept : Keeps (g.honest before) old (g.lists before) new (g.lists after)
-  pub store : Uses g (room_for_line old.config read) result before after
+  pub store : Spends g.room g.failures g.honest (room_for_line old.config read) result before after

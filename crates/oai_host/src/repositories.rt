@@ -1,6 +1,5 @@
 //! The repositories of a host.
-ghost use Rattle.oai_catalogue.specs.Calls.{Uses};
-ghost use Rattle.oai_catalogue.specs.Store.{IsHonest};
+ghost use Rattle.oai_catalogue.specs.Store.{IsHonest, Spends};
 ghost use Rattle.oai_device.specs.Device.{CountsFailures};
 ghost use Rattle.oai_item.specs.declared.faults.Fault.TheVariants as fault;
 ghost use Rattle.oai_host.specs.Answers.{failure_in};
@@ -110,7 +109,7 @@ impl Repositories {
         ensures begun { OnOk result (repositories_of self.new (V.lists store.new)
             ≡ repositories_of self.old (V.lists store.old) ++ begun entry ∷ []) }
         ensures repos { OnOk result (AreNamedRepos (V.honest store.new) self.new (V.lists store.new)) }
-        ensures store { Uses V.Versions 1 result store.old store.new }
+        ensures store { Spends V.room V.failures V.honest 1 result store.old store.new }
     {
         let NamedConfig { name, config } = entry;
         let repo = Repo::new(self.alloc, config, store)?;

@@ -2,7 +2,7 @@
 ghost use Rattle.std.specs.Prelude.{◌≡◌, ◌≤◌, ◌++◌, [], ◌∷◌, None, length, IfErr, OnErr, OnOk};
 ghost use Rattle.oai_item.specs.Item.{IsStamp};
 ghost use Rattle.oai_item.specs.declared.faults.Fault.TheVariants as fault;
-ghost use Rattle.oai_catalogue.specs.Calls.{Uses};
+ghost use Rattle.oai_catalogue.specs.Store.{Spends};
 ghost use Rattle.oai_repo.specs.Accepted.{KeepsChange};
 ghost use Rattle.oai_repo.specs.Calls.{fault_in, room_to_change};
 ghost use Rattle.oai_repo.specs.Changes.{set_refusal};
@@ -54,7 +54,7 @@ pub(crate) fn make_change<V: Versions>(
         → length index.new.entries ≤ context.now.config.now.items) }
     ensures err_sets { OnErr result (sets.new ≡ sets.old) }
     ensures moves { Moves V.Versions result index.old store.old index.new store.new }
-    ensures store { Uses V.Versions (room_to_change (length index.old.entries) change.now)
+    ensures store { Spends V.room V.failures V.honest (room_to_change (length index.old.entries) change.now)
         (fault_in result) store.old store.new }
 {
     match change {

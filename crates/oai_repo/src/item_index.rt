@@ -8,8 +8,8 @@ ghost use Rattle.oai_item.specs.Encoding.{encoded};
 ghost use Rattle.oai_item.specs.Items.{item_named, without};
 ghost use Rattle.oai_item.specs.declared.faults.Fault.TheVariants as fault;
 ghost use Rattle.oai_item.specs.declared.sizes.TheConstants.{MAX_ITEM_BYTES};
-ghost use Rattle.oai_catalogue.specs.Calls.{OnlyReads, Uses};
-ghost use Rattle.oai_catalogue.specs.Store.{without_each};
+ghost use Rattle.oai_catalogue.specs.Calls.{OnlyReads};
+ghost use Rattle.oai_catalogue.specs.Store.{Spends, without_each};
 ghost use Rattle.oai_repo.specs.Changes.{purged, with_new};
 ghost use Rattle.oai_repo.specs.Fields.{IndexAgrees, has_writable_stamp, stored_items};
 ghost use Rattle.oai_repo.specs.Purges.{AreTaken, is_in_core};
@@ -149,7 +149,7 @@ impl ItemIndex {
         ensures many { OnOk result (length self.new.entries
             ≡ count_with (stamp_in item.now.identifier self.old.entries) (length self.old.entries)) }
         ensures moves { Moves V.Versions result self.old store.old self.new store.new }
-        ensures store { Uses V.Versions 1 result store.old store.new }
+        ensures store { Spends V.room V.failures V.honest 1 result store.old store.new }
     {
         match self.stamp_of(item.identifier().as_str()) {
             None => self.insert(alloc, store, item),
@@ -174,7 +174,7 @@ impl ItemIndex {
             self.old.entries self.new.entries) }
         ensures many { OnOk result (length self.new.entries ≡ length self.old.entries + 1) }
         ensures moves { Moves V.Versions result self.old store.old self.new store.new }
-        ensures store { Uses V.Versions 1 result store.old store.new }
+        ensures store { Spends V.room V.failures V.honest 1 result store.old store.new }
     {
         let identifier = item.identifier().as_str();
         let key = String::from_str(alloc, identifier)?;
@@ -198,7 +198,7 @@ impl ItemIndex {
         ensures stamped { SetsStamp item.now.identifier (Some item.now.stamp) self.now.entries
             self.now.entries }
         ensures moves { Moves V.Versions result self.now store.old self.now store.new }
-        ensures store { Uses V.Versions 1 result store.old store.new }
+        ensures store { Spends V.room V.failures V.honest 1 result store.old store.new }
     {
         store.put(self.version, item)
     }
@@ -219,7 +219,7 @@ impl ItemIndex {
             self.old.entries self.new.entries) }
         ensures many { OnOk result (length self.new.entries ≡ length self.old.entries) }
         ensures moves { Moves V.Versions result self.old store.old self.new store.new }
-        ensures store { Uses V.Versions 1 result store.old store.new }
+        ensures store { Spends V.room V.failures V.honest 1 result store.old store.new }
     {
         store.replace(self.version, old, item.identifier(), item)?;
         self.restamp(item.identifier().as_str(), item.stamp());
@@ -248,7 +248,7 @@ impl ItemIndex {
             self.new.entries) }
         ensures fewer { OnOk result (length self.new.entries ≤ length self.old.entries) }
         ensures moves { Moves V.Versions result self.old store.old self.new store.new }
-        ensures store { Uses V.Versions 1 result store.old store.new }
+        ensures store { Spends V.room V.failures V.honest 1 result store.old store.new }
     {
         store.remove(self.version, item.stamp(), item.identifier())?;
         self.forget(item.identifier().as_str());
@@ -274,7 +274,7 @@ impl ItemIndex {
             (IsMadeOn V.Versions (purged limit) self.old store.old self.new store.new) }
         ensures forgotten { OnOk result (Forgets self.old.entries self.new.entries) }
         ensures moves { Moves V.Versions result self.old store.old self.new store.new }
-        ensures store { Uses V.Versions (length self.old.entries + 1) result store.old store.new }
+        ensures store { Spends V.room V.failures V.honest (length self.old.entries + 1) result store.old store.new }
     {
         let gone = deleted_below(alloc, store, self.version, limit, self.stamps.len())?;
         if gone.is_empty() {

@@ -7,8 +7,8 @@ ghost use Rattle.oai_args.specs.Bounds.{given_bound};
 ghost use Rattle.oai_args.specs.Verbs.{is_of_records};
 ghost use Rattle.oai_answers.specs.Answers.{HasWritableEnd, HasWritableTimes};
 ghost use Rattle.oai_answers.specs.Borrowed.{body_answer, continuation_of, page_of};
-ghost use Rattle.oai_catalogue.specs.Calls.{Frees, OnlyReads, Uses};
-ghost use Rattle.oai_catalogue.specs.Store.{Lists as Versioned};
+ghost use Rattle.oai_catalogue.specs.Calls.{OnlyReads};
+ghost use Rattle.oai_catalogue.specs.Store.{Lists as Versioned, Spares, Spends};
 ghost use Rattle.oai_lists.specs.OpenLists.{number_or_fault, open_fault};
 ghost use Rattle.oai_settings.specs.Config.{is_in_years};
 ghost use Rattle.oai_repo.specs.Answers as spec;
@@ -71,7 +71,7 @@ pub(crate) fn reply_with_list<V: Versions>(
         (view_list_response repo.now lists.old (V.lists store.old) request.now)
         reply lists.new (V.lists store.new)) }
     ensures left { Leaves V.Versions result repo.now lists.old store.old lists.new store.new }
-    ensures store { Uses V.Versions 1 result store.old store.new }
+    ensures store { Spends V.room V.failures V.honest 1 result store.old store.new }
 {
     if lacks_sets(repo.sets, request.set) {
         return Ok(reply_with_error(repo, ErrorCode::NoSetHierarchy)?);
@@ -104,7 +104,7 @@ fn reply_with_selection<V: Versions>(
         (view_selection_response repo.now lists.old (V.lists store.old) selection.entry)
         reply lists.new (V.lists store.new)) }
     ensures left { Leaves V.Versions result repo.now lists.old store.old lists.new store.new }
-    ensures store { Uses V.Versions 1 result store.old store.new }
+    ensures store { Spends V.room V.failures V.honest 1 result store.old store.new }
 {
     let first = store.part(
         repo.index.version(),
@@ -157,7 +157,7 @@ fn open_list<V: Versions>(
         (view_wait repo.now lists.old (V.lists store.old)))
         reply lists.new (V.lists store.new)) }
     ensures left { Leaves V.Versions result repo.now lists.old store.old lists.new store.new }
-    ensures store { Uses V.Versions 1 result store.old store.new }
+    ensures store { Spends V.room V.failures V.honest 1 result store.old store.new }
 {
     match lists.next(repo.clock) {
         Ok(number) => start_list(repo, lists, store, selection, first, number),
@@ -187,7 +187,7 @@ fn start_list<V: Versions>(
         (view_new_list repo.now lists.old (V.lists store.old) selection.entry None)
         reply lists.new (V.lists store.new)) }
     ensures left { Leaves V.Versions result repo.now lists.old store.old lists.new store.new }
-    ensures store { Uses V.Versions 1 result store.old store.new }
+    ensures store { Spends V.room V.failures V.honest 1 result store.old store.new }
 {
     let size = count_beyond(repo, store, &selection.filter, first.as_slice())?;
     let part = ListPart {
@@ -221,7 +221,7 @@ pub(crate) fn start_unread<V: Versions>(
         → view_open_lists repo.now lists.new (V.lists store.new)
         ≡ (view_new_list repo.now lists.old (V.lists store.old) selection.entry None).1) }
     ensures left { Leaves V.Versions result repo.now lists.old store.old lists.new store.new }
-    ensures store { Uses V.Versions 1 result store.old store.new }
+    ensures store { Spends V.room V.failures V.honest 1 result store.old store.new }
 {
     let end = repo.end();
     let frozen = store.freeze(repo.index.version())?;
@@ -335,7 +335,7 @@ pub(crate) fn drop_first_ended<V: Versions>(lists: &mut Lists, store: &mut V, no
     ensures table { lists.new ≡ dropped_at now lists.old }
     ensures released { V.lists store.new
         ≡ without_version (version_ended now lists.old) (V.lists store.old) }
-    ensures store { Frees V.Versions store.old store.new }
+    ensures store { Spares V.room V.failures V.honest store.old store.new }
 {
     match lists.expire(now) {
         Some(version) => store.release(version),

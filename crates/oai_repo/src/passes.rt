@@ -4,8 +4,7 @@ ghost use Rattle.oai_args.specs.Asks.{asks};
 ghost use Rattle.oai_args.specs.Pairs.{decoded_pairs};
 ghost use Rattle.oai_args.specs.Requests.{lists_records, request_of};
 ghost use Rattle.oai_args.specs.Verbs.{is_of_records};
-ghost use Rattle.oai_catalogue.specs.Calls.{Uses};
-ghost use Rattle.oai_catalogue.specs.Store.{Lists as Versioned};
+ghost use Rattle.oai_catalogue.specs.Store.{Lists as Versioned, Spends};
 ghost use Rattle.oai_settings.specs.Config.{is_in_years};
 ghost use Rattle.oai_repo.specs.Calls.{changes_lists, room_to_ask};
 ghost use Rattle.oai_repo.specs.Fields.{AreInUse, TableAgrees};
@@ -38,7 +37,7 @@ pub(crate) fn pass_query<V: Versions>(
         view_open_lists repo.now lists.new (V.lists store.new)
         ≡ (view_response repo.now lists.old (V.lists store.old) request).1)) }
     ensures left { Leaves V.Versions result repo.now lists.old store.old lists.new store.new }
-    ensures store { Uses V.Versions (room_to_ask
+    ensures store { Spends V.room V.failures V.honest (room_to_ask
         (request_of repo.now.config.now.granularity (decoded_pairs query.now))) result
         store.old store.new }
 {
@@ -83,7 +82,7 @@ fn pass<V: Versions>(
         → view_open_lists repo.now lists.new (V.lists store.new)
         ≡ (view_ask_response repo.now lists.old (V.lists store.old) ask.now).1) }
     ensures left { Leaves V.Versions result repo.now lists.old store.old lists.new store.new }
-    ensures store { Uses V.Versions (room_to_ask (asks ask.now)) result store.old store.new }
+    ensures store { Spends V.room V.failures V.honest (room_to_ask (asks ask.now)) result store.old store.new }
 {
     match ask {
         Ask::Identify => Ok(()),
@@ -126,7 +125,7 @@ fn pass_list<V: Versions>(
         → view_open_lists repo.now lists.new (V.lists store.new)
         ≡ (view_list_response repo.now lists.old (V.lists store.old) request.now).1) }
     ensures left { Leaves V.Versions result repo.now lists.old store.old lists.new store.new }
-    ensures store { Uses V.Versions 1 result store.old store.new }
+    ensures store { Spends V.room V.failures V.honest 1 result store.old store.new }
 {
     if lacks_sets(repo.sets, request.set) {
         return Ok(());
@@ -159,7 +158,7 @@ fn pass_selection<V: Versions>(
         → view_open_lists repo.now lists.new (V.lists store.new)
         ≡ (view_selection_response repo.now lists.old (V.lists store.old) selection.entry).1) }
     ensures left { Leaves V.Versions result repo.now lists.old store.old lists.new store.new }
-    ensures store { Uses V.Versions 1 result store.old store.new }
+    ensures store { Spends V.room V.failures V.honest 1 result store.old store.new }
 {
     let size = store.count(repo.index.version(), &selection.filter)? as u64;
     if size <= repo.config.chunk() {

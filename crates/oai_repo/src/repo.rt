@@ -2,7 +2,8 @@ ghost use Rattle.std.specs.Prelude.{◌≡◌, ◌≤◌, ◌≤ℤ◌, true, fa
 ghost use Rattle.std.specs.Option.{option_copied};
 ghost use Rattle.oai_args.specs.Pairs.{decoded_pairs};
 ghost use Rattle.oai_args.specs.Requests.{request_of};
-ghost use Rattle.oai_catalogue.specs.Calls.{Frees, OnlyReads, Uses};
+ghost use Rattle.oai_catalogue.specs.Calls.{OnlyReads};
+ghost use Rattle.oai_catalogue.specs.Store.{Spares, Spends};
 ghost use Rattle.oai_item.specs.declared.faults.Fault.TheVariants as fault;
 ghost use Rattle.oai_settings.specs.Config.{is_in_years};
 ghost use Rattle.oai_repo.specs.Calls.{DropsEnded, IsAccepted, IsAsked, IsChanged, IsClockAt, IsLeftByStep, IsRefusedAt, OnRefused, changes_lists, fault_in, room_to_ask, room_to_change};
@@ -74,7 +75,7 @@ impl Repo {
         ensures new { IfOk result (λ repo. IsNew config (V.lists store.old) repo
             (V.lists store.new)) }
         ensures err { OnErr result (V.lists store.new ≡ V.lists store.old) }
-        ensures store { Uses V.Versions 1 result store.old store.new }
+        ensures store { Spends V.room V.failures V.honest 1 result store.old store.new }
     {
         let clock = Clock::start(config.earliest());
         let lists = Lists::new(alloc, config.lists(), FIRST_NUMBER);
@@ -120,7 +121,7 @@ impl Repo {
         ensures table { OnOk result (IsAskedOf self.new.clock self.old.table self.new.table) }
         ensures keeps { Keeps (V.honest store.old) self.old (V.lists store.old) self.new
             (V.lists store.new) }
-        ensures store { Uses V.Versions (room_to_ask
+        ensures store { Spends V.room V.failures V.honest (room_to_ask
             (request_of self.old.config.granularity (decoded_pairs query.now))) result
             store.old store.new }
     {
@@ -161,7 +162,7 @@ impl Repo {
         ensures table { OnOk result (IsAskedOf self.new.clock self.old.table self.new.table) }
         ensures keeps { Keeps (V.honest store.old) self.old (V.lists store.old) self.new
             (V.lists store.new) }
-        ensures store { Uses V.Versions (room_to_ask
+        ensures store { Spends V.room V.failures V.honest (room_to_ask
             (request_of self.old.config.granularity (decoded_pairs query.now))) result
             store.old store.new }
     {
@@ -221,7 +222,7 @@ impl Repo {
         ensures keeps { Keeps (V.honest store.old) self.old (V.lists store.old) self.new
             (V.lists store.new) }
         ensures few { length self.old.index.entries ≤ self.old.config.items }
-        ensures store { Uses V.Versions (room_to_change (length self.old.index.entries) change.now)
+        ensures store { Spends V.room V.failures V.honest (room_to_change (length self.old.index.entries) change.now)
             (fault_in result) store.old store.new }
     {
         let mut clock = self.clock;
@@ -262,7 +263,7 @@ impl Repo {
             × (V.lists store.new ≡ V.lists store.old)) }
         ensures keeps { Keeps (V.honest store.old) self.old (V.lists store.old) self.new
             (V.lists store.new) }
-        ensures store { Uses V.Versions 1
+        ensures store { Spends V.room V.failures V.honest 1
             (fault_of_store (is_restorable self.old (part_state part.now)) result)
             store.old store.new }
     {
@@ -326,7 +327,7 @@ impl Repo {
         ensures dropped { DropsEnded self.old self.new }
         ensures keeps { Keeps (V.honest store.old) self.old (V.lists store.old) self.new
             (V.lists store.new) }
-        ensures store { Frees V.Versions store.old store.new }
+        ensures store { Spares V.room V.failures V.honest store.old store.new }
     {
         let mut clock = self.clock;
         clock.tick(moment);
@@ -344,7 +345,7 @@ impl Repo {
         ensures dropped { DropsEnded self.old self.new }
         ensures keeps { Keeps (V.honest store.old) self.old (V.lists store.old) self.new
             (V.lists store.new) }
-        ensures store { Frees V.Versions store.old store.new }
+        ensures store { Spares V.room V.failures V.honest store.old store.new }
     {
         drop_first_ended(&mut self.lists, store, clock.now());
         self.clock = clock;

@@ -5,7 +5,7 @@ ghost use Rattle.oai_args.specs.Pairs.{decoded_pairs};
 ghost use Rattle.oai_args.specs.Requests.{lists_records, request_of};
 ghost use Rattle.oai_answers.specs.Answers.{no_arguments};
 ghost use Rattle.oai_answers.specs.Borrowed.{attributes_of};
-ghost use Rattle.oai_catalogue.specs.Calls.{Uses};
+ghost use Rattle.oai_catalogue.specs.Store.{Spends};
 ghost use Rattle.oai_repo.specs.Answers.{arguments_of_request};
 ghost use Rattle.oai_repo.specs.Calls.{room_to_ask};
 ghost use Rattle.oai_repo.specs.Views.{IsReady, IsViewReply, IsViewReplyTo, Leaves, view_ask_response, view_response};
@@ -36,7 +36,7 @@ pub(crate) fn reply_to_query<V: Versions>(
         (view_response repo.now lists.old (V.lists store.old) request)
         reply lists.new (V.lists store.new))) }
     ensures left { Leaves V.Versions result repo.now lists.old store.old lists.new store.new }
-    ensures store { Uses V.Versions (room_to_ask
+    ensures store { Spends V.room V.failures V.honest (room_to_ask
         (request_of repo.now.config.now.granularity (decoded_pairs query.now))) result
         store.old store.new }
 {
@@ -61,7 +61,7 @@ fn reply_to<V: Versions>(
         → IsViewReply repo.now (view_ask_response repo.now lists.old (V.lists store.old) ask.now)
         reply lists.new (V.lists store.new)) }
     ensures left { Leaves V.Versions result repo.now lists.old store.old lists.new store.new }
-    ensures store { Uses V.Versions (room_to_ask (asks ask.now)) result store.old store.new }
+    ensures store { Spends V.room V.failures V.honest (room_to_ask (asks ask.now)) result store.old store.new }
 {
     match ask {
         Ask::Identify => Ok(make_reply(repo, Body::Identify(identity(repo.config)))?),

@@ -7,7 +7,7 @@ ghost use Rattle.oai_item.specs.Item.{IsStamp};
 ghost use Rattle.oai_item.specs.Known.{are_fields_of, has_format, has_known_fields};
 ghost use Rattle.oai_item.specs.declared.faults.Fault.TheVariants as fault;
 ghost use Rattle.oai_item.specs.declared.sizes.TheConstants.{MAX_ITEM_BYTES};
-ghost use Rattle.oai_catalogue.specs.Calls.{Uses};
+ghost use Rattle.oai_catalogue.specs.Store.{Spends};
 ghost use Rattle.oai_repo.specs.Changes.{with_new};
 ghost use Rattle.oai_repo.specs.Fields.{IsIndexed, stored_items};
 ghost use Rattle.oai_repo.specs.Indexing.{HoldsItems, Moves};
@@ -104,7 +104,7 @@ pub(crate) fn restore_item<V: Versions>(
     ensures damaged { may_have_item config.now sets.now (length index.old.entries) item.now ≡ false
         → result ≡ Err fault.Damaged }
     ensures moves { Moves V.Versions result index.old store.old index.new store.new }
-    ensures store { Uses V.Versions 1
+    ensures store { Spends V.room V.failures V.honest 1
         (fault_of_store (may_have_item config.now sets.now (length index.old.entries) item.now)
         result) store.old store.new }
 {

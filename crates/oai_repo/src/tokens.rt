@@ -4,7 +4,8 @@ ghost use Rattle.std.specs.Option.{option_map};
 ghost use Rattle.oai_time.specs.Stamp.{IsWritable};
 ghost use Rattle.oai_item.specs.Formats.{format_named};
 ghost use Rattle.oai_args.specs.Verbs.{is_of_records};
-ghost use Rattle.oai_catalogue.specs.Calls.{OnlyReads, Uses};
+ghost use Rattle.oai_catalogue.specs.Calls.{OnlyReads};
+ghost use Rattle.oai_catalogue.specs.Store.{Spends};
 ghost use Rattle.oai_lists.specs.OpenLists.{IsListTable, list_numbered, with_change};
 ghost use Rattle.oai_lists.specs.Tokens.{token_of};
 ghost use Rattle.oai_settings.specs.Config.{is_in_years};
@@ -60,7 +61,7 @@ pub(crate) fn reply_with_next_part<V: Versions>(
         (view_token_response repo.now lists.old (V.lists store.old) verb token.now)
         reply lists.new (V.lists store.new)) }
     ensures left { Leaves V.Versions result repo.now lists.old store.old lists.new store.new }
-    ensures store { Uses V.Versions 0 result store.old store.new }
+    ensures store { Spends V.room V.failures V.honest 0 result store.old store.new }
 {
     let chunk = chunk_of(repo);
     let Some((list, cursor)) = continued(lists, repo.clock, chunk, verb, token) else {

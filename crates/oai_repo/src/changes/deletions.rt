@@ -3,7 +3,7 @@ ghost use Rattle.std.specs.Prelude.{◌≡◌, ◌≤◌, true, length, not, Non
 ghost use Rattle.std.specs.List.{list_all};
 ghost use Rattle.oai_item.specs.Item.{IsStamp, tombstone_of};
 ghost use Rattle.oai_item.specs.Items.{item_named};
-ghost use Rattle.oai_catalogue.specs.Calls.{Uses};
+ghost use Rattle.oai_catalogue.specs.Store.{Spends};
 ghost use Rattle.oai_repo.specs.Accepted.{stamp_after_deletion};
 ghost use Rattle.oai_repo.specs.Calls.{fault_in};
 ghost use Rattle.oai_repo.specs.Changes.{after_deletion, dead_refusal, missing_refusal, with_new};
@@ -40,7 +40,7 @@ pub(crate) fn delete<V: Versions>(
         (stamp_after_deletion context.now.config.now.deleted context.now.stamp)
         index.old.entries index.new.entries) }
     ensures moves { Moves V.Versions result index.old store.old index.new store.new }
-    ensures store { Uses V.Versions 1 (fault_in result) store.old store.new }
+    ensures store { Spends V.room V.failures V.honest 1 (fault_in result) store.old store.new }
 {
     let Some(item) = index.find(store, identifier)? else {
         return Err(Refusal::Refused(ChangeRefusal::NoSuchItem));
@@ -66,7 +66,7 @@ fn delete_item<V: Versions>(
         index.old.entries index.new.entries) }
     ensures fewer { OnOk result (length index.new.entries ≤ length index.old.entries) }
     ensures moves { Moves V.Versions result index.old store.old index.new store.new }
-    ensures store { Uses V.Versions 1 (fault_in result) store.old store.new }
+    ensures store { Spends V.room V.failures V.honest 1 (fault_in result) store.old store.new }
 {
     if !item.is_live() {
         return Err(Refusal::Refused(ChangeRefusal::AlreadyDeleted));
@@ -91,7 +91,7 @@ fn take_out<V: Versions>(
         index.old.entries index.new.entries) }
     ensures fewer { OnOk result (length index.new.entries ≤ length index.old.entries) }
     ensures moves { Moves V.Versions result index.old store.old index.new store.new }
-    ensures store { Uses V.Versions 1 result store.old store.new }
+    ensures store { Spends V.room V.failures V.honest 1 result store.old store.new }
 {
     match context.config.deleted() {
         DeletedRecord::No => index.remove(store, item),
@@ -116,7 +116,7 @@ fn replace_with_tombstone<V: Versions>(
         index.new.entries) }
     ensures fewer { OnOk result (length index.new.entries ≤ length index.old.entries) }
     ensures moves { Moves V.Versions result index.old store.old index.new store.new }
-    ensures store { Uses V.Versions 1 result store.old store.new }
+    ensures store { Spends V.room V.failures V.honest 1 result store.old store.new }
 {
     let left = item.tombstone(context.alloc, context.stamp)?;
     if left.encoded_len().is_err() {

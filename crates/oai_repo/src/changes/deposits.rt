@@ -7,7 +7,7 @@ ghost use Rattle.oai_names.specs.Sets.{has_set};
 ghost use Rattle.oai_item.specs.Encoding.{encoded};
 ghost use Rattle.oai_item.specs.Items.{item_named};
 ghost use Rattle.oai_item.specs.declared.sizes.TheConstants.{MAX_ITEM_BYTES};
-ghost use Rattle.oai_catalogue.specs.Calls.{Uses};
+ghost use Rattle.oai_catalogue.specs.Store.{Spends};
 ghost use Rattle.oai_item.specs.Item.{IsStamp, has_record, live_item, record_named};
 ghost use Rattle.oai_item.specs.Known.{are_fields_of, has_format, has_known_fields};
 ghost use Rattle.oai_item.specs.Membership.{reduced};
@@ -58,7 +58,7 @@ pub(crate) fn put_deposit<V: Versions>(
     ensures few { OnOk result (length index.old.entries ≤ context.now.config.now.items
         → length index.new.entries ≤ context.now.config.now.items) }
     ensures moves { Moves V.Versions result index.old store.old index.new store.new }
-    ensures store { Uses V.Versions 1 (fault_in result) store.old store.new }
+    ensures store { Spends V.room V.failures V.honest 1 (fault_in result) store.old store.new }
 {
     match deposit_refusal(
         context.config,
@@ -97,7 +97,7 @@ fn put_item<V: Versions>(
     ensures few { OnOk result (length index.old.entries ≤ context.now.config.now.items
         → length index.new.entries ≤ context.now.config.now.items) }
     ensures moves { Moves V.Versions result index.old store.old index.new store.new }
-    ensures store { Uses V.Versions 1 (fault_in result) store.old store.new }
+    ensures store { Spends V.room V.failures V.honest 1 (fault_in result) store.old store.new }
 {
     let replaced = index.find(store, item.identifier())?;
     match item_refusal(context.config, replaced.as_ref(), index.len(), item) {

@@ -5,8 +5,8 @@ ghost use Rattle.oai_time.specs.Bound.{IsWritableBound};
 ghost use Rattle.oai_time.specs.Stamp.{IsWritable};
 ghost use Rattle.oai_item.specs.declared.faults.Fault.TheVariants as fault;
 ghost use Rattle.oai_item.specs.Selection.{selected};
-ghost use Rattle.oai_catalogue.specs.Calls.{OnlyReads, Uses};
-ghost use Rattle.oai_catalogue.specs.Store.{list_at};
+ghost use Rattle.oai_catalogue.specs.Calls.{OnlyReads};
+ghost use Rattle.oai_catalogue.specs.Store.{Spends, list_at};
 ghost use Rattle.oai_repo.specs.Calls.{fault_in};
 ghost use Rattle.oai_repo.specs.Changes as spec;
 ghost use Rattle.oai_repo.specs.Fields.{has_writable_stamp, stored_items};
@@ -46,7 +46,7 @@ pub(crate) fn purge<V: Versions>(
         result index.old store.old index.new store.new }
     ensures forgotten { OnOk result (Forgets index.old.entries index.new.entries) }
     ensures moves { Moves V.Versions result index.old store.old index.new store.new }
-    ensures store { Uses V.Versions (length index.old.entries + 1) (fault_in result) store.old store.new }
+    ensures store { Spends V.room V.failures V.honest (length index.old.entries + 1) (fault_in result) store.old store.new }
 {
     if !is_transient(context.config.deleted()) {
         return Err(Refusal::Refused(ChangeRefusal::NotTransient));

@@ -8,7 +8,7 @@ use Rattle.oai_settings.specs.Config.{Config}
 use Rattle.oai_repo.specs.Fields.{state_of}
 use Rattle.oai_repo.specs.Machine.{accepted, refused_with, outcome_output}
 use Rattle.oai_host.proofs.DepositLemmas.{accepted_line, refused_line, told_line}
-use Rattle.oai_host.proofs.RoomLemmas.{room_of_change, uses_less}
+use Rattle.oai_host.proofs.RoomLemmas.{room_of_change, spends_less}
 use Rattle.oai_host.proofs.deposits.perform_change.Goals as goal
 
 pub returns-in-Ok : goal.returns-in-Ok
@@ -39,7 +39,7 @@ returns-in-Ok g c =
       };
       err = tt;
       kept = c.change.ensures.keeps;
-      store = uses_less V _ _ _ _ _ (room_of_change old c.args.change.now c.change.ensures.few) (rw c.in-Ok.is at c.change.ensures.store);
+      store = spends_less V _ _ _ _ _ (room_of_change old c.args.change.now c.change.ensures.few) (rw c.in-Ok.is at c.change.ensures.store);
     }
 
 pub returns-in-Err-Refused : goal.returns-in-Err-Refused
@@ -66,7 +66,7 @@ returns-in-Err-Refused g c =
       };
       err = tt;
       kept = c.change.ensures.keeps;
-      store = uses_less V _ _ _ _ _ (room_of_change old c.args.change.now c.change.ensures.few) (rw cause at c.change.ensures.store);
+      store = spends_less V _ _ _ _ _ (room_of_change old c.args.change.now c.change.ensures.few) (rw cause at c.change.ensures.store);
     }
 
 pub returns-in-Err-Fault : goal.returns-in-Err-Fault
@@ -76,5 +76,5 @@ returns-in-Err-Fault g c =
       ok = tt;
       err = same;
       kept = c.change.ensures.keeps;
-      store = uses_less g.V.Versions _ _ _ _ _ (room_of_change c.args.repo.now c.args.change.now c.change.ensures.few) (rw cause at c.change.ensures.store);
+      store = spends_less g.V.Versions _ _ _ _ _ (room_of_change c.args.repo.now c.args.change.now c.change.ensures.few) (rw cause at c.change.ensures.store);
     }

@@ -4,7 +4,7 @@ use Rattle.std.proofs.lemmas.Int.{to_z-of_z}
 use Rattle.oai_item.specs.Refusals.{in_line, refusal_line}
 use Rattle.oai_repo.specs.Machine.{act, outcome_output}
 use Rattle.oai_repo.specs.State.{RepoState}
-use Rattle.oai_host.proofs.RoomLemmas.{uses_none}
+use Rattle.oai_host.proofs.RoomLemmas.{spends_none}
 use Rattle.oai_host.proofs.deposits.refuse_line.Goals as goal
 
 pub returns : goal.returns
@@ -20,5 +20,5 @@ returns g c =
       };
       err = tt;
       kept = c.advance.ensures.keeps;
-      store = uses_none g.V.Versions c.args.store.now c.advance.new.store c.advance.ensures.store;
+      store = spends_none g.V.Versions c.args.store.now c.advance.new.store c.advance.ensures.store;
     }
