@@ -1,5 +1,5 @@
 //! Tests of page devices (`oai_device`) and of the pool of pages (`oai_pool`); and devices for the tests of what stands on pools
-//! too: one that counts its calls, one that gives a byte inverted, one that is refused memory, and an honest one over a file in
+//! too: one that counts its calls, one that gives a byte inverted, one that gives another page, one that is refused memory, and an honest one over a file in
 //! memory.
 #![tactic(auto)]
 
@@ -12,8 +12,11 @@ mod devices;
 #[cfg(test)]
 mod files;
 #[cfg(test)]
+mod files_in_memory;
+#[cfg(test)]
 mod filled;
 mod lying;
+mod overwritten;
 #[cfg(test)]
 mod pool_failures;
 #[cfg(test)]
@@ -29,4 +32,5 @@ mod steps;
 pub use byte_file::{ByteFile, device_in_memory, read_back};
 pub use counting::CountingDevice;
 pub use lying::LyingDevice;
+pub use overwritten::OverwrittenDevice;
 pub use refusing::RefusingDevice;

@@ -19,6 +19,8 @@ mod damaged_pages;
 #[cfg(test)]
 mod failing;
 #[cfg(test)]
+mod files_in_memory;
+#[cfg(test)]
 mod five_pages;
 #[cfg(test)]
 mod flipped_reads;
@@ -36,6 +38,8 @@ mod long_items;
 mod merges;
 #[cfg(test)]
 mod orders;
+#[cfg(test)]
+mod overwritten;
 #[cfg(test)]
 mod pages;
 #[cfg(test)]

@@ -54,12 +54,12 @@ fn push(rt: &impl Abort, bytes: &mut Vec<u8>, more: &[u8]) {
     bytes.extend_from_slice(more).expect(rt, "memory");
 }
 
-fn push_count(rt: &impl Abort, bytes: &mut Vec<u8>, count: usize) {
+pub(crate) fn push_count(rt: &impl Abort, bytes: &mut Vec<u8>, count: usize) {
     let count = u32::try_from(count).expect(rt, "u32::try_from");
     push(rt, bytes, &count.to_be_bytes());
 }
 
-fn push_text(rt: &impl Abort, bytes: &mut Vec<u8>, text: &[u8]) {
+pub(crate) fn push_text(rt: &impl Abort, bytes: &mut Vec<u8>, text: &[u8]) {
     push_count(rt, bytes, text.len());
     push(rt, bytes, text);
 }
