@@ -13,6 +13,8 @@ mod sample_host;
 #[cfg(test)]
 mod script_failures;
 #[cfg(test)]
+mod script_faults;
+#[cfg(test)]
 mod script_lies;
 #[cfg(test)]
 mod script_runs;
