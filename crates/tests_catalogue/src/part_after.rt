@@ -13,6 +13,26 @@ use tests_samples::STAMP;
 /// A datestamp, so many seconds later than the first one, and an identifier.
 type Place<'a> = (u8, &'a str);
 
+/// Puts an item of that place and that set into the list of `v`; that of `w` stands.
+fn put_beside<V: Versions>(
+    rt: &impl Abort,
+    alloc: Global,
+    store: &mut V,
+    v: u64,
+    w: u64,
+    place: Place<'_>,
+    set: &str,
+)
+    requires own { IsSome (V.lists store.old v) }
+    requires other { IsSome (V.lists store.old w) }
+    ensures own { IsSome (V.lists store.new v) }
+    ensures other { IsSome (V.lists store.new w) }
+{
+    let (later, identifier) = place;
+    let item = item(rt, alloc, identifier, later, &[set], "T");
+    put_item(rt, store, v, w, &item);
+}
+
 /// Puts an item of that place and that set into the list.
 fn put<V: Versions>(
     rt: &impl Abort,
@@ -25,9 +45,7 @@ fn put<V: Versions>(
     requires { IsSome (V.lists store.old v) }
     ensures { IsSome (V.lists store.new v) }
 {
-    let (later, identifier) = place;
-    let item = item(rt, alloc, identifier, later, &[set], "T");
-    put_item(rt, store, v, v, &item);
+    put_beside(rt, alloc, store, v, v, place, set);
 }
 
 /// A list of four items, of which two have one datestamp and one is in another set.
@@ -154,36 +172,49 @@ fn behind_gaps(rt: HostRuntime) {
     assert_behind_gaps(&rt, alloc, &mut store, v);
 }
 
+/// The items of the second datestamp behind the place have these identifiers.
+fn assert_dated_behind<V: Versions>(
+    rt: &impl Abort,
+    alloc: Global,
+    store: &mut V,
+    v: u64,
+    place: Place<'_>,
+    identifiers: &[&str],
+)
+    requires { IsSome (V.lists store.old v) }
+    ensures { V.lists store.new ≡ V.lists store.old }
+{
+    let second = filter(rt, alloc, 2, 2);
+    assert_some_behind(rt, alloc, store, v, &second, place, 9, identifiers);
+}
+
+/// At most so many of the items in the set `x:z` behind the place have these identifiers.
+fn assert_other_behind<V: Versions>(
+    rt: &impl Abort,
+    alloc: Global,
+    store: &mut V,
+    v: u64,
+    place: Place<'_>,
+    most: usize,
+    identifiers: &[&str],
+)
+    requires { IsSome (V.lists store.old v) }
+    ensures { V.lists store.new ≡ V.lists store.old }
+{
+    let other = in_set(rt, alloc, "x:z");
+    assert_some_behind(rt, alloc, store, v, &other, place, most, identifiers);
+}
+
 /// A filter by datestamp leaves out the first item and the last, and one by set all but one.
 fn assert_filtered<V: Versions>(rt: &impl Abort, alloc: Global, store: &mut V, v: u64)
     requires { IsSome (V.lists store.old v) }
     ensures { V.lists store.new ≡ V.lists store.old }
 {
-    let second = filter(rt, alloc, 2, 2);
-    assert_some_behind(
-        rt,
-        alloc,
-        store,
-        v,
-        &second,
-        (0, "oai:a:9"),
-        9,
-        &["oai:a:3", "oai:a:5"],
-    );
-    assert_some_behind(
-        rt,
-        alloc,
-        store,
-        v,
-        &second,
-        (2, "oai:a:3"),
-        9,
-        &["oai:a:5"],
-    );
-    assert_some_behind(rt, alloc, store, v, &second, (2, "oai:a:5"), 9, &[]);
-    let other = in_set(rt, alloc, "x:z");
-    assert_some_behind(rt, alloc, store, v, &other, (1, "oai:a:1"), 9, &["oai:a:5"]);
-    assert_some_behind(rt, alloc, store, v, &other, (2, "oai:a:5"), 9, &[]);
+    assert_dated_behind(rt, alloc, store, v, (0, "oai:a:9"), &["oai:a:3", "oai:a:5"]);
+    assert_dated_behind(rt, alloc, store, v, (2, "oai:a:3"), &["oai:a:5"]);
+    assert_dated_behind(rt, alloc, store, v, (2, "oai:a:5"), &[]);
+    assert_other_behind(rt, alloc, store, v, (1, "oai:a:1"), 9, &["oai:a:5"]);
+    assert_other_behind(rt, alloc, store, v, (2, "oai:a:5"), 9, &[]);
 }
 
 #[test]
@@ -194,20 +225,34 @@ fn behind_with_a_filter(rt: HostRuntime) {
     assert_filtered(&rt, alloc, &mut store, v);
 }
 
+/// At most so many of the three items behind the first have these identifiers.
+fn assert_most_behind<V: Versions>(
+    rt: &impl Abort,
+    alloc: Global,
+    store: &mut V,
+    v: u64,
+    most: usize,
+    identifiers: &[&str],
+)
+    requires { IsSome (V.lists store.old v) }
+    ensures { V.lists store.new ≡ V.lists store.old }
+{
+    let all = filter(rt, alloc, 0, 9);
+    let first = (1, "oai:a:1");
+    assert_some_behind(rt, alloc, store, v, &all, first, most, identifiers);
+}
+
 /// Of the three items behind the first: none, one, all and no more, and one that a filter leaves.
 fn assert_cut<V: Versions>(rt: &impl Abort, alloc: Global, store: &mut V, v: u64)
     requires { IsSome (V.lists store.old v) }
     ensures { V.lists store.new ≡ V.lists store.old }
 {
-    let first = (1, "oai:a:1");
     let three = ["oai:a:3", "oai:a:5", "oai:a:2"];
-    let all = filter(rt, alloc, 0, 9);
-    assert_some_behind(rt, alloc, store, v, &all, first, 0, &[]);
-    assert_some_behind(rt, alloc, store, v, &all, first, 1, &["oai:a:3"]);
-    assert_some_behind(rt, alloc, store, v, &all, first, 3, &three);
-    assert_some_behind(rt, alloc, store, v, &all, first, 4, &three);
-    let other = in_set(rt, alloc, "x:z");
-    assert_some_behind(rt, alloc, store, v, &other, first, 1, &["oai:a:5"]);
+    assert_most_behind(rt, alloc, store, v, 0, &[]);
+    assert_most_behind(rt, alloc, store, v, 1, &["oai:a:3"]);
+    assert_most_behind(rt, alloc, store, v, 3, &three);
+    assert_most_behind(rt, alloc, store, v, 4, &three);
+    assert_other_behind(rt, alloc, store, v, (1, "oai:a:1"), 1, &["oai:a:5"]);
 }
 
 #[test]
@@ -223,22 +268,10 @@ fn assert_frozen_behind<V: Versions>(rt: &impl Abort, alloc: Global, store: &mut
     requires { IsSome (V.lists store.old v) }
 {
     let w = frozen(rt, store, v);
-    put_item(
-        rt,
-        store,
-        v,
-        w,
-        &item(rt, alloc, "oai:a:6", 3, &["x:y"], "T"),
-    );
+    put_beside(rt, alloc, store, v, w, (3, "oai:a:6"), "x:y");
     assert_behind(rt, alloc, store, v, (2, "oai:a:5"), &["oai:a:6", "oai:a:2"]);
     assert_behind(rt, alloc, store, w, (2, "oai:a:5"), &["oai:a:2"]);
-    put_item(
-        rt,
-        store,
-        w,
-        v,
-        &item(rt, alloc, "oai:a:7", 5, &["x:y"], "T"),
-    );
+    put_beside(rt, alloc, store, w, v, (5, "oai:a:7"), "x:y");
     assert_behind(rt, alloc, store, v, (2, "oai:a:5"), &["oai:a:6", "oai:a:2"]);
     assert_behind(rt, alloc, store, w, (2, "oai:a:5"), &["oai:a:2", "oai:a:7"]);
 }

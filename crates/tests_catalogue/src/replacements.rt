@@ -25,19 +25,49 @@ fn placed(rt: &impl Abort, alloc: Global, place: Place<'_>, set: &str) -> Item {
     item(rt, alloc, identifier, later, &[set], "T")
 }
 
+/// Puts the item of that place, in the set `x:y`, into the list.
+fn put<V: Versions>(rt: &impl Abort, alloc: Global, store: &mut V, v: u64, place: Place<'_>)
+    requires { IsSome (V.lists store.old v) }
+    ensures { IsSome (V.lists store.new v) }
+{
+    let item = placed(rt, alloc, place, "x:y");
+    put_item(rt, store, v, v, &item);
+}
+
 /// A list of three items in the set `x:y`.
 fn stored<V: Versions>(rt: &impl Abort, alloc: Global, store: &mut V) -> u64
     ensures { IsSome (V.lists store.new result) }
 {
     let v = store.fresh().expect(rt, "fresh");
-    put_item(rt, store, v, v, &placed(rt, alloc, (1, "oai:a:1"), "x:y"));
-    put_item(rt, store, v, v, &placed(rt, alloc, (2, "oai:a:2"), "x:y"));
-    put_item(rt, store, v, v, &placed(rt, alloc, (3, "oai:a:3"), "x:y"));
+    put(rt, alloc, store, v, (1, "oai:a:1"));
+    put(rt, alloc, store, v, (2, "oai:a:2"));
+    put(rt, alloc, store, v, (3, "oai:a:3"));
     v
 }
 
 /// Puts an item in the set `x:z` in place of another one in the list of `v`, that of `w` standing; whether
 /// there was another one.
+fn replace<V: Versions>(
+    rt: &impl Abort,
+    alloc: Global,
+    store: &mut V,
+    v: u64,
+    w: u64,
+    replacement: Replacement<'_>,
+) -> Result<bool, Fault>
+    requires own { IsSome (V.lists store.old v) }
+    requires other { IsSome (V.lists store.old w) }
+    ensures own { IsSome (V.lists store.new v) }
+    ensures other { IsSome (V.lists store.new w) }
+{
+    let ((later, identifier), place) = replacement;
+    let identifier = Identifier::read(alloc, identifier).expect(rt, "Identifier::read");
+    let item = placed(rt, alloc, place, "x:z");
+    item.encoded_len().expect(rt, "encoded_len");
+    store.replace(v, STAMP + i64::from(later), &identifier, &item)
+}
+
+/// The same, which succeeds.
 fn replaced<V: Versions>(
     rt: &impl Abort,
     alloc: Global,
@@ -51,13 +81,7 @@ fn replaced<V: Versions>(
     ensures own { IsSome (V.lists store.new v) }
     ensures other { IsSome (V.lists store.new w) }
 {
-    let ((later, identifier), place) = replacement;
-    let identifier = Identifier::read(alloc, identifier).expect(rt, "Identifier::read");
-    let item = placed(rt, alloc, place, "x:z");
-    item.encoded_len().expect(rt, "encoded_len");
-    store
-        .replace(v, STAMP + i64::from(later), &identifier, &item)
-        .expect(rt, "replace")
+    replace(rt, alloc, store, v, w, replacement).expect(rt, "replace")
 }
 
 /// The items of the list are these, and that one alone is in the set `x:z`.
@@ -185,14 +209,8 @@ fn assert_fails<V: Versions>(
     ensures own { IsSome (V.lists store.new v) }
     ensures other { IsSome (V.lists store.new w) }
 {
-    let ((later, identifier), place) = replacement;
-    let identifier = Identifier::read(alloc, identifier).expect(rt, "Identifier::read");
-    let item = placed(rt, alloc, place, "x:z");
-    item.encoded_len().expect(rt, "encoded_len");
-    match store.replace(v, STAMP + i64::from(later), &identifier, &item) {
-        Ok(_) => panic!(rt; "replaced"),
-        Err(fault) => assert_same(rt, fault, wanted),
-    }
+    let answer = replace(rt, alloc, store, v, w, replacement);
+    assert_same(rt, answer, Err(wanted));
 }
 
 /// The list has the three items, and none of them is in the set `x:z`.

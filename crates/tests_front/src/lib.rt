@@ -28,3 +28,5 @@ mod received;
 mod recording_handler;
 #[cfg(test)]
 mod rounds;
+#[cfg(test)]
+mod served;

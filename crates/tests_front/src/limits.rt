@@ -1,134 +1,137 @@
 //! The limits of connections: how many are open, for how long, and how much one that takes nothing holds.
-use crate::handler::{Count, Echo};
-use crate::memory::{At, Client, Manner, PLAIN, Seen, Waiting};
-use oai_serving::Server;
+use crate::assertions::assert_same;
+use crate::handler::Count;
+use crate::memory::{Manner, PLAIN, Seen, Waiting};
+use crate::served::{
+    EchoServer, assert_received, come, go_round, new_count, new_seen, new_server, times,
+};
+use std::alloc::Global;
 use std::panic::Expect;
+use std::process::Abort;
 use std::rc::Rc;
+
+/// A client that comes now is served.
+fn assert_other_served(
+    rt: &impl Abort,
+    alloc: Global,
+    server: &mut EchoServer,
+    waiting: &mut Waiting,
+) {
+    let other = new_seen(rt, alloc);
+    let one = times(rt, alloc, b"GET /a HTTP/1.0\r\n\r\n", 1);
+    come(rt, waiting, one, &other, PLAIN);
+    go_round(rt, server, waiting, 0, 5);
+    assert_received(
+        rt,
+        &other,
+        b"HTTP/1.1 200 OK\r\nConnection: close\r\nContent-Length: 2\r\n\r\n/a",
+    );
+}
 
 /// A client that sends 1,000 requests, each answered with 2,000 bytes, and takes none, has at most two of them
 /// performed; another is served beside it.
+fn assert_stalled(
+    rt: &impl Abort,
+    alloc: Global,
+    server: &mut EchoServer,
+    waiting: &mut Waiting,
+    count: &Rc<Count>,
+    stalled: &Rc<Seen>,
+) {
+    let many = times(rt, alloc, b"GET /l HTTP/1.1\r\nHost: h\r\n\r\n", 1_000);
+    come(rt, waiting, many, stalled, Manner { takes: 0, ..PLAIN });
+    go_round(rt, server, waiting, 0, 50);
+    assert!(rt; count.performed.get() <= 2);
+    assert_other_served(rt, alloc, server, waiting);
+    assert_received(rt, stalled, b"");
+    assert_same(rt, Rc::strong_count(stalled), 2);
+    go_round(rt, server, waiting, 60, 2);
+    assert_same(rt, Rc::strong_count(stalled), 1);
+}
+
 #[test]
 fn client_that_stops_taking(rt: HostRuntime) {
     let alloc = rt.alloc();
-    let count = Count::new(alloc).expect(&rt, "memory");
-    let stalled = Seen::new(alloc).expect(&rt, "memory");
-    let other = Seen::new(alloc).expect(&rt, "memory");
-    let mut many = Vec::new(alloc);
-    for _ in 0..1_000 {
-        many.extend_from_slice(b"GET /l HTTP/1.1\r\nHost: h\r\n\r\n")
-            .expect(&rt, "memory");
-    }
-    let mut one = Vec::new(alloc);
-    one.extend_from_slice(b"GET /a HTTP/1.0\r\n\r\n")
-        .expect(&rt, "memory");
+    let count = new_count(&rt, alloc);
+    let stalled = new_seen(&rt, alloc);
     let mut waiting = Waiting::new(alloc, 0);
-    let takes_none = Manner { takes: 0, ..PLAIN };
-    waiting
-        .come(Client::new(many, stalled.clone().expect(&rt, "memory"), takes_none))
-        .expect(&rt, "memory");
-    let echo = Echo {
-        alloc,
-        count: count.clone().expect(&rt, "memory"),
-        fails: 0,
-    };
-    let mut server = Server::new(alloc, echo).expect(&rt, "memory");
-    for _ in 0..50 {
-        server.round(&mut waiting, &At(0)).expect(&rt, "a round");
-    }
-    assert!(&rt; count.performed.get() <= 2);
-    waiting
-        .come(Client::new(one, other.clone().expect(&rt, "memory"), PLAIN))
-        .expect(&rt, "memory");
-    for _ in 0..5 {
-        server.round(&mut waiting, &At(0)).expect(&rt, "a round");
-    }
-    let wanted = b"HTTP/1.1 200 OK\r\nConnection: close\r\nContent-Length: 2\r\n\r\n/a";
-    assert!(&rt; other.bytes().as_slice() == wanted.as_slice());
-    assert!(&rt; stalled.bytes().is_empty());
-    assert_eq!(&rt; Rc::strong_count(&stalled), 2);
-    for _ in 0..2 {
-        server.round(&mut waiting, &At(60)).expect(&rt, "a round");
-    }
-    assert_eq!(&rt; Rc::strong_count(&stalled), 1);
+    let mut server = new_server(&rt, alloc, &count, 0);
+    assert_stalled(&rt, alloc, &mut server, &mut waiting, &count, &stalled);
 }
 
 /// 1,100 clients come and send nothing: 1,024 are open, the others wait; once the first have been idle for 60
 /// seconds the others are accepted.
-#[test]
-fn clients_beyond_the_places(rt: HostRuntime) {
-    let alloc = rt.alloc();
-    let count = Count::new(alloc).expect(&rt, "memory");
-    let seen = Seen::new(alloc).expect(&rt, "memory");
-    let mut waiting = Waiting::new(alloc, 0);
+fn assert_places(
+    rt: &impl Abort,
+    alloc: Global,
+    server: &mut EchoServer,
+    waiting: &mut Waiting,
+    seen: &Rc<Seen>,
+) {
     let idle = Manner {
         ends: false,
         ..PLAIN
     };
     for _ in 0..1_100 {
-        waiting
-            .come(Client::new(Vec::new(alloc), seen.clone().expect(&rt, "memory"), idle))
-            .expect(&rt, "memory");
+        come(rt, waiting, Vec::new(alloc), seen, idle);
     }
-    let echo = Echo {
-        alloc,
-        count,
-        fails: 0,
-    };
-    let mut server = Server::new(alloc, echo).expect(&rt, "memory");
     for second in 0..60 {
-        server
-            .round(&mut waiting, &At(second))
-            .expect(&rt, "a round");
+        go_round(rt, server, waiting, second, 1);
     }
-    assert_eq!(&rt; waiting.len(), 76);
-    assert_eq!(&rt; Rc::strong_count(&seen), 1_101);
-    for _ in 0..2 {
-        server.round(&mut waiting, &At(60)).expect(&rt, "a round");
+    assert_same(rt, waiting.len(), 76);
+    assert_same(rt, Rc::strong_count(seen), 1_101);
+    go_round(rt, server, waiting, 60, 2);
+    assert_same(rt, waiting.len(), 0);
+    assert_same(rt, Rc::strong_count(seen), 77);
+}
+
+#[test]
+fn clients_beyond_the_places(rt: HostRuntime) {
+    let alloc = rt.alloc();
+    let seen = new_seen(&rt, alloc);
+    let mut waiting = Waiting::new(alloc, 0);
+    let mut server = new_server(&rt, alloc, &new_count(&rt, alloc), 0);
+    assert_places(&rt, alloc, &mut server, &mut waiting, &seen);
+}
+
+/// A message that is too long, and 100,000 bytes of its body.
+fn too_long(rt: &impl Abort, alloc: Global) -> Vec<u8> {
+    let head = b"POST /a HTTP/1.1\r\nHost: h\r\nContent-Length: 1048577\r\n\r\n";
+    let mut sends = times(rt, alloc, head, 1);
+    for _ in 0..10_000 {
+        sends.extend_from_slice(b"0123456789").expect(rt, "memory");
     }
-    assert_eq!(&rt; waiting.len(), 0);
-    assert_eq!(&rt; Rc::strong_count(&seen), 77);
+    sends
 }
 
 /// A client whose message is too long gets its answer, is shut, and what it still sends is dropped, for 2 seconds.
+fn assert_shut(rt: &impl Abort, server: &mut EchoServer, waiting: &mut Waiting, seen: &Rc<Seen>) {
+    go_round(rt, server, waiting, 0, 50);
+    assert_received(
+        rt,
+        seen,
+        b"HTTP/1.1 413 Content Too Large\r\nConnection: close\r\nContent-Length: 0\r\n\r\n",
+    );
+    assert!(rt; seen.finished.get());
+    go_round(rt, server, waiting, 1, 1);
+    assert_same(rt, Rc::strong_count(seen), 2);
+    go_round(rt, server, waiting, 2, 2);
+    assert_same(rt, Rc::strong_count(seen), 1);
+}
+
 #[test]
 fn client_that_still_sends(rt: HostRuntime) {
     let alloc = rt.alloc();
-    let count = Count::new(alloc).expect(&rt, "memory");
-    let seen = Seen::new(alloc).expect(&rt, "memory");
-    let mut sends = Vec::new(alloc);
-    sends
-        .extend_from_slice(b"POST /a HTTP/1.1\r\nHost: h\r\nContent-Length: 1048577\r\n\r\n")
-        .expect(&rt, "memory");
-    for _ in 0..10_000 {
-        sends.extend_from_slice(b"0123456789").expect(&rt, "memory");
-    }
+    let count = new_count(&rt, alloc);
+    let seen = new_seen(&rt, alloc);
     let slow = Manner {
         read: 1_000,
         ends: false,
         ..PLAIN
     };
     let mut waiting = Waiting::new(alloc, 0);
-    waiting
-        .come(Client::new(sends, seen.clone().expect(&rt, "memory"), slow))
-        .expect(&rt, "memory");
-    let echo = Echo {
-        alloc,
-        count: count.clone().expect(&rt, "memory"),
-        fails: 0,
-    };
-    let mut server = Server::new(alloc, echo).expect(&rt, "memory");
-    for _ in 0..50 {
-        server.round(&mut waiting, &At(0)).expect(&rt, "a round");
-    }
-    let wanted =
-        b"HTTP/1.1 413 Content Too Large\r\nConnection: close\r\nContent-Length: 0\r\n\r\n";
-    assert!(&rt; seen.bytes().as_slice() == wanted.as_slice());
-    assert!(&rt; seen.finished.get());
-    server.round(&mut waiting, &At(1)).expect(&rt, "a round");
-    assert_eq!(&rt; Rc::strong_count(&seen), 2);
-    for _ in 0..2 {
-        server.round(&mut waiting, &At(2)).expect(&rt, "a round");
-    }
-    assert_eq!(&rt; Rc::strong_count(&seen), 1);
-    assert_eq!(&rt; count.performed.get(), 0);
+    come(&rt, &mut waiting, too_long(&rt, alloc), &seen, slow);
+    let mut server = new_server(&rt, alloc, &count, 0);
+    assert_shut(&rt, &mut server, &mut waiting, &seen);
+    assert_same(&rt, count.performed.get(), 0);
 }

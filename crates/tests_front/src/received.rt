@@ -1,10 +1,9 @@
 //! What a client receives does not depend on the sizes of reads and writes, nor on calls that would block.
-use crate::handler::{Count, Echo};
-use crate::memory::{At, Client, Manner, PLAIN, Seen, Waiting};
-use oai_serving::Server;
+use crate::memory::{Manner, PLAIN, Seen, Waiting};
+use crate::served::{come, go_round, new_count, new_seen, new_server, times};
 use std::alloc::Global;
-use std::panic::Expect;
 use std::process::Abort;
+use std::rc::Rc;
 
 /// Two requests, one with a body, and the last one, with an end of line in each of its forms.
 const SENT: &[u8] =
@@ -13,31 +12,25 @@ const SENT: &[u8] =
 const WANTED: &[u8] =
     b"HTTP/1.1 200 OK\r\nContent-Length: 2\r\n\r\n/aHTTP/1.1 200 OK\r\nContent-Length: 2\r\n\r\n/bHTTP/1.1 200 OK\r\nConnection: close\r\nContent-Length: 2\r\n\r\n/c";
 
-/// What a client of that manner receives in so many rounds.
-pub(crate) fn received(
+/// A client of that manner sends the bytes, and is served in so many rounds.
+fn serve(
     rt: &impl Abort,
     alloc: Global,
     sent: &[u8],
     manner: Manner,
     rounds: usize,
-) -> Vec<u8> {
-    let seen = Seen::new(alloc).expect(rt, "memory");
-    let count = Count::new(alloc).expect(rt, "memory");
-    let mut bytes = Vec::new(alloc);
-    bytes.extend_from_slice(sent).expect(rt, "memory");
+    seen: &Rc<Seen>,
+) {
     let mut waiting = Waiting::new(alloc, 0);
-    waiting
-        .come(Client::new(bytes, seen.clone().expect(rt, "memory"), manner))
-        .expect(rt, "memory");
-    let echo = Echo {
-        alloc,
-        count,
-        fails: 0,
-    };
-    let mut server = Server::new(alloc, echo).expect(rt, "memory");
-    for _ in 0..rounds {
-        server.round(&mut waiting, &At(0)).expect(rt, "a round");
-    }
+    come(rt, &mut waiting, times(rt, alloc, sent, 1), seen, manner);
+    let mut server = new_server(rt, alloc, &new_count(rt, alloc), 0);
+    go_round(rt, &mut server, &mut waiting, 0, rounds);
+}
+
+/// What a client of that manner receives in so many rounds.
+fn received(rt: &impl Abort, alloc: Global, sent: &[u8], manner: Manner, rounds: usize) -> Vec<u8> {
+    let seen = new_seen(rt, alloc);
+    serve(rt, alloc, sent, manner, rounds, &seen);
     seen.bytes()
 }
 

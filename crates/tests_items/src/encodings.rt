@@ -99,13 +99,17 @@ fn bytes_as_item(rt: HostRuntime) {
     assert_title(&rt, &item);
 }
 
+/// The item is the one of `deleted_spelling`, and is spelled so.
+fn assert_deleted(rt: &impl Abort, alloc: Global, item: &Item) {
+    assert_told(rt, item, "a:b", (-62_167_219_200, false, 2));
+    assert!(rt; item.has_record("jnl") && item.has_record("oai_dc"));
+    assert_spelled(rt, alloc, item, deleted_spelling());
+}
+
 #[test]
 fn bytes_as_deleted_item(rt: HostRuntime) {
-    let alloc = rt.alloc();
-    let item = Item::decode(alloc, deleted_spelling()).expect(&rt, "Item::decode");
-    assert_told(&rt, &item, "a:b", (-62_167_219_200, false, 2));
-    assert!(rt; item.has_record("jnl") && item.has_record("oai_dc"));
-    assert_spelled(&rt, alloc, &item, deleted_spelling());
+    let item = Item::decode(rt.alloc(), deleted_spelling()).expect(&rt, "Item::decode");
+    assert_deleted(&rt, rt.alloc(), &item);
 }
 
 #[test]

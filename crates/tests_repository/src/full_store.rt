@@ -58,20 +58,22 @@ fn assert_refused_once<V: Versions + Drop>(
 
 /// The first call that needs room makes the repository, the second puts the item in, and the third is that
 /// of the change.
-fn assert_third_call(rt: &impl Abort, alloc: Global, change: Asked) {
-    let mut repo = cramped_archive(rt, alloc, 3, Want::Pages);
-    assert_refused_once(rt, alloc, &mut repo, change, "too many pages");
-    let mut repo = cramped_archive(rt, alloc, 3, Want::Memory);
-    assert_refused_once(rt, alloc, &mut repo, change, "out of memory");
+fn assert_third_call(rt: &impl Abort, alloc: Global, change: Asked, want: Want, fault: &str) {
+    let mut repo = cramped_archive(rt, alloc, 3, want);
+    assert_refused_once(rt, alloc, &mut repo, change, fault);
 }
 
 /// An item deposited again at the same datestamp or at a later one, and one that is deleted.
 #[test]
 fn third_call_finds_no_room(rt: HostRuntime) {
-    let alloc = rt.alloc();
-    assert_third_call(&rt, alloc, (BEGIN, deposit(1)));
-    assert_third_call(&rt, alloc, (NEXT_DAY, deposit(1)));
-    assert_third_call(&rt, alloc, (NEXT_DAY, deletion(1)));
+    for change in [
+        (BEGIN, deposit(1)),
+        (NEXT_DAY, deposit(1)),
+        (NEXT_DAY, deletion(1)),
+    ] {
+        assert_third_call(&rt, rt.alloc(), change, Want::Pages, "too many pages");
+        assert_third_call(&rt, rt.alloc(), change, Want::Memory, "out of memory");
+    }
 }
 
 /// A deposit of an item and a later one of the same item need one call each, and requests none: the fourth
@@ -99,10 +101,14 @@ fn later_deletion() -> [(Asked, &'static str); 6] {
     ]
 }
 
+/// The exchanges come to that, the fourth call that needs room finding none.
+fn assert_fourth_call(rt: &impl Abort, alloc: Global, exchanges: &[(Asked, &str)]) {
+    let mut repo = cramped_archive(rt, alloc, 4, Want::Pages);
+    assert_outcomes(rt, alloc, &mut repo, exchanges);
+}
+
 #[test]
 fn one_call_needs_room(rt: HostRuntime) {
-    let mut repo = cramped_archive(&rt, rt.alloc(), 4, Want::Pages);
-    assert_outcomes(&rt, rt.alloc(), &mut repo, &later_deposits());
-    let mut repo = cramped_archive(&rt, rt.alloc(), 4, Want::Pages);
-    assert_outcomes(&rt, rt.alloc(), &mut repo, &later_deletion());
+    assert_fourth_call(&rt, rt.alloc(), &later_deposits());
+    assert_fourth_call(&rt, rt.alloc(), &later_deletion());
 }

@@ -42,6 +42,24 @@ fn is_fault(outcome: &str) -> bool {
     }
 }
 
+/// What a change comes to.
+fn outcome_of_change(changed: Result<i64, Refusal>) -> &'static str {
+    match changed {
+        Ok(_) => "ok",
+        Err(Refusal::Refused(cause)) => cause.answer(),
+        Err(Refusal::Fault(fault)) => name_of(fault),
+    }
+}
+
+/// What a request comes to.
+fn outcome_of_request(asked: Result<Reply, Fault>) -> &'static str {
+    match asked {
+        Ok(Reply::Page(_)) => "page",
+        Ok(Reply::Later(_)) => "later",
+        Err(fault) => name_of(fault),
+    }
+}
+
 /// What an exchange comes to: `ok`, the line of a refusal, `page`, `later`, or the name of a fault.
 pub(crate) fn outcome<V: Versions + Drop>(
     rt: &impl Abort,
@@ -51,16 +69,8 @@ pub(crate) fn outcome<V: Versions + Drop>(
 ) -> &'static str {
     let (moment, text) = asked;
     match change_in(rt, alloc, text) {
-        Some(change) => match repo.change(moment, &change) {
-            Ok(_) => "ok",
-            Err(Refusal::Refused(cause)) => cause.answer(),
-            Err(Refusal::Fault(fault)) => name_of(fault),
-        },
-        None => match repo.ask(moment, text.as_bytes()) {
-            Ok(Reply::Page(_)) => "page",
-            Ok(Reply::Later(_)) => "later",
-            Err(fault) => name_of(fault),
-        },
+        Some(change) => outcome_of_change(repo.change(moment, &change)),
+        None => outcome_of_request(repo.ask(moment, text.as_bytes())),
     }
 }
 

@@ -79,6 +79,15 @@ fn clock(rt: HostRuntime) {
     assert_clock(&rt, &mut repo);
 }
 
+/// What a change is answered: a datestamp, or the line that refuses it.
+fn answer_of(rt: &impl Abort, changed: Result<i64, Refusal>) -> Result<i64, &'static str> {
+    match changed {
+        Ok(stamp) => Ok(stamp),
+        Err(Refusal::Refused(cause)) => Err(cause.answer()),
+        Err(Refusal::Fault(fault)) => panic!(rt; "{fault:?}"),
+    }
+}
+
 /// What a deposit line is answered at the moment: a datestamp, or the line that refuses it.
 fn deposited(
     rt: &impl Abort,
@@ -90,11 +99,7 @@ fn deposited(
     match read_line(alloc, line.as_bytes()) {
         Err(LineFault::NoMemory) => panic!(rt; "out of memory"),
         Err(LineFault::Refused(cause)) => Err(cause.answer()),
-        Ok(change) => match repo.change(moment, &change) {
-            Ok(stamp) => Ok(stamp),
-            Err(Refusal::Refused(cause)) => Err(cause.answer()),
-            Err(Refusal::Fault(fault)) => panic!(rt; "{fault:?}"),
-        },
+        Ok(change) => answer_of(rt, repo.change(moment, &change)),
     }
 }
 

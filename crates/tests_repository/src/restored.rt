@@ -153,6 +153,30 @@ fn restore_sets<V: Versions + Drop, W: Versions + Drop>(
     }
 }
 
+/// Restores in the second the item of the first that stands behind the last one, and has that identifier; it is returned.
+fn restore_next<V: Versions + Drop, W: Versions + Drop>(
+    rt: &impl Abort,
+    from: &mut Archive<V>,
+    to: &mut Archive<W>,
+    last: Option<&Item>,
+    identifier: &str,
+) -> Item {
+    let item = next_item(rt, from, last, identifier);
+    to.restore(&SavedPart::HasItem { item: &item })
+        .expect(rt, "restore");
+    item
+}
+
+/// No item stands behind the last one.
+fn assert_no_more<V: Versions + Drop>(
+    rt: &impl Abort,
+    archive: &mut Archive<V>,
+    last: Option<&Item>,
+) {
+    let rest = archive.items_behind(last, 9).expect(rt, "items_behind");
+    assert_same(rt, rest.len(), 0);
+}
+
 /// Restores the items of the first in the second, of which it reads one after the other, in this order.
 fn restore_items<V: Versions + Drop, W: Versions + Drop>(
     rt: &impl Abort,
@@ -162,15 +186,9 @@ fn restore_items<V: Versions + Drop, W: Versions + Drop>(
 ) {
     let mut last: Option<Item> = None;
     for identifier in identifiers {
-        let item = next_item(rt, from, last.as_ref(), identifier);
-        to.restore(&SavedPart::HasItem { item: &item })
-            .expect(rt, "restore");
-        last = Some(item);
+        last = Some(restore_next(rt, from, to, last.as_ref(), identifier));
     }
-    let rest = from
-        .items_behind(last.as_ref(), 9)
-        .expect(rt, "items_behind");
-    assert_same(rt, rest.len(), 0);
+    assert_no_more(rt, from, last.as_ref());
 }
 
 /// Restores all of the first in the second.
@@ -231,13 +249,14 @@ fn restored_repository_answers_alike(rt: HostRuntime) {
 }
 
 /// A repository is read in parts of any size: all, and those behind a place where no item stands.
-fn assert_parts<V: Versions + Drop>(rt: &impl Abort, archive: &mut Archive<V>, place: &Item) {
+fn assert_parts<V: Versions + Drop>(rt: &impl Abort, alloc: Global, archive: &mut Archive<V>) {
     let all = archive.items_behind(None, 9).expect(rt, "items_behind");
     assert_same(rt, all.len(), 4);
     let none = archive.items_behind(None, 0).expect(rt, "items_behind");
     assert_same(rt, none.len(), 0);
+    let place = item(rt, alloc, "oai:a:9", "title", 1);
     let behind = archive
-        .items_behind(Some(place), 9)
+        .items_behind(Some(&place), 9)
         .expect(rt, "items_behind");
     assert_same(rt, behind.len(), 2);
 }
@@ -245,8 +264,7 @@ fn assert_parts<V: Versions + Drop>(rt: &impl Abort, archive: &mut Archive<V>, p
 #[test]
 fn items_are_read_in_parts(rt: HostRuntime) {
     let mut archive = filled(&rt, rt.alloc());
-    let place = item(&rt, rt.alloc(), "oai:a:9", "title", 1);
-    assert_parts(&rt, &mut archive, &place);
+    assert_parts(&rt, rt.alloc(), &mut archive);
 }
 
 /// The repository begins with that clock, or the part is refused, and the clock is as it was.
@@ -264,17 +282,21 @@ fn assert_begin<V: Versions + Drop>(
 }
 
 /// The years 0001 to 9998, the first and the last second of them.
-#[test]
-fn clock_of_another_year_is_damage(rt: HostRuntime) {
-    let mut archive = plain(&rt, rt.alloc());
+fn assert_years<V: Versions + Drop>(rt: &impl Abort, archive: &mut Archive<V>) {
     for (clock, wanted) in [
         (-62_135_596_801, Err(Fault::Damaged)),
         (253_370_764_800, Err(Fault::Damaged)),
         (-62_135_596_800, Ok(())),
         (253_370_764_799, Ok(())),
     ] {
-        assert_begin(&rt, &mut archive, clock, wanted);
+        assert_begin(rt, archive, clock, wanted);
     }
+}
+
+#[test]
+fn clock_of_another_year_is_damage(rt: HostRuntime) {
+    let mut archive = plain(&rt, rt.alloc());
+    assert_years(&rt, &mut archive);
 }
 
 #[test]
@@ -301,17 +323,22 @@ fn assert_set<V: Versions + Drop>(
     assert_same_at(rt, archive.repo.sets().len(), wanted.1, set);
 }
 
-#[test]
-fn set_without_a_place_is_damage(rt: HostRuntime) {
-    let mut archive = plain(&rt, rt.alloc());
+/// A set has a place where the one above it is there, and it is not.
+fn assert_sets<V: Versions + Drop>(rt: &impl Abort, alloc: Global, archive: &mut Archive<V>) {
     for (set, wanted) in [
         ("x:y", (Err(Fault::Damaged), 0)),
         ("x", (Ok(()), 1)),
         ("x", (Err(Fault::Damaged), 1)),
         ("x:y", (Ok(()), 2)),
     ] {
-        assert_set(&rt, rt.alloc(), &mut archive, set, wanted);
+        assert_set(rt, alloc, archive, set, wanted);
     }
+}
+
+#[test]
+fn set_without_a_place_is_damage(rt: HostRuntime) {
+    let mut archive = plain(&rt, rt.alloc());
+    assert_sets(&rt, rt.alloc(), &mut archive);
 }
 
 /// An item of the first second of 2024, of a record in oai_dc with one field of so many letters.
@@ -371,31 +398,70 @@ fn assert_item<V: Versions + Drop>(
     assert_same(rt, items.len(), wanted.1);
 }
 
+/// The item in these sets, of a record in that format with one field of so many letters, is not kept.
+fn assert_not_kept<V: Versions + Drop>(
+    rt: &impl Abort,
+    alloc: Global,
+    archive: &mut Archive<V>,
+    record: (&str, &str, usize),
+    sets: &[&str],
+) {
+    let item = made(rt, alloc, "oai:b:1", record, sets);
+    assert_item(rt, archive, &item, (Err(Fault::Damaged), 0));
+}
+
 /// An item in a set that is not there, without a record in oai_dc, with a field that oai_dc has not, or too long.
+fn assert_none_kept<V: Versions + Drop>(rt: &impl Abort, alloc: Global, archive: &mut Archive<V>) {
+    assert_not_kept(rt, alloc, archive, ("oai_dc", "title", 1), &["x"]);
+    assert_not_kept(rt, alloc, archive, ("jnl", "volume", 1), &[]);
+    assert_not_kept(rt, alloc, archive, ("oai_dc", "volume", 1), &[]);
+    assert_not_kept(rt, alloc, archive, ("oai_dc", "title", 1_048_576), &[]);
+}
+
 #[test]
 fn item_that_is_not_kept_is_damage(rt: HostRuntime) {
     let mut archive = plain(&rt, rt.alloc());
-    for (record, sets) in [
-        (("oai_dc", "title", 1), ["x"].as_slice()),
-        (("jnl", "volume", 1), [].as_slice()),
-        (("oai_dc", "volume", 1), [].as_slice()),
-        (("oai_dc", "title", 1_048_576), [].as_slice()),
-    ] {
-        let item = made(&rt, rt.alloc(), "oai:b:1", record, sets);
-        assert_item(&rt, &mut archive, &item, (Err(Fault::Damaged), 0));
-    }
+    assert_none_kept(&rt, rt.alloc(), &mut archive);
+}
+
+/// The first item of the one is restored in the other, and the second is not.
+fn assert_first_alone<V: Versions + Drop, W: Versions + Drop>(
+    rt: &impl Abort,
+    from: &mut Archive<V>,
+    to: &mut Archive<W>,
+) {
+    restore_sets(rt, from, to);
+    let first = next_item(rt, from, None, "oai:a:1");
+    assert_item(rt, to, &first, (Ok(()), 1));
+    let second = next_item(rt, from, Some(&first), "oai:a:2");
+    assert_item(rt, to, &second, (Err(Fault::Damaged), 1));
 }
 
 /// Archive A has the format of journals, Archive B has not.
 #[test]
 fn item_of_another_format_is_damage(rt: HostRuntime) {
     let mut from = filled(&rt, rt.alloc());
-    let first = next_item(&rt, &mut from, None, "oai:a:1");
-    let second = next_item(&rt, &mut from, Some(&first), "oai:a:2");
     let mut to = plain(&rt, rt.alloc());
-    restore_sets(&rt, &from, &mut to);
-    assert_item(&rt, &mut to, &first, (Ok(()), 1));
-    assert_item(&rt, &mut to, &second, (Err(Fault::Damaged), 1));
+    assert_first_alone(&rt, &mut from, &mut to);
+}
+
+/// The item of that identifier is restored, or is refused, and there are so many then.
+fn assert_named<V: Versions + Drop>(
+    rt: &impl Abort,
+    alloc: Global,
+    archive: &mut Archive<V>,
+    identifier: &str,
+    wanted: (Result<(), Fault>, usize),
+) {
+    let item = item(rt, alloc, identifier, "title", 1);
+    assert_item(rt, archive, &item, wanted);
+}
+
+/// Two items are restored, and the third is refused.
+fn assert_two_kept<V: Versions + Drop>(rt: &impl Abort, alloc: Global, archive: &mut Archive<V>) {
+    assert_named(rt, alloc, archive, "oai:b:1", (Ok(()), 1));
+    assert_named(rt, alloc, archive, "oai:b:2", (Ok(()), 2));
+    assert_named(rt, alloc, archive, "oai:b:3", (Err(Fault::Damaged), 2));
 }
 
 #[test]
@@ -405,22 +471,14 @@ fn item_beyond_the_limit_is_damage(rt: HostRuntime) {
         ..archive_b()
     };
     let mut archive = Archive::new(&rt, rt.alloc(), told, PlainVersions::new(rt.alloc()));
-    for (identifier, wanted) in [
-        ("oai:b:1", (Ok(()), 1)),
-        ("oai:b:2", (Ok(()), 2)),
-        ("oai:b:3", (Err(Fault::Damaged), 2)),
-    ] {
-        let item = item(&rt, rt.alloc(), identifier, "title", 1);
-        assert_item(&rt, &mut archive, &item, wanted);
-    }
+    assert_two_kept(&rt, rt.alloc(), &mut archive);
 }
 
 /// Over the store, of which the second call fails, the item is not restored, and then it is.
 fn assert_fault<V: Versions + Drop>(rt: &impl Abort, alloc: Global, store: V, fault: Fault) {
     let mut archive = Archive::new(rt, alloc, archive_b(), store);
-    let item = item(rt, alloc, "oai:b:1", "title", 1);
-    assert_item(rt, &mut archive, &item, (Err(fault), 0));
-    assert_item(rt, &mut archive, &item, (Ok(()), 1));
+    assert_named(rt, alloc, &mut archive, "oai:b:1", (Err(fault), 0));
+    assert_named(rt, alloc, &mut archive, "oai:b:1", (Ok(()), 1));
 }
 
 #[test]
@@ -434,17 +492,23 @@ fn fault_of_the_store_restores_nothing(rt: HostRuntime) {
     assert_fault(&rt, alloc, store, Fault::Device);
 }
 
+/// An item is restored; it cannot be read once, and is then read.
+fn assert_unread_once<V: Versions + Drop>(
+    rt: &impl Abort,
+    alloc: Global,
+    archive: &mut Archive<V>,
+) {
+    let item = item(rt, alloc, "oai:b:1", "title", 1);
+    let restored = archive.restore(&SavedPart::HasItem { item: &item });
+    assert_same(rt, restored, Ok(()));
+    assert!(rt; archive.items_behind(None, 9).is_err());
+    next_item(rt, archive, None, "oai:b:1");
+}
+
 /// The third call of the store fails, which is that of the first part.
 #[test]
 fn fault_of_the_store_reads_nothing(rt: HostRuntime) {
     let store = failing(PlainVersions::new(rt.alloc()), 3);
     let mut archive = Archive::new(&rt, rt.alloc(), archive_b(), store);
-    let item = item(&rt, rt.alloc(), "oai:b:1", "title", 1);
-    assert_same(
-        &rt,
-        archive.restore(&SavedPart::HasItem { item: &item }),
-        Ok(()),
-    );
-    assert!(rt; archive.items_behind(None, 9).is_err());
-    next_item(&rt, &mut archive, None, "oai:b:1");
+    assert_unread_once(&rt, rt.alloc(), &mut archive);
 }

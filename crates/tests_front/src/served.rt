@@ -1,0 +1,80 @@
+//! Servers of clients in memory, and what is asked of them. A test makes what it needs by these, and hands it to one helper that
+//! borrows it: what a function owns at each call makes it dear to prove.
+use crate::handler::{Count, Echo};
+use crate::memory::{At, Client, Manner, Seen, Waiting};
+use oai_serving::Server;
+use std::alloc::Global;
+use std::panic::Expect;
+use std::process::Abort;
+use std::rc::Rc;
+
+/// A server of clients in memory.
+pub(crate) type EchoServer = Server<Client, Echo>;
+
+/// What a client saw: nothing so far.
+pub(crate) fn new_seen(rt: &impl Abort, alloc: Global) -> Rc<Seen> {
+    Seen::new(alloc).expect(rt, "memory")
+}
+
+/// How much a handler did: nothing so far.
+pub(crate) fn new_count(rt: &impl Abort, alloc: Global) -> Rc<Count> {
+    Count::new(alloc).expect(rt, "memory")
+}
+
+/// A server whose handler counts there, and whose settling of that number fails.
+pub(crate) fn new_server(
+    rt: &impl Abort,
+    alloc: Global,
+    count: &Rc<Count>,
+    fails: u64,
+) -> EchoServer {
+    let count = count.clone().expect(rt, "memory");
+    let echo = Echo {
+        alloc,
+        count,
+        fails,
+    };
+    Server::new(alloc, echo).expect(rt, "memory")
+}
+
+/// The bytes, so many times.
+pub(crate) fn times(rt: &impl Abort, alloc: Global, bytes: &[u8], times: usize) -> Vec<u8> {
+    let mut all = Vec::new(alloc);
+    for _ in 0..times {
+        all.extend_from_slice(bytes).expect(rt, "memory");
+    }
+    all
+}
+
+/// A client comes that sends these bytes, and behaves so.
+pub(crate) fn come(
+    rt: &impl Abort,
+    waiting: &mut Waiting,
+    sends: Vec<u8>,
+    seen: &Rc<Seen>,
+    manner: Manner,
+) {
+    let seen = seen.clone().expect(rt, "memory");
+    waiting
+        .come(Client::new(sends, seen, manner))
+        .expect(rt, "memory");
+}
+
+/// So many rounds at that second.
+pub(crate) fn go_round(
+    rt: &impl Abort,
+    server: &mut EchoServer,
+    waiting: &mut Waiting,
+    second: u64,
+    rounds: usize,
+) {
+    for _ in 0..rounds {
+        server.round(waiting, &At(second)).expect(rt, "a round");
+    }
+}
+
+/// The client received these bytes.
+pub(crate) fn assert_received(rt: &impl Abort, seen: &Rc<Seen>, wanted: &[u8]) {
+    let received = seen.bytes();
+    assert!(rt; received.as_slice() == wanted);
+}
