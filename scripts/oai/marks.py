@@ -43,8 +43,8 @@ def sentence():
     planted, tried = edits("planted"), edits("must-fail")
     named = [sum(is_marked(it) for it in those) for those in (planted, tried)]
     return (
-        f"There are {len(planted)} edits in `planted/` and {len(tried)} in `must-fail/`. Of these {named[0]} and {named[1]} have the line `{MARK}`: "
-        "a check refused each only since a proof file names what it takes away."
+        f"There are {len(planted)} edits in `planted/` and {len(tried)} in `must-fail/`. The line `{MARK}` marks those that their last try refused for that "
+        f"alone: so far {named[0]} of `planted/` and {named[1]} of `must-fail/`."
     )
 
 
