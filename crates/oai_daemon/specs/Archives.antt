@@ -1,7 +1,9 @@
 -- What the hosts of an archive keep, over all its lives. This repository's own.
 use Rattle.std.specs.Prelude.{List}
 use Rattle.oai_durable.specs.Checkpoints.{Saving}
-use Rattle.oai_host.specs.Hosts.{Repository}
+use Rattle.oai_durable.specs.Journaled.{Replaying}
+use Rattle.oai_host.specs.Exchanged.{IsHandled}
+use Rattle.oai_host.specs.Hosts.{HostState, Repository}
 use Rattle.oai_host.specs.Redone.{redone_all, reply_all}
 use Rattle.oai_host.specs.Saved.{emptied_in, ended_in, parts_in, restored_in}
 
@@ -14,4 +16,15 @@ archive = record {
   parts = parts_in;
   ended = ended_in;
   emptied = emptied_in;
+}
+
+-- a host, which keeps these states, as its journal performs it again
+abbrev pub archived : Replaying HostState
+archived = record {
+  step = IsHandled;
+  Kept = List Repository;
+  kept = λ host. host.repositories;
+  is_honest = λ host. host.honest;
+  leaving = archive.leaving;
+  reply = archive.reply;
 }

@@ -1,2 +1,4 @@
 pub mod Notes
 pub mod Archives
+pub mod Starts
+pub mod Lives

@@ -1,4 +1,6 @@
 //! A handler, and what is to be known of the records that it performs again.
+ghost use Rattle.std.specs.Prelude.{◌≡◌};
+
 use oai_http::{
     Answer, Done, Endpoint, Exchange, Handler, Part, PartKind, Performed, Replayed, SaveFault, Sink,
 };
@@ -18,7 +20,9 @@ pub(crate) struct Dated<H> {
 
 impl<H> Dated<H> {
     /// The handler, which has performed nothing again.
-    pub(crate) fn new(handler: H) -> Dated<H> {
+    pub(crate) fn new(handler: H) -> Dated<H>
+        ensures { result.handler ≡ handler }
+    {
         Dated {
             handler,
             last: None,

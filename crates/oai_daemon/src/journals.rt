@@ -1,4 +1,8 @@
 //! The journal of a folder, found or begun.
+ghost use Rattle.oai_archive.specs.Readings.{HasBegun};
+ghost use Rattle.oai_journal.specs.Recovered.{disk_of};
+ghost use Rattle.std.specs.Prelude.{IfOk, IsTrue};
+
 use crate::clocks::moment_of;
 use crate::notes::Note;
 use crate::places::Place;
@@ -16,17 +20,31 @@ pub(crate) fn open_journal<P: Place, C: Clock>(
     place: &mut P,
     clock: &C,
     text: &[u8],
-) -> Result<Recovery<P::Disk>, Stop> {
+) -> Result<Recovery<P::Disk>, Stop>
+    ensures { IfOk result (λ recovery. IsTrue (P.Disk.Disk.is_clean (disk_of recovery))
+        → HasBegun P.Disk.Disk.seen P.Disk.Disk.may_leave recovery) }
+{
     if !place.find_journal()? {
         begin_journal(alloc, place, clock, text)?;
     }
-    let recovery = begin_reading(alloc, place.open_journal()?)?;
+    let recovery = read_first(alloc, place)?;
     if has_config(alloc, &recovery, text)? {
         return Ok(recovery);
     }
     drop(recovery);
     renew(alloc, place, clock, text, 0)?;
     place.tell(Note::OtherConfig);
+    read_first(alloc, place)
+}
+
+/// The journal of the place, of which the first record is read.
+pub(crate) fn read_first<P: Place>(
+    alloc: Global,
+    place: &mut P,
+) -> Result<Recovery<P::Disk>, Stop>
+    ensures { IfOk result (λ recovery. IsTrue (P.Disk.Disk.is_clean (disk_of recovery))
+        → HasBegun P.Disk.Disk.seen P.Disk.Disk.may_leave recovery) }
+{
     begin_reading(alloc, place.open_journal()?)
 }
 

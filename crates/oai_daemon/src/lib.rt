@@ -13,6 +13,7 @@ mod places;
 mod recoveries;
 mod renewals;
 mod service;
+mod starts;
 mod watched;
 
 pub use checkpoints::checkpoint_folder;

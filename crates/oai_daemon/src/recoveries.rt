@@ -1,4 +1,10 @@
 //! What a server performed before, performed again.
+ghost use Rattle.oai_daemon.specs.Starts.{HasRedoneAll};
+ghost use Rattle.oai_durable.specs.Recovered.{IsRecovered};
+ghost use Rattle.oai_journal.specs.Records.{Entry};
+ghost use Rattle.oai_journal.specs.Recovered.{HasRecovered, disk_of};
+ghost use Rattle.std.specs.Prelude.{[], IfOk, IsTrue};
+
 use crate::clocks::{moment_of, second_of};
 use crate::dated::Dated;
 use crate::notes::Note;
@@ -42,7 +48,14 @@ pub(crate) fn recover_all<P: Place, H: Replayed + Drop, C: Clock>(
     clock: &C,
     handler: H,
     recovery: &mut Recovery<P::Disk>,
-) -> Result<Dated<H>, Stop> {
+) -> Result<Dated<H>, Stop>
+    ensures recovered { IfOk result (λ dated. IsTrue (P.Disk.Disk.is_clean (disk_of recovery.new)) → (first : Entry)
+        → HasRecovered P.Disk.Disk.seen P.Disk.Disk.may_leave recovery.old first []
+        → HasRedoneAll H.kept H.is_honest (record { redone = H.redone; restored = H.restored })
+        P.Disk.Disk.seen P.Disk.Disk.may_leave (H.kept handler) dated.handler recovery.new) }
+    ensures clean { IsTrue (P.Disk.Disk.is_clean (disk_of recovery.new))
+        → IsTrue (P.Disk.Disk.is_clean (disk_of recovery.old)) }
+{
     let begun = second_of(clock);
     let mut dated = Dated::new(handler);
     let records = recover_dated(place, clock, &mut dated, recovery)?;
@@ -58,7 +71,14 @@ fn recover_dated<P: Place, H: Replayed, C: Clock>(
     clock: &C,
     handler: &mut H,
     recovery: &mut Recovery<P::Disk>,
-) -> Result<u64, Stop> {
+) -> Result<u64, Stop>
+    ensures recovered { IfOk result (λ count. IsTrue (P.Disk.Disk.is_clean (disk_of recovery.new)) → (first : Entry)
+        → HasRecovered P.Disk.Disk.seen P.Disk.Disk.may_leave recovery.old first []
+        → IsRecovered H.kept H.is_honest (record { redone = H.redone; restored = H.restored })
+        P.Disk.Disk.seen P.Disk.Disk.may_leave (H.kept handler.old) handler.new recovery.new first count) }
+    ensures clean { IsTrue (P.Disk.Disk.is_clean (disk_of recovery.new))
+        → IsTrue (P.Disk.Disk.is_clean (disk_of recovery.old)) }
+{
     let last = second_of(clock);
     match recover(handler, recovery, &mut Meter { place, clock, last }) {
         Ok(records) => Ok(records),

@@ -1,11 +1,9 @@
 //! A journal that is replaced by a checkpoint.
 use crate::clocks::moment_of;
+use crate::journals::read_first;
 use crate::places::Place;
-use crate::recoveries::recover_all;
-use oai_archive::{
-    Stop, begin_reading, check_differences, config_text, read_checkpoint, write_checkpoint,
-};
-use oai_cli::{config_in, host_on};
+use crate::starts::{Started, host_in, recovered_host};
+use oai_archive::{Stop, check_differences, config_text, read_checkpoint, write_checkpoint};
 use oai_http::Replayed;
 use std::alloc::Global;
 use std::rt::Clock;
@@ -20,11 +18,23 @@ pub(crate) fn renew<P: Place, C: Clock>(
     text: &[u8],
     raise: u32,
 ) -> Result<(), Stop> {
-    let mut recovery = begin_reading(alloc, place.open_journal()?)?;
+    let recovery = read_first(alloc, place)?;
     let before = config_text(alloc, &recovery)?;
     check_differences(alloc, &before, text)?;
-    let host = host_on(alloc, config_in(alloc, &before)?, place.empty_pages()?)?;
-    let mut recovered = recover_all(place, clock, host, &mut recovery)?;
+    let started = recovered_host(alloc, place, clock, &before, recovery)?;
+    replace_journal(alloc, place, clock, text, started, raise)
+}
+
+/// Replaces the journal of the place, whose records the host has performed again, as `renew` does.
+pub(crate) fn replace_journal<P: Place, C: Clock>(
+    alloc: Global,
+    place: &mut P,
+    clock: &C,
+    text: &[u8],
+    started: Started<P>,
+    raise: u32,
+) -> Result<(), Stop> {
+    let (recovery, mut recovered) = started;
     begin_checkpoint(alloc, place, clock, text, &mut recovered.handler, raise)?;
     drop(recovered);
     drop(recovery);
@@ -33,7 +43,7 @@ pub(crate) fn renew<P: Place, C: Clock>(
 
 /// Writes what the handler keeps as a checkpoint beside the journal of the place, with the configuration in the text, and the number of
 /// each next list raised by so many.
-pub(crate) fn begin_checkpoint<P: Place, H: Replayed, C: Clock>(
+fn begin_checkpoint<P: Place, H: Replayed, C: Clock>(
     alloc: Global,
     place: &mut P,
     clock: &C,
@@ -46,13 +56,9 @@ pub(crate) fn begin_checkpoint<P: Place, H: Replayed, C: Clock>(
 }
 
 /// Reads the checkpoint back that was written, as a start does, and makes it the journal of the place.
-pub(crate) fn keep_checkpoint<P: Place>(
-    alloc: Global,
-    place: &mut P,
-    text: &[u8],
-) -> Result<(), Stop> {
+fn keep_checkpoint<P: Place>(alloc: Global, place: &mut P, text: &[u8]) -> Result<(), Stop> {
     let disk = place.open_begun()?;
-    let host = host_on(alloc, config_in(alloc, text)?, place.empty_pages()?)?;
+    let host = host_in(alloc, place, text)?;
     let begun = read_checkpoint(alloc, disk, host)?;
     place.keep_journal(begun)
 }

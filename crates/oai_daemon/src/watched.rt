@@ -5,6 +5,7 @@ use crate::notes::Note;
 use crate::places::Place;
 use oai_http::{Answer, Exchange, Handler, SettleFault, Settled, Status};
 use oai_item::Fault;
+use std::marker::Model;
 
 /// A handler, and the place to which each exchange is reported that it answers with 500 (Internal Server Error); of equal faults once a second,
 /// with how many they were since.
@@ -18,9 +19,17 @@ pub(crate) struct Watched<'a, H, P> {
     untold: u64,
 }
 
+impl<'a, H, P> Model for Watched<'a, H, P> {
+    ghost Value = { H };
+
+    ghost view = { λ w. w.handler };
+}
+
 impl<'a, H: Handler, P: Place> Watched<'a, H, P> {
     /// Over that handler, whose faults are reported to the place.
-    pub(crate) fn new(handler: H, place: &'a mut P) -> Watched<'a, H, P> {
+    pub(crate) fn new(handler: H, place: &'a mut P) -> Watched<'a, H, P>
+        ensures { result ≡ handler }
+    {
         Watched {
             handler,
             place,
@@ -31,7 +40,7 @@ impl<'a, H: Handler, P: Place> Watched<'a, H, P> {
 
     /// Takes note of an answer at that moment.
     fn watch(&mut self, moment: i64, status: Status, fault: Option<Fault>)
-        ensures { self.new.handler ≡ self.old.handler }
+        ensures { self.new ≡ self.old }
     {
         match (status, fault) {
             (Status::InternalServerError, Some(fault)) => self.fail(moment, fault),
@@ -41,7 +50,7 @@ impl<'a, H: Handler, P: Place> Watched<'a, H, P> {
 
     /// Takes note of a fault at that moment.
     fn fail(&mut self, moment: i64, fault: Fault)
-        ensures { self.new.handler ≡ self.old.handler }
+        ensures { self.new ≡ self.old }
     {
         if self.told == Some((fault, moment)) {
             self.untold = self.untold.saturating_add(1);
@@ -60,7 +69,7 @@ impl<'a, H: Handler, P: Place> Watched<'a, H, P> {
 }
 
 impl<H: Handler, P: Place> Handler for Watched<'_, H, P> {
-    ghost step = { λ old moment asked answer new. H.step old.handler moment asked answer new.handler };
+    ghost step = { H.step };
 
     fn exchange(&mut self, moment: i64, exchange: &Exchange<'_>) -> Answer {
         let answer = self.handler.exchange(moment, exchange);
@@ -70,7 +79,7 @@ impl<H: Handler, P: Place> Handler for Watched<'_, H, P> {
 }
 
 impl<H: Settled, P: Place> Settled for Watched<'_, H, P> {
-    ghost settled = { λ old result new. H.settled old.handler result new.handler };
+    ghost settled = { H.settled };
 
     fn settle(&mut self) -> Result<(), SettleFault> {
         self.handler.settle()

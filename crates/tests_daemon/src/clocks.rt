@@ -56,8 +56,8 @@ fn clock_jumps(rt: HostRuntime) {
     };
     let mut place = MemoryPlace::new(rt.alloc(), 100).expect(&rt, "place");
     place.rounds = 10;
-    let stop = serve(rt.alloc(), &mut place, &clock, configuration());
-    assert_eq!(&rt; stop, Err(Stop::Jumped(1_704_240_002)));
+    let ended = serve(rt.alloc(), &mut place, &clock, configuration());
+    assert_eq!(&rt; ended, Ok(Err(Stop::Jumped(1_704_240_002))));
 }
 
 /// One that gained a day goes on.
@@ -69,16 +69,16 @@ fn clock_gains_a_day(rt: HostRuntime) {
     };
     let mut place = MemoryPlace::new(rt.alloc(), 100).expect(&rt, "place");
     place.rounds = 10;
-    let stop = serve(rt.alloc(), &mut place, &clock, configuration());
-    assert_eq!(&rt; stop, Err(Stop::Common(oai_cli::Stop::SocketFault)));
+    let ended = serve(rt.alloc(), &mut place, &clock, configuration());
+    assert_eq!(&rt; ended, Ok(Err(Stop::Common(oai_cli::Stop::SocketFault))));
 }
 
 /// A start in a place whose journal ends with a tick at that moment makes these calls.
 fn assert_calls(rt: &impl Abort, alloc: Global, moment: i64, calls: &str) {
     let mut place = MemoryPlace::new(alloc, 100).expect(rt, "place");
     place.tick = Some(moment);
-    let stop = serve(alloc, &mut place, &Standing, configuration());
-    assert_eq!(rt; stop, Err(Stop::Common(oai_cli::Stop::SocketFault)));
+    let ended = serve(alloc, &mut place, &Standing, configuration());
+    assert_eq!(rt; ended, Ok(Err(Stop::Common(oai_cli::Stop::SocketFault))));
     assert_eq!(rt; place.calls.as_str(), calls);
 }
 

@@ -13,10 +13,13 @@ const FOUND: &str = "lock listen find open pages recovered announce ";
 
 const BEGUN: &str = "lock listen find begin begun keep open pages recovered announce ";
 
-/// A start in that place stops so, after these calls.
+/// A start in that place, or the service behind it, stops so, after these calls.
 fn assert_start(rt: &impl Abort, place: &mut MemoryPlace, wanted: Stop, calls: &str) {
     let alloc = place.alloc();
-    let stop = serve(alloc, place, &Standing, configuration());
+    let stop = match serve(alloc, place, &Standing, configuration()) {
+        Ok(ended) => ended,
+        Err(stop) => Err(stop),
+    };
     assert_eq!(rt; stop, Err(wanted));
     assert_eq!(rt; place.calls.as_str(), calls);
 }
