@@ -1,5 +1,5 @@
 -- A life of a server, told: its turns, as far as the journal kept them.
-use Rattle.std.proofs.Common.{◌≡◌, ◌∙◌, inl, inr, ◌≤◌, ℕ, zero, suc, ◌+◌, ◌-◌, ◌++◌, List, [], ◌∷◌, length, Option, None, Some, Result, Ok, Err, slice_index_or, refl, sym, ap, arith, subst, take}
+use Rattle.std.proofs.Common.{◌≡◌, ◌∙◌, inl, inr, ◌≤◌, ℕ, zero, suc, ◌+◌, ◌-◌, ◌++◌, List, [], ◌∷◌, length, map, Option, None, Some, Result, Ok, Err, slice_index_or, refl, sym, ap, arith, subst, take}
 use Rattle.std.specs.List.{AllByRecursion, AllZip}
 use Rattle.std.proofs.lemmas.List.{append-nil, length-append}
 use Rattle.std.proofs.Math.Seq.{take-append-add}
@@ -11,14 +11,14 @@ use Rattle.oai_journal.specs.Records.{Entry}
 use Rattle.oai_journal.specs.declared.journals.Journal as journal
 use Rattle.oai_serving.specs.Links.{Link}
 use Rattle.oai_serving.specs.Rounds.{EndsService, IsRoundSettled, served_in}
-use Rattle.oai_serving.specs.Tables.{AreLinksKept}
+use Rattle.oai_serving.specs.Tables.{AreLinksAnswered, AreLinksKept}
 use Rattle.oai_serving.specs.declared.faults.ServeFault.{ServeFault}
 use Rattle.oai_serving.specs.declared.faults.ServeFault.TheVariants.{Clock, Unsettled, Wait}
 use Rattle.oai_durable.specs.Journaled.{IsExchange, IsSettled, Parts}
-use Rattle.oai_durable.specs.Served.{EndsAs}
+use Rattle.oai_durable.specs.Served.{AreThose, EndsAs}
 use Rattle.oai_durable.proofs.ServedLemmas.{ends_held, left_less}
 use Rattle.oai_service.specs.Hosting.{hosting}
-use Rattle.oai_service.specs.Lives.{AreServerLives, IsServerLife, ServerLife}
+use Rattle.oai_service.specs.Lives.{AreServerLives, IsServerLife, ServerLife, served_behind}
 use Rattle.oai_service.specs.Service.{AreKept, IsReceivedIn, Told, all_turns, turns_of}
 use Rattle.oai_service.specs.Turns.{AreTurns, Turn, its, records_in}
 use Rattle.oai_service.proofs.TurnLemmas.{HasFew, behind, goes_all, goes_rounds, turns_append, turns_front}
@@ -102,6 +102,13 @@ over_by view j mid last (Ok done) ends = record { served = []; performed = mid; 
 over_by view j mid last (Err fault) ends =
     record { served = ends.served; performed = ends.performed; run = ends.run; ends = ends_as j ends.performed last fault ends.settles }
 
+over_served : {H J : Type 0} (view : H → HostState) (j : journal.Ghosts J) (mid last : Parts H J) (result : Result (Unit {0}) ServeFault)
+    (ends : EndsService (IsExchange (hosting view) j) (IsSettled j) mid result last)
+    → (over_by view j mid last result ends).served ≡ served_behind (IsExchange (hosting view) j) (IsSettled j) mid result last ends
+unfolding over_by
+over_served view j mid last (Ok done) ends = refl
+over_served view j mid last (Err fault) ends = refl
+
 -- a server with no link has none that is not what came of its stream
 nothing_at : {A : Type 0} (slots : List (Option A)) (key : ℕ) → slots ≡ [] → slice_index_or slots key None ≡ None
 nothing_at {A} slots key none = ap (λ (xs : List (Option A)). slice_index_or xs key None) none ∙ at key
@@ -155,11 +162,14 @@ tell {S} {H} {J} view j contents remaining law begun life is =
     record {
       told = record { answered = answered; held = left.kept };
       received = record {
-        served = served_in service.rounds;
-        those = before.goes.those;
+        those = subst (λ (rounds : List (List Served)). AreThose (map its answered) (served_in rounds)) is.rounds before.goes.those;
+        lost = left.others;
+        held = subst (λ (turns : List Turn). AreThose (map its turns) life.behind) left.parts
+            (subst (AreThose (map its after.turns)) (over_served view j service.mid life.new.handler life.result service.ends ∙ is.behind) after.those);
         streams = service.streams;
         accepts = service.accepts;
-        clients = service.answered [] [] is.none (unlinked_kept contents remaining life.old.links is.unlinked);
+        clients = subst (λ (rounds : List (List Served)). AreLinksAnswered contents remaining service.streams (served_in rounds) life.new.links) is.rounds
+            (service.answered [] [] is.none (unlinked_kept contents remaining life.old.links is.unlinked));
       };
       turned = turns_append begun life.found answered left.kept before.goes.turned (turns_front begun front left.kept left.others (subst (AreTurns begun front) left.parts after.turned));
       left = left_all life.found life.left answered left.kept left.records;

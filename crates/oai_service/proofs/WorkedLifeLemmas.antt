@@ -1,6 +1,6 @@
 -- The worked lives are lives of a server.
 use Rattle.std.proofs.Common.{◌≡◌, ◌∙◌, inl, ℕ, zero, suc, false, List, [], ◌∷◌, ◌++◌, length, map, codes, None, Some, Ok, Err, take, refl, sym, ap, subst, arith}
-use Rattle.std.specs.List.{AllByRecursion}
+use Rattle.std.specs.List.{AllByRecursion, AllZip}
 use Rattle.std.proofs.lemmas.List.{append-nil, append_assoc}
 use Rattle.std.proofs.Math.Nat.{le_refl}
 use Rattle.slab.specs.Slab.{Slab}
@@ -18,8 +18,9 @@ use Rattle.oai_durable.specs.Records.{call_in, left_by, redone_all}
 use Rattle.oai_headline.specs.Worked.{deposit_line}
 use Rattle.oai_service.specs.Hosting.{AreNumbered, hosting, leaving}
 use Rattle.oai_service.specs.Lives.{AreServerLives, IsServerLife, ServerLife}
-use Rattle.oai_service.specs.Service.{AreKept, Told, all_turns}
-use Rattle.oai_service.specs.Turns.{Turn, records_in, was_performed}
+use Rattle.oai_durable.specs.Served.{AreThose, told_by, Told as Answered}
+use Rattle.oai_service.specs.Service.{AreKept, IsReceivedIn, Told, all_turns}
+use Rattle.oai_service.specs.Turns.{Turn, its, records_in, was_performed}
 use Rattle.oai_service.specs.WorkedLives.{AreWorkedLives, Deed, Memory, deposited, done_once, done_whole, entry_in, exchanged_at, first_deeds, in_memory, second_deeds, turns_at, worked_begun, worked_checkpoint}
 use Rattle.oai_service.proofs.MachineLemmas.{names_in, once_exchanged, sound_host, whole_exchanged}
 use Rattle.oai_service.proofs.WorkedLemmas.{IsFit, checkpoint_leaves, deed_kind, first_fit, left_call, names_after, own_entry, redone_append, second_fit}
@@ -113,6 +114,8 @@ life_of begun found deeds lost =
       known = None;
       later = None;
       old = record { handler = parts_at kept found (length found); links = no_links; last = 0 };
+      rounds = served_all kept deeds ∷ [];
+      behind = served_all (redone_all leaving kept (entries_in deeds)) lost;
       result = Err Wait;
       new = record {
         handler = parts_at (redone_all leaving (redone_all leaving kept (entries_in deeds)) (entries_in lost)) (entries ++ entries_in lost) (length entries);
@@ -156,7 +159,29 @@ is_life begun found deeds lost fit lost_fit =
         accepts = tt;
         answered = λ accepted earlier many kept_links. none_answered _ _;
       };
+      rounds = refl;
+      behind = refl;
       leaves = record { count = length entries; enough = le_refl (length entries); is = front_taken entries (entries_in lost) };
+    }
+
+-- what is told of deeds is what was served
+deeds_told : (kept : List Repository) (deeds : List Deed) → AreThose (map its (turns_at kept deeds)) (served_all kept deeds)
+deeds_told kept [] = refl
+deeds_told kept (done_whole entry ∷ deeds) = ap (λ (ts : List Answered). told_by (exchanged_at kept (done_whole entry)) ∷ ts) (deeds_told (left_by leaving kept entry) deeds)
+deeds_told kept (done_once call entry ∷ deeds) = ap (λ (ts : List Answered). told_by (exchanged_at kept (done_once call entry)) ∷ ts) (deeds_told (left_by leaving kept entry) deeds)
+
+life_told : (begun : List Repository) (found : List Entry) (deeds lost : List Deed)
+    → IsReceivedIn (λ stream. None) (λ stream. None) (life_of begun found deeds lost) (record { answered = turns_at (redone_all leaving begun found) deeds; held = [] })
+life_told begun found deeds lost =
+    let kept : List Repository = redone_all leaving begun found in
+    let now : List Repository = redone_all leaving kept (entries_in deeds) in
+    record {
+      those = subst (AreThose (map its (turns_at kept deeds))) (sym (append-nil (served_all kept deeds))) (deeds_told kept deeds);
+      lost = turns_at now lost;
+      held = deeds_told now lost;
+      streams = [];
+      accepts = tt;
+      clients = none_answered _ _;
     }
 
 -- ---- the two
@@ -188,6 +213,7 @@ two_lives : (begun : List Repository) (found : List Entry) (front back lost : Li
     let two = life_of begun (found ++ entries_in front) back [] in
     let told : List Told = record { answered = turns_at begun front; held = [] } ∷ record { answered = turns_at (redone_all leaving begun (entries_in front)) back; held = [] } ∷ [] in
     AreServerLives (hosting (λ (h : HostState). h)) in_memory (λ stream. None) (λ stream. None) begun found (one ∷ two ∷ []) ((found ++ entries_in front) ++ entries_in back)
+    × AllZip (IsReceivedIn (λ stream. None) (λ stream. None)) (one ∷ two ∷ []) told
     × AreKept found (one ∷ two ∷ []) told ((found ++ entries_in front) ++ entries_in back)
     × (all_turns told ≡ turns_at begun (front ++ back)))
 two_lives begun found front back lost starts front_fit back_fit lost_fit =
@@ -207,6 +233,13 @@ two_lives begun found front back lost starts front_fit back_fit lost_fit =
         is_life begun found front lost (fits (redone_all leaving begun found) there front front_fit)
             (fits (redone_all leaving (redone_all leaving begun found) (entries_in front)) (ap names_in performed ∙ names) lost lost_fit),
         (refl, is_life begun front_left back [] (fits (redone_all leaving begun front_left) (ap names_in later ∙ names) back back_fit) tt, refl),
+      ),
+      (
+        subst (λ (rs : List Repository). IsReceivedIn (λ stream. None) (λ stream. None) (life_of begun found front lost) (record { answered = turns_at rs front; held = [] })) starts (life_told begun found front lost),
+        (
+          subst (λ (rs : List Repository). IsReceivedIn (λ stream. None) (λ stream. None) (life_of begun front_left back []) (record { answered = turns_at rs back; held = [] })) later (life_told begun front_left back []),
+          tt,
+        ),
       ),
       (refl, (kept_first, ap (λ (es : List Entry). front_left ++ es) (sym second_told) ∙ ap (λ (es : List Entry). es ++ records_in (turns_at now back ++ [])) kept_first)),
       ap (λ (ts : List Turn). ts ++ ((turns_at now back ++ []) ++ [])) (append-nil (turns_at begun front))
@@ -235,6 +268,7 @@ worked_lived =
       );
       numbers = (numbers, (subst AreNumbered (sym checkpoint_leaves) numbers, tt));
       told = record { answered = turns_at worked_begun first_deeds; held = [] } ∷ record { answered = turns_at (redone_all leaving worked_begun (entries_in first_deeds)) second_deeds; held = [] } ∷ [];
-      kept = all.1;
-      turns = all.2;
+      received = all.1;
+      kept = all.2;
+      turns = all.3;
     }

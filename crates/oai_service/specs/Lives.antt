@@ -1,32 +1,44 @@
 -- Lives of a server, one behind the other: each as its service was, over what the one before it left, or over a checkpoint of it. This repository's own.
-use Rattle.std.specs.Prelude.{◌≡◌, ℕ, IsTrue, List, [], ◌∷◌, length, Option, None, Some, Result}
+use Rattle.std.specs.Prelude.{◌≡◌, ℕ, IsTrue, List, [], ◌∷◌, length, Option, None, Some, Result, Ok, Err}
+use Rattle.oai_front.specs.Performing.{Steps}
+use Rattle.oai_front.specs.Runs.{Served}
 use Rattle.oai_journal.specs.Records.{Entry}
 use Rattle.oai_journal.specs.declared.journals.Journal as journal
-use Rattle.oai_serving.specs.Rounds.{IsService, World}
+use Rattle.oai_serving.specs.Rounds.{EndsService, IsService, Settles, World}
 use Rattle.oai_serving.specs.declared.faults.ServeFault.{ServeFault}
 use Rattle.oai_durable.specs.Checkpoints.{IsCheckpoint, Saving}
 use Rattle.oai_durable.specs.Journaled.{IsExchange, IsHeld, IsSettled, Parts, Replaying}
 use Rattle.oai_durable.specs.Records.{redone_all}
 
--- a life: the records that it found; the streams that were accepted before it and in it, where they are known; the world in which it began; how its
--- service ended, in which world; and the records that the journal had when the next life began
+-- a life: the records that it found; the streams that were accepted until a count and after it, where they are known; the world in which it began;
+-- the messages that were served in each round that settled, and behind the last of these; how its service ended, in which world; and the records that
+-- the journal had when the next life began
 pub record ServerLife (S H J : Type 0) : Type 0 where
   pub found : List Entry
   pub known : Option (List S)
   pub later : Option (List S)
   pub old : World S (Parts H J)
+  pub rounds : List (List Served)
+  pub behind : List Served
   pub result : Result (Unit {0}) ServeFault
   pub new : World S (Parts H J)
   pub left : List Entry
 
+-- the messages that were served behind the last round that settled
+abbrev pub served_behind : {H : Type 0} (step : Steps H) (settled : Settles H) (mid : H) (result : Result (Unit {0}) ServeFault) (new : H) → EndsService step settled mid result new → List Served
+served_behind step settled mid (Ok done) new ends = []
+served_behind step settled mid (Err fault) new ends = ends.served
+
 -- it began with no connection, with all records that it found performed again, over a device that gives back what was written to it; it was a
--- service; and a crash at its end may leave what it left
+-- service, of these rounds; and a crash at its end may leave what it left
 pub record IsServerLife {S H J : Type 0} (h : Replaying H) (j : journal.Ghosts J) (contents remaining : S → Option (List ℕ)) (begun : h.Kept) (life : ServerLife S H J) : Type 0 where
   pub begins : IsHeld h j begun life.old.handler life.found (length life.found)
   pub honest : IsTrue (h.is_honest life.old.handler.handler)
   pub unlinked : life.old.links.slots ≡ []
   pub none : life.old.last ≡ 0
   pub serves : IsService (IsExchange h j) (IsSettled j) contents remaining life.known life.later life.old life.result life.new
+  pub rounds : serves.rounds ≡ life.rounds
+  pub behind : served_behind (IsExchange h j) (IsSettled j) serves.mid life.result life.new.handler serves.ends ≡ life.behind
   pub leaves : j.may_leave life.new.handler.journal life.left
 
 -- lives, the first with those records, and each other one with those that the one before it left

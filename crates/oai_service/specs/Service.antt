@@ -2,9 +2,9 @@
 -- repositories are behind one door are this repository's own.
 use Rattle.std.specs.Prelude.{◌≡◌, ℕ, List, [], ◌∷◌, ◌++◌, map, Option}
 use Rattle.std.specs.List.{AllByRecursion, AllZip, flat_map}
-use Rattle.oai_front.specs.Runs.{Served}
 use Rattle.oai_journal.specs.Records.{Entry}
 use Rattle.oai_serving.specs.Accepted.{Accepts}
+use Rattle.oai_serving.specs.Rounds.{served_in}
 use Rattle.oai_serving.specs.Tables.{AreLinksAnswered}
 use Rattle.oai_config.specs.Configs.{HostConfig, NamedConfig}
 use Rattle.oai_host.specs.Alone.{own_answers, own_calls}
@@ -29,14 +29,16 @@ turns_of told = told.answered ++ told.held
 abbrev pub all_turns : List Told → List Turn
 all_turns told = flat_map turns_of told
 
--- of the life: its answered turns are the messages that were served in it, in order, and each client whose connection is open at its end
--- received the front of the answers to those of them that it sent, in order
+-- of the life: its answered turns are the messages that were served in its rounds that settled, in order; its held ones are the first of those that
+-- were served behind them; and each client whose connection is open at its end received the front of the answers to those of the former that it
+-- sent, in order
 pub record IsReceivedIn {S H J : Type 0} (contents remaining : S → Option (List ℕ)) (life : ServerLife S H J) (told : Told) : Type 0 where
-  pub served : List Served
-  pub those : AreThose (map its told.answered) served
+  pub those : AreThose (map its told.answered) (served_in life.rounds)
+  pub lost : List Turn
+  pub held : AreThose (map its (told.held ++ lost)) life.behind
   pub streams : List S
   pub accepts : Accepts life.known life.later streams
-  pub clients : AreLinksAnswered contents remaining streams served life.new.links
+  pub clients : AreLinksAnswered contents remaining streams (served_in life.rounds) life.new.links
 
 -- each life finds just the records of the turns of all lives before it, and the last one leaves its own behind them
 abbrev pub AreKept : {S H J : Type 0} → List Entry → List (ServerLife S H J) → List Told → List Entry → Type 0
@@ -75,9 +77,9 @@ eras_left begun before (era ∷ eras) = eras_left begun (redone_all leaving begu
 
 -- the eras are one history, which is told. `received`: what each client read is the front of the answers to the messages that it sent. `recorded`:
 -- what a turn did is what its own record leaves behind the records before it. `answered`: at each repository each answer without a fault is the
--- machine's after what was performed before it in its era, in whichever life, and one with a fault did what its number of lines says, or nothing.
+-- machine's after what was performed before it, in whichever life, and one with a fault did what its number of lines says, or nothing.
 -- `kept`: in an era each life begins with the records of all turns before it, those of the answers that left among them. `ended`: each era begins with
--- all that was kept before it but the open lists. `followed`: where visits without a fault follow a list by its unexpired tokens within an era, their
+-- all that was kept before it but the open lists, and raises the number of the next list. `followed`: where visits without a fault follow a list by its unexpired tokens within an era, their
 -- pages, joined, are the records selected at the first of them; a token of an earlier era is refused. `harvested`: harvests miss nothing, in whichever
 -- eras they are made
 pub record IsServed {S H J : Type 0} (config : HostConfig) (contents remaining : S → Option (List ℕ)) (eras : List (ServerEra S H J)) : Type 0 where

@@ -2,7 +2,7 @@
 -- checkpoint. OAI-PMH 2.0,
 -- sections 2.7.1, 3.1.2.2 and 3.5; deposits and lives are this repository's own.
 use Rattle.std.specs.Prelude.{◌≡◌, ℕ, pos, ◌+◌, List, [], ◌∷◌, ◌++◌, codes, length, map, None, Some}
-use Rattle.std.specs.List.{AllByRecursion, flat_map}
+use Rattle.std.specs.List.{AllByRecursion, AllZip, flat_map}
 use Rattle.oai_item.specs.declared.faults.Fault.TheVariants.{NoMemory}
 use Rattle.oai_laws.specs.Harvests.{AreSuccessive, Harvest}
 use Rattle.oai_laws.specs.Worked.{all_records, worked_config}
@@ -26,7 +26,7 @@ use Rattle.oai_headline.specs.Visits.{Visit, steps_of}
 use Rattle.oai_headline.specs.Worked.{delete_line, deposit_line, first_entry, post, second_entry, worked_host}
 use Rattle.oai_service.specs.Hosting.{AreNumbered, hosting, leaving, saving}
 use Rattle.oai_service.specs.Lives.{AreServerEras, ServerEra}
-use Rattle.oai_service.specs.Service.{AreKept, Told, all_turns}
+use Rattle.oai_service.specs.Service.{AreKept, IsReceivedIn, Told, all_turns}
 use Rattle.oai_service.specs.Turns.{AreTurns, Turn, answers_in, calls_in, was_performed}
 
 -- ---- what is done
@@ -135,9 +135,8 @@ in_memory = record {
   has_room = λ journal bytes. Unit {0};
 }
 
--- three lives of a server, over streams of which nothing is known. In the first one nothing is asked, and a checkpoint is made behind it. At the end of
--- the second one a further deposit was performed, whose record the crash did not leave. What the last two leave is, behind those of the checkpoint,
--- the records of these turns
+-- three lives of a server, over streams of which nothing is known: one, a checkpoint behind it, and two more. What the last two leave is, behind the
+-- records of the checkpoint, those of these turns
 pub record AreWorkedLives : Type 0 where
   pub first : ServerEra (Unit {0}) HostState Memory
   pub one : length first.lives ≡ 1
@@ -146,5 +145,6 @@ pub record AreWorkedLives : Type 0 where
   pub are : AreServerEras (hosting (λ (host : HostState). host)) saving in_memory (λ stream. None) (λ stream. None) worked_begun None (first ∷ second ∷ [])
   pub numbers : AllByRecursion (λ (era : ServerEra (Unit {0}) HostState Memory). AreNumbered (redone_all leaving worked_begun era.found)) (first ∷ second ∷ [])
   pub told : List Told
+  pub received : AllZip (IsReceivedIn (λ stream. None) (λ stream. None)) second.lives told
   pub kept : AreKept worked_checkpoint second.lives told second.left
   pub turns : all_turns told ≡ worked_turns

@@ -25,9 +25,9 @@ use sqlite_disk::Disk;
 /// messages come over connections, are performed by a host whose exchanges stand in a journal, and are answered once the
 /// journal is durable. However each ends, whatever a crash then leaves of its journal, whatever memory was refused and whichever
 /// device calls failed, the next one begins with what is left, performed again; or with a checkpoint of it. Then all of them are one
-/// history: what each client received is the front of the answers to the messages that it sent, in order; each life begins with the
-/// records of every message that was answered before it, which are all that it left, and a checkpoint ends the open lists and nothing
-/// else; and at each repository each answer without a fault is the machine's after what was performed before it, in whichever life; lists
+/// history: what each client that is connected at the end of a life was sent is the front of the answers to its messages, in order; each
+/// life begins with the records of every message that was answered before it, and a checkpoint ends the open lists, raises the number of
+/// the next, and changes nothing else; and at each repository each answer without a fault is the machine's after what was performed before it, in whichever life; lists
 /// that are followed by their unexpired tokens, by requests without a fault, are what was selected at their first request; a token of a list
 /// that a checkpoint ended is refused; and harvests miss nothing, where deleted records are kept, also those of which each was made
 /// in another life, behind another checkpoint.
@@ -81,10 +81,10 @@ pub fn service_on_files_law<S: Stream, P: PageDevice, D: Disk + Drop>()
         → IsServed config S.contents S.remaining eras }
 {}
 
-/// What the theorem speaks of is there: three lives of a server of two repositories. In the first nothing is asked; a checkpoint of it follows. The
-/// second ends in the middle of a list and of a harvest, and with a deposit whose record that end took. In the third a deposit is refused memory
-/// behind its first line, and is repeated. At the first repository a list is followed over three pages, at the second three harvests are made, by
-/// the visits of both lives. It is computed from the bytes of the records on, and does nothing.
+/// What the theorem speaks of is there: three lives of a server of two repositories, one before a checkpoint and two behind it. What is served in
+/// these two is given: there is an end in the middle of a list and of a harvest; a deposit is refused memory behind its first line, and is
+/// repeated; at the first repository a list is followed over three pages, at the second three harvests are made, by the visits of both lives. It is
+/// computed from the bytes of the records on, and does nothing.
 pub fn worked_lives_law()
     ensures lived { AreWorkedLives }
     ensures turned { (first : Visit) × (second : Visit) × (last : Visit) × (one : Harvest) × (two : Harvest) × (three : Harvest)
