@@ -1,7 +1,6 @@
 -- A life, made of a start and the service behind it.
-use Rattle.std.proofs.Common.{◌≡◌, ℕ, Bool, IfOk, IsTrue, List, Option, Result, Ok, Err, length, map, subst, sym}
+use Rattle.std.proofs.Common.{◌≡◌, ℕ, Bool, IfOk, List, Option, Result, Ok, Err, length, map, subst, sym}
 use Rattle.oai_host.specs.Hosts.{HostState, begun}
-use Rattle.oai_journal.specs.Recovered.{disk_of}
 use Rattle.oai_journal.specs.declared.file.FileJournal.{FileJournal}
 use Rattle.oai_journal.specs.declared.journals.Journal as journal
 use Rattle.oai_journal.specs.declared.recovery.Recovery.{Recovery}
@@ -9,7 +8,7 @@ use Rattle.oai_journal.specs.Records.{Entry}
 use Rattle.oai_durable.specs.Journaled.{IsExchange, IsHeld, IsSettled, Parts, Replaying}
 use Rattle.oai_durable.specs.Recovered.{HasRedone}
 use Rattle.oai_daemon.specs.Archives.{archived}
-use Rattle.oai_daemon.specs.Lives.{BeginsWithAll, HasLived}
+use Rattle.oai_daemon.specs.Lives.{HasLived}
 use Rattle.oai_daemon.specs.Starts.{HasResumed, HasServed, HasStarted}
 
 pub lived : {S D : Type 0} (j : journal.Ghosts (FileJournal D)) (seen : D → List ℕ) (may_leave : D → List ℕ → Type 0) (is_clean : D → Bool) (contents remaining : S → Option (List ℕ))
@@ -33,7 +32,7 @@ lived {S} {D} j seen may_leave is_clean contents remaining text host recovery st
             found = all.2.entries;
             all = all.2.undamaged;
             held = subst (λ (parts : Parts HostState (FileJournal D)). IsHeld archived j (map begun started.config.repositories) parts all.2.entries (length all.2.entries)) (sym served.handles)
-            (resumed.begins (map begun started.config.repositories) all.0 all.2.entries all.2.has);
+                (resumed.begins (map begun started.config.repositories) all.0 all.2.entries all.2.has);
           };
       unlinked = served.unlinked;
       none = served.none;
@@ -54,7 +53,7 @@ lived_over j seen may_leave is_clean contents remaining text host recovery (Err 
 pub resumed : {S H D : Type 0} (h : Replaying H) (j : journal.Ghosts (FileJournal D)) (seen : D → List ℕ) (may_leave : D → List ℕ → Type 0) (contents remaining : S → Option (List ℕ))
     (handler : H) (recovery : Recovery D) (parts served : Parts H (FileJournal D)) → served ≡ parts
     → ((begun : h.Kept) (first : Entry) (entries : List Entry) → HasRedone h.kept h.is_honest h.leaving seen may_leave begun handler recovery first entries
-      → IsHeld h j begun parts entries (length entries))
+    → IsHeld h j begun parts entries (length entries))
     → HasServed (IsExchange h j) (IsSettled j) contents remaining served → HasResumed h j seen may_leave contents remaining handler recovery
 resumed {S} {H} {D} h j seen may_leave contents remaining handler recovery parts served same begins life = record {
   parts = parts;
@@ -66,7 +65,7 @@ resumed {S} {H} {D} h j seen may_leave contents remaining handler recovery parts
 pub resumed_over : {S H D A E : Type 0} (h : Replaying H) (j : journal.Ghosts (FileJournal D)) (seen : D → List ℕ) (may_leave : D → List ℕ → Type 0) (contents remaining : S → Option (List ℕ))
     (handler : H) (recovery : Recovery D) (parts served : Parts H (FileJournal D)) (result : Result A E) → served ≡ parts
     → ((begun : h.Kept) (first : Entry) (entries : List Entry) → HasRedone h.kept h.is_honest h.leaving seen may_leave begun handler recovery first entries
-      → IsHeld h j begun parts entries (length entries))
+    → IsHeld h j begun parts entries (length entries))
     → IfOk result (λ (a : A). HasServed (IsExchange h j) (IsSettled j) contents remaining served)
     → IfOk result (λ (a : A). HasResumed h j seen may_leave contents remaining handler recovery)
 resumed_over h j seen may_leave contents remaining handler recovery parts served (Ok a) same begins life =

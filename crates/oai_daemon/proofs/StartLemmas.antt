@@ -1,5 +1,5 @@
 -- A start, of a host and a journal.
-use Rattle.std.proofs.Common.{◌≡◌, ℕ, Bool, IsTrue, List, [], Ok, subst}
+use Rattle.std.proofs.Common.{ℕ, Bool, IsTrue, List, [], Ok, subst}
 use Rattle.oai_config.specs.Configs.{HostConfig}
 use Rattle.oai_config.specs.Reading.{IsRead}
 use Rattle.oai_cli.specs.Begun.{IsBegunOn}
@@ -19,7 +19,7 @@ host_of text config honest failures host read is = (config, read, is.begun)
 pub started : {D : Type 0} (seen : D → List ℕ) (may_leave : D → List ℕ → Type 0) (is_clean : D → Bool) (text : List ℕ) (host after : HostState) (old new : Recovery D)
     → IsHostOf text host → (IsTrue (is_clean (disk_of new)) → IsTrue (is_clean (disk_of old))) → (IsTrue (is_clean (disk_of old)) → HasBegun seen may_leave old)
     → (IsTrue (is_clean (disk_of new)) → (first : Entry) → HasRecovered seen may_leave old first []
-      → HasRedoneAll archived.kept archived.is_honest archived.leaving seen may_leave host.repositories after new)
+    → HasRedoneAll archived.kept archived.is_honest archived.leaving seen may_leave host.repositories after new)
     → HasStarted seen may_leave is_clean text after new
 started seen may_leave is_clean text host after old new of clean begins redone = record {
   config = of.0;

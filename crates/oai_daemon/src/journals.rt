@@ -38,10 +38,7 @@ pub(crate) fn open_journal<P: Place, C: Clock>(
 }
 
 /// The journal of the place, of which the first record is read.
-pub(crate) fn read_first<P: Place>(
-    alloc: Global,
-    place: &mut P,
-) -> Result<Recovery<P::Disk>, Stop>
+pub(crate) fn read_first<P: Place>(alloc: Global, place: &mut P) -> Result<Recovery<P::Disk>, Stop>
     ensures { IfOk result (λ recovery. IsTrue (P.Disk.Disk.is_clean (disk_of recovery))
         → HasBegun P.Disk.Disk.seen P.Disk.Disk.may_leave recovery) }
 {

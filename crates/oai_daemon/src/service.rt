@@ -55,13 +55,13 @@ fn serve_over<P: Place, H: Replayed + Drop, C: Clock>(
     mut port: P::Port,
 ) -> Result<Result<(), Stop>, Stop>
     ensures { IfOk result (λ ended. HasResumed (record {
-          step = H.step;
-          Kept = H.Kept;
-          kept = H.kept;
-          is_honest = H.is_honest;
-          leaving = record { redone = H.redone; restored = H.restored };
-          reply = H.reply;
-        }) ⟦<FileJournal<P::Disk> as Journal>⟧ P.Disk.Disk.seen P.Disk.Disk.may_leave
+      step = H.step;
+      Kept = H.Kept;
+      kept = H.kept;
+      is_honest = H.is_honest;
+      leaving = record { redone = H.redone; restored = H.restored };
+      reply = H.reply;
+    }) ⟦<FileJournal<P::Disk> as Journal>⟧ P.Disk.Disk.seen P.Disk.Disk.may_leave
         P.Link.Stream.contents P.Link.Stream.remaining handler recovery) }
 {
     let Some(journaled) = resume(alloc, handler, recovery) else {

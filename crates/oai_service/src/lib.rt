@@ -2,5 +2,7 @@
 #![tactic(auto)]
 
 mod laws;
+mod programs;
 
 pub use laws::{service_law, service_on_files_law, worked_lives_law};
+pub use programs::program_life_law;

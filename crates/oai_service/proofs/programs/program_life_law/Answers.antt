@@ -1,0 +1,7 @@
+use Rattle.std.proofs.Common.{refl}
+use Rattle.oai_service.proofs.programs.program_life_law.Goals as goal
+
+pub returns : goal.returns
+returns g c = λ text lived left clean honest leaves.
+    let first = lived.begins clean in
+    (first.found, record { begins = first.held; honest = honest; unlinked = lived.unlinked; none = lived.none; serves = lived.serves; rounds = refl; behind = refl; leaves = leaves })
