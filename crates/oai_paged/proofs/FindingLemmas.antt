@@ -1,5 +1,5 @@
 -- An item that is looked for on a page, entry by entry.
-use Rattle.std.proofs.Common.{◌≡◌, ◌∙◌, ◌+◌, ◌-◌, ◌<◌, ℕ, ℤ, Bool, true, List, [], ◌∷◌, ◌++◌, Option, None, Some, Result, Ok, Err, length, take, drop, refl, sym, ap, arith, append_assoc}
+use Rattle.std.proofs.Common.{◌≡◌, ◌∙◌, ◌+◌, ◌-◌, ◌^◌, ◌<◌, ℕ, ℤ, Bool, true, List, [], ◌∷◌, ◌++◌, Option, None, Some, Result, Ok, Err, length, take, drop, refl, sym, ap, arith, append_assoc, length-append}
 use Rattle.std.specs.List.{list_all}
 use Rattle.std.specs.Ordering.{is_eq, is_gt}
 use Rattle.std.specs.declared.cmp.Ordering.{Ordering}
@@ -9,7 +9,7 @@ use Rattle.std.proofs.lemmas.Bool.{and_parts, cond-true, cond-false}
 use Rattle.std.proofs.lemmas.List.{drop_at, take_at}
 use Rattle.oai_names.proofs.Lists.{all-weaker}
 use Rattle.oai_item.specs.Decoding.{item_in}
-use Rattle.oai_item.specs.Encoding.{Spells, encoded, encoded_count}
+use Rattle.oai_item.specs.Encoding.{Spells, encoded, encoded_count, encoded_text}
 use Rattle.oai_item.specs.Item.{ItemState}
 use Rattle.oai_item.specs.Items.{is_at, item_at}
 use Rattle.oai_item.specs.Order.{are_in_order, place_cmp, precedes}
@@ -17,26 +17,51 @@ use Rattle.oai_item.specs.declared.decodings.DecodeFault.{DecodeFault}
 use Rattle.oai_item.specs.declared.decodings.DecodeFault.TheVariants.{Damaged, NoMemory}
 use Rattle.oai_item.proofs.Around.{item_at-missing, only_place}
 use Rattle.oai_item.proofs.Decoded.{item_in-spelled}
+use Rattle.oai_item.proofs.Lengths.{length-encoded_text}
 use Rattle.oai_item.proofs.OrderLemmas.{behind-precedes, is_at-Equal, precedes-trans}
 use Rattle.oai_item.proofs.Spelled.{same_spelled}
 use Rattle.oai_paged.specs.Finding.{IsFinding, IsLeftToFind, IsItemRead, IsSoughtBehind}
 use Rattle.oai_paged.specs.Pages.{AreStorable, IsPage, begins_at, entries_of, entry_of, first_number, size_of}
-use Rattle.oai_paged.proofs.PageLemmas.{behind_number, entries_of-cons, entry_parts, number_back}
+use Rattle.oai_paged.proofs.PageLemmas.{behind_number, entries_of-cons, number_back}
 use Rattle.oai_paged.proofs.ReadLemmas.{page_read}
 
 -- ---- an entry
 
--- the bytes of an entry in front are parted after as many as its number says
-pub parted : (bytes rest behind : List ℕ) (item : ItemState) (n : ℕ) → Spells (encoded item) item → bytes ≡ entry_of item ++ behind → n ≡ first_number bytes → rest ≡ drop 4 bytes
-    → (take n rest ≡ encoded item) × (drop n rest ≡ behind)
-parted bytes rest behind item n s e number tail =
-    let text : List ℕ = encoded item in
-    let whole : bytes ≡ encoded_count (length text) ++ (text ++ behind) = e ∙ entry_parts item behind in
-    let len : n ≡ length text = number ∙ ap first_number whole ∙ number_back (length text) (text ++ behind) (omega (arith, s.few)) in
-    let back : rest ≡ text ++ behind = tail ∙ ap (drop 4) whole ∙ behind_number (length text) (text ++ behind) in (
+-- an entry is a text
+pub entry_text : (item : ItemState) → entry_of item ≡ encoded_text (encoded item)
+unfolding entry_of
+entry_text item = refl
+
+text_parts : (text behind : List ℕ) → encoded_text text ++ behind ≡ encoded_count (length text) ++ (text ++ behind)
+unfolding encoded_text
+text_parts text behind = append_assoc (encoded_count (length text)) text behind
+
+text_read : (bytes text behind : List ℕ) → length text < 2 ^ 32 → bytes ≡ encoded_text text ++ behind → (first_number bytes ≡ length text) × (drop 4 bytes ≡ text ++ behind)
+text_read bytes text behind few e =
+    let parts : bytes ≡ encoded_count (length text) ++ (text ++ behind) = e ∙ text_parts text behind in (
+      ap first_number parts ∙ number_back (length text) (text ++ behind) few,
+      ap (drop 4) parts ∙ behind_number (length text) (text ++ behind),
+    )
+
+-- a text in front of bytes is parted after as many as its number says
+pub parted : (bytes rest text behind : List ℕ) (n : ℕ) → length text < 2 ^ 32 → bytes ≡ encoded_text text ++ behind → n ≡ first_number bytes → rest ≡ drop 4 bytes
+    → (take n rest ≡ text) × (drop n rest ≡ behind)
+parted bytes rest text behind n few e number tail =
+    let read = text_read bytes text behind few e in
+    let len : n ≡ length text = number ∙ read.0 in
+    let back : rest ≡ text ++ behind = tail ∙ read.1 in (
       (λ k. take (len k) (back k)) ∙ take_at text behind (length text) refl,
       (λ k. drop (len k) (back k)) ∙ drop_at text behind (length text) refl,
     )
+
+-- there is none in fewer than four bytes, nor in fewer than are said to follow
+pub no_text_number : (bytes text behind : List ℕ) → length bytes < 4 → bytes ≡ encoded_text text ++ behind → ⊥
+no_text_number bytes text behind short e = omega (arith, short, ap length e, length-append (encoded_text text) behind, length-encoded_text text)
+
+pub no_text_room : (bytes text behind : List ℕ) → length (drop 4 bytes) < first_number bytes → length text < 2 ^ 32 → bytes ≡ encoded_text text ++ behind → ⊥
+no_text_room bytes text behind short few e =
+    let read = text_read bytes text behind few e in
+    omega (arith, short, read.0, ap length read.1, length-append text behind)
 
 -- how an item stands is told of its spelling
 pub order_seen : (stamp : ℤ) (identifier spelling : List ℕ) (item : ItemState) (order : Option Ordering) → Spells (encoded item) item → spelling ≡ encoded item

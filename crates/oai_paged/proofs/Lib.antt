@@ -43,3 +43,4 @@ mod TestedLemmas
 mod ReadPlaces
 mod InsidePlaces
 mod FindingLemmas
+mod PickingLemmas

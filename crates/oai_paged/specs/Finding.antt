@@ -1,7 +1,6 @@
 -- What is looked for on a page of which the entries were not tested, for private functions. All of it is said of the items whose page
 -- the bytes are; where they are that of none, as they may be over a device that lies, nothing is said.
 use Rattle.std.specs.Prelude.{◌≡◌, ◌+◌, ℕ, ℤ, true, List, ◌++◌, length, Option, Some, None, Result, Ok, Err, ⊤}
-use Rattle.oai_item.specs.Encoding.{encoded}
 use Rattle.oai_item.specs.Item.{ItemState}
 use Rattle.oai_item.specs.Items.{item_at}
 use Rattle.oai_item.specs.Order.{are_in_order}
@@ -10,10 +9,10 @@ use Rattle.oai_item.specs.declared.decodings.DecodeFault.TheVariants.{Damaged, N
 use Rattle.oai_paged.specs.Pages.{AreStorable, IsPage, entries_of}
 use denote.Ref.{Bor}
 
--- what parting the entry of the item from the bytes behind it answers: its spelling, and these
-abbrev pub IsEntryParted : ItemState → List ℕ → Option (Bor (List ℕ) × Bor (List ℕ)) → Type 0
-IsEntryParted item behind (Some parts) = (parts.0.now ≡ encoded item) × (parts.1.now ≡ behind)
-IsEntryParted item behind None = ⊥
+-- what parting the text from the bytes behind it answers: the text, and these
+abbrev pub IsTextParted : List ℕ → List ℕ → Option (Bor (List ℕ) × Bor (List ℕ)) → Type 0
+IsTextParted text behind (Some parts) = (parts.0.now ≡ text) × (parts.1.now ≡ behind)
+IsTextParted text behind None = ⊥
 
 -- what reading bytes that spell the item answers: that item; or out of memory
 abbrev pub IsItemRead : ItemState → Result (Option ItemState) DecodeFault → Type 0

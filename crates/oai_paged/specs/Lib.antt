@@ -5,6 +5,7 @@ pub mod Finding
 pub mod Places
 pub mod Searches
 pub mod Parts
+pub mod Picking
 pub mod Sums
 pub mod Versions
 pub mod Directory

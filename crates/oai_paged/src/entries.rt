@@ -6,7 +6,6 @@ ghost use Rattle.oai_item.specs.Encoding.{Spells, encoded};
 ghost use Rattle.oai_item.specs.Item.{ItemState, has_record};
 ghost use Rattle.oai_item.specs.Items.{item_at, with_item, without_at};
 ghost use Rattle.oai_item.specs.Order.{IsPlace, are_in_order, place_cmp};
-ghost use Rattle.oai_item.specs.Selection.{passes};
 ghost use Rattle.oai_item.specs.declared.sizes.TheConstants.{MAX_ITEM_BYTES};
 ghost use Rattle.oai_pool.specs.Kinds.{has_items, number_in, spells_item, spells_items};
 ghost use Rattle.oai_paged.specs.Entries.{HasEntries, HasEntry, IsEntryReading, IsPlaceFrom};
@@ -15,7 +14,6 @@ ghost use Rattle.oai_paged.specs.Places.{AreSetCounts, have_records};
 ghost use Rattle.oai_paged.specs.declared.sizes.TheConstants.{MAX_ENTRY_BYTES, MAX_WHOLE_BYTES};
 
 use crate::sizes::{FRONT_BYTES, FULL_BYTES, MAX_ENTRY_BYTES, MAX_WHOLE_BYTES, NUMBER_BYTES};
-use oai_catalogue::Filter;
 use oai_device::PAGE_BYTES;
 use oai_item::{DecodeFault, Item, Spelling, is_spelling};
 use oai_names::{Identifier, Prefix, Sequence};
@@ -175,16 +173,6 @@ impl Entries {
     {
         let len = self.len();
         len == 0 || self.order_to(len - 1, stamp, identifier) == Ordering::Less
-    }
-
-    /// Whether the item at that place is asked for.
-    pub(crate) fn passes(&self, at: usize, filter: &Filter) -> bool
-        requires { at < length self.now }
-        ensures { HoldsAt (λ item. result ≡ passes filter.now item) self.now at }
-    {
-        let prefix = filter.prefix.as_str();
-        self.spelled(at)
-            .passes(prefix, filter.lower, filter.upper, &filter.set)
     }
 
     /// The item at that place, in memory of its own. The error is out of memory.
@@ -455,7 +443,7 @@ impl Entries {
     }
 
     /// The item at that place, as it is spelled.
-    fn spelled(&self, at: usize) -> Spelling<'_>
+    pub(crate) fn spelled(&self, at: usize) -> Spelling<'_>
         requires { at < length self.now }
         ensures { HoldsAt (λ item. result ≡ item) self.now at }
     {

@@ -1,11 +1,11 @@
 //! An item that is looked for on a page, of which no other item is decoded.
 
-ghost use Rattle.std.specs.Prelude.{◌≤◌, ◌≡◌, ◌==◌, ◌++◌, ℕ, List, Some, length};
+ghost use Rattle.std.specs.Prelude.{◌<◌, ◌≤◌, ◌≡◌, ◌==◌, ◌++◌, ◌^◌, ℕ, List, Some, length};
 ghost use Rattle.oai_item.specs.Decoding.{item_in};
-ghost use Rattle.oai_item.specs.Encoding.{Spells, encoded};
+ghost use Rattle.oai_item.specs.Encoding.{Spells, encoded, encoded_text};
 ghost use Rattle.oai_item.specs.Item.{ItemState};
 ghost use Rattle.oai_item.specs.Items.{is_at};
-ghost use Rattle.oai_paged.specs.Finding.{IsEntryParted, IsFinding, IsItemRead};
+ghost use Rattle.oai_paged.specs.Finding.{IsFinding, IsItemRead, IsTextParted};
 ghost use Rattle.oai_paged.specs.Pages.{IsPage, begins_at, entry_of};
 
 use crate::entries::first_number;
@@ -74,9 +74,18 @@ fn is_at(spelling: &[u8], stamp: i64, identifier: &str) -> bool
 
 /// The spelling in the entry in front of the bytes, and the bytes behind it, or None where there is no such entry. The
 /// spelling is not tested.
-fn first_entry(bytes: &[u8]) -> Option<(&[u8], &[u8])>
+pub(crate) fn first_entry(bytes: &[u8]) -> Option<(&[u8], &[u8])>
     ensures { (item : ItemState) (behind : List ℕ) → Spells (encoded item) item
-        → bytes.now ≡ entry_of item ++ behind → IsEntryParted item behind result }
+        → bytes.now ≡ entry_of item ++ behind → IsTextParted (encoded item) behind result }
+{
+    first_text(bytes)
+}
+
+/// The text in front of the bytes, which stands behind its length, and the bytes behind it, or None where there is none.
+/// Any bytes are a text here.
+pub(crate) fn first_text(bytes: &[u8]) -> Option<(&[u8], &[u8])>
+    ensures { (text behind : List ℕ) → length text < 2 ^ 32
+        → bytes.now ≡ encoded_text text ++ behind → IsTextParted text behind result }
 {
     if bytes.len() < NUMBER_BYTES {
         return None;

@@ -12,6 +12,7 @@ mod groups;
 mod merging;
 mod names;
 mod page_numbers;
+mod picking;
 mod places;
 mod put_and_remove;
 mod reading;

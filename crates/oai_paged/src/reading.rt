@@ -1,11 +1,11 @@
 //! What is read of a directory: which items it has.
 ghost use Rattle.std.specs.Prelude.{◌≡◌, ◌==◌, ◌&&◌, ◌+◌, ◌*◌, ◌^◌, ◌<◌, ◌≤◌, ◌++◌, ℕ, [], true, false, length, take, drop, filter, HoldsAt, IfErr, IfOk, IfSome, IsSome, IsTrue, OnOk};
 ghost use Rattle.std.specs.List.{flat_map, list_all};
-ghost use Rattle.std.specs.Ordering.{is_eq};
+ghost use Rattle.std.specs.Ordering.{is_eq, is_gt};
 ghost use Rattle.oai_item.specs.Items.{item_at, items_after};
 ghost use Rattle.oai_item.specs.Item.{IsStamp, ItemState};
-ghost use Rattle.oai_item.specs.Order.{are_in_order};
-ghost use Rattle.oai_item.specs.Selection.{passes, selected};
+ghost use Rattle.oai_item.specs.Order.{are_in_order, place_cmp};
+ghost use Rattle.oai_item.specs.Selection.{is_in_given, passes, selected};
 ghost use Rattle.oai_pool.specs.Counts.{count_of};
 ghost use Rattle.oai_pool.specs.Names.{times};
 ghost use Rattle.oai_pool.specs.declared.pools.TheConstants.{MAX_PAGES};
@@ -22,12 +22,13 @@ use crate::faults::fault_of;
 use crate::finding::{begins_on_page, find_on_page, has_items};
 use crate::groups::{Groups, Stretch};
 use crate::names::forget_all;
+use crate::picking::pick_on_page;
 use crate::places::SharedPlace;
 use crate::searches::place_of;
 use crate::sizes::FRONT_BYTES;
 use oai_catalogue::Filter;
 use oai_device::PAGE_BYTES;
-use oai_item::{DecodeFault, Fault, Item};
+use oai_item::{DecodeFault, Fault, Item, Spelling};
 use oai_names::Sequence;
 use oai_pool::{PageKind, PageNo, PagePool};
 use oai_time::LAST_SECOND;
@@ -646,8 +647,46 @@ fn is_wanted(entries: &Entries, at: usize, wanted: Wanted<'_>) -> bool
     requires { at < length entries.now }
     ensures { HoldsAt (λ item. result ≡ is_wanted wanted.entry.filter.now wanted.entry.stamp wanted.entry.identifier.now item) entries.now at }
 {
-    entries.order_to(at, wanted.stamp, wanted.identifier) == Ordering::Greater
-        && entries.passes(at, wanted.filter)
+    is_item_wanted(&entries.spelled(at), wanted)
+}
+
+/// Whether the item is wanted. Its setSpecs are looked at first: of a set that is asked for most items are not.
+pub(crate) fn is_item_wanted(item: &Spelling<'_>, wanted: Wanted<'_>) -> bool
+    ensures { result ≡ is_wanted wanted.entry.filter.now wanted.entry.stamp wanted.entry.identifier.now item.now }
+{
+    if !is_in_given(item, wanted.filter) {
+        return false;
+    }
+    is_behind(item, wanted) && passes(item, wanted.filter)
+}
+
+/// Whether the item is in the set, where one is given.
+fn is_in_given(item: &Spelling<'_>, filter: &Filter) -> bool
+    ensures { result ≡ is_in_given filter.now.set item.now.sets }
+{
+    match &filter.set {
+        Some(set) => item.is_in(set),
+        None => true,
+    }
+}
+
+/// Whether the item stands behind the datestamp and identifier.
+fn is_behind(item: &Spelling<'_>, wanted: Wanted<'_>) -> bool
+    ensures { result ≡ is_gt (place_cmp item.now wanted.entry.stamp wanted.entry.identifier.now) }
+{
+    item.order_to(wanted.stamp, wanted.identifier) == Ordering::Greater
+}
+
+/// Whether the item is asked for.
+fn passes(item: &Spelling<'_>, filter: &Filter) -> bool
+    ensures { result ≡ passes filter.now item.now }
+{
+    item.passes(
+        filter.prefix.as_str(),
+        filter.lower,
+        filter.upper,
+        &filter.set,
+    )
 }
 
 /// Adds the wanted items of some places from `at` on after the first `skip` to the part, up to `most`, and answers how many are then left to be skipped:
@@ -709,8 +748,93 @@ fn take_at<P: PagePool>(
             return Ok(skip - count);
         }
     }
+    let place = &places[at];
+    if is_sparse(place, wanted) {
+        return pick_at(alloc, pages, place, wanted, skip, most, part);
+    }
     let entries = read_place(alloc, pages, places, at)?;
     Ok(take_in(alloc, &entries, wanted, skip, most, part)?)
+}
+
+/// Whether the place has one page, of whose items half at most are in the set that is asked for.
+fn is_sparse(place: &SharedPlace, wanted: Wanted<'_>) -> bool
+    ensures { IsTrue result → length place.now.pages ≤ 1 }
+{
+    let filter = wanted.filter;
+    if filter.set.is_none() {
+        return false;
+    }
+    if place.is_long() {
+        return false;
+    }
+    match place.items_in(&filter.set) {
+        Some(count) => count <= place.len() / 2,
+        None => false,
+    }
+}
+
+/// Adds the wanted items of the place, which has one page, after the first `skip` to the part, up to `most`, and answers how many are then left to be
+/// skipped. It tests no other item. Any fault but `TooManyPages`. Where it is `Damaged`, the page is not kept in memory.
+fn pick_at<P: PagePool>(
+    alloc: Global,
+    pages: &mut P,
+    place: &SharedPlace,
+    wanted: Wanted<'_>,
+    skip: usize,
+    most: usize,
+    part: &mut Vec<Item>,
+) -> Result<usize, Fault>
+    requires one { length place.now.pages ≤ 1 }
+    requires named { (n : ℕ) → 0 < times n place.now.pages → 0 < count_of (P.counts pages.old) n }
+    requires sound { IsSoundPlace (P.pages pages.old) place.now }
+    ensures taken { IfOk result (λ left. IsTrue (P.honest pages.old)
+        → IsPartTaken (is_wanted wanted.entry.filter.now wanted.entry.stamp wanted.entry.identifier.now) most
+        part.old.items part.new.items skip left (items_at (P.pages pages.old) place.now)) }
+    ensures pages { ReadsPages P.PagePool result pages.old pages.new }
+{
+    match pick_in(alloc, pages, place, wanted, skip, most, part) {
+        Ok(left) => Ok(left),
+        Err(fault) => {
+            forget_damaged(pages, place, fault);
+            Err(fault)
+        }
+    }
+}
+
+/// Adds the wanted items of the place, which has one page, after the first `skip` to the part, up to `most`, and answers how many are then left to be
+/// skipped. Any fault but `TooManyPages`.
+fn pick_in<P: PagePool>(
+    alloc: Global,
+    pages: &mut P,
+    place: &SharedPlace,
+    wanted: Wanted<'_>,
+    skip: usize,
+    most: usize,
+    part: &mut Vec<Item>,
+) -> Result<usize, Fault>
+    requires one { length place.now.pages ≤ 1 }
+    requires named { (n : ℕ) → 0 < times n place.now.pages → 0 < count_of (P.counts pages.old) n }
+    requires sound { IsSoundPlace (P.pages pages.old) place.now }
+    ensures taken { IfOk result (λ left. IsTrue (P.honest pages.old)
+        → IsPartTaken (is_wanted wanted.entry.filter.now wanted.entry.stamp wanted.entry.identifier.now) most
+        part.old.items part.new.items skip left (items_at (P.pages pages.old) place.now)) }
+    ensures pages { ReadsPages P.PagePool result pages.old pages.new }
+{
+    let page = match pages.read(place.pages()[0], PageKind::Bytes) {
+        Ok(page) => page,
+        Err(fault) => return Err(fault_of(fault)),
+    };
+    if !has_items(&page[..], place.len()) {
+        return Err(Fault::Damaged);
+    }
+    if !begins_on_page(&page[..], place.stamp(), place.identifier()) {
+        return Err(Fault::Damaged);
+    }
+    match pick_on_page(alloc, &page[..], wanted, skip, most, part) {
+        Ok(left) => Ok(left),
+        Err(DecodeFault::Damaged) => Err(Fault::Damaged),
+        Err(DecodeFault::NoMemory) => Err(Fault::NoMemory),
+    }
 }
 
 /// Adds to the part those of the entries that are wanted, behind the first `skip` of them, until the part has `most`
