@@ -125,15 +125,21 @@ fn page_of_other_items(rt: HostRuntime) {
     assert_found_out(&rt, alloc, page_with(&rt, alloc, &samples));
 }
 
+/// The page as it was written, but for the byte at that place.
+fn page_changed_at(rt: &impl Abort, alloc: Global, at: usize) -> Page {
+    let mut bytes = entries_of(rt, alloc, &[item(2), item(4), item(6)]);
+    assert!(rt; at < bytes.len());
+    bytes[at] = 255;
+    page_of(rt, bytes.as_slice())
+}
+
 /// A byte of one entry alone: of the length in front of it, and of what spells its item.
 #[test]
 fn one_damaged_entry(rt: HostRuntime) {
     let alloc = rt.alloc();
     for entry in 0..3usize {
         for at in [4, 5, 7, 8, 9, 20] {
-            let mut bytes = entries_of(&rt, alloc, &[item(2), item(4), item(6)]);
-            bytes[entry * 4_004 + at] = 255;
-            assert_found_out(&rt, alloc, page_of(&rt, bytes.as_slice()));
+            assert_found_out(&rt, alloc, page_changed_at(&rt, alloc, entry * 4_004 + at));
         }
     }
 }
