@@ -8,7 +8,7 @@ ghost use Rattle.oai_item.specs.Items.{is_at};
 ghost use Rattle.oai_paged.specs.Finding.{IsFinding, IsItemRead, IsTextParted};
 ghost use Rattle.oai_paged.specs.Pages.{IsPage, begins_at, entry_of};
 
-use crate::entries::first_number;
+use crate::entry_bytes::first_number;
 use crate::sizes::NUMBER_BYTES;
 use oai_item::{DecodeFault, Item, order_of_spelling};
 use std::alloc::Global;

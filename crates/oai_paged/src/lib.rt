@@ -5,6 +5,7 @@
 mod changes;
 mod directories;
 mod entries;
+mod entry_bytes;
 mod exchanges;
 mod faults;
 mod finding;

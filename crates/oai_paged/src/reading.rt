@@ -17,7 +17,8 @@ ghost use Rattle.oai_paged.specs.Places.{FitPages, IsSoundPlace, are_below, byte
 ghost use Rattle.oai_paged.specs.Searches.{MayBeAt, StartsAt};
 ghost use Rattle.oai_paged.specs.Sums.{AreGroups};
 
-use crate::entries::{Entries, are_zeros};
+use crate::entries::Entries;
+use crate::entry_bytes::are_zeros;
 use crate::faults::fault_of;
 use crate::finding::{begins_on_page, find_on_page, has_items};
 use crate::groups::{Groups, Stretch};

@@ -1,6 +1,6 @@
 use Rattle.std.proofs.Common.{◌≡◌, ◌+◌, ◌-◌, ◌++◌, take}
 use Rattle.std.specs.Prelude.{map}
-use Rattle.oai_paged.proofs.entries.push_moved.Given as goal
+use Rattle.oai_paged.proofs.entry_bytes.push_moved.Given as goal
 
 -- those so far are added
 abbrev pub invariant-loop-end : goal.invariant-loop-end

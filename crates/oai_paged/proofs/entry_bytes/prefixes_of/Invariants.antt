@@ -1,7 +1,7 @@
 use Rattle.std.proofs.Common.{◌≡◌, ◌++◌, length}
 use Rattle.std.specs.Prelude.{map}
 use Rattle.oai_item.specs.Item.{Metadata}
-use Rattle.oai_paged.proofs.entries.prefixes_of.Given as goal
+use Rattle.oai_paged.proofs.entry_bytes.prefixes_of.Given as goal
 
 -- those that were copied, and those that are to come
 abbrev pub invariant-loop-format : goal.invariant-loop-format

@@ -4,7 +4,7 @@ use Rattle.oai_pool.specs.Kinds.{number_in, spells_item}
 use Rattle.oai_paged.specs.Entries.{HasEntry}
 use Rattle.oai_paged.proofs.ReadLemmas.{size_within}
 use Rattle.oai_paged.proofs.TestedLemmas.{AreKnown, more_known, next_known, none_known}
-use Rattle.oai_paged.proofs.entries.ends_of.Goals as goal
+use Rattle.oai_paged.proofs.entry_bytes.ends_of.Goals as goal
 
 pub loop-init : goal.loop-init
 loop-init c = subst (λ (ends : List ℕ). AreKnown c.args.bytes.now ends c.args.count 0 0) (sym c.new-ends.ensures.items) (none_known c.args.bytes.now c.args.count c.requires)

@@ -1,5 +1,5 @@
 use Rattle.oai_paged.specs.Entries.{HasEntries}
-use Rattle.oai_paged.proofs.entries.read_ends.Given as goal
+use Rattle.oai_paged.proofs.entry_bytes.read_ends.Given as goal
 
 -- as many entries as were counted off stand in front
 abbrev pub invariant-loop : goal.invariant-loop

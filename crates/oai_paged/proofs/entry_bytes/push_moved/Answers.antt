@@ -2,7 +2,7 @@ use Rattle.std.proofs.Common.{◌∙◌, ◌+◌, ◌-◌, ◌++◌, sym, ap}
 use Rattle.std.specs.Prelude.{map}
 use Rattle.std.proofs.lemmas.List.{append-nil, take_all}
 use Rattle.oai_paged.proofs.PutLemmas.{map_more}
-use Rattle.oai_paged.proofs.entries.push_moved.Goals as goal
+use Rattle.oai_paged.proofs.entry_bytes.push_moved.Goals as goal
 
 pub loop-end-init : goal.loop-end-init
 loop-end-init c = sym (append-nil c.args.ends.now.items)

@@ -3,7 +3,7 @@ use Rattle.oai_paged.specs.Entries.{HasEntry}
 use Rattle.oai_paged.specs.Pages.{first_number}
 use Rattle.oai_paged.proofs.ReadLemmas.{number_few}
 use Rattle.oai_paged.proofs.TestedLemmas.{entry_known, entry_within}
-use Rattle.oai_paged.proofs.entries.spelled_len.Goals as goal
+use Rattle.oai_paged.proofs.entry_bytes.spelled_len.Goals as goal
 
 pub first_number-requires : goal.first_number-requires
 first_number-requires c =

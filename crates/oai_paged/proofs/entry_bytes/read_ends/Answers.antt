@@ -3,7 +3,7 @@ use Rattle.std.proofs.lemmas.List.{take_rest}
 use Rattle.std.proofs.lemmas.Result.{err_from_is_err_and}
 use Rattle.oai_paged.specs.Entries.{HasEntries, HasEntry, HasNoEntry}
 use Rattle.oai_paged.proofs.ReadLemmas.{no_entries, no_entry_read, no_more, one_more, size_within}
-use Rattle.oai_paged.proofs.entries.read_ends.Goals as goal
+use Rattle.oai_paged.proofs.entry_bytes.read_ends.Goals as goal
 
 pub loop-init : goal.loop-init
 loop-init c = subst (λ (ends : List ℕ). HasEntries c.args.bytes.now ends 0 0) (sym c.new-ends.ensures.items) (no_entries c.args.bytes.now)

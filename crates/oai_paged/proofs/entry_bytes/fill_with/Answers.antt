@@ -1,5 +1,5 @@
 use Rattle.oai_paged.proofs.CutLemmas.{page_filled}
-use Rattle.oai_paged.proofs.entries.fill_with.Goals as goal
+use Rattle.oai_paged.proofs.entry_bytes.fill_with.Goals as goal
 
 pub returns : goal.returns
 returns c = page_filled c.args.front.now c.args.back.now c.args.page.now c.put_at.new.page c.put_at-2.new.page c.clear.new.bytes c.requires

@@ -2,7 +2,7 @@ use Rattle.std.proofs.Common.{◌∙◌, ap, sym}
 use Rattle.oai_item.specs.Encoding.{encoded_count}
 use Rattle.oai_paged.proofs.PageLemmas.{number_spelled}
 use Rattle.oai_paged.proofs.PutLemmas.{entry_joined}
-use Rattle.oai_paged.proofs.entries.entry_of.Goals as goal
+use Rattle.oai_paged.proofs.entry_bytes.entry_of.Goals as goal
 
 pub returns-clause-entry : goal.returns-clause-entry
 returns-clause-entry c =

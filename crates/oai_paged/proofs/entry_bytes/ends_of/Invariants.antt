@@ -1,5 +1,5 @@
 use Rattle.oai_paged.proofs.TestedLemmas.{AreKnown}
-use Rattle.oai_paged.proofs.entries.ends_of.Given as goal
+use Rattle.oai_paged.proofs.entry_bytes.ends_of.Given as goal
 
 -- as many entries as were counted off stand in front, and it is known of the others
 abbrev pub invariant-loop : goal.invariant-loop

@@ -4,7 +4,7 @@ use Rattle.oai_item.specs.Decoding.{item_in}
 use Rattle.oai_paged.specs.Entries.{HasEntry}
 use Rattle.oai_paged.specs.Pages.{first_number}
 use Rattle.oai_paged.proofs.ReadLemmas.{has_entry, no_number, no_room, no_spelling, none_from, some_from}
-use Rattle.oai_paged.proofs.entries.entry_len.Goals as goal
+use Rattle.oai_paged.proofs.entry_bytes.entry_len.Goals as goal
 
 pub returns-then-bytes-lt-NUMBER_BYTES : goal.returns-then-bytes-lt-NUMBER_BYTES
 returns-then-bytes-lt-NUMBER_BYTES c = no_number c.args.bytes.now c.if-bytes-lt-NUMBER_BYTES.true
