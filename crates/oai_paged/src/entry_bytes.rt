@@ -105,7 +105,11 @@ fn entry_len(alloc: Global, bytes: &[u8]) -> Result<usize, DecodeFault>
 
 /// Where each of so many entries in front of the bytes ends, and the last of them. `Damaged` where there are not so
 /// many; `NoMemory`.
-pub(crate) fn read_ends(alloc: Global, bytes: &[u8], count: usize) -> Result<(Vec<usize>, usize), DecodeFault>
+pub(crate) fn read_ends(
+    alloc: Global,
+    bytes: &[u8],
+    count: usize,
+) -> Result<(Vec<usize>, usize), DecodeFault>
     ensures read { IfOk result (λ read. HasEntries bytes.now read.0.items count read.1) }
     ensures damaged { IsErrOf result DecodeFault.Damaged
         → (items : List ItemState) (behind : List ℕ) → AreStorable items → length items ≡ count
@@ -123,7 +127,11 @@ pub(crate) fn read_ends(alloc: Global, bytes: &[u8], count: usize) -> Result<(Ve
 
 /// Where each of so many entries in front of the bytes ends, each of which is known to spell an item, and the last of
 /// them. The error is out of memory.
-pub(crate) fn ends_of(alloc: Global, bytes: &[u8], count: usize) -> Result<(Vec<usize>, usize), AllocError>
+pub(crate) fn ends_of(
+    alloc: Global,
+    bytes: &[u8],
+    count: usize,
+) -> Result<(Vec<usize>, usize), AllocError>
     requires { spells_items count bytes.now ≡ true }
     ensures { IfOk result (λ read. HasEntries bytes.now read.0.items count read.1) }
 {
@@ -186,7 +194,12 @@ pub(crate) fn copied_ends(alloc: Global, ends: &[usize]) -> Result<Vec<usize>, A
 }
 
 /// A copy of the bytes, one part after the other.
-pub(crate) fn joined(alloc: Global, front: &[u8], middle: &[u8], back: &[u8]) -> Result<Vec<u8>, AllocError>
+pub(crate) fn joined(
+    alloc: Global,
+    front: &[u8],
+    middle: &[u8],
+    back: &[u8],
+) -> Result<Vec<u8>, AllocError>
     ensures { IfOk result (λ copy. copy.items ≡ front.now ++ (middle.now ++ back.now)) }
 {
     let mut copy = copied(alloc, front)?;

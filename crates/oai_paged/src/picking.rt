@@ -1,21 +1,28 @@
 //! Items that are picked from a page of which most are in other sets: these are passed over by their lengths, and not
 //! tested.
 
-ghost use Rattle.std.specs.Prelude.{◌≡◌, ◌++◌, ◌<◌, ◌≤◌, ◌∷◌, ◌^◌, ℕ, List, [], false, length, IfOk};
+ghost use Rattle.std.specs.Prelude.{◌≡◌, ◌++◌, ◌<◌, ◌≤◌, ◌∷◌, ◌^◌, ℕ, List, [], false, length, IfOk, IsTrue};
 ghost use Rattle.oai_item.specs.Encoding.{Spells, encoded_list, encoded_text};
 ghost use Rattle.oai_item.specs.Item.{ItemState};
 ghost use Rattle.oai_item.specs.Membership.{is_in};
 ghost use Rattle.oai_item.specs.Selection.{is_in_given};
+ghost use Rattle.oai_paged.specs.Calls.{ReadsPages};
 ghost use Rattle.oai_paged.specs.Pages.{IsPage};
+ghost use Rattle.oai_paged.specs.Parts.{IsPartTaken};
 ghost use Rattle.oai_paged.specs.Picking.{AreSetsFound, IsFoundWanted, IsPicked, IsPicking};
-ghost use Rattle.oai_paged.specs.Places.{is_wanted};
+ghost use Rattle.oai_paged.specs.Places.{IsSoundPlace, is_wanted, items_at};
+ghost use Rattle.oai_pool.specs.Counts.{count_of};
+ghost use Rattle.oai_pool.specs.Names.{times};
 
-use crate::entries::first_number;
-use crate::finding::{first_entry, first_text};
-use crate::reading::{Wanted, is_item_wanted};
+use crate::entry_bytes::first_number;
+use crate::faults::fault_of;
+use crate::finding::{begins_on_page, first_entry, first_text, has_items};
+use crate::places::SharedPlace;
+use crate::reading::{Wanted, forget_damaged, is_item_wanted};
 use crate::sizes::NUMBER_BYTES;
 use oai_catalogue::Filter;
-use oai_item::{DecodeFault, Item, Spelling};
+use oai_item::{DecodeFault, Fault, Item, Spelling};
+use oai_pool::{PageKind, PagePool};
 use std::alloc::{AllocError, Global};
 
 /// The bytes before the identifier in the spelling of an item: whether it is live, and its datestamp.
@@ -160,4 +167,85 @@ fn may_have(bytes: &[u8], set: &str) -> bool
         rest = behind;
     }
     false
+}
+
+/// Whether the place has one page, of whose items half at most are in the set that is asked for.
+pub(crate) fn is_sparse(place: &SharedPlace, wanted: Wanted<'_>) -> bool
+    ensures { IsTrue result → length place.now.pages ≤ 1 }
+{
+    let filter = wanted.filter;
+    if filter.set.is_none() {
+        return false;
+    }
+    if place.is_long() {
+        return false;
+    }
+    match place.items_in(&filter.set) {
+        Some(count) => count <= place.len() / 2,
+        None => false,
+    }
+}
+
+/// Adds the wanted items of the place, which has one page, after the first `skip` to the part, up to `most`, and answers how many are then left to be
+/// skipped. It tests no other item. Any fault but `TooManyPages`. Where it is `Damaged`, the page is not kept in memory.
+pub(crate) fn pick_at<P: PagePool>(
+    alloc: Global,
+    pages: &mut P,
+    place: &SharedPlace,
+    wanted: Wanted<'_>,
+    skip: usize,
+    most: usize,
+    part: &mut Vec<Item>,
+) -> Result<usize, Fault>
+    requires one { length place.now.pages ≤ 1 }
+    requires named { (n : ℕ) → 0 < times n place.now.pages → 0 < count_of (P.counts pages.old) n }
+    requires sound { IsSoundPlace (P.pages pages.old) place.now }
+    ensures taken { IfOk result (λ left. IsTrue (P.honest pages.old)
+        → IsPartTaken (is_wanted wanted.entry.filter.now wanted.entry.stamp wanted.entry.identifier.now) most
+        part.old.items part.new.items skip left (items_at (P.pages pages.old) place.now)) }
+    ensures pages { ReadsPages P.PagePool result pages.old pages.new }
+{
+    match pick_in(alloc, pages, place, wanted, skip, most, part) {
+        Ok(left) => Ok(left),
+        Err(fault) => {
+            forget_damaged(pages, place, fault);
+            Err(fault)
+        }
+    }
+}
+
+/// Adds the wanted items of the place, which has one page, after the first `skip` to the part, up to `most`, and answers how many are then left to be
+/// skipped. Any fault but `TooManyPages`.
+fn pick_in<P: PagePool>(
+    alloc: Global,
+    pages: &mut P,
+    place: &SharedPlace,
+    wanted: Wanted<'_>,
+    skip: usize,
+    most: usize,
+    part: &mut Vec<Item>,
+) -> Result<usize, Fault>
+    requires one { length place.now.pages ≤ 1 }
+    requires named { (n : ℕ) → 0 < times n place.now.pages → 0 < count_of (P.counts pages.old) n }
+    requires sound { IsSoundPlace (P.pages pages.old) place.now }
+    ensures taken { IfOk result (λ left. IsTrue (P.honest pages.old)
+        → IsPartTaken (is_wanted wanted.entry.filter.now wanted.entry.stamp wanted.entry.identifier.now) most
+        part.old.items part.new.items skip left (items_at (P.pages pages.old) place.now)) }
+    ensures pages { ReadsPages P.PagePool result pages.old pages.new }
+{
+    let page = match pages.read(place.pages()[0], PageKind::Bytes) {
+        Ok(page) => page,
+        Err(fault) => return Err(fault_of(fault)),
+    };
+    if !has_items(&page[..], place.len()) {
+        return Err(Fault::Damaged);
+    }
+    if !begins_on_page(&page[..], place.stamp(), place.identifier()) {
+        return Err(Fault::Damaged);
+    }
+    match pick_on_page(alloc, &page[..], wanted, skip, most, part) {
+        Ok(left) => Ok(left),
+        Err(DecodeFault::Damaged) => Err(Fault::Damaged),
+        Err(DecodeFault::NoMemory) => Err(Fault::NoMemory),
+    }
 }

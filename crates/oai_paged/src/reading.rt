@@ -23,7 +23,7 @@ use crate::faults::fault_of;
 use crate::finding::{begins_on_page, find_on_page, has_items};
 use crate::groups::{Groups, Stretch};
 use crate::names::forget_all;
-use crate::picking::pick_on_page;
+use crate::picking::{is_sparse, pick_at};
 use crate::places::SharedPlace;
 use crate::searches::place_of;
 use crate::sizes::FRONT_BYTES;
@@ -293,7 +293,7 @@ fn find_at<P: PagePool>(
 }
 
 /// Where the fault is `Damaged`, none of the pages of the place is kept in memory, so that each is read from the device again.
-fn forget_damaged<P: PagePool>(pages: &mut P, place: &SharedPlace, fault: Fault)
+pub(crate) fn forget_damaged<P: PagePool>(pages: &mut P, place: &SharedPlace, fault: Fault)
     ensures { Forgets P.PagePool pages.old pages.new }
 {
     if fault == Fault::Damaged {
@@ -755,87 +755,6 @@ fn take_at<P: PagePool>(
     }
     let entries = read_place(alloc, pages, places, at)?;
     Ok(take_in(alloc, &entries, wanted, skip, most, part)?)
-}
-
-/// Whether the place has one page, of whose items half at most are in the set that is asked for.
-fn is_sparse(place: &SharedPlace, wanted: Wanted<'_>) -> bool
-    ensures { IsTrue result → length place.now.pages ≤ 1 }
-{
-    let filter = wanted.filter;
-    if filter.set.is_none() {
-        return false;
-    }
-    if place.is_long() {
-        return false;
-    }
-    match place.items_in(&filter.set) {
-        Some(count) => count <= place.len() / 2,
-        None => false,
-    }
-}
-
-/// Adds the wanted items of the place, which has one page, after the first `skip` to the part, up to `most`, and answers how many are then left to be
-/// skipped. It tests no other item. Any fault but `TooManyPages`. Where it is `Damaged`, the page is not kept in memory.
-fn pick_at<P: PagePool>(
-    alloc: Global,
-    pages: &mut P,
-    place: &SharedPlace,
-    wanted: Wanted<'_>,
-    skip: usize,
-    most: usize,
-    part: &mut Vec<Item>,
-) -> Result<usize, Fault>
-    requires one { length place.now.pages ≤ 1 }
-    requires named { (n : ℕ) → 0 < times n place.now.pages → 0 < count_of (P.counts pages.old) n }
-    requires sound { IsSoundPlace (P.pages pages.old) place.now }
-    ensures taken { IfOk result (λ left. IsTrue (P.honest pages.old)
-        → IsPartTaken (is_wanted wanted.entry.filter.now wanted.entry.stamp wanted.entry.identifier.now) most
-        part.old.items part.new.items skip left (items_at (P.pages pages.old) place.now)) }
-    ensures pages { ReadsPages P.PagePool result pages.old pages.new }
-{
-    match pick_in(alloc, pages, place, wanted, skip, most, part) {
-        Ok(left) => Ok(left),
-        Err(fault) => {
-            forget_damaged(pages, place, fault);
-            Err(fault)
-        }
-    }
-}
-
-/// Adds the wanted items of the place, which has one page, after the first `skip` to the part, up to `most`, and answers how many are then left to be
-/// skipped. Any fault but `TooManyPages`.
-fn pick_in<P: PagePool>(
-    alloc: Global,
-    pages: &mut P,
-    place: &SharedPlace,
-    wanted: Wanted<'_>,
-    skip: usize,
-    most: usize,
-    part: &mut Vec<Item>,
-) -> Result<usize, Fault>
-    requires one { length place.now.pages ≤ 1 }
-    requires named { (n : ℕ) → 0 < times n place.now.pages → 0 < count_of (P.counts pages.old) n }
-    requires sound { IsSoundPlace (P.pages pages.old) place.now }
-    ensures taken { IfOk result (λ left. IsTrue (P.honest pages.old)
-        → IsPartTaken (is_wanted wanted.entry.filter.now wanted.entry.stamp wanted.entry.identifier.now) most
-        part.old.items part.new.items skip left (items_at (P.pages pages.old) place.now)) }
-    ensures pages { ReadsPages P.PagePool result pages.old pages.new }
-{
-    let page = match pages.read(place.pages()[0], PageKind::Bytes) {
-        Ok(page) => page,
-        Err(fault) => return Err(fault_of(fault)),
-    };
-    if !has_items(&page[..], place.len()) {
-        return Err(Fault::Damaged);
-    }
-    if !begins_on_page(&page[..], place.stamp(), place.identifier()) {
-        return Err(Fault::Damaged);
-    }
-    match pick_on_page(alloc, &page[..], wanted, skip, most, part) {
-        Ok(left) => Ok(left),
-        Err(DecodeFault::Damaged) => Err(Fault::Damaged),
-        Err(DecodeFault::NoMemory) => Err(Fault::NoMemory),
-    }
 }
 
 /// Adds to the part those of the entries that are wanted, behind the first `skip` of them, until the part has `most`

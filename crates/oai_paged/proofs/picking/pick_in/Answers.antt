@@ -7,7 +7,7 @@ use Rattle.oai_paged.specs.Places.{items_at}
 use Rattle.oai_paged.proofs.HaveReadLemmas.{read_page}
 use Rattle.oai_paged.proofs.JoinedLemmas.{named_in_numbers}
 use Rattle.oai_paged.proofs.ReadPlaces.{not_honest_from, page_of_one, reads_damaged}
-use Rattle.oai_paged.proofs.reading.pick_in.Goals as goal
+use Rattle.oai_paged.proofs.picking.pick_in.Goals as goal
 
 same_eqb : (a b : ℕ) → a ≡ b → eqb a b ≡ true
 same_eqb a b e = grind (arith, e)

@@ -1,5 +1,5 @@
 use Rattle.oai_paged.proofs.TestedLemmas.{reads_forgotten}
-use Rattle.oai_paged.proofs.reading.pick_at.Goals as goal
+use Rattle.oai_paged.proofs.picking.pick_at.Goals as goal
 
 pub returns-in-Err-clause-pages : goal.returns-in-Err-clause-pages
 returns-in-Err-clause-pages g c =
