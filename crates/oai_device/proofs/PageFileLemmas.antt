@@ -1,8 +1,8 @@
 -- A file that is read and written at offsets, a part after the other.
 use Rattle.std.proofs.Common.{Bool, Result, Ok, IfOk, IsTrue, ◌≡◌, ◌⊎◌, ◌+◌, ◌-◌, ◌<◌, ◌≤◌, ℕ, List, Some, ◌++◌, length, take, drop, get_or, [], inl, inr, refl, sym, ap, ◌∙◌, subst, arith}
-use Rattle.std.proofs.lemmas.List.{same_lists, get_or_append_left, get_or-append_right, get_or_default, length-append, length-take, length-take-le, take-append-le, take-take, take_all}
+use Rattle.std.proofs.lemmas.List.{same_lists, get_or_append_left, get_or-append_right, get_or_default, get_or-drop, get_or-take, length-append, length-drop, length-take, length-take-le, take-append-le, take-take}
 use Rattle.std.proofs.Math.Seq.{take-add, take-append-add}
-use borrow.Rule.Slice.PartMut.{mid_of, post_of, put_mid, same_len_mid}
+use borrow.Rule.Slice.PartMut.{mid_of, post_of, put_mid}
 use Rattle.std.proofs.lemmas.Bool.{cases_lt}
 use Rattle.oai_device.specs.PageFile.{Bytes, KeepsOthers, Stand, WereRead}
 
@@ -55,6 +55,17 @@ keeps_next first old new at count done left within before now = record {
   further : {place : ℕ} → (place < at) ⊎ (at + count ≤ place) → (place < at + done) ⊎ (at + done + left ≤ place)
   further (inl front) = inl (omega arith)
   further (inr back) = inr (omega arith)
+
+-- so many bytes of those that stand, from one of them on, stand where they are
+pub stand_part : (file : Bytes) (at from len : ℕ) (bytes : List ℕ) → from + len ≤ length bytes → Stand file at bytes
+    → Stand file (at + from) (take len (drop from bytes))
+stand_part file at from len bytes within stood = record {
+  each = λ i below.
+      let inside : i < len = subst (λ (n : ℕ). i < n) (length-take-le len (drop from bytes) (omega (arith, length-drop from bytes))) below in
+      let place : at + (from + i) ≡ at + from + i = omega arith in
+      subst (λ (p : ℕ). file p ≡ Some (get_or (take len (drop from bytes)) i 0)) place
+      (stood.each (from + i) (omega arith) ∙ ap Some (sym (get_or-take len (drop from bytes) i 0 inside ∙ get_or-drop from bytes i 0)));
+}
 
 -- what was read where bytes stand is these bytes
 pub read_is : (file : Bytes) (at : ℕ) (bytes into : List ℕ) → Stand file at bytes → WereRead file at into → length bytes ≡ length into → bytes ≡ into
@@ -125,10 +136,3 @@ write_on honest honest_now now new at done left count page answer still within c
   where
     nothing : Stand new (at + done) []
     nothing = record { each = λ i below. absurd (omega arith) }
-
--- the whole list, with another part in its middle, where it was read to its end
-pub all_read : (file : Bytes) (at done left count : ℕ) (page into : List ℕ) → length into ≡ length (mid_of done left page) → length page ≤ done + count
-    → WereRead file at (take (done + count) (put_mid done left page into)) → WereRead file at (put_mid done left page into)
-all_read file at done left count page into same whole read =
-    let long : length (put_mid done left page into) ≡ length page = same_len_mid done left page into same in
-    subst (λ (xs : List ℕ). WereRead file at xs) (take_all (done + count) (put_mid done left page into) (omega arith)) read

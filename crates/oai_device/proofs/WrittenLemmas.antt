@@ -1,12 +1,14 @@
 -- The pages of a file device are in its file.
-use Rattle.std.proofs.Common.{Bool, true, false, nat_eq, Option, None, Some, Result, Ok, Err, IsSome, OnOk, is_ok, ◌≡◌, ◌≢◌, ◌⊎◌, ◌+◌, ◌*◌, ◌<◌, ◌≤◌, ℕ, List, ◌∷◌, [], length, inl, inr, refl, sym, ap, ◌∙◌, subst, eqb, eq-eqb, cond, arith}
+use Rattle.std.proofs.Common.{Bool, true, false, nat_eq, Option, None, Some, Result, Ok, Err, IsSome, OnOk, is_ok, ◌≡◌, ◌≢◌, ◌⊎◌, ◌+◌, ◌*◌, ◌<◌, ◌≤◌, ℕ, List, ◌∷◌, [], length, drop, take, inl, inr, refl, sym, ap, ◌∙◌, subst, eqb, eq-eqb, cond, arith}
 use Rattle.std.proofs.lemmas.Bool.{cases_lt, eqb-true, false≢true}
+use Rattle.std.proofs.lemmas.List.{length-drop, length-take-le}
 use Rattle.std.specs.Map.{lookup}
 use Rattle.std.specs.Option.{option_flatten}
 use mir.Val.{bool_byte}
+use Rattle.oai_device.specs.Device.{range_of}
 use Rattle.oai_device.specs.PageFile.{Bytes, KeepsOthers, Stand, WereRead}
 use Rattle.oai_device.specs.Written.{AreInFile, Pages, page_under, with_page}
-use Rattle.oai_device.proofs.PageFileLemmas.{read_is, stand_kept}
+use Rattle.oai_device.proofs.PageFileLemmas.{read_is, stand_kept, stand_part}
 
 -- what holds of each answer that is Ok
 pub on_ok : {T E : Type 0} (P : Type 0) (answer : Result T E) → (is_ok answer ≡ true → P) → OnOk answer P
@@ -21,6 +23,19 @@ page_read file pages number start into here long some placed read = found (page_
   found None is none = absurd (false≢true none)
   found (Some page) is given = ap Some (read_is file start page into
       (subst (λ (n : ℕ). Stand file n page) (sym here) (placed.place number page is)) read (placed.whole number page is ∙ sym long))
+
+-- bytes of a page that were read are those of the page that was written last
+pub range_read : (file : Bytes) (pages : Pages) (number start from : ℕ) (into : List ℕ) → start ≡ number * 16384 → from + length into ≤ 16384
+    → IsSome (page_under pages number) → AreInFile file pages → WereRead file (start + from) into
+    → range_of from (length into) (page_under pages number) ≡ Some into
+range_read file pages number start from into here within some placed read = found (page_under pages number) refl some where
+  found : (kept : Option (List ℕ)) → page_under pages number ≡ kept → IsSome kept → range_of from (length into) kept ≡ Some into
+  found None is none = absurd (false≢true none)
+  found (Some page) is given =
+      let inside : from + length into ≤ length page = omega (arith, placed.whole number page is) in
+      let stands : Stand file start page = subst (λ (n : ℕ). Stand file n page) (sym here) (placed.place number page is) in
+      ap Some (read_is file (start + from) (take (length into) (drop from page)) into (stand_part file start from (length into) page inside stands) read
+      (length-take-le (length into) (drop from page) (omega (arith, length-drop from page))))
 
 -- pages of two numbers are apart in the file
 apart : (one other length_ : ℕ) → one ≢ other → length_ ≡ 16384 → (one * 16384 + length_ ≤ other * 16384) ⊎ (other * 16384 + 16384 ≤ one * 16384)

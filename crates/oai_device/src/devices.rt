@@ -1,5 +1,5 @@
-ghost use Rattle.std.specs.Prelude.{◌≡◌, ◌≢◌, ◌<◌, ℕ, Bool, List, Option, Some, IsErrOf, IsSome, IsTrue, OnOk};
-ghost use Rattle.oai_device.specs.Device.{CountsFailures};
+ghost use Rattle.std.specs.Prelude.{◌≡◌, ◌≢◌, ◌<◌, ◌≤◌, ◌+◌, ℕ, Bool, List, Option, Some, IsErrOf, IsSome, IsTrue, OnOk, length};
+ghost use Rattle.oai_device.specs.Device.{CountsFailures, range_of};
 ghost use Rattle.oai_device.specs.declared.devices.DeviceFault.TheVariants as fault;
 
 use std::alloc::{AllocError, AllocFailed};
@@ -66,6 +66,19 @@ pub trait PageDevice: Drop {
     fn read(&mut self, no: u32, page: &mut Page) -> Result<(), DeviceFault>
         requires { IsSome (pages self.old no) }
         ensures value { OnOk result (IsTrue (honest self.old) → pages self.old no ≡ Some page.new) }
+        ensures same { pages self.new ≡ pages self.old }
+        ensures device { CountsFailures fault.Failed result (failures self.old) (failures self.new) }
+        ensures memory { IsErrOf result DeviceFault.NoMemory → IsTrue reads_take_memory }
+        ensures honesty { honest self.new ≡ honest self.old };
+
+    /// Reads as many bytes as `into` has of the page of that number, under which one was written, from byte
+    /// `from` on, counted from 0. Failed, or NoMemory where the device takes memory for a read; `into` then
+    /// holds any bytes.
+    fn read_range(&mut self, no: u32, from: usize, into: &mut [u8]) -> Result<(), DeviceFault>
+        requires written { IsSome (pages self.old no) }
+        requires within { from + length into.old ≤ PAGE_BYTES }
+        ensures value { OnOk result (IsTrue (honest self.old)
+            → range_of from (length into.new) (pages self.old no) ≡ Some into.new) }
         ensures same { pages self.new ≡ pages self.old }
         ensures device { CountsFailures fault.Failed result (failures self.old) (failures self.new) }
         ensures memory { IsErrOf result DeviceFault.NoMemory → IsTrue reads_take_memory }

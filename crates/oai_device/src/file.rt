@@ -8,11 +8,11 @@ ghost use Rattle.oai_device.specs.Written.{AreInFile, page_under};
 ghost use Rattle.oai_device.specs.declared.devices.DeviceFault.TheVariants as fault;
 
 use crate::devices::{DeviceFault, MAX_FAILURES, PAGE_BYTES, Page, PageDevice};
-use crate::page_file::{PageFile, read_page, write_page};
+use crate::page_file::{PageFile, read_all, write_page};
 use crate::written::Written;
 
 /// A device that keeps page n in a file, at byte n times 16,384. It takes no memory. Each call that fails
-/// is counted, a read that finds fewer bytes than a page too.
+/// is counted, a read that finds fewer bytes than it was asked for too.
 #[derive(Drop)]
 pub struct FileDevice<F: PageFile> {
     file: F,
@@ -33,7 +33,12 @@ impl<F: PageFile> PageDevice for FileDevice<F> {
     ghost writes_take_memory = { false };
 
     fn read(&mut self, no: u32, page: &mut Page) -> Result<(), DeviceFault> {
-        let done = read_page(&mut self.file, start_of(no), page);
+        let done = read_all(&mut self.file, start_of(no), page);
+        counted(done, &mut self.failed)
+    }
+
+    fn read_range(&mut self, no: u32, from: usize, into: &mut [u8]) -> Result<(), DeviceFault> {
+        let done = read_all(&mut self.file, start_of(no) + from as u64, into);
         counted(done, &mut self.failed)
     }
 

@@ -29,6 +29,15 @@ impl<D: PageDevice> PageDevice for FlippingDevice<D> {
         Ok(())
     }
 
+    fn read_range(&mut self, no: u32, from: usize, into: &mut [u8]) -> Result<(), DeviceFault> {
+        self.inner.read_range(no, from, into)?;
+        if self.reads_left == 1 && !into.is_empty() {
+            into[0] = !into[0];
+        }
+        self.reads_left = self.reads_left.saturating_sub(1);
+        Ok(())
+    }
+
     fn write(&mut self, no: u32, page: &Page) -> Result<(), DeviceFault> {
         self.inner.write(no, page)
     }

@@ -32,6 +32,14 @@ impl PageDevice for MemoryDevice {
         Ok(())
     }
 
+    fn read_range(&mut self, no: u32, from: usize, into: &mut [u8]) -> Result<(), DeviceFault> {
+        let Some(kept) = self.pages.get(&no) else {
+            unreachable!()
+        };
+        into.copy_from_slice(&kept[from..from + into.len()]);
+        Ok(())
+    }
+
     fn write(&mut self, no: u32, page: &Page) -> Result<(), DeviceFault> {
         if let Some(kept) = self.pages.get_mut(&no) {
             **kept = *page;

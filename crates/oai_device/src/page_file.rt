@@ -49,23 +49,23 @@ impl PageFile for File {
     }
 }
 
-/// Reads the page at that offset of the file, in as many calls as it takes; whether it was read whole.
-pub(crate) fn read_page<F: PageFile>(file: &mut F, offset: u64, page: &mut Page) -> bool
-    requires room { offset + PAGE_BYTES < 2 ^ 64 }
-    ensures value { IsTrue result → IsTrue (F.honest file.old) → WereRead (F.bytes file.old) offset page.new }
+/// Reads the bytes at that offset of the file, in as many calls as it takes; whether all were read.
+pub(crate) fn read_all<F: PageFile>(file: &mut F, offset: u64, into: &mut [u8]) -> bool
+    requires room { offset + length into.old < 2 ^ 64 }
+    ensures value { IsTrue result → IsTrue (F.honest file.old) → WereRead (F.bytes file.old) offset into.new }
     ensures same { F.bytes file.new ≡ F.bytes file.old }
     ensures honesty { F.honest file.new ≡ F.honest file.old }
 {
     let mut done = 0;
     for _ in 0..u64::MAX {
-        let Some(count) = transferred(file.read_some(offset + done as u64, &mut page[done..]))
+        if done == into.len() {
+            return true;
+        }
+        let Some(count) = transferred(file.read_some(offset + done as u64, &mut into[done..]))
         else {
             return false;
         };
         done += count;
-        if done == PAGE_BYTES {
-            return true;
-        }
     }
     false
 }

@@ -7,7 +7,7 @@ use crate::kinds::PageKind;
 use crate::names::Names;
 use crate::pools::{MAX_PAGES, PageNo, PagePool, PoolFault};
 use crate::testing::is_of;
-use crate::transfers::{copied, load, store};
+use crate::transfers::{copied, load, load_range, store};
 use oai_device::{Page, PageDevice};
 use std::alloc::Global;
 use std::num::NonZeroUsize;
@@ -80,6 +80,14 @@ impl<D: PageDevice> PagePool for Pool<D> {
             self.spare = self.cache.keep(no, kept, kind);
         }
         Ok(page)
+    }
+
+    fn read_range(&mut self, no: PageNo, from: usize, into: &mut [u8]) -> Result<(), PoolFault> {
+        if let Some(page) = self.cache.find(no, PageKind::Bytes) {
+            into.copy_from_slice(&page[from..from + into.len()]);
+            return Ok(());
+        }
+        load_range(&mut self.device, no, from, into)
     }
 
     fn forget(&mut self, no: PageNo) {

@@ -1,4 +1,6 @@
 ghost use Rattle.std.specs.Prelude.{◌≡◌, ◌+◌, ◌<◌, ◌≤◌, ℕ, Bool, true, List, Option, Some, max, length, IfErr, IfOk, IsSome, IsTrue, OnErr, OnOk};
+ghost use Rattle.oai_device.specs.Device.{range_of};
+ghost use Rattle.oai_device.specs.declared.devices.TheConstants.{PAGE_BYTES};
 ghost use Rattle.oai_pool.specs.Counts.{AddsName, KeepsNamed, StaysNamed, count_of, used_of};
 ghost use Rattle.oai_pool.specs.Calls.{SparesNumbers, SpendsNumbers};
 ghost use Rattle.oai_pool.specs.Kinds.{is_of};
@@ -122,6 +124,18 @@ pub trait PagePool {
         ensures tested { IfOk result (λ page. is_of kind page.value ≡ true) }
         ensures value { IfOk result
             (λ page. IsTrue (honest self.old) → pages self.old no ≡ Some page.value) }
+        ensures counts { counts self.new ≡ counts self.old }
+        ensures same { pages self.new ≡ pages self.old }
+        ensures pool { SpendsNumbers room failures cache_size honest 0 result self.old self.new };
+
+    /// Reads as many bytes as `into` has of the page of a number that is named, from byte `from` on, counted
+    /// from 0: over an honest device those of the page that was added. They are not tested, and the page is
+    /// not put into the cache. Device or NoMemory; `into` then holds any bytes.
+    fn read_range(&mut self, no: PageNo, from: usize, into: &mut [u8]) -> Result<(), PoolFault>
+        requires named { 0 < count_of (counts self.old) no }
+        requires within { from + length into.old ≤ PAGE_BYTES }
+        ensures value { OnOk result (IsTrue (honest self.old)
+            → range_of from (length into.new) (pages self.old no) ≡ Some into.new) }
         ensures counts { counts self.new ≡ counts self.old }
         ensures same { pages self.new ≡ pages self.old }
         ensures pool { SpendsNumbers room failures cache_size honest 0 result self.old self.new };

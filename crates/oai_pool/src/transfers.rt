@@ -1,6 +1,7 @@
 //! Pages between a device and memory.
-ghost use Rattle.std.specs.Prelude.{◌≡◌, ◌≢◌, ℕ, Some, IfErr, IfOk, IsSome, IsTrue, OnOk};
-ghost use Rattle.oai_device.specs.Device.{CountsFailures};
+ghost use Rattle.std.specs.Prelude.{◌≡◌, ◌≢◌, ◌≤◌, ◌+◌, length, ℕ, Some, IfErr, IfOk, IsSome, IsTrue, OnOk};
+ghost use Rattle.oai_device.specs.Device.{CountsFailures, range_of};
+ghost use Rattle.oai_device.specs.declared.devices.TheConstants.{PAGE_BYTES};
 ghost use Rattle.oai_pool.specs.declared.pools.PoolFault.TheVariants as fault;
 
 use crate::pools::PoolFault;
@@ -98,6 +99,30 @@ fn fetch<D: PageDevice>(device: &mut D, no: u32, page: &mut Page) -> Result<(), 
     ensures honesty { D.honest device.new ≡ D.honest device.old }
 {
     match device.read(no, page) {
+        Ok(()) => Ok(()),
+        Err(DeviceFault::Failed) => Err(PoolFault::Device),
+        Err(DeviceFault::NoMemory) => Err(PoolFault::NoMemory),
+    }
+}
+
+/// Reads as many bytes as `into` has of the page of that number, from byte `from` on. Device or NoMemory.
+pub(crate) fn load_range<D: PageDevice>(
+    device: &mut D,
+    no: u32,
+    from: usize,
+    into: &mut [u8],
+) -> Result<(), PoolFault>
+    requires written { IsSome (D.pages device.old no) }
+    requires within { from + length into.old ≤ PAGE_BYTES }
+    ensures value { OnOk result (IsTrue (D.honest device.old)
+        → range_of from (length into.new) (D.pages device.old no) ≡ Some into.new) }
+    ensures same { D.pages device.new ≡ D.pages device.old }
+    ensures fault { IfErr result (λ cause. cause ≢ fault.TooManyPages) }
+    ensures whole { IfErr result (λ cause. cause ≢ fault.Damaged) }
+    ensures device { CountsFailures fault.Device result (D.failures device.old) (D.failures device.new) }
+    ensures honesty { D.honest device.new ≡ D.honest device.old }
+{
+    match device.read_range(no, from, into) {
         Ok(()) => Ok(()),
         Err(DeviceFault::Failed) => Err(PoolFault::Device),
         Err(DeviceFault::NoMemory) => Err(PoolFault::NoMemory),

@@ -27,6 +27,11 @@ impl<D: PageDevice> PageDevice for CountingDevice<D> {
         self.inner.read(no, page)
     }
 
+    fn read_range(&mut self, no: u32, from: usize, into: &mut [u8]) -> Result<(), DeviceFault> {
+        self.reads = self.reads.saturating_add(1);
+        self.inner.read_range(no, from, into)
+    }
+
     fn write(&mut self, no: u32, page: &Page) -> Result<(), DeviceFault> {
         self.writes = self.writes.saturating_add(1);
         self.inner.write(no, page)

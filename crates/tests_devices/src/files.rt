@@ -14,7 +14,7 @@ use std::process::Abort;
 use std::rt::Files;
 
 /// An empty file of that name, where the test runs, open to be read and written.
-fn empty_file<R: Files<File = File> + Abort>(rt: &R, path: &str) -> File {
+pub(crate) fn empty_file<R: Files<File = File> + Abort>(rt: &R, path: &str) -> File {
     OpenOptions::new()
         .read(true)
         .write(true)
@@ -44,7 +44,7 @@ fn put<R: Files<File = File> + Abort>(rt: &R, path: &str, byte: u64, number: u16
 }
 
 /// Leaves so many bytes of the file.
-fn cut<R: Files<File = File> + Abort>(rt: &R, path: &str, bytes: u64) {
+pub(crate) fn cut<R: Files<File = File> + Abort>(rt: &R, path: &str, bytes: u64) {
     let file = OpenOptions::new()
         .write(true)
         .open(rt, path)

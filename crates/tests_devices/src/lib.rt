@@ -21,6 +21,8 @@ mod overwritten;
 mod pool_failures;
 #[cfg(test)]
 mod pools;
+#[cfg(test)]
+mod ranges;
 mod refusing;
 #[cfg(test)]
 mod saturated;

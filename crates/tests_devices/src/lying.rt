@@ -30,6 +30,14 @@ impl<D: PageDevice> PageDevice for LyingDevice<D> {
         Ok(())
     }
 
+    fn read_range(&mut self, no: u32, from: usize, into: &mut [u8]) -> Result<(), DeviceFault> {
+        self.inner.read_range(no, from, into)?;
+        if no == self.no && from <= self.at && self.at - from < into.len() {
+            into[self.at - from] = !into[self.at - from];
+        }
+        Ok(())
+    }
+
     fn write(&mut self, no: u32, page: &Page) -> Result<(), DeviceFault> {
         self.inner.write(no, page)
     }

@@ -1,7 +1,7 @@
 //! A device of which another program has overwritten a page, for tests of what stands on devices.
 ghost use Rattle.std.specs.Prelude.{◌≡◌, false};
 
-use oai_device::{DeviceFault, Page, PageDevice};
+use oai_device::{DeviceFault, PAGE_BYTES, Page, PageDevice};
 
 /// A device over another one: where a page was written, each read of it gives another page. It is never honest.
 #[derive(Drop)]
@@ -27,6 +27,13 @@ impl<D: PageDevice> PageDevice for OverwrittenDevice<D> {
         if *page == self.written {
             *page = self.instead;
         }
+        Ok(())
+    }
+
+    fn read_range(&mut self, no: u32, from: usize, into: &mut [u8]) -> Result<(), DeviceFault> {
+        let mut page = [0; PAGE_BYTES];
+        self.read(no, &mut page)?;
+        into.copy_from_slice(&page[from..from + into.len()]);
         Ok(())
     }
 

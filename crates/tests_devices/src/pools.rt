@@ -1,12 +1,17 @@
 //! The pool: its counts, its numbers and its cache.
+ghost use Rattle.std.specs.Prelude.{◌+◌, ◌<◌, ◌≤◌};
+ghost use Rattle.oai_device.specs.declared.devices.TheConstants.{PAGE_BYTES};
+ghost use Rattle.oai_pool.specs.Counts.{StaysNamed, count_of};
+
 use crate::assertions::{assert_page, assert_same, assert_shown, page_of};
 use crate::counting::CountingDevice;
 use crate::filled::{assert_filled, fill};
 use crate::saturated::WornDevice;
 use crate::steps::{add, assert_both, assert_named, drop_name, share_and_drop};
 use oai_device::{FaultyDevice, FlippingDevice, MemoryDevice, PageDevice};
-use oai_pool::{PageKind, PagePool, Pool, PoolFault};
+use oai_pool::{PageKind, PageNo, PagePool, Pool, PoolFault};
 use std::panic::Expect;
+use std::process::Abort;
 
 /// A page is there as often as it is named, and its number is given again.
 #[test]
@@ -73,6 +78,54 @@ fn cached_pages(rt: HostRuntime) {
     assert_both(&rt, &mut pool, (first, 1), (second, 2));
     assert!(rt; pool.device().reads() <= 2);
     assert_same(&rt, (pool.cached(), pool.device().writes()), (2, 2));
+}
+
+/// The pool gives these bytes of the page, from that one on.
+fn assert_range<P: PagePool>(
+    rt: &impl Abort,
+    pool: &mut P,
+    no: PageNo,
+    from: usize,
+    wanted: [u8; 3],
+)
+    requires named { 0 < count_of (P.counts pool.old) no }
+    requires within { from + 3 ≤ PAGE_BYTES }
+    ensures { StaysNamed (P.counts pool.old) (P.counts pool.new) }
+{
+    let mut range = [0; 3];
+    pool.read_range(no, from, &mut range)
+        .expect(rt, "read_range");
+    assert_same(rt, range, wanted);
+}
+
+/// The pool gives the first three bytes of the page, and the last three.
+fn assert_ranges<P: PagePool>(
+    rt: &impl Abort,
+    pool: &mut P,
+    no: PageNo,
+    front: [u8; 3],
+    back: [u8; 3],
+)
+    requires { 0 < count_of (P.counts pool.old) no }
+    ensures { StaysNamed (P.counts pool.old) (P.counts pool.new) }
+{
+    assert_range(rt, pool, no, 0, front);
+    assert_range(rt, pool, no, 16_381, back);
+}
+
+/// A range of a page that the cache holds is not read from the device, and one of another page is, which does
+/// not go into the cache.
+#[test]
+fn ranges_of_pages(rt: HostRuntime) {
+    let device = CountingDevice::new(MemoryDevice::new(rt.alloc()));
+    let mut pool = Pool::new(rt.alloc(), device, 1).expect(&rt, "Pool::new");
+    let first = add(&rt, &mut pool, 0x0102);
+    let second = add(&rt, &mut pool, 0x0304);
+    assert_ranges(&rt, &mut pool, second, [3, 4, 4], [4, 4, 4]);
+    assert_same(&rt, (pool.cached(), pool.device().reads()), (1, 0));
+    assert_ranges(&rt, &mut pool, first, [1, 2, 2], [2, 2, 2]);
+    assert_ranges(&rt, &mut pool, second, [3, 4, 4], [4, 4, 4]);
+    assert_same(&rt, (pool.cached(), pool.device().reads()), (1, 2));
 }
 
 /// What the device gives is what is read, and not a copy beside it.

@@ -28,6 +28,13 @@ impl<D: PageDevice> PageDevice for RefusingDevice<D> {
         self.inner.read(no, page)
     }
 
+    fn read_range(&mut self, no: u32, from: usize, into: &mut [u8]) -> Result<(), DeviceFault> {
+        if self.is_refused() {
+            return Err(DeviceFault::NoMemory);
+        }
+        self.inner.read_range(no, from, into)
+    }
+
     fn write(&mut self, no: u32, page: &Page) -> Result<(), DeviceFault> {
         if self.is_refused() {
             return Err(DeviceFault::NoMemory);

@@ -25,6 +25,10 @@ impl<D: PageDevice> PageDevice for WornDevice<D> {
         self.inner.read(no, page)
     }
 
+    fn read_range(&mut self, no: u32, from: usize, into: &mut [u8]) -> Result<(), DeviceFault> {
+        self.inner.read_range(no, from, into)
+    }
+
     fn write(&mut self, no: u32, page: &Page) -> Result<(), DeviceFault> {
         self.inner.write(no, page)
     }

@@ -6,4 +6,4 @@ use Rattle.oai_device.proofs.file.FileDevicePageDevice.read.Goals as goal
 pub returns-clause-value : goal.returns-clause-value
 returns-clause-value g c = on_ok _ c.counted.result (λ done honest.
     page_read _ _ _ _ _ c.start_of.ensures (search rules) c.requires (c.args.self.now.placed honest)
-    (c.read_page-done.ensures.value (sym c.counted.ensures.ok ∙ done) honest))
+    (c.read_all-done.ensures.value (sym c.counted.ensures.ok ∙ done) honest))
