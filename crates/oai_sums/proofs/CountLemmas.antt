@@ -10,12 +10,13 @@ use Rattle.oai_item.specs.Membership.{is_above, is_in}
 use Rattle.oai_item.proofs.Above.{is_above-parent, is_above-root}
 use Rattle.oai_names.specs.Sets.{covers, parent_of}
 use Rattle.oai_sums.specs.Sums.{SetTotal, counted_in, lacks, one_if}
+use Rattle.oai_sums.specs.declared.spans.Span.{Span}
 
 pub lacks-none : (set : List ℕ) → lacks set [] ≡ true
 unfolding lacks
 lacks-none set = refl
 
-lacks-own : (set : List ℕ) (total : SetTotal) (totals : List SetTotal) → lacks set (total ∷ totals) ≡ true → (bytes_eq set total.set ≡ false) × (lacks set totals ≡ true)
+pub lacks-own : (set : List ℕ) (total : SetTotal) (totals : List SetTotal) → lacks set (total ∷ totals) ≡ true → (bytes_eq set total.set ≡ false) × (lacks set totals ≡ true)
 unfolding lacks
 lacks-own set total totals h = (by_test (bytes_eq set total.set) (and_parts _ _ h).0, (and_parts _ _ h).1) where
   by_test : (b : Bool) → not b ≡ true → b ≡ false
@@ -24,18 +25,18 @@ lacks-own set total totals h = (by_test (bytes_eq set total.set) (and_parts _ _ 
 
 -- ---- what is counted
 
-if_true : {A : Type 0} (b : Bool) (x y : A) → b ≡ true → (if b then x else y) ≡ x
+pub if_true : {A : Type 0} (b : Bool) (x y : A) → b ≡ true → (if b then x else y) ≡ x
 if_true true x y h = refl
 if_true false x y h = absurd (false≢true h)
 
-if_false : {A : Type 0} (b : Bool) (x y : A) → b ≡ false → (if b then x else y) ≡ y
+pub if_false : {A : Type 0} (b : Bool) (x y : A) → b ≡ false → (if b then x else y) ≡ y
 if_false true x y h = absurd (false≢true (sym h))
 if_false false x y h = refl
 
-same_set : (q s t : List ℕ) → bytes_eq s t ≡ true → bytes_eq q t ≡ bytes_eq q s
+pub same_set : (q s t : List ℕ) → bytes_eq s t ≡ true → bytes_eq q t ≡ bytes_eq q s
 same_set q s t is = ap (bytes_eq q) (sym ((bytes_eq-Decides s t).0 is))
 
-both_no : (q s t : List ℕ) → bytes_eq s t ≡ false → bytes_eq q t ≡ true → bytes_eq q s ≡ false
+pub both_no : (q s t : List ℕ) → bytes_eq s t ≡ false → bytes_eq q t ≡ true → bytes_eq q s ≡ false
 both_no q s t apart is =
     false_from_ne_true (bytes_eq q s) (λ h. false≢true (sym apart ∙ (bytes_eq-Decides s t).1 (sym ((bytes_eq-Decides q s).0 h) ∙ (bytes_eq-Decides q t).0 is)))
 
@@ -48,37 +49,37 @@ other_more true c count more new old apart h = rw (apart refl) (omega arith)
 other_more false c count more new old apart h = h
 
 -- the first one of the set counts so many more
-pub counts_one : (set q : List ℕ) (more : ℕ) (front : List SetTotal) (total : SetTotal) (back : List SetTotal) → lacks set front ≡ true → bytes_eq set total.set ≡ true
-    → counted_in q (front ++ record { set = total.set; count = total.count + more } ∷ back) ≡ counted_in q (front ++ total ∷ back) + (if bytes_eq q set then more else 0)
-counts_one set q more [] total back none is =
+pub counts_one : (set q : List ℕ) (more : ℕ) (span : Span) (front : List SetTotal) (total : SetTotal) (back : List SetTotal) → lacks set front ≡ true → bytes_eq set total.set ≡ true
+    → counted_in q (front ++ record { set = total.set; count = total.count + more; span = span } ∷ back) ≡ counted_in q (front ++ total ∷ back) + (if bytes_eq q set then more else 0)
+counts_one set q more span [] total back none is =
     own_more (bytes_eq q total.set) total.count more (counted_in q back) ∙ ap (λ b. counted_in q (total ∷ back) + (if b then more else 0)) (same_set q set total.set is)
-counts_one set q more (other ∷ front) total back none is =
+counts_one set q more span (other ∷ front) total back none is =
     let own = lacks-own set other front none in
-    other_more (bytes_eq q other.set) (bytes_eq q set) other.count more _ _ (both_no q set other.set own.0) (counts_one set q more front total back own.1 is)
+    other_more (bytes_eq q other.set) (bytes_eq q set) other.count more _ _ (both_no q set other.set own.0) (counts_one set q more span front total back own.1 is)
 
 -- a set behind the others
-pub counts_new : (set q : List ℕ) (more : ℕ) (totals : List SetTotal) → lacks set totals ≡ true
-    → counted_in q (totals ++ record { set = set; count = more } ∷ []) ≡ counted_in q totals + (if bytes_eq q set then more else 0)
-counts_new set q more [] none = omega arith
-counts_new set q more (other ∷ totals) none =
+pub counts_new : (set q : List ℕ) (more : ℕ) (span : Span) (totals : List SetTotal) → lacks set totals ≡ true
+    → counted_in q (totals ++ record { set = set; count = more; span = span } ∷ []) ≡ counted_in q totals + (if bytes_eq q set then more else 0)
+counts_new set q more span [] none = omega arith
+counts_new set q more span (other ∷ totals) none =
     let own = lacks-own set other totals none in
-    other_more (bytes_eq q other.set) (bytes_eq q set) other.count more _ _ (both_no q set other.set own.0) (counts_new set q more totals own.1)
+    other_more (bytes_eq q other.set) (bytes_eq q set) other.count more _ _ (both_no q set other.set own.0) (counts_new set q more span totals own.1)
 
 -- ---- by places
 
-parts_at : (totals : List SetTotal) (at : ℕ) (d : SetTotal) → at < length totals → totals ≡ take at totals ++ get_or totals at d ∷ drop (at + 1) totals
+pub parts_at : (totals : List SetTotal) (at : ℕ) (d : SetTotal) → at < length totals → totals ≡ take at totals ++ get_or totals at d ∷ drop (at + 1) totals
 parts_at totals at d within = sym (take-append-drop at totals) ∙ ap (λ zs. take at totals ++ zs) (drop_more totals at d within)
 
-set_parts : (totals : List SetTotal) (at : ℕ) (y : SetTotal) → at < length totals → slice_set totals at y ≡ take at totals ++ y ∷ drop (at + 1) totals
+pub set_parts : (totals : List SetTotal) (at : ℕ) (y : SetTotal) → at < length totals → slice_set totals at y ≡ take at totals ++ y ∷ drop (at + 1) totals
 set_parts totals at y within =
     sym (take-append-drop at (slice_set totals at y)) ∙ (λ i. take-set totals at y i ++ drop-set totals at y within i)
 
-pub counts_at : (set q : List ℕ) (more : ℕ) (totals : List SetTotal) (at : ℕ) (own new : SetTotal) → at < length totals → lacks set (take at totals) ≡ true → own ≡ get_or totals at own → bytes_eq set own.set ≡ true
-    → new ≡ record { set = own.set; count = own.count + more } → counted_in q (slice_set totals at new) ≡ counted_in q totals + (if bytes_eq q set then more else 0)
-counts_at set q more totals at own new within none is same counted =
+pub counts_at : (set q : List ℕ) (more : ℕ) (span : Span) (totals : List SetTotal) (at : ℕ) (own new : SetTotal) → at < length totals → lacks set (take at totals) ≡ true → own ≡ get_or totals at own → bytes_eq set own.set ≡ true
+    → new ≡ record { set = own.set; count = own.count + more; span = span } → counted_in q (slice_set totals at new) ≡ counted_in q totals + (if bytes_eq q set then more else 0)
+counts_at set q more span totals at own new within none is same counted =
     ap (counted_in q) (set_parts totals at new within)
     ∙ ap (λ y. counted_in q (take at totals ++ y ∷ drop (at + 1) totals)) counted
-    ∙ counts_one set q more (take at totals) own (drop (at + 1) totals) none same
+    ∙ counts_one set q more span (take at totals) own (drop (at + 1) totals) none same
     ∙ ap (λ zs. counted_in q zs + (if bytes_eq q set then more else 0)) (ap (λ y. take at totals ++ y ∷ drop (at + 1) totals) is ∙ sym (parts_at totals at own within))
 
 pub counted_at : (set : List ℕ) (totals : List SetTotal) (at : ℕ) (own : SetTotal) → at < length totals → own ≡ get_or totals at own → bytes_eq set own.set ≡ true → own.count ≡ counted_in set (drop at totals)
@@ -105,7 +106,7 @@ lacks_past set totals at own within is apart h =
 pub counts_next : (q : List ℕ) (totals : List SetTotal) (at : ℕ) (own : SetTotal) → at < length totals → own ≡ get_or totals at own → lacks own.set (take at totals) ≡ true
     → counted_in q (take (at + 1) totals) ≡ counted_in q (take at totals) + (if bytes_eq q own.set then own.count else 0)
 counts_next q totals at own within is none =
-    ap (counted_in q) (take_more totals at own within ∙ ap (λ y. take at totals ++ y ∷ []) (sym is)) ∙ counts_new own.set q own.count (take at totals) none
+    ap (counted_in q) (take_more totals at own within ∙ ap (λ y. take at totals ++ y ∷ []) (sym is)) ∙ counts_new own.set q own.count own.span (take at totals) none
 
 -- ---- a set and those above it
 
@@ -160,16 +161,16 @@ unfolding is_in
 in_none q = refl
 
 -- where one of the others says that an item is in a set, it is not counted in it
-pub not_counted : (q set : List ℕ) (sets : List (List ℕ)) → is_in set sets ≡ true → one_if (bytes_eq q set && not (is_in q sets)) ≡ 0
+pub not_counted : (q set : List ℕ) (sets : List (List ℕ)) → is_in set sets ≡ true → (bytes_eq q set && not (is_in q sets)) ≡ false
 not_counted q set sets h = by_test (bytes_eq q set) (λ same. ap (λ s. is_in s sets) ((bytes_eq-Decides q set).0 same) ∙ h) where
-  by_test : (b : Bool) → (b ≡ true → is_in q sets ≡ true) → one_if (b && not (is_in q sets)) ≡ 0
-  by_test true so = ap (λ c. one_if (not c)) (so refl)
+  by_test : (b : Bool) → (b ≡ true → is_in q sets ≡ true) → (b && not (is_in q sets)) ≡ false
+  by_test true so = ap not (so refl)
   by_test false so = refl
 
-pub just_counted : (q set : List ℕ) (sets : List (List ℕ)) → is_in set sets ≡ false → one_if (bytes_eq q set && not (is_in q sets)) ≡ one_if (bytes_eq q set)
+pub just_counted : (q set : List ℕ) (sets : List (List ℕ)) → is_in set sets ≡ false → (bytes_eq q set && not (is_in q sets)) ≡ bytes_eq q set
 just_counted q set sets h = by_test (bytes_eq q set) (λ same. ap (λ s. is_in s sets) ((bytes_eq-Decides q set).0 same) ∙ h) where
-  by_test : (b : Bool) → (b ≡ true → is_in q sets ≡ false) → one_if (b && not (is_in q sets)) ≡ one_if b
-  by_test true so = ap (λ c. one_if (not c)) (so refl)
+  by_test : (b : Bool) → (b ≡ true → is_in q sets ≡ false) → (b && not (is_in q sets)) ≡ b
+  by_test true so = ap not (so refl)
   by_test false so = refl
 
 -- ---- None and Some

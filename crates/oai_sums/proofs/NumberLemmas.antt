@@ -1,14 +1,25 @@
--- How many items are in a set, one item more.
-use Rattle.std.proofs.Common.{◌≡◌, ◌∙◌, ◌+◌, ℕ, Bool, true, false, List, [], ◌∷◌, ◌++◌, if◌then◌else◌, length, refl, sym, ap, length-append}
+-- How many items are in a set, one item more or all of two lists.
+use Rattle.std.specs.Prelude.{Option}
+use Rattle.std.proofs.Common.{◌≡◌, ◌∙◌, ◌+◌, ℕ, Bool, true, false, List, [], ◌∷◌, ◌++◌, None, Some, if◌then◌else◌, length, refl, sym, ap, length-append}
 use Rattle.std.specs.Prelude.{filter}
 use Rattle.std.proofs.lemmas.List.Elements.{filter-append}
+use Rattle.std.proofs.lemmas.Option.{none-some}
+use Rattle.std.specs.Str.{bytes_eq}
 use Rattle.oai_item.specs.Item.{ItemState}
 use Rattle.oai_item.specs.Membership.{is_in}
-use Rattle.oai_sums.specs.Sums.{AreCounts, CountsMore, SetTotal, number_in, one_if}
+use Rattle.oai_sums.specs.Sums.{AreCounts, CountsMore, SetTotal, counted_in, number_in, one_if, span_in}
+use Rattle.oai_sums.specs.declared.spans.Span.{Span}
 
 pub number_in-nil : (set : List ℕ) → number_in set [] ≡ 0
 unfolding number_in
 number_in-nil set = refl
+
+-- the items of two lists
+pub number_in-append : (set : List ℕ) (xs ys : List ItemState) → number_in set (xs ++ ys) ≡ number_in set xs + number_in set ys
+unfolding number_in
+number_in-append set xs ys =
+    ap length (filter-append (λ (x : ItemState). is_in set x.sets) xs ys)
+    ∙ length-append (filter (λ (x : ItemState). is_in set x.sets) xs) (filter (λ (x : ItemState). is_in set x.sets) ys)
 
 -- no items are counted by no counts
 pub counts_none : (totals : List SetTotal) (items : List ItemState) → totals ≡ [] → items ≡ [] → AreCounts totals items
@@ -26,6 +37,14 @@ unfolding number_in
 counts_more totals more items all item h counted is set =
     counted set
     ∙ (λ i. h set i + sym (one_of set item) i)
-    ∙ sym (length-append (filter (λ (x : ItemState). is_in set x.sets) items) (filter (λ (x : ItemState). is_in set x.sets) (item ∷ [])))
-    ∙ ap length (sym (filter-append (λ (x : ItemState). is_in set x.sets) items (item ∷ [])))
-    ∙ ap (λ zs. length (filter (λ (x : ItemState). is_in set x.sets) zs)) (sym is)
+    ∙ sym (number_in-append set items (item ∷ []))
+    ∙ ap (number_in set) (sym is)
+
+own_none : (b : Bool) (span : Span) (rest : Option Span) (count n : ℕ) → (rest ≡ None → n ≡ 0) → (if b then Some span else rest) ≡ None → (if b then count else n) ≡ 0
+own_none true span rest count n so none = absurd (none-some span (sym none))
+own_none false span rest count n so none = so none
+
+-- a set that stands nowhere has no items
+pub unspanned_none : (set : List ℕ) (totals : List SetTotal) → span_in set totals ≡ None → counted_in set totals ≡ 0
+unspanned_none set [] none = refl
+unspanned_none set (total ∷ totals) none = own_none (bytes_eq set total.set) total.span (span_in set totals) total.count (counted_in set totals) (unspanned_none set totals) none

@@ -1,18 +1,20 @@
 -- How many of many items are in each set. OAI-PMH 2.0, section 2.6: an item that is in a set is in each set above it too.
-use Rattle.std.specs.Prelude.{◌≡◌, ◌+◌, ℕ, Bool, if◌then◌else◌, List, [], ◌∷◌, length, filter, not}
+use Rattle.std.specs.Prelude.{◌≡◌, ◌+◌, ℕ, Bool, if◌then◌else◌, List, [], ◌∷◌, length, filter, not, Option, None, Some}
 use Rattle.std.specs.List.{list_all}
 use Rattle.std.specs.Str.{bytes_eq}
 use Rattle.oai_item.specs.Item.{ItemState}
 use Rattle.oai_item.specs.Membership.{is_in}
+use Rattle.oai_sums.specs.declared.spans.Span.{Span}
 
 -- how many of the items are in the set
 unfoldable pub number_in : List ℕ → List ItemState → ℕ
 number_in set items = length (filter (λ (item : ItemState). is_in set item.sets) items)
 
--- a set, and how many items are counted in it
+-- a set, how many items are counted in it, and among which of all items these stand
 pub record SetTotal : Type 0 where
   pub set : List ℕ
   pub count : ℕ
+  pub span : Span
 
 -- how many items are counted in the set: none where it is not there
 abbrev pub counted_in : List ℕ → List SetTotal → ℕ
@@ -34,3 +36,19 @@ one_if so = if so then 1 else 0
 -- one item more is counted in just those sets that pass
 abbrev pub CountsMore : (List ℕ → Bool) → List SetTotal → List SetTotal → Type 0
 CountsMore passes old new = (set : List ℕ) → counted_in set new ≡ counted_in set old + one_if (passes set)
+
+-- ---- where the items of a set stand
+
+-- among which items those of the set stand: nothing where it is not there
+abbrev pub span_in : List ℕ → List SetTotal → Option Span
+span_in set [] = None
+span_in set (total ∷ totals) = if bytes_eq set total.set then Some total.span else span_in set totals
+
+-- a span that goes on to the end of another one; or that one, where there is none before it
+abbrev pub widened : Option Span → Span → Span
+widened None more = more
+widened (Some span) more = record { first = span.first; from = span.from; end = more.end; to = more.to }
+
+-- the spans of just those sets that pass go on to the end of that one
+abbrev pub SpansMore : (List ℕ → Bool) → Span → List SetTotal → List SetTotal → Type 0
+SpansMore passes span old new = (set : List ℕ) → span_in set new ≡ (if passes set then Some (widened (span_in set old) span) else span_in set old)

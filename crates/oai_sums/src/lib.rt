@@ -1,8 +1,10 @@
-//! What is known of many items at once: how many of them are in each set.
+//! What is known of many items at once: how many of them are in each set, and where these stand.
 #![tactic(auto)]
 
 mod set_counts;
 mod set_names;
+mod spans;
 
 pub use set_counts::{MAX_COUNTED_SETS, SetCounts};
 pub use set_names::SetNames;
+pub use spans::Span;

@@ -2,9 +2,10 @@ ghost use Rattle.std.specs.Prelude.{◌≡◌, ◌≤◌, ◌+◌, ◌&&◌, ◌
 ghost use Rattle.std.specs.Str.{bytes_eq};
 ghost use Rattle.oai_item.specs.Membership.{is_in};
 ghost use Rattle.oai_names.specs.Sets.{covers};
-ghost use Rattle.oai_sums.specs.Sums.{CountsMore, counted_in, lacks, one_if};
+ghost use Rattle.oai_sums.specs.Sums.{CountsMore, SpansMore, counted_in, lacks, one_if, span_in, widened};
 
 use crate::set_names::SetNames;
+use crate::spans::Span;
 use oai_item::SpelledSets;
 use oai_names::{Text, covers, parent_of};
 use std::alloc::Global;
@@ -14,11 +15,12 @@ use std::rc::Rc;
 /// How many sets are counted at most.
 pub const MAX_COUNTED_SETS: usize = 64;
 
-/// A set, and how many items are in it.
+/// A set, how many items are in it, and among which items these stand.
 #[derive(Drop)]
 struct SetCount {
     set: Rc<Text>,
     count: u32,
+    span: Span,
 }
 
 impl Model for SetCount {
@@ -26,15 +28,19 @@ impl Model for SetCount {
 
     ghost Value = { SetTotal };
 
-    ghost view = { λ c. record { set = c.set.value; count = c.count } };
+    ghost view = { λ c. record { set = c.set.value; count = c.count; span = c.span } };
 }
 
 impl SetCount {
-    /// A set with one item.
-    fn one(set: Rc<Text>) -> SetCount
-        ensures { result ≡ record { set = set.value; count = 1 } }
+    /// A set with one item, which stands there.
+    fn one(set: Rc<Text>, span: Span) -> SetCount
+        ensures { result ≡ record { set = set.value; count = 1; span = span } }
     {
-        SetCount { set, count: 1 }
+        SetCount {
+            set,
+            count: 1,
+            span,
+        }
     }
 
     /// The setSpec.
@@ -51,6 +57,13 @@ impl SetCount {
         self.count as usize
     }
 
+    /// Among which items those of the set stand.
+    fn span(&self) -> Span
+        ensures { result ≡ self.now.span }
+    {
+        self.span
+    }
+
     /// A copy of the count, which has its setSpec in common, or None where memory is refused.
     fn copy(&self) -> Option<SetCount>
         ensures { IfSome result (λ copy. copy ≡ self.now) }
@@ -59,14 +72,25 @@ impl SetCount {
             Ok(set) => Some(SetCount {
                 set,
                 count: self.count,
+                span: self.span,
             }),
             Err(_) => None,
         }
     }
 
+    /// One item more, which stands there, behind the others; or None where they are too many to be counted.
+    fn add_one(&mut self, span: Span) -> Option<()>
+        ensures { OnSome result (self.new ≡ record { set = self.old.set; count = self.old.count + 1; span = widened (Some self.old.span) span }) }
+    {
+        self.add(1)?;
+        self.span.end = span.end;
+        self.span.to = span.to;
+        Some(())
+    }
+
     /// So many items more, or None where they are too many to be counted.
     fn add(&mut self, more: u32) -> Option<()>
-        ensures { OnSome result (self.new ≡ record { set = self.old.set; count = self.old.count + more }) }
+        ensures { OnSome result (self.new ≡ record { set = self.old.set; count = self.old.count + more; span = self.old.span }) }
     {
         match self.count.checked_add(more) {
             Some(count) => {
@@ -78,8 +102,9 @@ impl SetCount {
     }
 }
 
-/// How many items are in each set: in the sets that their setSpecs say, and in those above these. An item counts once in each. Contracts see the sets
-/// with the counts; a set that is not there has no items.
+/// How many items are in each set, and among which of all items these stand: in the sets that their setSpecs say, and
+/// in those above these. An item counts once in each. Contracts see the sets with the counts and spans; a set that is
+/// not there has no items.
 #[derive(Drop)]
 pub struct SetCounts {
     counts: Vec<SetCount>,
@@ -117,23 +142,39 @@ impl SetCounts {
         0
     }
 
-    /// Counts an item of these setSpecs too. None where there would be more than `MAX_COUNTED_SETS` sets, where one has too many items to be counted, or
-    /// memory is refused; the counts are then those of no items in particular.
-    pub fn add(&mut self, names: &mut SetNames, sets: SpelledSets<'_>) -> Option<()>
-        ensures { OnSome result (CountsMore (λ set. is_in set sets.entry) self.old self.new) }
+    /// Among which items those of the set stand; None where it has none.
+    pub fn span(&self, set: &str) -> Option<Span>
+        ensures { result ≡ span_in set.now self.now }
+    {
+        for at in 0..self.counts.len() {
+            let count = &self.counts[at];
+            if set == count.set() {
+                return Some(count.span());
+            }
+        }
+        None
+    }
+
+    /// Counts an item of these setSpecs too, which stands there, behind the others. None where there would be more than
+    /// `MAX_COUNTED_SETS` sets, where one has too many items to be counted, or memory is refused; the counts are then
+    /// those of no items in particular.
+    pub fn add(&mut self, names: &mut SetNames, sets: SpelledSets<'_>, span: Span) -> Option<()>
+        ensures counts { OnSome result (CountsMore (λ set. is_in set sets.entry) self.old self.new) }
+        ensures spans { OnSome result (SpansMore (λ set. is_in set sets.entry) span self.old self.new) }
     {
         if sets.len() > MAX_COUNTED_SETS {
             return None;
         }
         let mut rest = sets;
         while let Some(set) = rest.next() {
-            self.add_path(names, set, &rest)?;
+            self.add_path(names, set, &rest, span)?;
         }
         Some(())
     }
 
-    /// Counts the items of other counts too. None where there would be more than `MAX_COUNTED_SETS` sets, where one has too many items to be counted, or
-    /// memory is refused; the counts are then those of no items in particular.
+    /// Counts the items of other counts too. None where there would be more than `MAX_COUNTED_SETS` sets, where one has
+    /// too many items to be counted, or memory is refused; the counts are then those of no items in particular. In any
+    /// case nothing is known of the spans behind it.
     pub fn add_all(&mut self, others: &SetCounts) -> Option<()>
         ensures { OnSome result ((set : List ℕ) → counted_in set self.new ≡ counted_in set self.old + counted_in set others.now) }
     {
@@ -184,48 +225,59 @@ impl SetCounts {
         self.counts.shrink_to_fit();
     }
 
-    /// Counts an item in the set and in those above it, but in none in which one of the other setSpecs says that it is.
-    fn add_path(&mut self, names: &mut SetNames, set: &str, others: &SpelledSets<'_>) -> Option<()>
-        ensures { OnSome result (CountsMore (λ q. covers q set.now && not (is_in q others.now)) self.old self.new) }
+    /// Counts an item, which stands there, in the set and in those above it, but in none in which one of the other
+    /// setSpecs says that it is.
+    fn add_path(
+        &mut self,
+        names: &mut SetNames,
+        set: &str,
+        others: &SpelledSets<'_>,
+        span: Span,
+    ) -> Option<()>
+        ensures counts { OnSome result (CountsMore (λ q. covers q set.now && not (is_in q others.now)) self.old self.new) }
+        ensures spans { OnSome result (SpansMore (λ q. covers q set.now && not (is_in q others.now)) span self.old self.new) }
     {
         let mut path = set;
-        self.add_unless(names, path, others)?;
+        self.add_unless(names, path, others, span)?;
         while let Some(parent) = parent_of(path) {
-            self.add_unless(names, parent, others)?;
+            self.add_unless(names, parent, others, span)?;
             path = parent;
         }
         Some(())
     }
 
-    /// Counts an item in the set, unless one of the other setSpecs says that it is in the set.
+    /// Counts an item, which stands there, in the set, unless one of the other setSpecs says that it is in the set.
     fn add_unless(
         &mut self,
         names: &mut SetNames,
         set: &str,
         others: &SpelledSets<'_>,
+        span: Span,
     ) -> Option<()>
-        ensures { OnSome result (CountsMore (λ q. bytes_eq q set.now && not (is_in q others.now)) self.old self.new) }
+        ensures counts { OnSome result (CountsMore (λ q. bytes_eq q set.now && not (is_in q others.now)) self.old self.new) }
+        ensures spans { OnSome result (SpansMore (λ q. bytes_eq q set.now && not (is_in q others.now)) span self.old self.new) }
     {
         if is_in(others.copy(), set) {
             return Some(());
         }
-        self.add_one(names, set)
+        self.add_one(names, set, span)
     }
 
-    /// Counts an item in the set.
-    fn add_one(&mut self, names: &mut SetNames, set: &str) -> Option<()>
-        ensures { OnSome result (CountsMore (λ q. bytes_eq q set.now) self.old self.new) }
+    /// Counts an item, which stands there, in the set.
+    fn add_one(&mut self, names: &mut SetNames, set: &str, span: Span) -> Option<()>
+        ensures counts { OnSome result (CountsMore (λ q. bytes_eq q set.now) self.old self.new) }
+        ensures spans { OnSome result (SpansMore (λ q. bytes_eq q set.now) span self.old self.new) }
     {
         for at in 0..self.counts.len() {
             if set == self.counts[at].set() {
-                return self.counts[at].add(1);
+                return self.counts[at].add_one(span);
             }
         }
         if self.counts.len() >= MAX_COUNTED_SETS {
             return None;
         }
         match names.name(set) {
-            Ok(name) => self.push(SetCount::one(name)),
+            Ok(name) => self.push(SetCount::one(name, span)),
             Err(_) => None,
         }
     }

@@ -16,10 +16,10 @@ returns-then-eq c =
     let same : items ≡ c.args.self.now = c.loop-at.invariant.same in
     let within : c.loop-at.at < length items = omega (arith, c.loop-at-test.true, c.len-at-end.ensures, c.self.inside.counts.ok.0, ap length same, ap length c.self.view_is) in
     let one : c.index.result.now ≡ own = get_or_read items c.loop-at.at c.index.result.now within c.index.ensures own ∙ sym c.index_mut.ensures.value in
-    on_some_map (c.add.new.self ≡ record { set = own.set; count = own.count + c.other.inside.count })
+    on_some_map (c.add.new.self ≡ record { set = own.set; count = own.count + c.other.inside.count; span = own.span })
     ((q : List ℕ) → counted_in q (slice_set items c.loop-at.at c.add.new.self) ≡ counted_in q c.args.self.now + (if bytes_eq q other.set then other.count else 0)) c.add.result
-    (λ more q. counts_at other.set q other.count items c.loop-at.at own c.add.new.self within (ap (λ zs. lacks other.set (take c.loop-at.at zs)) same ∙ c.loop-at.invariant.none) c.index_mut.ensures.value
-    (ap (λ (t : SetTotal). bytes_eq other.set t.set) (sym one) ∙ (λ i. bytes_eq (sym c.set.ensures i) (sym c.set-in-loop-at.ensures i)) ∙ sym c.eq.ensures ∙ c.if-eq.true) (more ∙ ap (λ (t : SetTotal). record { set = own.set; count = own.count + t.count }) c.other.view_is)
+    (λ more q. counts_at other.set q other.count own.span items c.loop-at.at own c.add.new.self within (ap (λ zs. lacks other.set (take c.loop-at.at zs)) same ∙ c.loop-at.invariant.none) c.index_mut.ensures.value
+    (ap (λ (t : SetTotal). bytes_eq other.set t.set) (sym one) ∙ (λ i. bytes_eq (sym c.set.ensures i) (sym c.set-in-loop-at.ensures i)) ∙ sym c.eq.ensures ∙ c.if-eq.true) (more ∙ ap (λ (t : SetTotal). record { set = own.set; count = own.count + t.count; span = own.span }) c.other.view_is)
     ∙ ap (λ zs. counted_in q zs + (if bytes_eq q other.set then other.count else 0)) same)
     c.add.ensures
 
@@ -44,5 +44,5 @@ returns c =
     let whole : take c.loop-at.at totals ≡ totals = take_all c.loop-at.at totals (omega (arith, c.loop-at-test.false, c.len-at-end.ensures, c.self.inside.counts.ok.0, ap length c.self.view_is)) in
     on_some_map (c.push.new.self ≡ c.loop-at.self-inside.counts.items ++ c.in_ok-copy.copy ∷ [])
     ((q : List ℕ) → counted_in q c.push.new.self ≡ counted_in q totals + (if bytes_eq q other.set then other.count else 0)) c.push.result
-    (λ more q. ap (counted_in q) (more ∙ (λ i. c.loop-at.invariant.same i ++ c.in_ok-copy.ensures i ∷ [])) ∙ counts_new other.set q other.count totals (ap (lacks other.set) (sym whole) ∙ c.loop-at.invariant.none))
+    (λ more q. ap (counted_in q) (more ∙ (λ i. c.loop-at.invariant.same i ++ c.in_ok-copy.ensures i ∷ [])) ∙ counts_new other.set q other.count other.span totals (ap (lacks other.set) (sym whole) ∙ c.loop-at.invariant.none))
     c.push.ensures

@@ -1,8 +1,10 @@
-use Rattle.std.proofs.Common.{◌≡◌, ◌∙◌, ◌<◌, ◌+◌, ◌++◌, ◌∷◌, [], List, ap, arith, length, sym, take, slice_set}
+use Rattle.std.proofs.Common.{◌≡◌, ◌∙◌, ◌<◌, ◌+◌, ◌++◌, ◌∷◌, [], List, Some, ap, arith, length, sym, take, true, slice_set}
 use Rattle.std.proofs.lemmas.List.{get_or_read, take_all}
 use Rattle.std.specs.Str.{bytes_eq}
-use Rattle.oai_sums.specs.Sums.{CountsMore, SetTotal, counted_in, lacks, one_if}
+use Rattle.oai_sums.specs.Sums.{CountsMore, SetTotal, SpansMore, counted_in, lacks, one_if, span_in, widened}
+use Rattle.oai_sums.specs.declared.spans.Span.{Span}
 use Rattle.oai_sums.proofs.CountLemmas.{counts_at, counts_new, lacks-none, lacks_past, on_some_map}
+use Rattle.oai_sums.proofs.SpanLemmas.{spanned, spans_at, spans_new}
 use Rattle.oai_sums.proofs.set_counts.SetCounts.add_one.Goals as goal
 
 pub loop-at-init : goal.loop-at-init
@@ -16,11 +18,18 @@ returns-then-eq c =
     let same : items ≡ c.args.self.now = c.loop-at.invariant.same in
     let within : c.loop-at.at < length items = omega (arith, c.loop-at-test.true, c.len-at-end.ensures, c.self.inside.counts.ok.0, ap length same, ap length c.self.view_is) in
     let one : c.index.result.now ≡ own = get_or_read items c.loop-at.at c.index.result.now within c.index.ensures own ∙ sym c.index_mut.ensures.value in
-    on_some_map (c.add.new.self ≡ record { set = own.set; count = own.count + 1 }) (CountsMore (λ q. bytes_eq q set) c.args.self.now (slice_set items c.loop-at.at c.add.new.self)) c.add.result
-    (λ more q. counts_at set q 1 items c.loop-at.at own c.add.new.self within (ap (λ zs. lacks set (take c.loop-at.at zs)) same ∙ c.loop-at.invariant.none) c.index_mut.ensures.value
-    (ap (λ (t : SetTotal). bytes_eq set t.set) (sym one) ∙ ap (bytes_eq set) (sym c.set.ensures) ∙ sym c.eq.ensures ∙ c.if-eq.true) more
-    ∙ ap (λ zs. counted_in q zs + one_if (bytes_eq q set)) same)
-    c.add.ensures
+    let lack : lacks set (take c.loop-at.at items) ≡ true = ap (λ zs. lacks set (take c.loop-at.at zs)) same ∙ c.loop-at.invariant.none in
+    let of_set : bytes_eq set own.set ≡ true = ap (λ (t : SetTotal). bytes_eq set t.set) (sym one) ∙ ap (bytes_eq set) (sym c.set.ensures) ∙ sym c.eq.ensures ∙ c.if-eq.true in
+    let late : SetTotal = c.add_one.new.self in
+    let wide : Span = widened (Some own.span) c.args.span in
+    record {
+      counts = on_some_map (late ≡ record { set = own.set; count = own.count + 1; span = wide }) (CountsMore (λ q. bytes_eq q set) c.args.self.now (slice_set items c.loop-at.at late)) c.add_one.result
+          (λ more q. counts_at set q 1 wide items c.loop-at.at own late within lack c.index_mut.ensures.value of_set more ∙ ap (λ zs. counted_in q zs + one_if (bytes_eq q set)) same)
+          c.add_one.ensures;
+      spans = on_some_map (late ≡ record { set = own.set; count = own.count + 1; span = wide }) (SpansMore (λ q. bytes_eq q set) c.args.span c.args.self.now (slice_set items c.loop-at.at late)) c.add_one.result
+          (λ more q. spans_at set q (own.count + 1) c.args.span items c.loop-at.at own late within lack c.index_mut.ensures.value of_set more ∙ ap (λ zs. spanned (bytes_eq q set) c.args.span (span_in q zs)) same)
+          c.add_one.ensures;
+    }
 
 pub loop-at-preserved : goal.loop-at-preserved
 loop-at-preserved c =
@@ -40,7 +49,13 @@ returns-in-Ok c =
     let set = c.args.set.now in
     let totals : List SetTotal = c.args.self.now in
     let whole : take c.loop-at.at totals ≡ totals = take_all c.loop-at.at totals (omega (arith, c.loop-at-test.false, c.len-at-end.ensures, c.self.inside.counts.ok.0, ap length c.self.view_is)) in
-    let added : c.one.result ≡ record { set = set; count = 1 } = c.one.ensures ∙ ap (λ s. record { set = s; count = 1 }) c.in-Ok.ensures in
-    on_some_map (c.push.new.self ≡ c.loop-at.self-inside.counts.items ++ c.one.result ∷ []) (CountsMore (λ q. bytes_eq q set) totals c.push.new.self) c.push.result
-    (λ more q. ap (counted_in q) (more ∙ (λ i. c.loop-at.invariant.same i ++ added i ∷ [])) ∙ counts_new set q 1 totals (ap (lacks set) (sym whole) ∙ c.loop-at.invariant.none))
-    c.push.ensures
+    let added : c.one.result ≡ record { set = set; count = 1; span = c.args.span } = c.one.ensures ∙ ap (λ s. record { set = s; count = 1; span = c.args.span }) c.in-Ok.ensures in
+    let lack : lacks set totals ≡ true = ap (lacks set) (sym whole) ∙ c.loop-at.invariant.none in
+    record {
+      counts = on_some_map (c.push.new.self ≡ c.loop-at.self-inside.counts.items ++ c.one.result ∷ []) (CountsMore (λ q. bytes_eq q set) totals c.push.new.self) c.push.result
+          (λ more q. ap (counted_in q) (more ∙ (λ i. c.loop-at.invariant.same i ++ added i ∷ [])) ∙ counts_new set q 1 c.args.span totals lack)
+          c.push.ensures;
+      spans = on_some_map (c.push.new.self ≡ c.loop-at.self-inside.counts.items ++ c.one.result ∷ []) (SpansMore (λ q. bytes_eq q set) c.args.span totals c.push.new.self) c.push.result
+          (λ more q. ap (span_in q) (more ∙ (λ i. c.loop-at.invariant.same i ++ added i ∷ [])) ∙ spans_new set q 1 c.args.span totals lack)
+          c.push.ensures;
+    }
