@@ -62,7 +62,7 @@ known_number pages q (Some set) n h is = by_sets q.sets h.sets is where
   by_sets : (sets : Option (List SetTotal)) → AreSetCounts sets (items_at pages q) → option_map (counted_in set) sets ≡ Some n
       → length (filter (λ (x : ItemState). is_in set x.sets) (items_at pages q)) ≡ n
   by_sets None counts e = none_some n e
-  by_sets (Some totals) counts e = sym (counts totals refl set) ∙ some_one (counted_in set totals) n e
+  by_sets (Some totals) counts e = sym ((counts totals refl).counts set) ∙ some_one (counted_in set totals) n e
 
 -- the number that is known is that of the items that are wanted
 pub known_counted : (pages : Pages) (places : List PlaceState) (asked : Filter) (stamp : ℤ) (identifier : List ℕ) (at n : ℕ) → IsDirectory pages places → at < length places

@@ -38,9 +38,11 @@ mod GroupLemmas
 mod HaveReadLemmas
 mod StretchLemmas
 mod SumLemmas
+mod SpanLemmas
 mod SpendingLemmas
 mod TestedLemmas
 mod ReadPlaces
 mod InsidePlaces
 mod FindingLemmas
 mod PickingLemmas
+mod SpanPicking

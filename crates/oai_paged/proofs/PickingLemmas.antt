@@ -1,13 +1,12 @@
 -- Items that are picked from a page, entry by entry, and the setSpecs that are looked at before an item is tested.
-use Rattle.std.proofs.Common.{◌≡◌, ◌∙◌, ◌+◌, ◌-◌, ◌*◌, ◌^◌, ◌<◌, ◌≤◌, ◌||◌, ℕ, suc, zero, ℤ, Bool, true, false, nat_eq, List, [], ◌∷◌, ◌++◌, Option, None, Some, Result, Ok, Err, ⊎_elim, length, take, drop, get_or, refl, sym, ap, subst, arith, append_assoc, append-nil, length-append, length-drop}
-use Rattle.std.specs.Prelude.{replicate}
-use Rattle.std.specs.List.{flat_map, list_any, starts_with}
+use Rattle.std.proofs.Common.{◌≡◌, ◌∙◌, ◌+◌, ◌-◌, ◌^◌, ◌<◌, ◌≤◌, ◌||◌, ℕ, ℤ, Bool, true, false, nat_eq, List, [], ◌∷◌, ◌++◌, Option, None, Some, Err, ⊎_elim, length, take, drop, get_or, refl, sym, ap, subst, arith, append_assoc, append-nil, length-append, length-drop}
+use Rattle.std.specs.List.{flat_map, starts_with}
 use Rattle.std.proofs.lemmas.Bool.{both_ways, false_from_ne_true}
 use Rattle.std.proofs.lemmas.Bool.Decides.{Decides-eqb}
-use Rattle.std.proofs.lemmas.List.{drop_at, take_all}
+use Rattle.std.proofs.lemmas.List.{drop_all, drop_at, drop_more, take_all}
 use Rattle.std.proofs.lemmas.Option.{same_Some}
 use Rattle.std.proofs.lemmas.Slice.Eq.{starts_is}
-use Rattle.oai_names.specs.Sets.{Covers, covers}
+use Rattle.oai_names.specs.Sets.{covers}
 use Rattle.oai_names.proofs.Covering.{covers-Decides}
 use Rattle.oai_item.specs.Decoding.{IsReadInPlace, item_in}
 use Rattle.oai_item.specs.Encoding.{Spells, encoded, encoded_bool, encoded_count, encoded_list, encoded_record, encoded_stamp, encoded_text}
@@ -18,13 +17,13 @@ use Rattle.oai_item.specs.declared.decodings.DecodeFault.{DecodeFault}
 use Rattle.oai_item.specs.declared.decodings.DecodeFault.TheVariants.{Damaged, NoMemory}
 use Rattle.oai_item.proofs.Decoded.{item_in-spelled}
 use Rattle.oai_item.proofs.Lengths.{length-encoded_text}
-use Rattle.oai_paged.specs.Pages.{AreStorable, IsPage, entries_of, entry_of, first_number, size_of}
+use Rattle.oai_paged.specs.Pages.{AreStorable, entries_of, entry_of, first_number}
 use Rattle.oai_paged.specs.Parts.{IsPartTaken}
 use Rattle.oai_paged.specs.Picking.{IsFoundWanted, IsPicked, IsPicking}
 use Rattle.oai_paged.specs.Places.{is_wanted}
-use Rattle.oai_paged.proofs.PageLemmas.{behind_number, entries_of-cons, number_back}
-use Rattle.oai_paged.proofs.PartLemmas.{taken_both, taken_more, taken_not, taken_one, taken_over, taken_stopped}
-use Rattle.oai_paged.proofs.ReadLemmas.{page_read}
+use Rattle.oai_paged.proofs.EntryLemmas.{storable_at}
+use Rattle.oai_paged.proofs.PageLemmas.{behind_number, entries_of-cons, entries_of-nil, number_back}
+use Rattle.oai_paged.proofs.PartLemmas.{taken_more, taken_one, taken_stopped}
 use Rattle.oai_paged.proofs.WantedLemmas.{given_from}
 
 -- ---- the setSpecs of a spelling
@@ -209,72 +208,51 @@ found_added p most part new skip item found option h is none some new_is =
 
 -- ---- item by item
 
--- of the items before that place those that pass were added, and the entries of the others stand in front of the bytes
+-- of the items before that place those that pass were added, and the bytes are the entries of the others
 pub record ArePicked (p : ItemState → Bool) (most : ℕ) (old new : List ItemState) (skip left : ℕ) (items : List ItemState) (passed : ℕ) (rest : List ℕ) : Type 0 where
   pub taken : IsPartTaken p most old new skip left (take passed items)
-  pub behind : List ℕ
-  pub parts : rest ≡ entries_of (drop passed items) ++ behind
+  pub parts : rest ≡ entries_of (drop passed items)
 
--- so it is of any items whose page the bytes are
-abbrev pub ArePickedFrom : (ItemState → Bool) → ℕ → List ItemState → List ItemState → ℕ → ℕ → List ℕ → ℕ → List ℕ → Type 0
-ArePickedFrom p most old new skip left page passed rest = (items : List ItemState) → IsPage page items → ArePicked p most old new skip left items passed rest
+-- so it is of any items of which the bytes are that many entries
+abbrev pub ArePickedFrom : (ItemState → Bool) → ℕ → List ItemState → List ItemState → ℕ → ℕ → List ℕ → ℕ → ℕ → List ℕ → Type 0
+ArePickedFrom p most old new skip left entries count passed rest =
+    (items : List ItemState) → AreStorable items → length items ≡ count → entries ≡ entries_of items → ArePicked p most old new skip left items passed rest
 
-pub none_picked : (p : ItemState → Bool) (most : ℕ) (part : List ItemState) (skip : ℕ) (page rest : List ℕ) → rest ≡ drop 4 page → ArePickedFrom p most part part skip skip page 0 rest
-none_picked p most part skip page rest tail items is_page = record {
-  taken = λ others. refl;
-  behind = replicate (length page - 4 - size_of items) 0;
-  parts = tail ∙ (page_read page items is_page).1;
-}
+pub none_picked : (p : ItemState → Bool) (most : ℕ) (part : List ItemState) (skip : ℕ) (entries : List ℕ) (count : ℕ) → ArePickedFrom p most part part skip skip entries count 0 entries
+none_picked p most part skip entries count items stored many e = record { taken = λ others. refl; parts = e }
 
 -- the entry of the item at that place stands in front
 pub record HasNextItem (items : List ItemState) (at : ℕ) (d : ItemState) (rest : List ℕ) : Type 0 where
   pub within : at < length items
-  pub behind : List ℕ
-  pub past : List ℕ
   pub spelled : Spells (encoded (get_or items at d)) (get_or items at d)
-  pub parts : rest ≡ entry_of (get_or items at d) ++ behind
-  pub next : behind ≡ entries_of (drop (at + 1) items) ++ past
+  pub parts : rest ≡ entry_of (get_or items at d) ++ entries_of (drop (at + 1) items)
 
-next_at : (items : List ItemState) (at : ℕ) (d : ItemState) (rest past : List ℕ) → at < length items → AreStorable items → rest ≡ entries_of (drop at items) ++ past
-    → Spells (encoded (get_or items at d)) (get_or items at d) × (rest ≡ entry_of (get_or items at d) ++ (entries_of (drop (at + 1) items) ++ past))
-next_at [] at d rest past within s e = absurd (omega (arith, within))
-next_at (x ∷ items) zero d rest past within s e = (
-  s.0,
-  e ∙ ap (λ bs. bs ++ past) (entries_of-cons x items) ∙ append_assoc (entry_of x) (entries_of items) past,
-)
-next_at (x ∷ items) (suc at) d rest past within s e =
-    let one = next_at items at d rest past (omega (arith, within)) s.1 e in
-    let next : suc (at + 1) ≡ suc at + 1 = omega arith in
-    (one.0, one.1 ∙ ap (λ n. entry_of (get_or items at d) ++ (entries_of (drop n (x ∷ items)) ++ past)) next)
-
-pub next_item : (p : ItemState → Bool) (most : ℕ) (old new : List ItemState) (skip left : ℕ) (page : List ℕ) (items : List ItemState) (at : ℕ) (d : ItemState) (rest : List ℕ)
-    → IsPage page items → at < first_number page → ArePicked p most old new skip left items at rest → HasNextItem items at d rest
-next_item p most old new skip left page items at d rest is_page below l =
-    let within : at < length items = omega (arith, below, (page_read page items is_page).0) in
-    let first = next_at items at d rest l.behind within is_page.fit.storable l.parts in
-    record {
-      within = within;
-      behind = entries_of (drop (at + 1) items) ++ l.behind;
-      past = l.behind;
-      spelled = first.0;
-      parts = first.1;
-      next = refl;
-    }
-
-pub one_picked : (p : ItemState → Bool) (most : ℕ) (old mid new : List ItemState) (skip between left : ℕ) (items : List ItemState) (at : ℕ) (d : ItemState) (rest after : List ℕ)
-    → ArePicked p most old mid skip between items at rest → (n : HasNextItem items at d rest) → after ≡ n.behind → IsPartTaken p most mid new between left (get_or items at d ∷ [])
-    → ArePicked p most old new skip left items (at + 1) after
-one_picked p most old mid new skip between left items at d rest after l n e more = record {
-  taken = taken_more p most old mid new skip between left items at d n.within l.taken more;
-  behind = n.past;
-  parts = e ∙ n.next;
+pub next_item : (p : ItemState → Bool) (most : ℕ) (old new : List ItemState) (skip left : ℕ) (items : List ItemState) (at : ℕ) (d : ItemState) (rest : List ℕ)
+    → AreStorable items → at < length items → ArePicked p most old new skip left items at rest → HasNextItem items at d rest
+next_item p most old new skip left items at d rest stored within l = record {
+  within = within;
+  spelled = storable_at items at d stored within;
+  parts = l.parts ∙ ap entries_of (drop_more items at d within) ∙ entries_of-cons (get_or items at d) (drop (at + 1) items);
 }
 
-pub picked_all : (p : ItemState → Bool) (most : ℕ) (old new : List ItemState) (skip left : ℕ) (page : List ℕ) (items : List ItemState) (passed : ℕ) (rest : List ℕ)
-    → IsPage page items → passed ≡ first_number page → ArePicked p most old new skip left items passed rest → IsPartTaken p most old new skip left items
-picked_all p most old new skip left page items passed rest is_page all l =
-    subst (λ (xs : List ItemState). IsPartTaken p most old new skip left xs) (take_all passed items (omega (arith, all, (page_read page items is_page).0))) l.taken
+pub one_picked : (p : ItemState → Bool) (most : ℕ) (old mid new : List ItemState) (skip between left : ℕ) (items : List ItemState) (at : ℕ) (d : ItemState) (rest after : List ℕ)
+    → ArePicked p most old mid skip between items at rest → at < length items → after ≡ entries_of (drop (at + 1) items) → IsPartTaken p most mid new between left (get_or items at d ∷ [])
+    → ArePicked p most old new skip left items (at + 1) after
+one_picked p most old mid new skip between left items at d rest after l within e more = record {
+  taken = taken_more p most old mid new skip between left items at d within l.taken more;
+  parts = e;
+}
+
+pub picked_all : (p : ItemState → Bool) (most : ℕ) (old new : List ItemState) (skip left : ℕ) (items : List ItemState) (passed : ℕ) (rest : List ℕ)
+    → passed ≡ length items → ArePicked p most old new skip left items passed rest → IsPartTaken p most old new skip left items
+picked_all p most old new skip left items passed rest all l =
+    subst (λ (xs : List ItemState). IsPartTaken p most old new skip left xs) (take_all passed items (omega (arith, all))) l.taken
 
 pub picked_enough : (p : ItemState → Bool) (most : ℕ) (old new : List ItemState) (skip left : ℕ) (items : List ItemState) (passed : ℕ) (rest : List ℕ)
     → most ≤ length new → ArePicked p most old new skip left items passed rest → IsPartTaken p most old new skip left items
 picked_enough p most old new skip left items passed rest enough l = taken_stopped p most old new skip left items passed l.taken enough
+
+-- behind the last entry stands nothing
+pub none_behind : (p : ItemState → Bool) (most : ℕ) (old new : List ItemState) (skip left : ℕ) (items : List ItemState) (passed : ℕ) (rest : List ℕ)
+    → passed ≡ length items → ArePicked p most old new skip left items passed rest → rest ≡ []
+none_behind p most old new skip left items passed rest all l = l.parts ∙ ap entries_of (drop_all passed items (omega (arith, all))) ∙ entries_of-nil

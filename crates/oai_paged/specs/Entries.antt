@@ -1,10 +1,11 @@
 -- The entries of a page in memory, for private functions.
-use Rattle.std.specs.Prelude.{◌≡◌, ◌+◌, ◌≤◌, ℕ, List, [], ◌∷◌, ◌++◌, length, drop, Result, Ok, Err, ⊤}
+use Rattle.std.specs.Prelude.{◌≡◌, ◌+◌, ◌-◌, ◌≤◌, ℕ, List, [], ◌∷◌, ◌++◌, length, drop, Result, Ok, Err, ⊤}
 use Rattle.oai_item.specs.Encoding.{Spells, encoded}
 use Rattle.oai_item.specs.Item.{ItemState}
 use Rattle.oai_item.specs.declared.decodings.DecodeFault.{DecodeFault}
 use Rattle.oai_item.specs.declared.decodings.DecodeFault.TheVariants.{Damaged, NoMemory}
-use Rattle.oai_paged.specs.Pages.{AreStorable, entries_of, entry_of, items_of_entries, size_of}
+use Rattle.oai_paged.specs.Pages.{AreStorable, between, entries_of, entry_of, items_of_entries, size_of}
+use Rattle.oai_sums.specs.declared.spans.Span.{Span}
 
 -- the items of entries, of which each ends at one of the numbers
 abbrev pub items_with : List ℕ → List ℕ → List ItemState
@@ -52,3 +53,10 @@ pub record HasEntries (bytes ends : List ℕ) (count size : ℕ) : Type 0 where
 pub record IsPlaceFrom (from place len : ℕ) : Type 0 where
   pub above : from ≤ place
   pub within : place ≤ len
+
+-- the span of the item at one place among those from another one on
+pub record IsSpanOfOne (from at : ℕ) (items : List ItemState) (span : Span) : Type 0 where
+  pub first : span.first ≡ at - from
+  pub end : span.end ≡ at - from + 1
+  pub from_byte : span.from ≡ size_of (between from at items)
+  pub to_byte : span.to ≡ size_of (between from (at + 1) items)

@@ -1,11 +1,15 @@
 -- What is picked from a page of which the entries were not tested, for private functions. All of it is said of the items whose page
 -- the bytes are; where they are that of none, as they may be over a device that lies, nothing is said.
-use Rattle.std.specs.Prelude.{◌≡◌, ◌^◌, ◌<◌, ℕ, Bool, true, false, List, ◌++◌, length, Option, Some, None, Result, Ok, Err, ⊤}
+use Rattle.std.specs.Prelude.{◌≡◌, ◌^◌, ◌+◌, ◌<◌, ◌≤◌, ℕ, Bool, true, false, List, ◌++◌, length, Option, Some, None, Result, Ok, Err, ⊤}
 use Rattle.oai_item.specs.Encoding.{encoded_list, encoded_text}
 use Rattle.oai_item.specs.Item.{ItemState}
 use Rattle.oai_item.specs.declared.decodings.DecodeFault.{DecodeFault}
 use Rattle.oai_item.specs.declared.decodings.DecodeFault.TheVariants.{Damaged, NoMemory}
 use Rattle.oai_paged.specs.Parts.{IsPartTaken}
+use Rattle.oai_paged.specs.Places.{PlaceState, span_at}
+use Rattle.oai_device.specs.declared.devices.TheConstants.{PAGE_BYTES}
+use Rattle.oai_paged.specs.declared.sizes.TheConstants.{NUMBER_BYTES}
+use Rattle.oai_sums.specs.declared.spans.Span.{Span}
 use denote.Ref.{Bor}
 
 -- the item, where it passes
@@ -29,3 +33,10 @@ IsPicking passes most old new skip items (Err NoMemory) = ⊤
 abbrev pub AreSetsFound : ItemState → Option (Bor (List ℕ)) → Type 0
 AreSetsFound item (Some bytes) = (behind : List ℕ) × (bytes.now ≡ encoded_list encoded_text item.sets ++ behind) × (length bytes.now < 2 ^ 32)
 AreSetsFound item None = ⊥
+
+-- the place has one page, and the items of the set that is asked for stand within that span of it
+pub record IsPickable (place : PlaceState) (set : Option (List ℕ)) (span : Span) : Type 0 where
+  pub one : length place.pages ≤ 1
+  pub known : span_at place set ≡ Some span
+  pub order : span.from ≤ span.to
+  pub within : NUMBER_BYTES + span.to ≤ PAGE_BYTES

@@ -1,6 +1,7 @@
 -- Places of a directory: where items stand in a pool of pages, and what is known of them.
-use Rattle.std.specs.Prelude.{◌≡◌, ◌==◌, ◌&&◌, ◌+◌, ◌<◌, ◌≤◌, ℕ, ℤ, Bool, true, List, [], ◌∷◌, length, drop, map, Option, None, Some, option_map, unwrap_or, slice_index}
+use Rattle.std.specs.Prelude.{◌≡◌, ◌==◌, ◌&&◌, ◌+◌, ◌<◌, ◌≤◌, ℕ, ℤ, Bool, true, List, [], ◌∷◌, length, drop, take, map, Option, None, Some, option_map, unwrap_or, slice_index}
 use Rattle.std.specs.List.{flat_map, list_all}
+use Rattle.std.specs.Option.{option_flatten}
 use Rattle.std.specs.Ordering.{nat_cmp, int_cmp, ordering_then, is_gt, is_lt}
 use Rattle.std.specs.declared.cmp.Ordering.{Ordering}
 use Rattle.std.specs.Cmp.Lexicographic.{slice_cmp}
@@ -8,7 +9,8 @@ use Rattle.oai_item.specs.Item.{ItemState, has_record}
 use Rattle.oai_item.specs.Order.{place_cmp}
 use Rattle.oai_item.specs.Selection.{Filter, passes}
 use Rattle.oai_pool.specs.Names.{times}
-use Rattle.oai_sums.specs.Sums.{AreCounts, SetTotal, counted_in}
+use Rattle.oai_sums.specs.Sums.{AreCounts, SetTotal, counted_in, number_in, span_in}
+use Rattle.oai_sums.specs.declared.spans.Span.{Span}
 use Rattle.oai_paged.specs.Pages.{IsPage, begins_at, fit_one, items_in, joined, pages_of, size_of}
 use Rattle.oai_paged.specs.declared.sizes.TheConstants.{FRONT_BYTES, MAX_OVERFLOW_PAGES}
 
@@ -50,14 +52,33 @@ unfoldable pub have_records : List (List ℕ) → List ItemState → Bool
 have_records prefixes items =
     list_all (λ (item : ItemState). list_all (λ prefix. has_record prefix item.formats) prefixes) items
 
--- where it is known how many are in each set, so many of the items are
+-- the items of the set stand within the span of these items, and of the bytes of their entries
+pub record IsSpan (set : List ℕ) (items : List ItemState) (span : Span) : Type 0 where
+  pub order : span.first ≤ span.end
+  pub within : span.end ≤ length items
+  pub from : span.from ≡ size_of (take span.first items)
+  pub to : span.to ≡ size_of (take span.end items)
+  pub before : number_in set (take span.first items) ≡ 0
+  pub behind : number_in set (drop span.end items) ≡ 0
+
+-- each set has as many of the items as are counted in it, and they stand within its span
+pub record AreCountedWithin (totals : List SetTotal) (items : List ItemState) : Type 0 where
+  pub counts : AreCounts totals items
+  pub spans : (set : List ℕ) (span : Span) → span_in set totals ≡ Some span → IsSpan set items span
+
+-- where it is known how many are in each set, so many of the items are, and stand where it says
 abbrev pub AreSetCounts : Option (List SetTotal) → List ItemState → Type 0
-AreSetCounts sets items = (totals : List SetTotal) → sets ≡ Some totals → AreCounts totals items
+AreSetCounts sets items = (totals : List SetTotal) → sets ≡ Some totals → AreCountedWithin totals items
 
 -- how many items of the place are known to be in the set, where one is given
 abbrev pub known_in : PlaceState → Option (List ℕ) → Option ℕ
 known_in place None = Some place.len
 known_in place (Some set) = option_map (counted_in set) place.sets
+
+-- within which span of the items of the place those stand that are in the set, where one is given, and that is known
+abbrev pub span_at : PlaceState → Option (List ℕ) → Option Span
+span_at place None = None
+span_at place (Some set) = option_flatten (option_map (span_in set) place.sets)
 
 -- how many pages items may have: one where they fit on it; one item may have overflow pages besides, and then nothing but zeros stands
 -- behind the front of the first page

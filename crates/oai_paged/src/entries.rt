@@ -8,7 +8,7 @@ ghost use Rattle.oai_item.specs.Items.{with_item};
 ghost use Rattle.oai_item.specs.Order.{IsPlace, are_in_order, place_cmp};
 ghost use Rattle.oai_item.specs.declared.sizes.TheConstants.{MAX_ITEM_BYTES};
 ghost use Rattle.oai_pool.specs.Kinds.{has_items};
-ghost use Rattle.oai_paged.specs.Entries.{HasEntries, IsPlaceFrom};
+ghost use Rattle.oai_paged.specs.Entries.{HasEntries, IsPlaceFrom, IsSpanOfOne};
 ghost use Rattle.oai_paged.specs.Pages.{AreCuts, AreStorable, FitAlone, IsPageReading, IsRemoval, are_short, begins_at, between, entries_of, entry_of, first_number, fit_one, overflow_of, pages_of, size_of};
 ghost use Rattle.oai_paged.specs.Places.{AreSetCounts, have_records};
 ghost use Rattle.oai_paged.specs.declared.sizes.TheConstants.{MAX_ENTRY_BYTES, MAX_WHOLE_BYTES};
@@ -22,7 +22,7 @@ use oai_device::PAGE_BYTES;
 use oai_item::{DecodeFault, Item, Spelling};
 use oai_names::{Identifier, Prefix, Sequence};
 use oai_pool::Page;
-use oai_sums::{SetCounts, SetNames};
+use oai_sums::{SetCounts, SetNames, Span};
 use std::alloc::{AllocError, Global};
 use std::cmp::Ordering;
 use std::marker::Model;
@@ -336,8 +336,8 @@ impl Entries {
         all
     }
 
-    /// How many of the items from the one place up to the other are in each set, with setSpecs of those names. None where there are too many sets, or
-    /// memory is refused.
+    /// How many of the items from the one place up to the other are in each set, and where these stand, with setSpecs of
+    /// those names. None where there are too many sets, more items than a span can count, or memory is refused.
     pub(crate) fn set_counts(
         &self,
         alloc: Global,
@@ -351,10 +351,27 @@ impl Entries {
     {
         let mut counts = SetCounts::new(alloc);
         for at in from..to {
-            counts.add(names, self.spelled(at).sets())?;
+            let span = self.span_of(from, at)?;
+            counts.add(names, self.spelled(at).sets(), span)?;
         }
         counts.fit();
         Some(counts)
+    }
+
+    /// Where the item at that place stands among those from `from` on, or None where more stand before it than a span can
+    /// count.
+    fn span_of(&self, from: usize, at: usize) -> Option<Span>
+        requires order { from ≤ at }
+        requires within { at < length self.now }
+        ensures { IfSome result (λ span. IsSpanOfOne from at self.now span) }
+    {
+        let _all = self.len();
+        Some(Span {
+            first: u16::try_from(at - from).ok()?,
+            end: u16::try_from(at - from + 1).ok()?,
+            from: u32::try_from(self.size_between(from, at)).ok()?,
+            to: u32::try_from(self.size_between(from, at + 1)).ok()?,
+        })
     }
 
     /// How many bytes the entries from the one place up to the other have.

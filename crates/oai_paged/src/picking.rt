@@ -1,54 +1,59 @@
-//! Items that are picked from a page of which most are in other sets: these are passed over by their lengths, and not
-//! tested.
+//! Items that are picked from a page of which most are in other sets: the bytes are read within which those of the set
+//! stand, and what is in other sets among them is passed over by its length, and not tested.
 
-ghost use Rattle.std.specs.Prelude.{◌≡◌, ◌++◌, ◌<◌, ◌≤◌, ◌∷◌, ◌^◌, ℕ, List, [], false, length, IfOk, IsTrue};
+ghost use Rattle.std.specs.Prelude.{◌≡◌, ◌++◌, ◌+◌, ◌-◌, ◌<◌, ◌≤◌, ◌∷◌, ◌^◌, ℕ, List, [], Some, false, length, IfOk, IfSome, IsTrue};
+ghost use Rattle.oai_device.specs.Device.{range_of};
+ghost use Rattle.oai_device.specs.declared.devices.TheConstants.{PAGE_BYTES};
 ghost use Rattle.oai_item.specs.Encoding.{Spells, encoded_list, encoded_text};
 ghost use Rattle.oai_item.specs.Item.{ItemState};
 ghost use Rattle.oai_item.specs.Membership.{is_in};
 ghost use Rattle.oai_item.specs.Selection.{is_in_given};
 ghost use Rattle.oai_paged.specs.Calls.{ReadsPages};
-ghost use Rattle.oai_paged.specs.Pages.{IsPage};
+ghost use Rattle.oai_paged.specs.Pages.{AreStorable, entries_of};
 ghost use Rattle.oai_paged.specs.Parts.{IsPartTaken};
-ghost use Rattle.oai_paged.specs.Picking.{AreSetsFound, IsFoundWanted, IsPicked, IsPicking};
+ghost use Rattle.oai_paged.specs.Picking.{AreSetsFound, IsFoundWanted, IsPickable, IsPicked, IsPicking};
 ghost use Rattle.oai_paged.specs.Places.{IsSoundPlace, is_wanted, items_at};
+ghost use Rattle.oai_paged.specs.declared.sizes.TheConstants.{NUMBER_BYTES};
 ghost use Rattle.oai_pool.specs.Counts.{count_of};
 ghost use Rattle.oai_pool.specs.Names.{times};
 
 use crate::entry_bytes::first_number;
 use crate::faults::fault_of;
-use crate::finding::{begins_on_page, first_entry, first_text, has_items};
+use crate::finding::{first_entry, first_text};
 use crate::places::SharedPlace;
 use crate::reading::{Wanted, forget_damaged, is_item_wanted};
 use crate::sizes::NUMBER_BYTES;
 use oai_catalogue::Filter;
+use oai_device::PAGE_BYTES;
 use oai_item::{DecodeFault, Fault, Item, Spelling};
-use oai_pool::{PageKind, PagePool};
+use oai_pool::{PageNo, PagePool};
+use oai_sums::Span;
 use std::alloc::{AllocError, Global};
 
 /// The bytes before the identifier in the spelling of an item: whether it is live, and its datestamp.
 const STAMP_BYTES: usize = 9;
 
-/// Adds to the part those of the items of the page that are wanted, behind the first `skip` of them, until the part has
-/// `most` items; returns how many are still to be skipped. `Damaged` only where the bytes are not the page of any items;
-/// `NoMemory`.
-pub(crate) fn pick_on_page(
+/// Adds to the part those of the items of so many entries, which the bytes are, that are wanted, behind the first `skip`
+/// of them, until the part has `most` items; returns how many are still to be skipped. `Damaged` only where the bytes are
+/// not so many entries; `NoMemory`.
+pub(crate) fn pick_entries(
     alloc: Global,
-    page: &[u8],
+    entries: &[u8],
+    count: usize,
     wanted: Wanted<'_>,
     skip: usize,
     most: usize,
     part: &mut Vec<Item>,
 ) -> Result<usize, DecodeFault>
-    requires { 4 ≤ length page.now }
-    ensures { (items : List ItemState) → IsPage page.now items
+    ensures { (items : List ItemState) → AreStorable items → length items ≡ count → entries.now ≡ entries_of items
         → IsPicking (is_wanted wanted.entry.filter.now wanted.entry.stamp wanted.entry.identifier.now) most
         part.old.items part.new.items skip items result }
 {
     let mut left = skip;
-    let mut rest = &page[NUMBER_BYTES..];
-    'entries: for _ in 0..first_number(page) {
+    let mut rest = entries;
+    'entries: for _ in 0..count {
         if part.len() >= most {
-            break;
+            return Ok(left);
         }
         let Some((spelling, behind)) = first_entry(rest) else {
             return Err(DecodeFault::Damaged);
@@ -58,6 +63,9 @@ pub(crate) fn pick_on_page(
             Err(fault) => return Err(fault),
         }
         rest = behind;
+    }
+    if !rest.is_empty() {
+        return Err(DecodeFault::Damaged);
     }
     Ok(left)
 }
@@ -169,35 +177,39 @@ fn may_have(bytes: &[u8], set: &str) -> bool
     false
 }
 
-/// Whether the place has one page, of whose items half at most are in the set that is asked for.
-pub(crate) fn is_sparse(place: &SharedPlace, wanted: Wanted<'_>) -> bool
-    ensures { IsTrue result → length place.now.pages ≤ 1 }
+/// Where those items of the place stand that are in the set that is asked for, where it has one page, and half of its
+/// items at most are in the set.
+pub(crate) fn sparse_span(place: &SharedPlace, wanted: Wanted<'_>) -> Option<Span>
+    ensures { IfSome result (λ span. IsPickable place.now wanted.entry.filter.now.set span) }
 {
     let filter = wanted.filter;
-    if filter.set.is_none() {
-        return false;
-    }
     if place.is_long() {
-        return false;
+        return None;
     }
-    match place.items_in(&filter.set) {
-        Some(count) => count <= place.len() / 2,
-        None => false,
+    if place.items_in(&filter.set)? > place.len() / 2 {
+        return None;
     }
+    let span = place.span_in(&filter.set)?;
+    if span.from > span.to || span.to as usize > PAGE_BYTES - NUMBER_BYTES {
+        return None;
+    }
+    Some(span)
 }
 
-/// Adds the wanted items of the place, which has one page, after the first `skip` to the part, up to `most`, and answers how many are then left to be
-/// skipped. It tests no other item. Any fault but `TooManyPages`. Where it is `Damaged`, the page is not kept in memory.
+/// Adds the wanted items of the place, of which those in the set stand within the span, after the first `skip` to the part,
+/// up to `most`, and answers how many are then left to be skipped. It reads the bytes of the span alone, and tests what may
+/// be in the set. Any fault but `TooManyPages`. Where it is `Damaged`, the page is not kept in memory.
 pub(crate) fn pick_at<P: PagePool>(
     alloc: Global,
     pages: &mut P,
     place: &SharedPlace,
+    span: Span,
     wanted: Wanted<'_>,
     skip: usize,
     most: usize,
     part: &mut Vec<Item>,
 ) -> Result<usize, Fault>
-    requires one { length place.now.pages ≤ 1 }
+    requires pickable { IsPickable place.now wanted.filter.now.set span }
     requires named { (n : ℕ) → 0 < times n place.now.pages → 0 < count_of (P.counts pages.old) n }
     requires sound { IsSoundPlace (P.pages pages.old) place.now }
     ensures taken { IfOk result (λ left. IsTrue (P.honest pages.old)
@@ -205,7 +217,7 @@ pub(crate) fn pick_at<P: PagePool>(
         part.old.items part.new.items skip left (items_at (P.pages pages.old) place.now)) }
     ensures pages { ReadsPages P.PagePool result pages.old pages.new }
 {
-    match pick_in(alloc, pages, place, wanted, skip, most, part) {
+    match pick_in(alloc, pages, place, span, wanted, skip, most, part) {
         Ok(left) => Ok(left),
         Err(fault) => {
             forget_damaged(pages, place, fault);
@@ -214,18 +226,19 @@ pub(crate) fn pick_at<P: PagePool>(
     }
 }
 
-/// Adds the wanted items of the place, which has one page, after the first `skip` to the part, up to `most`, and answers how many are then left to be
-/// skipped. Any fault but `TooManyPages`.
+/// Adds the wanted items of the place, of which those in the set stand within the span, after the first `skip` to the part,
+/// up to `most`, and answers how many are then left to be skipped. Any fault but `TooManyPages`.
 fn pick_in<P: PagePool>(
     alloc: Global,
     pages: &mut P,
     place: &SharedPlace,
+    span: Span,
     wanted: Wanted<'_>,
     skip: usize,
     most: usize,
     part: &mut Vec<Item>,
 ) -> Result<usize, Fault>
-    requires one { length place.now.pages ≤ 1 }
+    requires pickable { IsPickable place.now wanted.filter.now.set span }
     requires named { (n : ℕ) → 0 < times n place.now.pages → 0 < count_of (P.counts pages.old) n }
     requires sound { IsSoundPlace (P.pages pages.old) place.now }
     ensures taken { IfOk result (λ left. IsTrue (P.honest pages.old)
@@ -233,19 +246,33 @@ fn pick_in<P: PagePool>(
         part.old.items part.new.items skip left (items_at (P.pages pages.old) place.now)) }
     ensures pages { ReadsPages P.PagePool result pages.old pages.new }
 {
-    let page = match pages.read(place.pages()[0], PageKind::Bytes) {
-        Ok(page) => page,
-        Err(fault) => return Err(fault_of(fault)),
-    };
-    if !has_items(&page[..], place.len()) {
-        return Err(Fault::Damaged);
-    }
-    if !begins_on_page(&page[..], place.stamp(), place.identifier()) {
-        return Err(Fault::Damaged);
-    }
-    match pick_on_page(alloc, &page[..], wanted, skip, most, part) {
+    let bytes = read_span(alloc, pages, place.pages()[0], span)?;
+    let count = usize::from(span.end.saturating_sub(span.first));
+    match pick_entries(alloc, &bytes, count, wanted, skip, most, part) {
         Ok(left) => Ok(left),
         Err(DecodeFault::Damaged) => Err(Fault::Damaged),
         Err(DecodeFault::NoMemory) => Err(Fault::NoMemory),
+    }
+}
+
+/// The bytes of the entries of the span, on the page of that number, which is named. Any fault but `Damaged` and `TooManyPages`.
+fn read_span<P: PagePool>(
+    alloc: Global,
+    pages: &mut P,
+    no: PageNo,
+    span: Span,
+) -> Result<Vec<u8>, Fault>
+    requires named { 0 < count_of (P.counts pages.old) no }
+    requires order { span.from ≤ span.to }
+    requires within { NUMBER_BYTES + span.to ≤ PAGE_BYTES }
+    ensures bytes { IfOk result (λ bytes. IsTrue (P.honest pages.old)
+        → range_of (NUMBER_BYTES + span.from) (span.to - span.from) (P.pages pages.old no) ≡ Some bytes.items) }
+    ensures pages { ReadsPages P.PagePool result pages.old pages.new }
+{
+    let len = (span.to - span.from) as usize;
+    let mut bytes = vec![in alloc; 0; len]?;
+    match pages.read_range(no, NUMBER_BYTES + span.from as usize, &mut bytes) {
+        Ok(()) => Ok(bytes),
+        Err(fault) => Err(fault_of(fault)),
     }
 }

@@ -1,11 +1,11 @@
 ghost use Rattle.std.specs.Prelude.{◌≡◌, nat_lt, ℕ, length, option_copied, IfOk};
 ghost use Rattle.oai_names.specs.Names.{is_among};
-ghost use Rattle.oai_paged.specs.Places.{first_cmp, known_in};
+ghost use Rattle.oai_paged.specs.Places.{first_cmp, known_in, span_at};
 
 use crate::page_numbers::PageNumbers;
 use oai_names::{Identifier, Prefix, Sequence, SetSpec};
 use oai_pool::PageNo;
-use oai_sums::SetCounts;
+use oai_sums::{SetCounts, Span};
 use std::alloc::{AllocError, Global};
 use std::cmp::Ordering;
 use std::marker::Model;
@@ -168,6 +168,16 @@ impl SharedPlace {
                 None => None,
             },
             None => Some(self.place.len),
+        }
+    }
+
+    /// Within which span of the items those stand that are in the set, where one is given, and that is known.
+    pub(crate) fn span_in(&self, set: &Option<SetSpec>) -> Option<Span>
+        ensures { result ≡ span_at self.now set.now }
+    {
+        match (set, &self.place.sets) {
+            (Some(set), Some(counts)) => counts.span(set.as_str()),
+            _ => None,
         }
     }
 

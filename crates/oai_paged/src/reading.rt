@@ -23,7 +23,7 @@ use crate::faults::fault_of;
 use crate::finding::{begins_on_page, find_on_page, has_items};
 use crate::groups::{Groups, Stretch};
 use crate::names::forget_all;
-use crate::picking::{is_sparse, pick_at};
+use crate::picking::{pick_at, sparse_span};
 use crate::places::SharedPlace;
 use crate::searches::place_of;
 use crate::sizes::FRONT_BYTES;
@@ -750,8 +750,8 @@ fn take_at<P: PagePool>(
         }
     }
     let place = &places[at];
-    if is_sparse(place, wanted) {
-        return pick_at(alloc, pages, place, wanted, skip, most, part);
+    if let Some(span) = sparse_span(place, wanted) {
+        return pick_at(alloc, pages, place, span, wanted, skip, most, part);
     }
     let entries = read_place(alloc, pages, places, at)?;
     Ok(take_in(alloc, &entries, wanted, skip, most, part)?)

@@ -12,7 +12,7 @@ use std::process::Abort;
 use tests_devices::CountingDevice;
 
 /// A paged store over a device that counts its calls.
-type CountedVersions = PagedVersions<CountingDevice<MemoryDevice>>;
+pub(crate) type CountedVersions = PagedVersions<CountingDevice<MemoryDevice>>;
 
 /// How many reads and writes were asked of the device.
 fn calls_of(both: &Both<CountedVersions>) -> (u64, u64) {
@@ -38,7 +38,12 @@ fn five_large(rt: &impl Abort, alloc: Global, cache: usize) -> Both<CountedVersi
 }
 
 /// The call reads so many pages, and writes none.
-fn assert_reads(rt: &impl Abort, both: &mut Both<CountedVersions>, call: Call, reads: u64) {
+pub(crate) fn assert_reads(
+    rt: &impl Abort,
+    both: &mut Both<CountedVersions>,
+    call: Call,
+    reads: u64,
+) {
     let before = calls_of(both);
     both.call(rt, call);
     let after = calls_of(both);

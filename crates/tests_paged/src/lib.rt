@@ -53,6 +53,8 @@ mod side_by_side;
 #[cfg(test)]
 mod sizes;
 #[cfg(test)]
+mod spans;
+#[cfg(test)]
 mod two_lists;
 #[cfg(test)]
 mod versions;

@@ -1,65 +1,35 @@
-use Rattle.std.proofs.Common.{◌≡◌, ◌∙◌, ◌<◌, FitsSigned, eqb, true, ℤ, List, ℕ, [], ap, arith, get_or, length, refl, subst, sym, unwrap_or, w64}
+use Rattle.std.proofs.Common.{◌≡◌, ◌-◌, ◌<◌, ℕ, Ok, Err, ap, arith, get_or, length}
 use Rattle.std.proofs.lemmas.Bool.{false_from_ne_true}
-use Rattle.std.proofs.lemmas.Int.{to_z-of_z}
+use Rattle.oai_item.specs.declared.decodings.DecodeFault.TheVariants.{Damaged}
 use Rattle.oai_pool.specs.Names.{times}
-use Rattle.oai_paged.specs.Pages.{begins_at}
-use Rattle.oai_paged.specs.Places.{items_at}
-use Rattle.oai_paged.proofs.HaveReadLemmas.{read_page}
+use Rattle.oai_paged.proofs.HaveReadLemmas.{read_more, read_none}
 use Rattle.oai_paged.proofs.JoinedLemmas.{named_in_numbers}
-use Rattle.oai_paged.proofs.ReadPlaces.{not_honest_from, page_of_one, reads_damaged}
+use Rattle.oai_paged.proofs.ReadPlaces.{reads_damaged}
+use Rattle.oai_paged.proofs.SpanPicking.{span_picked}
 use Rattle.oai_paged.proofs.picking.pick_in.Goals as goal
 
-same_eqb : (a b : ℕ) → a ≡ b → eqb a b ≡ true
-same_eqb a b e = grind (arith, e)
-
-pub read-requires-clause-named : goal.read-requires-clause-named
-read-requires-clause-named g c =
+pub read_span-requires-clause-named : goal.read_span-requires-clause-named
+read_span-requires-clause-named g c =
     let some : 0 < length c.pages.result.now = omega (arith, c.requires.sound.many.some, ap length c.pages.ensures) in
     let n : ℕ = get_or c.pages.result.now 0 0 in
     c.requires.named n (omega (arith, named_in_numbers 0 c.pages.result.now some, ap (times n) c.pages.ensures))
 
-pub returns-then-not-begins_on_page-clause-pages : goal.returns-then-not-begins_on_page-clause-pages
-returns-then-not-begins_on_page-clause-pages g c =
-    let G = g.P.PagePool in
-    let p = c.args.pages.now in
-    let q = c.read.new.self in
-    let pages = G.pages p in
-    let fits : FitsSigned w64 c.stamp.result = record { sfits = c.stamp.type_inv } in
-    let test = simp to_z-of_z at c.begins_on_page.ensures in
-    reads_damaged G p q (read_page G c.read.result p q c.read.ensures.counts c.read.ensures.same c.read.ensures.pool)
-    (not_honest_from (G.honest p) c.begins_on_page.result
-    (λ honest. test (items_at pages c.args.place.now)
-    (page_of_one pages c.args.place.now c.pages.result.now c.deref-2.result.now c.pages.ensures c.requires.one c.requires.sound (c.deref-2.ensures ∙ sym (ap (λ o. unwrap_or o []) (c.in-Ok.ensures.value honest))))
-    ∙ ap (λ (s : ℤ). begins_at s c.identifier.result.now (items_at pages c.args.place.now)) c.stamp.ensures
-    ∙ ap (λ (i : List ℕ). begins_at c.args.place.now.stamp i (items_at pages c.args.place.now)) c.identifier.ensures ∙ c.requires.sound.begins)
-    c.if-not-begins_on_page.true)
-
-pub returns-in-Ok-pick_on_page-clause-taken : goal.returns-in-Ok-pick_on_page-clause-taken
-returns-in-Ok-pick_on_page-clause-taken g c =
+pub returns-in-Ok-clause-taken : goal.returns-in-Ok-clause-taken
+returns-in-Ok-clause-taken g c =
     let pages = g.P.PagePool.pages c.args.pages.now in
-    let items = items_at pages c.args.place.now in
-    λ honest. c.in-Ok-pick_on_page.ensures items (page_of_one pages c.args.place.now c.pages.result.now c.deref-3.result.now c.pages.ensures c.requires.one c.requires.sound (c.deref-3.ensures ∙ sym (ap (λ o. unwrap_or o []) (c.in-Ok.ensures.value honest))))
+    let many : c.from-count.result ≡ c.args.span.end - c.args.span.first = omega (arith, c.from-count.ensures, c.saturating_sub.ensures) in
+    λ honest. span_picked pages c.args.place.now c.pages.result.now c.in_ok-bytes.bytes.items c.deref.result.now c.args.wanted.filter.now c.args.wanted.stamp c.args.wanted.identifier.now c.args.span c.args.most
+    c.args.part.now.items c.pick_entries.new.part.items c.args.skip c.from-count.result (Ok c.in-Ok.left) c.pages.ensures c.requires.sound c.requires.pickable
+    (c.in_ok-bytes.ensures.bytes honest) c.deref.ensures.value many c.in-Ok.ensures
 
 pub returns-in-Err-Damaged-clause-pages : goal.returns-in-Err-Damaged-clause-pages
 returns-in-Err-Damaged-clause-pages g c =
     let G = g.P.PagePool in
     let p = c.args.pages.now in
-    let q = c.read.new.self in
-    let pages = G.pages p in
-    reads_damaged G p q (read_page G c.read.result p q c.read.ensures.counts c.read.ensures.same c.read.ensures.pool)
+    let q = c.read_span.new.pages in
+    let many : c.from-count.result ≡ c.args.span.end - c.args.span.first = omega (arith, c.from-count.ensures, c.saturating_sub.ensures) in
+    reads_damaged G p q (read_more G c.read_span.result p p q (read_none G p) c.read_span.ensures.pages)
     (false_from_ne_true (G.honest p)
-    (λ honest. rw c.in-Err-Damaged.field-0-is at c.in-Err-Damaged.ensures (items_at pages c.args.place.now)
-    (page_of_one pages c.args.place.now c.pages.result.now c.deref-3.result.now c.pages.ensures c.requires.one c.requires.sound (c.deref-3.ensures ∙ sym (ap (λ o. unwrap_or o []) (c.in-Ok.ensures.value honest))))))
-
-pub returns-then-not-has_items-clause-pages : goal.returns-then-not-has_items-clause-pages
-returns-then-not-has_items-clause-pages g c =
-    let G = g.P.PagePool in
-    let p = c.args.pages.now in
-    let q = c.read.new.self in
-    let pages = G.pages p in
-    reads_damaged G p q (read_page G c.read.result p q c.read.ensures.counts c.read.ensures.same c.read.ensures.pool)
-    (not_honest_from (G.honest p) c.has_items.result
-    (λ honest. c.has_items.ensures (items_at pages c.args.place.now)
-    (page_of_one pages c.args.place.now c.pages.result.now c.deref.result.now c.pages.ensures c.requires.one c.requires.sound (c.deref.ensures ∙ sym (ap (λ o. unwrap_or o []) (c.in-Ok.ensures.value honest))))
-    ∙ same_eqb _ _ (c.requires.sound.counted ∙ sym c.len.ensures))
-    c.if-not-has_items.true)
+    (λ honest. span_picked (G.pages p) c.args.place.now c.pages.result.now c.in_ok-bytes.bytes.items c.deref.result.now c.args.wanted.filter.now c.args.wanted.stamp c.args.wanted.identifier.now c.args.span c.args.most
+    c.args.part.now.items c.pick_entries.new.part.items c.args.skip c.from-count.result (Err Damaged) c.pages.ensures c.requires.sound c.requires.pickable
+    (c.in_ok-bytes.ensures.bytes honest) c.deref.ensures.value many (rw c.in-Err-Damaged.field-0-is at c.in-Err-Damaged.ensures)))

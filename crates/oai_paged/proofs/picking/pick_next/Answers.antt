@@ -1,4 +1,4 @@
-use Rattle.std.proofs.Common.{◌∷◌, ℕ, [], Ok, Err, Result, subst, sym}
+use Rattle.std.proofs.Common.{◌∷◌, ℕ, [], Result, subst, sym}
 use Rattle.oai_item.specs.declared.decodings.DecodeFault.{DecodeFault}
 use Rattle.oai_paged.specs.Picking.{IsPicking}
 use Rattle.oai_paged.specs.Places.{is_wanted}

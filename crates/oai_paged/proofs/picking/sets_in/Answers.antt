@@ -1,4 +1,4 @@
-use Rattle.std.proofs.Common.{◌∙◌, ap, arith, length, subst, sym}
+use Rattle.std.proofs.Common.{◌∙◌, ap, arith, length}
 use Rattle.std.proofs.lemmas.List.{take_rest}
 use Rattle.oai_item.specs.Encoding.{encoded_list, encoded_record}
 use Rattle.oai_paged.proofs.PickingLemmas.{from_sets, sets_stand}

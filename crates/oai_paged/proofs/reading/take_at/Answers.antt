@@ -1,4 +1,4 @@
-use Rattle.std.proofs.Common.{◌≡◌, IsTrue, arith, get_or, length, ℕ, subst}
+use Rattle.std.proofs.Common.{IsTrue, arith, ℕ, subst}
 use Rattle.std.proofs.lemmas.List.{get_or_read}
 use Rattle.std.specs.Prelude.{HoldsAt}
 use Rattle.oai_paged.specs.Parts.{IsPartTaken}
@@ -17,8 +17,8 @@ pub pick_at-requires-clause-sound : goal.pick_at-requires-clause-sound
 pick_at-requires-clause-sound g c =
     placed_at (g.P.PagePool.pages c.args.pages.now) c.args.places.now c.args.at c.index-places-at.result c.requires.stands.directory c.requires.within c.index-places-at.is
 
-pub returns-then-is_sparse-clause-taken : goal.returns-then-is_sparse-clause-taken
-returns-then-is_sparse-clause-taken g c =
+pub returns-in-Some-sparse_span-clause-taken : goal.returns-in-Some-sparse_span-clause-taken
+returns-in-Some-sparse_span-clause-taken g c =
     let pages = g.P.PagePool.pages c.args.pages.now in
     let p = is_wanted c.args.wanted.filter.now c.args.wanted.stamp c.args.wanted.identifier.now in
     let place : PlaceState = c.index-places-at.result in
