@@ -1,8 +1,9 @@
--- Worked lives of a server of two repositories, as turns: what the theorem asks of lists and harvests can be met across an end, and behind a
--- checkpoint. OAI-PMH 2.0,
--- sections 2.7.1, 3.1.2.2 and 3.5; deposits and lives are this repository's own.
-use Rattle.std.specs.Prelude.{◌≡◌, ℕ, pos, ◌+◌, List, [], ◌∷◌, ◌++◌, codes, length, map, None, Some}
+-- Worked lives of a server of two repositories, as turns: what the theorem asks of clients, lists and harvests can be met across an end, and
+-- behind a checkpoint. OAI-PMH 2.0, sections 2.7.1, 3.1.2.2 and 3.5; deposits and lives are this repository's own.
+use Rattle.std.specs.Prelude.{◌≡◌, ◌≢◌, ℕ, pos, ◌+◌, Bool, true, false, nat_lt, List, [], ◌∷◌, ◌++◌, codes, length, map, Option, None, Some}
+use Rattle.std.specs.Fmt.{decimal}
 use Rattle.std.specs.List.{AllByRecursion, AllZip, flat_map}
+use Rattle.slab.specs.Slab.{get}
 use Rattle.oai_item.specs.declared.faults.Fault.TheVariants.{NoMemory}
 use Rattle.oai_laws.specs.Harvests.{AreSuccessive, Harvest}
 use Rattle.oai_laws.specs.Worked.{all_records, worked_config}
@@ -10,6 +11,11 @@ use Rattle.oai_laws.specs.WorkedHarvests.{archive_b, prefix}
 use Rattle.oai_http.specs.Answers.{failed}
 use Rattle.oai_http.specs.Exchanges.{Asked}
 use Rattle.oai_http.specs.declared.exchanges.Call.{Call}
+use Rattle.oai_front.specs.Performing.{Done, answers_of}
+use Rattle.oai_front.specs.Runs.{done_on}
+use Rattle.oai_serving.specs.Links.{Link}
+use Rattle.oai_serving.specs.Rounds.{served_in}
+use Rattle.oai_serving.specs.Tables.{IsNumbered}
 use Rattle.oai_host.specs.Hosts.{HostState, Repository, begun}
 use Rattle.oai_host.specs.Redone.{reply_all}
 use Rattle.oai_host.specs.Saved.{ended_in, parts_in}
@@ -25,7 +31,7 @@ use Rattle.oai_headline.specs.Throughout.{own_given, whole_visits}
 use Rattle.oai_headline.specs.Visits.{Visit, steps_of}
 use Rattle.oai_headline.specs.Worked.{delete_line, deposit_line, first_entry, post, second_entry, worked_host}
 use Rattle.oai_service.specs.Hosting.{AreNumbered, hosting, leaving, saving}
-use Rattle.oai_service.specs.Lives.{AreServerEras, ServerEra}
+use Rattle.oai_service.specs.Lives.{AreServerEras, ServerEra, ServerLife}
 use Rattle.oai_service.specs.Service.{AreKept, IsReceivedIn, Told, all_turns}
 use Rattle.oai_service.specs.Turns.{AreTurns, Turn, answers_in, calls_in, was_performed}
 
@@ -121,7 +127,7 @@ pub record AreWorkedTurns (first second last : Visit) (one two three : Harvest) 
   pub following : IsFollowing worked_config worked_given_a all_records first (second ∷ last ∷ [])
   pub successive : AreSuccessive archive_b (flat_map (steps_of archive_b) worked_given_b) prefix one (two ∷ three ∷ [])
 
--- ---- the lives of a server
+-- ---- what a server has
 
 -- a journal in memory: its records, and how many of them are durable
 pub record Memory : Type 0 where
@@ -135,16 +141,56 @@ in_memory = record {
   has_room = λ journal bytes. Unit {0};
 }
 
--- three lives of a server, over streams of which nothing is known: one, a checkpoint behind it, and two more. What the last two leave is, behind the
--- records of the checkpoint, those of these turns
+-- ---- clients
+
+-- the stream of a client: what was written to it, and what is not yet read of what the client sends
+pub record Wire : Type 0 where
+  pub written : List ℕ
+  pub unread : List ℕ
+
+abbrev pub written_to : Wire → Option (List ℕ)
+written_to wire = Some wire.written
+
+abbrev pub unread_of : Wire → Option (List ℕ)
+unread_of wire = Some wire.unread
+
+-- the bytes in which a client asks that: RFC 9112, sections 2.1, 3, 3.2 and 6.2
+abbrev pub sent_as : Asked → List ℕ
+sent_as asked =
+    asked.method ++ codes " " ++ asked.target ++ codes " HTTP/1.1\r\nHost: localhost\r\nContent-Length: " ++ decimal (length asked.body) ++ codes "\r\n\r\n" ++ asked.body
+
+abbrev pub sent_for : Done → List ℕ
+sent_for done = sent_as done.message.asked
+
+-- at the end of the life a client is connected. What it sent are its messages that were served in the rounds that settled, and what was written to it
+-- is the front of their answers, more than nothing. The rest of these waits, or there is none
+pub record IsConnected (life : ServerLife Wire HostState Memory) (waits : Bool) : Type 0 where
+  pub key : ℕ
+  pub link : Link Wire
+  pub stands : get life.new.links key ≡ Some link
+  pub streams : List Wire
+  pub known : life.known ≡ Some []
+  pub later : life.later ≡ Some streams
+  pub client : Wire
+  pub numbered : IsNumbered streams link.connection.number client
+  pub came : client.unread ≡ flat_map sent_for (done_on link.connection.number (served_in life.rounds))
+  pub told : answers_of (done_on link.connection.number (served_in life.rounds)) ≡ link.stream.written ++ link.connection.output
+  pub some : link.stream.written ≢ []
+  pub rest : nat_lt 0 (length link.connection.output) ≡ waits
+
+-- ---- the lives of a server
+
+-- three lives of a server: one, a checkpoint behind it, and two more. What the last two leave is, behind the records of the checkpoint, those of these
+-- turns. At the end of both a client is connected: a part of the answers to its messages waits at that of the first, and none at that of the last
 pub record AreWorkedLives : Type 0 where
-  pub first : ServerEra (Unit {0}) HostState Memory
+  pub first : ServerEra Wire HostState Memory
   pub one : length first.lives ≡ 1
-  pub second : ServerEra (Unit {0}) HostState Memory
+  pub second : ServerEra Wire HostState Memory
   pub two : length second.lives ≡ 2
-  pub are : AreServerEras (hosting (λ (host : HostState). host)) saving in_memory (λ stream. None) (λ stream. None) worked_begun None (first ∷ second ∷ [])
-  pub numbers : AllByRecursion (λ (era : ServerEra (Unit {0}) HostState Memory). AreNumbered (redone_all leaving worked_begun era.found)) (first ∷ second ∷ [])
+  pub are : AreServerEras (hosting (λ (host : HostState). host)) saving in_memory written_to unread_of worked_begun None (first ∷ second ∷ [])
+  pub numbers : AllByRecursion (λ (era : ServerEra Wire HostState Memory). AreNumbered (redone_all leaving worked_begun era.found)) (first ∷ second ∷ [])
   pub told : List Told
-  pub received : AllZip (IsReceivedIn (λ stream. None) (λ stream. None)) second.lives told
+  pub received : AllZip (IsReceivedIn written_to unread_of) second.lives told
   pub kept : AreKept worked_checkpoint second.lives told second.left
   pub turns : all_turns told ≡ worked_turns
+  pub connected : AllZip IsConnected second.lives (true ∷ false ∷ [])

@@ -83,8 +83,10 @@ pub fn service_on_files_law<S: Stream, P: PageDevice, D: Disk + Drop>()
 
 /// What the theorem speaks of is there: three lives of a server of two repositories, one before a checkpoint and two behind it. What is served in
 /// these two is given: there is an end in the middle of a list and of a harvest; a deposit is refused memory behind its first line, and is
-/// repeated; at the first repository a list is followed over three pages, at the second three harvests are made, by the visits of both lives. It is
-/// computed from the bytes of the records on, and does nothing.
+/// repeated; at the first repository a list is followed over three pages, at the second three harvests are made, by the visits of both lives. The
+/// messages that are answered in a life come over one connection, as bytes that are given; it is open at the end, and what was sent over it is the
+/// front of their answers, in the first of the two lives a part of them, and in the last all. It is computed from the bytes of the records and
+/// messages on, and does nothing.
 pub fn worked_lives_law()
     ensures lived { AreWorkedLives }
     ensures turned { (first : Visit) × (second : Visit) × (last : Visit) × (one : Harvest) × (two : Harvest) × (three : Harvest)
