@@ -1,10 +1,12 @@
 """Writes docs/CONTRACTS.md from the sources.
 
 An entry is a law, or a public function that the crate exports and whose clauses cite relations of specs/ (their names begin with a verb, as `IsAsked` and
-`Keeps` do): its name, of a law the first sentence of its doc comment, and these relations, behind those of a file the file.
+`Keeps` do): its name, of a law the first sentence of its doc comment, and these relations, behind those of a file the file. Functions that
+follow one another and have the same relations are one entry.
 """
 
 import collections
+import itertools
 import re
 import textwrap
 
@@ -17,6 +19,7 @@ HEAD = """# Contracts
 Written by `scripts/run contracts` from the sources; do not edit. Of each crate: its laws, each with the first sentence
 of its doc comment, and the functions that it exports whose clauses cite relations of `specs/`, with these relations,
 as `Word` (File). The file is the crate's own where no other crate is named. What a function does is in its doc comment.
+Functions that follow one another and cite the same are one entry.
 """
 USE = re.compile(r"ghost use Rattle\.(oai_\w+)\.specs\.(\w+)\.\{([^}]*)\}")
 OWNER = re.compile(r"^(?:impl(?:<[^{]*?>)? (?:(?!.* for )(\w+))|pub trait (\w+))", re.MULTILINE)
@@ -97,7 +100,7 @@ def entries(crate, path):
         if words or name.endswith("_law"):
             called = f"{owner}::{name}" if owner else name
             is_law = name.endswith("_law")
-            yield f"`{called}`: " + (f"{first_sentence(doc)}." if is_law else "") + (f" {words}." if words and is_law else words)
+            yield f"`{called}`", (f"{first_sentence(doc)}." if is_law else "") + (f" {words}." if words and is_law else words)
 
 
 def page():
@@ -106,7 +109,8 @@ def page():
         found = [entry for path in sorted((TOP / "crates" / crate / "src").rglob("*.rt")) for entry in entries(crate, path)]
         if found:
             text.append(f"## {crate}")
-            for entry in found:
+            for words, same in itertools.groupby(found, lambda entry: entry[1]):
+                entry = f"{', '.join(called for called, _ in same)}: {words}"
                 text.append(textwrap.fill(entry, 120, initial_indent="- ", subsequent_indent="  ", break_long_words=False, break_on_hyphens=False))
     return "\n".join(text) + "\n"
 

@@ -7,15 +7,15 @@ use Rattle.oai_item.specs.Item.{ItemState}
 use Rattle.oai_pool.specs.Counts.{AddsName, KeepsNamed, count_of}
 use Rattle.oai_pool.specs.Names.{times}
 use Rattle.oai_pool.specs.declared.pools.PagePool.{Ghosts}
-use Rattle.oai_paged.specs.Calls.{Adds}
-use Rattle.oai_paged.specs.Pages.{FitAlone, FitPage, begins_at, pages_of, size_of}
-use Rattle.oai_paged.specs.Places.{AreSetCounts, IsSoundPlace, Pages, PlaceState, bytes_on, have_records, items_at, named_in, page_at}
-use Rattle.oai_paged.specs.Recounts.{AddsNumbers, Recounts}
-use Rattle.oai_paged.proofs.NameLemmas.{named_in-cons, named_in-nil, times-append, times-nil, times-one}
-use Rattle.oai_paged.proofs.OverflowLemmas.{fit_pages, page_on}
-use Rattle.oai_paged.proofs.PageLemmas.{items_in-page}
-use Rattle.oai_paged.proofs.PlaceLemmas.{items_on-cons, items_on-nil, pages_under-same}
-use Rattle.oai_paged.proofs.RecountLemmas.{recounts_then}
+use Rattle.oai_paged.specs.Changes.{Adds}
+use Rattle.oai_places.specs.Pages.{FitAlone, FitPage, begins_at, pages_of, size_of}
+use Rattle.oai_places.specs.Places.{AreSetCounts, IsSoundPlace, Pages, PlaceState, bytes_on, have_records, items_at, named_in, page_at}
+use Rattle.oai_places.specs.Recounts.{AddsNumbers, Recounts}
+use Rattle.oai_places.proofs.NameLemmas.{named_in-cons, named_in-nil, times-append, times-nil, times-one}
+use Rattle.oai_places.proofs.OverflowLemmas.{fit_pages, page_on}
+use Rattle.oai_places.proofs.PageLemmas.{items_in-page}
+use Rattle.oai_places.proofs.PlaceLemmas.{items_on-cons, items_on-nil, pages_under-same}
+use Rattle.oai_places.proofs.RecountLemmas.{recounts_then}
 
 -- ---- pages added one after the other
 

@@ -1,23 +1,15 @@
 -- A directory whose places were exchanged for those of pages that were added.
-use Rattle.std.proofs.Common.{◌≡◌, ◌∙◌, ◌+◌, ◌≤◌, ℕ, List, [], ◌++◌, Result, Ok, Err, IfOk, OnErr, OnOk, length, take, drop, refl, sym, ap, subst, arith}
+use Rattle.std.proofs.Common.{◌≡◌, ◌∙◌, ◌+◌, ◌≤◌, ℕ, List, [], ◌++◌, Result, length, take, drop, refl, sym, ap, subst, arith}
 use Rattle.std.proofs.lemmas.List.{drop-drop, drop_at, length-take-le, take-append-drop, take_at}
 use Rattle.oai_item.specs.Item.{ItemState}
 use Rattle.oai_item.specs.declared.faults.Fault.{Fault}
 use Rattle.oai_pool.specs.Counts.{count_of}
 use Rattle.oai_pool.specs.declared.pools.PagePool.{Ghosts}
-use Rattle.oai_paged.specs.Calls.{Adds, ChangesNothing, IsDirectoryChanged, ReadsPages, Renames, Stages}
-use Rattle.oai_paged.specs.Directory.{MayStand, StandsIn}
-use Rattle.oai_paged.specs.Places.{PlaceState, items_on, named_in}
+use Rattle.oai_places.specs.Calls.{ReadsPages, Renames}
+use Rattle.oai_paged.specs.Changes.{Adds, ChangesNothing, IsDirectoryChanged, Stages}
+use Rattle.oai_places.specs.Directory.{MayStand, StandsIn}
+use Rattle.oai_places.specs.Places.{PlaceState, items_on, named_in}
 use Rattle.oai_paged.proofs.RenamedLemmas.{items_changed, stands_changed, traded_changed, within_changed}
-
--- what is so of each value is so where there is one
-pub if_ok_map : {A E : Type 0} (P Q : A → Type 0) (result : Result A E) → ((a : A) → P a → Q a) → IfOk result P → IfOk result Q
-if_ok_map P Q (Ok a) so h = so a h
-if_ok_map P Q (Err e) so h = tt
-
-pub on_ok_from : {A E : Type 0} (P : A → Type 0) (Q : Type 0) (result : Result A E) → ((a : A) → P a → Q) → IfOk result P → OnOk result Q
-on_ok_from P Q (Ok a) so h = so a h
-on_ok_from P Q (Err e) so h = tt
 
 -- a list before, at and behind a place
 pub three_parts : {A : Type 0} (at len : ℕ) (xs : List A) → take at xs ++ (take len (drop at xs) ++ drop (at + len) xs) ≡ xs
@@ -106,12 +98,3 @@ nothing_read g read before after old mid new h c = record {
   places = c.places;
   names = renames_read g read [] [] old mid new h c.names;
 }
-
--- what is so anyhow is so where a call failed
-pub on_err_of : {A E : Type 0} (X : Type 0) (result : Result A E) → X → OnErr result X
-on_err_of X (Ok a) x = tt
-on_err_of X (Err e) x = x
-
-pub on_err_map : {A E : Type 0} (X Y : Type 0) (result : Result A E) → (X → Y) → OnErr result X → OnErr result Y
-on_err_map X Y (Ok a) so h = tt
-on_err_map X Y (Err e) so h = so h

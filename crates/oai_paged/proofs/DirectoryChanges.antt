@@ -9,13 +9,14 @@ use Rattle.oai_item.proofs.OrderLemmas.{none_at-from}
 use Rattle.oai_names.proofs.Lists.{filter_all}
 use Rattle.oai_pool.specs.Counts.{count_of}
 use Rattle.oai_pool.specs.declared.pools.PagePool.{Ghosts}
-use Rattle.oai_paged.specs.Calls.{IsDirectoryChanged, IsRemoved, ReadsPages}
-use Rattle.oai_paged.specs.Directory.{IsDirectory, StandsIn, items_with_run}
-use Rattle.oai_paged.specs.Places.{Pages, PlaceState, items_at, items_on}
-use Rattle.oai_paged.specs.Searches.{BelongsAt}
+use Rattle.oai_places.specs.Calls.{ReadsPages}
+use Rattle.oai_paged.specs.Changes.{IsDirectoryChanged, IsRemoved}
+use Rattle.oai_places.specs.Directory.{IsDirectory, StandsIn, items_with_run}
+use Rattle.oai_places.specs.Places.{Pages, PlaceState, items_at, items_on}
+use Rattle.oai_places.specs.Searches.{BelongsAt}
 use Rattle.oai_paged.proofs.ChangedLemmas.{changed_items}
-use Rattle.oai_paged.proofs.DirectoryLemmas.{item_at-cut, no_place, with_item-cut, without_at-cut}
-use Rattle.oai_paged.proofs.PlaceLemmas.{items_on-nil}
+use Rattle.oai_places.proofs.DirectoryLemmas.{item_at-cut, no_place, with_item-cut, without_at-cut}
+use Rattle.oai_places.proofs.PlaceLemmas.{items_on-nil}
 
 -- the items of a place with one more
 pub items_put : {P : Type 0} (g : Ghosts P) (item : ItemState) (items entries : List ItemState) (at new_at new_len : ℕ) (gone before after : List PlaceState) (old new : P) → StandsIn g old before

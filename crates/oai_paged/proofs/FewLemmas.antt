@@ -8,9 +8,9 @@ use Rattle.oai_pool.specs.Counts.{count_of, used_of}
 use Rattle.oai_pool.specs.Names.{times}
 use Rattle.oai_pool.specs.declared.pools.PagePool.{Ghosts}
 use Rattle.oai_pool.specs.declared.pools.TheConstants.{MAX_PAGES}
-use Rattle.oai_paged.specs.Directory.{StandsIn}
-use Rattle.oai_paged.specs.Places.{IsSoundPlace, Pages, PlaceState, page_numbers}
-use Rattle.oai_paged.proofs.NameLemmas.{times-cons, times-here, times-nil}
+use Rattle.oai_places.specs.Directory.{StandsIn}
+use Rattle.oai_places.specs.Places.{IsSoundPlace, Pages, PlaceState, page_numbers}
+use Rattle.oai_places.proofs.NameLemmas.{times-cons, times-here, times-nil}
 
 -- ---- one number taken out of others
 

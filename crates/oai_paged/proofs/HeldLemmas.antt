@@ -11,14 +11,14 @@ use Rattle.oai_item.specs.Item.{ItemState}
 use Rattle.oai_pool.specs.Counts.{count_of, used_of}
 use Rattle.oai_pool.specs.Names.{times}
 use Rattle.oai_pool.specs.declared.pools.TheConstants.{MAX_PAGES}
-use Rattle.oai_paged.specs.Directory.{IsDirectory}
-use Rattle.oai_paged.specs.Pages.{FitAlone}
-use Rattle.oai_paged.specs.Places.{FitPages, IsSoundPlace, Pages, PlaceState, items_at, items_on, named_in, page_numbers}
+use Rattle.oai_places.specs.Directory.{IsDirectory}
+use Rattle.oai_places.specs.Pages.{FitAlone}
+use Rattle.oai_places.specs.Places.{FitPages, IsSoundPlace, Pages, PlaceState, items_at, items_on, named_in, page_numbers}
 use Rattle.oai_paged.specs.Shelves.{AreShelved, Directories, StandsOnPages, calls_left, directory_at, items_below, lists_on, most_of, named_at, named_by_all}
 use Rattle.oai_paged.specs.Versions.{AreShared, Shelves, Versions, directories_named, number_at, places_of}
 use Rattle.oai_paged.proofs.FewLemmas.{used_few}
-use Rattle.oai_paged.proofs.NameLemmas.{named_in-cons, named_own, times-append, times-nil}
-use Rattle.oai_paged.proofs.PlaceLemmas.{items_on-cons, items_on-nil}
+use Rattle.oai_places.proofs.NameLemmas.{named_in-cons, named_own, times-append, times-nil}
+use Rattle.oai_places.proofs.PlaceLemmas.{items_on-cons, items_on-nil}
 use Rattle.oai_paged.proofs.RoomLemmas.{most_of-le}
 use Rattle.oai_paged.proofs.ShelfLemmas.{shelved_named}
 use Rattle.oai_paged.proofs.SlotLemmas.{sum-all, sum-first}

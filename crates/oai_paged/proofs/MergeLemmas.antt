@@ -9,11 +9,11 @@ use Rattle.oai_names.proofs.Lists.{all-weaker}
 use Rattle.oai_item.specs.Item.{ItemState}
 use Rattle.oai_item.specs.Order.{are_in_order, precedes}
 use Rattle.oai_item.proofs.Around.{in_order-append, in_order-join}
-use Rattle.oai_paged.specs.Directory.{IsDirectory, MayStand, items_with_run}
-use Rattle.oai_paged.specs.Places.{Pages, PlaceState, items_at, items_on}
-use Rattle.oai_paged.specs.Searches.{MayBeAt}
-use Rattle.oai_paged.proofs.DirectoryLemmas.{may_stand_read, no_place}
-use Rattle.oai_paged.proofs.PlaceLemmas.{items_on-append, items_on-cons, items_on-nil}
+use Rattle.oai_places.specs.Directory.{IsDirectory, MayStand, items_with_run}
+use Rattle.oai_places.specs.Places.{Pages, PlaceState, items_at, items_on}
+use Rattle.oai_places.specs.Searches.{MayBeAt}
+use Rattle.oai_places.proofs.DirectoryLemmas.{may_stand_read, no_place}
+use Rattle.oai_places.proofs.PlaceLemmas.{items_on-append, items_on-cons, items_on-nil}
 
 -- ---- items before others
 

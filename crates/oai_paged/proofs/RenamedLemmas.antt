@@ -5,11 +5,12 @@ use Rattle.oai_item.specs.Item.{ItemState}
 use Rattle.oai_item.specs.Order.{are_in_order}
 use Rattle.oai_pool.specs.Counts.{count_of}
 use Rattle.oai_pool.specs.declared.pools.PagePool.{Ghosts}
-use Rattle.oai_paged.specs.Calls.{Adds, Renames, Stages}
-use Rattle.oai_paged.specs.Directory.{IsDirectory, StandsIn}
-use Rattle.oai_paged.specs.Places.{Pages, PlaceState, items_on, named_in}
-use Rattle.oai_paged.proofs.NameLemmas.{named_in-append, named_in-nil}
-use Rattle.oai_paged.proofs.PlaceLemmas.{AreKept, all_placed-same, items_on-append, items_on-nil, items_on-same, placed-append, placed-parts}
+use Rattle.oai_places.specs.Calls.{Renames}
+use Rattle.oai_paged.specs.Changes.{Adds, Stages}
+use Rattle.oai_places.specs.Directory.{IsDirectory, StandsIn}
+use Rattle.oai_places.specs.Places.{Pages, PlaceState, items_on, named_in}
+use Rattle.oai_places.proofs.NameLemmas.{named_in-append, named_in-nil}
+use Rattle.oai_places.proofs.PlaceLemmas.{AreKept, all_placed-same, items_on-append, items_on-nil, items_on-same, placed-append, placed-parts}
 
 -- ---- pages added
 

@@ -4,12 +4,13 @@ use Rattle.oai_catalogue.specs.Store.{Spares, Spends}
 use Rattle.oai_item.specs.declared.faults.Fault.{Fault}
 use Rattle.oai_pool.specs.Counts.{count_of}
 use Rattle.oai_pool.specs.declared.pools.PagePool.{Ghosts}
-use Rattle.oai_paged.specs.Calls.{Changes, Renames, Stages}
-use Rattle.oai_paged.specs.Directory.{IsDirectory, StandsIn}
-use Rattle.oai_paged.specs.Places.{PlaceState, named_in}
-use Rattle.oai_paged.proofs.NameLemmas.{named_in-nil}
+use Rattle.oai_places.specs.Calls.{Renames}
+use Rattle.oai_paged.specs.Changes.{Changes, Stages}
+use Rattle.oai_places.specs.Directory.{IsDirectory, StandsIn}
+use Rattle.oai_places.specs.Places.{PlaceState, named_in}
+use Rattle.oai_places.proofs.NameLemmas.{named_in-nil}
 use Rattle.oai_paged.proofs.RenamedLemmas.{IsSettled, directory-same, gone_replaced, renames_undone, settled, settled_twice}
-use Rattle.oai_paged.proofs.SpendingLemmas.{err_of, ok_of, spends_both, spends_freed_err, spends_ok}
+use Rattle.oai_places.proofs.SpendingLemmas.{err_of, ok_of, spends_both, spends_freed_err, spends_ok}
 
 -- where nothing is renamed, a directory stands as it stood
 pub stands_same : {P : Type 0} (g : Ghosts P) (places : List PlaceState) (old new : P) → StandsIn g old places → Renames g [] [] old new → StandsIn g new places

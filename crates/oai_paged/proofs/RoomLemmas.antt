@@ -9,12 +9,13 @@ use Rattle.oai_item.specs.declared.faults.Fault.TheVariants.{Device, TooManyPage
 use Rattle.oai_pool.specs.Counts.{count_of}
 use Rattle.oai_pool.specs.declared.pools.PagePool.{Ghosts}
 use Rattle.oai_pool.specs.declared.pools.TheConstants.{MAX_PAGES}
-use Rattle.oai_paged.specs.Calls.{Changes, IsShareFault, Renames}
-use Rattle.oai_paged.specs.Places.{PlaceState, named_in, page_numbers}
-use Rattle.oai_paged.specs.Recounts.{HasFull}
+use Rattle.oai_places.specs.Calls.{IsShareFault, Renames}
+use Rattle.oai_paged.specs.Changes.{Changes}
+use Rattle.oai_places.specs.Places.{PlaceState, named_in, page_numbers}
+use Rattle.oai_places.specs.Recounts.{HasFull}
 use Rattle.oai_paged.specs.Shelves.{calls_left, most_of}
-use Rattle.oai_paged.proofs.NameLemmas.{named_in-nil}
-use Rattle.oai_paged.proofs.RecountLemmas.{not_damaged, not_device, only_full}
+use Rattle.oai_places.proofs.NameLemmas.{named_in-nil}
+use Rattle.oai_places.proofs.RecountLemmas.{not_damaged, not_device, only_full}
 
 -- ---- the greatest count
 

@@ -10,12 +10,13 @@ use Rattle.oai_item.specs.Order.{are_in_order}
 use Rattle.oai_item.specs.declared.faults.Fault.{Fault}
 use Rattle.oai_pool.specs.Counts.{count_of}
 use Rattle.oai_pool.specs.declared.pools.PagePool.{Ghosts}
-use Rattle.oai_paged.specs.Calls.{Changes, Renames}
-use Rattle.oai_paged.specs.Directory.{IsDirectory, StandsIn}
-use Rattle.oai_paged.specs.Places.{Pages, PlaceState, items_on, named_in}
+use Rattle.oai_places.specs.Calls.{Renames}
+use Rattle.oai_paged.specs.Changes.{Changes}
+use Rattle.oai_places.specs.Directory.{IsDirectory, StandsIn}
+use Rattle.oai_places.specs.Places.{Pages, PlaceState, items_on, named_in}
 use Rattle.oai_paged.specs.Shelves.{AreShelved, Directories, directory_at, lists_on, named_at, named_by_all}
-use Rattle.oai_paged.proofs.NameLemmas.{named_in-nil}
-use Rattle.oai_paged.proofs.PlaceLemmas.{AreKept, all_placed-same, items_on-nil, items_on-same}
+use Rattle.oai_places.proofs.NameLemmas.{named_in-nil}
+use Rattle.oai_places.proofs.PlaceLemmas.{AreKept, all_placed-same, items_on-nil, items_on-same}
 use Rattle.oai_paged.proofs.SlotLemmas.{sum-changed, sum-part, sum-two}
 
 -- ---- how often all directories name a number

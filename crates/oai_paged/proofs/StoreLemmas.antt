@@ -9,13 +9,14 @@ use Rattle.oai_item.specs.Item.{ItemState}
 use Rattle.oai_item.specs.declared.faults.Fault.{Fault}
 use Rattle.oai_pool.specs.Counts.{count_of}
 use Rattle.oai_pool.specs.declared.pools.PagePool.{Ghosts}
-use Rattle.oai_paged.specs.Calls.{Changes, ReadsPages, Renames}
-use Rattle.oai_paged.specs.Directory.{StandsIn}
-use Rattle.oai_paged.specs.Places.{Pages, PlaceState, items_on, named_in}
+use Rattle.oai_places.specs.Calls.{ReadsPages, Renames}
+use Rattle.oai_paged.specs.Changes.{Changes}
+use Rattle.oai_places.specs.Directory.{StandsIn}
+use Rattle.oai_places.specs.Places.{Pages, PlaceState, items_on, named_in}
 use Rattle.oai_paged.specs.Shelves.{AreShelved, directory_at, lists_on}
 use Rattle.oai_paged.specs.Versions.{AreShared, DirectoryState, Shelves, Versions, directories_named, names_of, number_at, places_in, places_of, shelf_at, told_at}
-use Rattle.oai_paged.proofs.PlaceLemmas.{items_on-nil}
-use Rattle.oai_paged.proofs.RecountLemmas.{recounts_none, renames_none}
+use Rattle.oai_places.proofs.PlaceLemmas.{items_on-nil}
+use Rattle.oai_places.proofs.RecountLemmas.{recounts_none, renames_none}
 use Rattle.oai_paged.proofs.ShelfLemmas.{AreBut, AreTurned, Turns, change_shelved, change_turned, copied_lists, directory_of_none, list_of, removed_lists, shelved_stands, turn_copied, turn_kept, turn_put_in, turn_taken_out, turned_lists, turned_shelved, unchanged_lists}
 use Rattle.oai_paged.proofs.VersionLemmas.{NameBut, StandBut, lists-named, lists_fresh, lists_less, lists_more, lists_moved, lists_named, lists_none, named_list, named_turned, places-at, places-some, shared_changed, shared_less, shared_more, shared_moved, shared_none, told_of, vacant_unnamed}
 

@@ -10,7 +10,7 @@ use Rattle.oai_catalogue.specs.Store.{ChangesOnly, Lists, list_at, with_list, wi
 use Rattle.oai_catalogue.proofs.ListsLemmas.{same_lists}
 use Rattle.oai_item.specs.Item.{ItemState}
 use Rattle.oai_item.specs.declared.faults.Fault.{Fault}
-use Rattle.oai_paged.specs.Places.{Pages, PlaceState, items_on}
+use Rattle.oai_places.specs.Places.{Pages, PlaceState, items_on}
 use Rattle.oai_paged.specs.Shelves.{directory_at, lists_on}
 use Rattle.oai_paged.specs.Versions.{AreShared, DirectoryState, Shelves, Versions, directories_named, directory_named, names_at, names_of, number_at, places_in, places_of, shelf_at, told_at}
 use Rattle.oai_paged.proofs.ShelfLemmas.{AreTurned}

@@ -3,7 +3,7 @@ use Rattle.std.specs.Prelude.{◌≡◌, ℕ, zero, suc, true, List, [], ◌∷�
 use Rattle.std.proofs.Common.{refl}
 use Rattle.oai_catalogue.specs.Store.{AreInOrder, list_at}
 use Rattle.oai_item.specs.Order.{are_in_order}
-use Rattle.oai_paged.specs.Places.{Pages, PlaceState, items_on}
+use Rattle.oai_places.specs.Places.{Pages, PlaceState, items_on}
 use Rattle.oai_paged.specs.Shelves.{AreShelved, directory_at, lists_on}
 use Rattle.oai_paged.specs.Versions.{Shelves, Versions, directories_named, directory_named, places_of}
 

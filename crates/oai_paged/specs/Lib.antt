@@ -1,16 +1,5 @@
-pub mod Pages
-pub mod PageNumbers
-pub mod Entries
-pub mod Finding
-pub mod Places
-pub mod Searches
-pub mod Parts
-pub mod Picking
-pub mod Sums
 pub mod Versions
-pub mod Directory
-pub mod Calls
-pub mod Recounts
+pub mod Changes
 pub mod Shelves
 pub mod Props
 pub mod InOrder

@@ -4,9 +4,9 @@ use Rattle.std.specs.List.{AllByRecursion, AllByRecursion-prop}
 use Rattle.std.proofs.Props as std
 use Rattle.oai_item.specs.Encoding.{Spells, encoded}
 use Rattle.oai_item.specs.Item.{ItemState}
-use Rattle.oai_paged.specs.Pages.{AreStorable}
-use Rattle.oai_paged.specs.Places.{IsSoundPlace, Pages, PlaceState}
-use Rattle.oai_paged.specs.Sums.{AreGroups, AreTotals, GroupState, IsSoundGroup, IsSum, SumState}
+use Rattle.oai_places.specs.Pages.{AreStorable}
+use Rattle.oai_places.specs.Places.{IsSoundPlace, Pages, PlaceState}
+use Rattle.oai_places.specs.Sums.{AreGroups, AreTotals, GroupState, IsSoundGroup, IsSum, SumState}
 use Rattle.oai_sums.specs.Sums.{SetTotal}
 
 Spells-prop : (item : ItemState) → IsProp (Spells (encoded item) item)

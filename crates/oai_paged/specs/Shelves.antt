@@ -6,9 +6,9 @@ use Rattle.oai_item.specs.Item.{ItemState}
 use Rattle.oai_pool.specs.Counts.{count_of}
 use Rattle.oai_pool.specs.Names.{times}
 use Rattle.oai_pool.specs.declared.pools.TheConstants.{MAX_PAGES}
-use Rattle.oai_paged.specs.Directory.{IsDirectory}
-use Rattle.oai_paged.specs.Pages.{FitAlone, FitPage, pages_of}
-use Rattle.oai_paged.specs.Places.{Pages, PlaceState, items_on, named_in, page_at}
+use Rattle.oai_places.specs.Directory.{IsDirectory}
+use Rattle.oai_places.specs.Pages.{FitAlone, FitPage, pages_of}
+use Rattle.oai_places.specs.Places.{Pages, PlaceState, items_on, named_in, page_at}
 
 -- a directory at each number that is in use
 abbrev pub Directories : Type 0

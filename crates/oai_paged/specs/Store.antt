@@ -2,7 +2,7 @@
 use Rattle.std.specs.Prelude.{◌≡◌, ◌+◌, ◌≤◌, ℕ, List, [], Option, Some, unwrap_or}
 use Rattle.oai_pool.specs.Counts.{count_of}
 use Rattle.oai_pool.specs.declared.pools.PagePool.{Ghosts}
-use Rattle.oai_paged.specs.Places.{PlaceState, named_in}
+use Rattle.oai_places.specs.Places.{PlaceState, named_in}
 use Rattle.oai_paged.specs.Shelves.{Directories, directory_at}
 use Rattle.oai_paged.specs.Versions.{directories_named, names_of, number_at}
 use Rattle.oai_paged.specs.declared.store.VersionsOver.{VersionsOver}

@@ -1,6 +1,6 @@
 -- The versions of a store: each names a directory, and several may name one.
 use Rattle.std.specs.Prelude.{◌≡◌, ◌==◌, if◌then◌else◌, ◌<◌, ℕ, List, Option, None, Some, map, option_map, slice_index_or, sum_by}
-use Rattle.oai_paged.specs.Places.{PlaceState}
+use Rattle.oai_places.specs.Places.{PlaceState}
 use Rattle.oai_paged.specs.Shelves.{Directories, directory_at}
 
 -- a directory, and how many versions name it

@@ -1,16 +1,14 @@
 ghost use Rattle.std.specs.Prelude.{◌≡◌, ◌<◌, ◌≤◌, ℕ, [], OnErr, OnOk, IfErr, IfOk};
 ghost use Rattle.oai_catalogue.specs.Store.{Spares};
 ghost use Rattle.oai_pool.specs.Counts.{count_of};
-ghost use Rattle.oai_paged.specs.Calls.{IsShareFault, Renames};
-ghost use Rattle.oai_paged.specs.Places.{named_in, page_numbers};
+ghost use Rattle.oai_places.specs.Calls.{IsShareFault, Renames};
+ghost use Rattle.oai_places.specs.Places.{named_in, page_numbers};
 ghost use Rattle.oai_paged.specs.Props.{group_props};
-ghost use Rattle.oai_paged.specs.Recounts.{HasFull};
-ghost use Rattle.oai_paged.specs.Sums.{AreGroups};
+ghost use Rattle.oai_places.specs.Recounts.{HasFull};
+ghost use Rattle.oai_places.specs.Sums.{AreGroups};
 
-use crate::groups::Groups;
-use crate::names::share_all;
-use crate::places::SharedPlace;
 use oai_item::Fault;
+use oai_places::{Groups, SharedPlace, share_all};
 use oai_pool::PagePool;
 use std::alloc::Global;
 use std::marker::Model;

@@ -1,9 +1,8 @@
 //! Places of a directory exchanged for others, where they stand.
 ghost use Rattle.std.specs.Prelude.{◌≡◌, ◌+◌, ◌-◌, ◌≤◌, ◌++◌, take, drop, vec_len, vec_capacity, OnOk};
-ghost use Rattle.oai_paged.specs.declared.sizes.TheConstants.{MAX_REPLACED};
+ghost use Rattle.oai_places.specs.declared.sizes.TheConstants.{MAX_REPLACED};
 
-use crate::places::SharedPlace;
-use crate::sizes::MAX_REPLACED;
+use oai_places::{MAX_REPLACED, SharedPlace};
 use std::alloc::AllocError;
 use std::mem;
 

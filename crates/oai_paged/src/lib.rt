@@ -4,25 +4,12 @@
 
 mod changes;
 mod directories;
-mod entries;
-mod entry_bytes;
 mod exchanges;
-mod faults;
-mod finding;
-mod groups;
 mod merging;
-mod names;
-mod page_numbers;
-mod picking;
-mod places;
 mod put_and_remove;
-mod reading;
-mod searches;
-mod sizes;
 mod store;
-mod sums;
 
-pub use sizes::{
+pub use oai_places::{
     FRONT_BYTES, HEAD_BYTES, MAX_ENTRY_BYTES, MAX_OVERFLOW_PAGES, MAX_WHOLE_BYTES, NUMBER_BYTES,
     size_law,
 };

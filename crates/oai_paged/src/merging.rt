@@ -1,12 +1,9 @@
 //! What is left of a page, put on one page with the items of its neighbours, where all have room there.
 ghost use Rattle.std.specs.Prelude.{◌≡◌, ◌+◌, ◌<◌, ◌≤◌, length, IsTrue};
-ghost use Rattle.oai_paged.specs.Calls.{ReadsPages, returned};
-ghost use Rattle.oai_paged.specs.Directory.{MayReplace, StandsIn, items_with_run};
+ghost use Rattle.oai_places.specs.Calls.{ReadsPages, returned};
+ghost use Rattle.oai_places.specs.Directory.{MayReplace, StandsIn, items_with_run};
 
-use crate::entries::Entries;
-use crate::places::SharedPlace;
-use crate::reading::read_place;
-use crate::sizes::FULL_BYTES;
+use oai_places::{Entries, FULL_BYTES, SharedPlace, read_place};
 use oai_pool::PagePool;
 use std::alloc::Global;
 

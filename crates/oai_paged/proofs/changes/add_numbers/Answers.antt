@@ -1,15 +1,15 @@
 use Rattle.std.proofs.Common.{◌≡◌, ◌∙◌, ◌+◌, ◌<◌, ◌≤◌, ◌++◌, ◌∷◌, [], ℕ, List, is_ok, true, ap, arith, length, subst, sym, take}
 use Rattle.std.proofs.lemmas.List.{take_all, take_more}
 use Rattle.oai_item.specs.Item.{ItemState}
-use Rattle.oai_paged.specs.Calls.{fault_of}
-use Rattle.oai_paged.specs.Pages.{between, overflow_of, pages_of}
-use Rattle.oai_paged.specs.Recounts.{AddsNumbers}
+use Rattle.oai_places.specs.Calls.{fault_of}
+use Rattle.oai_places.specs.Pages.{between, overflow_of, pages_of}
+use Rattle.oai_places.specs.Recounts.{AddsNumbers}
 use Rattle.oai_paged.proofs.AddedLemmas.{adds_no_number, adds_number, recounts_kept}
-use Rattle.oai_paged.proofs.EntryLemmas.{storable-between}
-use Rattle.oai_paged.proofs.OverflowLemmas.{few_overflow, length-pages}
-use Rattle.oai_paged.proofs.RecountLemmas.{named_while_shared, undone_after}
-use Rattle.oai_paged.proofs.SpendingLemmas.{err_of, ok_of, spends_both, spends_call, spends_fault, spends_freed_err, spends_more, spends_none, spends_ok}
-use Rattle.oai_paged.proofs.TestedLemmas.{kind_fits}
+use Rattle.oai_places.proofs.EntryLemmas.{storable-between}
+use Rattle.oai_places.proofs.OverflowLemmas.{few_overflow, length-pages}
+use Rattle.oai_places.proofs.RecountLemmas.{named_while_shared, undone_after}
+use Rattle.oai_places.proofs.SpendingLemmas.{err_of, ok_of, spends_both, spends_call, spends_fault, spends_freed_err, spends_more, spends_none, spends_ok}
+use Rattle.oai_places.proofs.TestedLemmas.{kind_fits}
 use Rattle.oai_paged.proofs.changes.add_numbers.Goals as goal
 
 pub overflow_add-overflow : goal.overflow_add-overflow

@@ -1,8 +1,8 @@
 use Rattle.std.proofs.Common.{◌≡◌, ◌+◌, ◌≤◌, take, vec_capacity, vec_len}
 use Rattle.oai_catalogue.specs.Store.{Spends}
-use Rattle.oai_paged.specs.Pages.{between, pages_of}
-use Rattle.oai_paged.specs.Recounts.{AddsNumbers}
-use Rattle.oai_paged.proofs.SpendingLemmas.{ok_of}
+use Rattle.oai_places.specs.Pages.{between, pages_of}
+use Rattle.oai_places.specs.Recounts.{AddsNumbers}
+use Rattle.oai_places.proofs.SpendingLemmas.{ok_of}
 use Rattle.oai_paged.proofs.changes.add_numbers.Given as goal
 
 -- the first so many pages were added

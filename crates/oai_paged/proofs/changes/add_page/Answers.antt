@@ -3,16 +3,16 @@ use Rattle.std.proofs.lemmas.Int.{to_z-of_z}
 use Rattle.oai_item.specs.Item.{ItemState}
 use Rattle.oai_item.proofs.Around.{only_place}
 use Rattle.oai_pool.specs.Names.{times}
-use Rattle.oai_paged.specs.Calls.{Renames}
-use Rattle.oai_paged.specs.Pages.{begins_at, between}
-use Rattle.oai_paged.specs.Places.{AreSetCounts, PlaceState, have_records}
+use Rattle.oai_places.specs.Calls.{Renames}
+use Rattle.oai_places.specs.Pages.{begins_at, between}
+use Rattle.oai_places.specs.Places.{AreSetCounts, PlaceState, have_records}
 use Rattle.oai_sums.specs.Sums.{SetTotal}
 use Rattle.oai_paged.proofs.AddedLemmas.{adds_page}
-use Rattle.oai_paged.proofs.BetweenLemmas.{begins-between, fit-between, length-between}
-use Rattle.oai_paged.proofs.CutLemmas.{few_between}
-use Rattle.oai_paged.proofs.ChangedLemmas.{on_err_of}
-use Rattle.oai_paged.proofs.NameLemmas.{times-nil}
-use Rattle.oai_paged.proofs.RecountLemmas.{recounts_undone, renames_none}
+use Rattle.oai_places.proofs.BetweenLemmas.{begins-between, fit-between, length-between}
+use Rattle.oai_places.proofs.CutLemmas.{few_between}
+use Rattle.oai_places.proofs.ResultLemmas.{on_err_of}
+use Rattle.oai_places.proofs.NameLemmas.{times-nil}
+use Rattle.oai_places.proofs.RecountLemmas.{recounts_undone, renames_none}
 use Rattle.oai_paged.proofs.changes.add_page.Goals as goal
 
 pub returns-in-Ok-clause-added : goal.returns-in-Ok-clause-added

@@ -1,12 +1,12 @@
 use Rattle.std.proofs.Common.{◌≡◌, ◌∙◌, ◌+◌, ◌++◌, ◌∷◌, [], Err, List, ℕ, ap, append-nil, arith, is_ok, rules, subst, sym, true}
 use Rattle.oai_item.specs.Item.{ItemState}
-use Rattle.oai_paged.specs.Calls.{Adds}
-use Rattle.oai_paged.specs.Pages.{between, overflow_of}
-use Rattle.oai_paged.specs.Places.{PlaceState}
-use Rattle.oai_paged.proofs.BetweenLemmas.{between-none}
-use Rattle.oai_paged.proofs.ChangedLemmas.{on_err_of}
+use Rattle.oai_paged.specs.Changes.{Adds}
+use Rattle.oai_places.specs.Pages.{between, overflow_of}
+use Rattle.oai_places.specs.Places.{PlaceState}
+use Rattle.oai_places.proofs.BetweenLemmas.{between-none}
+use Rattle.oai_places.proofs.ResultLemmas.{on_err_of}
 use Rattle.oai_paged.proofs.RenamedLemmas.{adds_both, adds_then_nothing}
-use Rattle.oai_paged.proofs.SpendingLemmas.{spends_failed, spends_ok}
+use Rattle.oai_places.proofs.SpendingLemmas.{spends_failed, spends_ok}
 use Rattle.oai_paged.proofs.changes.add_part.Goals as goal
 
 pub returns-then-from-to-clause-ok : goal.returns-then-from-to-clause-ok

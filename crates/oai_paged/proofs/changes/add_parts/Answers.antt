@@ -1,13 +1,13 @@
 use Rattle.std.proofs.Common.{◌≡◌, ◌∙◌, ◌+◌, ◌++◌, [], Err, List, ℕ, OnOk, ap, arith, rules, subst, sym, true}
 use Rattle.oai_item.specs.Item.{ItemState}
-use Rattle.oai_paged.specs.Calls.{Adds}
-use Rattle.oai_paged.specs.Pages.{AreCuts, between, fit_one, overflow_of}
-use Rattle.oai_paged.proofs.BetweenLemmas.{between-parts}
-use Rattle.oai_paged.proofs.ChangedLemmas.{on_err_map, on_err_of}
-use Rattle.oai_paged.proofs.EntryLemmas.{storable-between}
-use Rattle.oai_paged.proofs.OverflowLemmas.{few_overflow, overflow-one}
+use Rattle.oai_paged.specs.Changes.{Adds}
+use Rattle.oai_places.specs.Pages.{AreCuts, between, fit_one, overflow_of}
+use Rattle.oai_places.proofs.BetweenLemmas.{between-parts}
+use Rattle.oai_places.proofs.ResultLemmas.{on_err_map, on_err_of}
+use Rattle.oai_places.proofs.EntryLemmas.{storable-between}
+use Rattle.oai_places.proofs.OverflowLemmas.{few_overflow, overflow-one}
 use Rattle.oai_paged.proofs.RenamedLemmas.{adds_none}
-use Rattle.oai_paged.proofs.SpendingLemmas.{ok_of, spends_both, spends_failed, spends_more}
+use Rattle.oai_places.proofs.SpendingLemmas.{ok_of, spends_both, spends_failed, spends_more}
 use Rattle.oai_paged.proofs.changes.add_parts.Goals as goal
 
 -- where all stand on one page, that is the first

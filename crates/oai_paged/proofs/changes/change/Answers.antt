@@ -1,7 +1,7 @@
 use Rattle.std.proofs.Common.{◌∙◌, ◌+◌, ◌++◌, List, ap, arith, drop, length, take}
 use Rattle.oai_item.specs.Item.{ItemState}
 use Rattle.oai_item.proofs.Around.{in_order-append}
-use Rattle.oai_paged.specs.Places.{PlaceState, items_on, named_in}
+use Rattle.oai_places.specs.Places.{PlaceState, items_on, named_in}
 use Rattle.oai_paged.proofs.ChangedLemmas.{is_changed}
 use Rattle.oai_paged.proofs.RenamedLemmas.{added_named}
 use Rattle.oai_paged.proofs.changes.change.Goals as goal

@@ -1,5 +1,5 @@
 use Rattle.std.proofs.Common.{sym, arith}
-use Rattle.oai_paged.proofs.TestedLemmas.{kind_of_many, kind_of_none}
+use Rattle.oai_places.proofs.TestedLemmas.{kind_of_many, kind_of_none}
 use Rattle.oai_paged.proofs.changes.kind_for.Goals as goal
 
 pub returns-then-overflow-eq0 : goal.returns-then-overflow-eq0

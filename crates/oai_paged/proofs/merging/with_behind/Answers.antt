@@ -1,9 +1,9 @@
 use Rattle.std.proofs.Common.{◌≡◌, ◌∙◌, ◌+◌, ◌++◌, ◌<◌, List, ap, arith, length, subst, sym}
 use Rattle.oai_item.specs.Item.{ItemState}
 use Rattle.oai_item.specs.Order.{are_in_order}
-use Rattle.oai_paged.specs.Directory.{MayStand, items_with_run}
-use Rattle.oai_paged.specs.Places.{Pages, PlaceState}
-use Rattle.oai_paged.proofs.DirectoryLemmas.{no_place}
+use Rattle.oai_places.specs.Directory.{MayStand, items_with_run}
+use Rattle.oai_places.specs.Places.{Pages, PlaceState}
+use Rattle.oai_places.proofs.DirectoryLemmas.{no_place}
 use Rattle.oai_paged.proofs.MergeLemmas.{behind-items, behind-order}
 use Rattle.oai_paged.proofs.merging.with_behind.Goals as goal
 

@@ -1,13 +1,14 @@
 use Rattle.std.proofs.Common.{◌≡◌, ◌∙◌, ◌≤◌, IsTrue, List, ap, arith, sym}
 use Rattle.oai_item.specs.Item.{ItemState}
-use Rattle.oai_paged.specs.Calls.{IsDirectoryChanged}
-use Rattle.oai_paged.specs.Directory.{items_with_run}
-use Rattle.oai_paged.specs.Places.{PlaceState, items_on}
+use Rattle.oai_paged.specs.Changes.{IsDirectoryChanged}
+use Rattle.oai_places.specs.Directory.{items_with_run}
+use Rattle.oai_places.specs.Places.{PlaceState, items_on}
 use Rattle.oai_paged.specs.declared.changes.Changed.{Changed}
-use Rattle.oai_paged.proofs.ChangedLemmas.{changed_items, on_ok_from}
+use Rattle.oai_paged.proofs.ChangedLemmas.{changed_items}
+use Rattle.oai_places.proofs.ResultLemmas.{on_ok_from}
 use Rattle.oai_paged.proofs.DirectoryChanges.{stands_read}
-use Rattle.oai_paged.proofs.ShortLemmas.{fit_parts}
-use Rattle.oai_paged.proofs.SpendingLemmas.{ok_of}
+use Rattle.oai_places.proofs.ShortLemmas.{fit_parts}
+use Rattle.oai_places.proofs.SpendingLemmas.{ok_of}
 use Rattle.oai_paged.proofs.put_and_remove.leave.Goals as goal
 
 pub cuts-cuts-requires-clause-size : goal.cuts-cuts-requires-clause-size

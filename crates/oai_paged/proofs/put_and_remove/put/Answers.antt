@@ -1,6 +1,6 @@
 use Rattle.std.proofs.Common.{◌∙◌}
 use Rattle.oai_paged.proofs.RenamedLemmas.{gone_named, settled}
-use Rattle.oai_paged.proofs.SpendingLemmas.{spends_freed_ok}
+use Rattle.oai_places.proofs.SpendingLemmas.{spends_freed_ok}
 use Rattle.oai_paged.proofs.put_and_remove.put.Goals as goal
 
 pub drop_all-requires : goal.drop_all-requires

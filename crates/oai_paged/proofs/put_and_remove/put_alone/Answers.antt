@@ -1,14 +1,14 @@
 use Rattle.std.proofs.Common.{◌≡◌, ◌∙◌, [], ◌∷◌, IsTrue, List, ap, rules, subst, sym}
 use Rattle.oai_item.specs.Item.{ItemState}
 use Rattle.oai_item.specs.Items.{with_item}
-use Rattle.oai_paged.specs.Calls.{IsDirectoryChanged}
-use Rattle.oai_paged.specs.Directory.{MayStand}
-use Rattle.oai_paged.specs.Pages.{fit_one}
-use Rattle.oai_paged.specs.Places.{PlaceState, items_on}
+use Rattle.oai_paged.specs.Changes.{IsDirectoryChanged}
+use Rattle.oai_places.specs.Directory.{MayStand}
+use Rattle.oai_places.specs.Pages.{fit_one}
+use Rattle.oai_places.specs.Places.{PlaceState, items_on}
 use Rattle.oai_paged.specs.declared.changes.Changed.{Changed}
-use Rattle.oai_paged.proofs.ChangedLemmas.{on_ok_from}
+use Rattle.oai_places.proofs.ResultLemmas.{on_ok_from}
 use Rattle.oai_paged.proofs.LoneLemmas.{items_beside, may_stand_put, put_none}
-use Rattle.oai_paged.proofs.ShortLemmas.{fit-nil}
+use Rattle.oai_places.proofs.ShortLemmas.{fit-nil}
 use Rattle.oai_paged.proofs.put_and_remove.put_alone.Goals as goal
 
 pub put-requires-clause-one_page : goal.put-requires-clause-one_page

@@ -1,13 +1,13 @@
 use Rattle.std.proofs.Common.{◌≡◌, ◌∙◌, ◌<◌, IsTrue, List, ap, arith, get_or, length, rules, subst}
 use Rattle.oai_item.specs.Item.{ItemState}
 use Rattle.oai_item.specs.Items.{with_item}
-use Rattle.oai_paged.specs.Calls.{IsDirectoryChanged}
-use Rattle.oai_paged.specs.Places.{PlaceState, items_at, items_on}
-use Rattle.oai_paged.specs.Searches.{MayBeAt}
+use Rattle.oai_paged.specs.Changes.{IsDirectoryChanged}
+use Rattle.oai_places.specs.Places.{PlaceState, items_at, items_on}
+use Rattle.oai_places.specs.Searches.{MayBeAt}
 use Rattle.oai_paged.specs.declared.changes.Changed.{Changed}
-use Rattle.oai_paged.proofs.ChangedLemmas.{on_ok_from}
+use Rattle.oai_places.proofs.ResultLemmas.{on_ok_from}
 use Rattle.oai_paged.proofs.DirectoryChanges.{one_put, stands_read}
-use Rattle.oai_paged.proofs.DirectoryLemmas.{may_stand_with, no_place}
+use Rattle.oai_places.proofs.DirectoryLemmas.{may_stand_with, no_place}
 use Rattle.oai_paged.proofs.put_and_remove.put_among.Goals as goal
 
 pub put-requires-clause-one_page : goal.put-requires-clause-one_page

@@ -2,9 +2,10 @@ use Rattle.std.proofs.Common.{◌≡◌, ◌∙◌, ◌<◌, FitsSigned, List, a
 use Rattle.std.proofs.lemmas.Int.{to_z-of_z}
 use Rattle.std.proofs.lemmas.List.{get_or_read}
 use Rattle.oai_item.specs.Item.{ItemState}
-use Rattle.oai_paged.specs.Places.{PlaceState, first_cmp}
-use Rattle.oai_paged.proofs.DirectoryLemmas.{no_place, placed-cut}
-use Rattle.oai_paged.proofs.LoneLemmas.{lone, puts_before, puts_behind, puts_instead}
+use Rattle.oai_places.specs.Places.{PlaceState, first_cmp}
+use Rattle.oai_places.proofs.DirectoryLemmas.{no_place, placed-cut}
+use Rattle.oai_paged.proofs.LoneLemmas.{puts_before, puts_behind, puts_instead}
+use Rattle.oai_places.proofs.LoneItems.{lone}
 use Rattle.oai_paged.proofs.put_and_remove.put_by_long.Goals as goal
 
 pub put_alone-requires-clause-puts : goal.put_alone-requires-clause-puts

@@ -1,7 +1,7 @@
 use Rattle.std.proofs.Common.{◌≡◌, ◌∙◌, [], List, arith, sym, vec_len}
 use Rattle.std.proofs.lemmas.Bool.{eqb-true}
 use Rattle.std.proofs.lemmas.List.{nil_from_length}
-use Rattle.oai_paged.specs.Places.{PlaceState}
+use Rattle.oai_places.specs.Places.{PlaceState}
 use Rattle.oai_paged.proofs.LoneLemmas.{puts_first}
 use Rattle.oai_paged.proofs.put_and_remove.put_in.Goals as goal
 

@@ -1,10 +1,10 @@
 use Rattle.std.proofs.Common.{◌∙◌, ℤ, true, false, ap, w64}
 use Rattle.std.proofs.lemmas.Int.{to_z-of_z}
 use Rattle.oai_item.specs.Items.{without_at}
-use Rattle.oai_paged.specs.Places.{items_on}
+use Rattle.oai_places.specs.Places.{items_on}
 use Rattle.oai_paged.proofs.RenamedLemmas.{gone_named, settled}
 use Rattle.oai_paged.proofs.ReplaceLemmas.{changed_nothing}
-use Rattle.oai_paged.proofs.SpendingLemmas.{spends_freed_ok}
+use Rattle.oai_places.proofs.SpendingLemmas.{spends_freed_ok}
 use Rattle.oai_paged.proofs.put_and_remove.remove.Goals as goal
 
 pub drop_all-requires : goal.drop_all-requires

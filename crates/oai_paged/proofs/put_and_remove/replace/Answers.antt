@@ -2,10 +2,10 @@ use Rattle.std.proofs.Common.{◌∙◌, ℤ, true, false, IsTrue, List, ap, w64
 use Rattle.std.proofs.lemmas.Int.{to_z-of_z}
 use Rattle.oai_item.specs.Item.{ItemState}
 use Rattle.oai_item.specs.Items.{with_item, without_at}
-use Rattle.oai_paged.specs.Places.{PlaceState, items_on}
+use Rattle.oai_places.specs.Places.{PlaceState, items_on}
 use Rattle.oai_paged.proofs.RenamedLemmas.{gone_named}
 use Rattle.oai_paged.proofs.ReplaceLemmas.{changes_after, first_gone_named, replaced, stands_same, taken_back}
-use Rattle.oai_paged.proofs.SpendingLemmas.{ok_of, spends_both, spends_freed_ok}
+use Rattle.oai_places.proofs.SpendingLemmas.{ok_of, spends_both, spends_freed_ok}
 use Rattle.oai_paged.proofs.put_and_remove.replace.Goals as goal
 
 pub put-requires-clause-stands : goal.put-requires-clause-stands

@@ -1,13 +1,13 @@
 use Rattle.std.proofs.Common.{◌≡◌, ◌∙◌, ◌<◌, ℕ, ℤ, Err, IsTrue, List, None, Option, Some, true, ap, arith, get_or, length, rules, subst, sym, w64}
 use Rattle.std.proofs.lemmas.Int.{to_z-of_z}
 use Rattle.oai_item.specs.Item.{ItemState}
-use Rattle.oai_paged.specs.Directory.{items_with_run}
-use Rattle.oai_paged.specs.Pages.{IsRemoval, fit_one}
-use Rattle.oai_paged.specs.Places.{Pages, PlaceState, items_at}
-use Rattle.oai_paged.specs.Searches.{MayBeAt}
+use Rattle.oai_places.specs.Directory.{items_with_run}
+use Rattle.oai_places.specs.Pages.{IsRemoval, fit_one}
+use Rattle.oai_places.specs.Places.{Pages, PlaceState, items_at}
+use Rattle.oai_places.specs.Searches.{MayBeAt}
 use Rattle.oai_paged.proofs.DirectoryChanges.{left_removed, none_removed, stands_read}
-use Rattle.oai_paged.proofs.DirectoryLemmas.{may_stand_without, no_place}
-use Rattle.oai_paged.proofs.SpendingLemmas.{err_of, ok_of, spends_failed, spends_ok, spends_read}
+use Rattle.oai_places.proofs.DirectoryLemmas.{may_stand_without, no_place}
+use Rattle.oai_places.proofs.SpendingLemmas.{err_of, ok_of, spends_failed, spends_ok, spends_read}
 use Rattle.oai_paged.specs.declared.changes.Changed.{Changed}
 use Rattle.oai_paged.proofs.put_and_remove.take_out_among.Goals as goal
 

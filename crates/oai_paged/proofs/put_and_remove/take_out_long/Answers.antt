@@ -3,14 +3,15 @@ use Rattle.std.specs.Ordering.{is_eq}
 use Rattle.std.proofs.lemmas.Int.{to_z-of_z}
 use Rattle.std.proofs.lemmas.List.{get_or_read}
 use Rattle.oai_item.specs.Item.{ItemState}
-use Rattle.oai_paged.specs.Directory.{MayStand, items_with_run}
-use Rattle.oai_paged.specs.Places.{PlaceState, first_cmp, items_at}
+use Rattle.oai_places.specs.Directory.{MayStand, items_with_run}
+use Rattle.oai_places.specs.Places.{PlaceState, first_cmp, items_at}
 use Rattle.oai_paged.proofs.DirectoryChanges.{none_removed}
-use Rattle.oai_paged.proofs.DirectoryLemmas.{no_place, placed-cut}
-use Rattle.oai_paged.proofs.LoneLemmas.{equal_from, lone, lone_other, lone_removed, may_stand_left, unequal_from}
-use Rattle.oai_paged.proofs.ShortLemmas.{fit-nil}
-use Rattle.oai_paged.proofs.SpendingLemmas.{spends_failed, spends_ok}
-use Rattle.oai_paged.specs.Pages.{fit_one}
+use Rattle.oai_places.proofs.DirectoryLemmas.{no_place, placed-cut}
+use Rattle.oai_paged.proofs.LoneLemmas.{equal_from, lone_removed, may_stand_left, unequal_from}
+use Rattle.oai_places.proofs.LoneItems.{lone, lone_other}
+use Rattle.oai_places.proofs.ShortLemmas.{fit-nil}
+use Rattle.oai_places.proofs.SpendingLemmas.{spends_failed, spends_ok}
+use Rattle.oai_places.specs.Pages.{fit_one}
 use Rattle.oai_paged.proofs.put_and_remove.take_out_long.Goals as goal
 
 pub returns-then-ne : goal.returns-then-ne

@@ -1,6 +1,6 @@
 use Rattle.std.proofs.Common.{◌∙◌, List, subst, sym}
-use Rattle.oai_paged.specs.Places.{PlaceState}
-use Rattle.oai_paged.specs.Sums.{AreGroups}
+use Rattle.oai_places.specs.Places.{PlaceState}
+use Rattle.oai_places.specs.Sums.{AreGroups}
 use Rattle.oai_paged.proofs.directories.Directory.copy.Goals as goal
 
 pub invariant_of-result : goal.invariant_of-result

@@ -1,7 +1,7 @@
 use Rattle.std.proofs.Common.{◌≡◌, ◌∙◌, ◌-◌, List, Some, ap, arith, subst, sym}
 use Rattle.std.specs.Prelude.{slice_set}
 use Rattle.oai_paged.specs.Shelves.{AreShelved}
-use Rattle.oai_paged.specs.Places.{PlaceState, named_in}
+use Rattle.oai_places.specs.Places.{PlaceState, named_in}
 use Rattle.oai_paged.specs.Versions.{AreShared, DirectoryState, Shelves, Versions, names_of, places_of, shelf_at}
 use Rattle.oai_paged.proofs.StoreLemmas.{lists_by, set_but, set_stands, store_stands, stored_again, stored_moved}
 use Rattle.oai_paged.proofs.VersionLemmas.{places_by, set_beside, set_named, told_of}

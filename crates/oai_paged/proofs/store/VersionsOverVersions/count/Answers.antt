@@ -1,8 +1,8 @@
 use Rattle.std.proofs.Common.{◌≡◌, ◌∙◌, ◌≤◌, List, Some, length, ap, subst, sym}
 use Rattle.std.specs.Prelude.{slice_set}
 use Rattle.oai_pool.specs.declared.pools.TheConstants.{MAX_PAGES}
-use Rattle.oai_paged.specs.Directory.{StandsIn}
-use Rattle.oai_paged.specs.Places.{PlaceState}
+use Rattle.oai_places.specs.Directory.{StandsIn}
+use Rattle.oai_places.specs.Places.{PlaceState}
 use Rattle.oai_paged.specs.Versions.{DirectoryState, shelf_at}
 use Rattle.oai_paged.proofs.FewLemmas.{few_places}
 use Rattle.oai_paged.proofs.StoreLemmas.{lists_by, read_names, store_stands, stored_again}

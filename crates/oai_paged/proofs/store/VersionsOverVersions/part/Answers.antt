@@ -1,7 +1,7 @@
 use Rattle.std.proofs.Common.{◌≡◌, ◌∙◌, List, Some, ap, subst, sym}
 use Rattle.std.specs.Prelude.{slice_set}
-use Rattle.oai_paged.specs.Directory.{StandsIn}
-use Rattle.oai_paged.specs.Places.{PlaceState}
+use Rattle.oai_places.specs.Directory.{StandsIn}
+use Rattle.oai_places.specs.Places.{PlaceState}
 use Rattle.oai_paged.specs.Versions.{DirectoryState, shelf_at}
 use Rattle.oai_paged.proofs.StoreLemmas.{lists_by, read_names, store_stands, stored_again}
 use Rattle.oai_paged.proofs.store.VersionsOverVersions.part.Goals as goal

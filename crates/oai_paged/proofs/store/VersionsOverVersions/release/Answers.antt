@@ -2,8 +2,8 @@ use Rattle.std.proofs.Common.{◌≡◌, ◌∙◌, ◌-◌, ◌≤◌, ℕ, Lis
 use Rattle.std.specs.Prelude.{slice_set}
 use Rattle.std.proofs.lemmas.Option.{same_Some}
 use Rattle.oai_pool.specs.Counts.{count_of}
-use Rattle.oai_paged.specs.Calls.{Renames}
-use Rattle.oai_paged.specs.Places.{PlaceState, named_in}
+use Rattle.oai_places.specs.Calls.{Renames}
+use Rattle.oai_places.specs.Places.{PlaceState, named_in}
 use Rattle.oai_paged.specs.Versions.{DirectoryState, shelf_at}
 use Rattle.oai_paged.proofs.RoomLemmas.{dropped_left}
 use Rattle.oai_paged.proofs.StoreLemmas.{set_but, set_stands, store_stands, stored_less, stored_none}

@@ -4,7 +4,7 @@ use Rattle.std.specs.Prelude.{slice_set}
 use Rattle.oai_catalogue.specs.Store.{IsHonest, Lists, list_at}
 use Rattle.oai_device.specs.Device.{CountsFailures}
 use Rattle.oai_item.specs.declared.faults.Fault.TheVariants.{Device}
-use Rattle.oai_paged.specs.Places.{PlaceState, items_on, named_in}
+use Rattle.oai_places.specs.Places.{PlaceState, items_on, named_in}
 use Rattle.oai_paged.specs.Store.{places_at}
 use Rattle.oai_paged.specs.Versions.{DirectoryState, shelf_at}
 use Rattle.oai_paged.proofs.RoomLemmas.{copied_room, refused_count, refused_honest, refused_room}

@@ -1,8 +1,0 @@
-use Rattle.std.proofs.Common.{◌∙◌, [], sym}
-use Rattle.oai_paged.proofs.EntryLemmas.{are_entries}
-use Rattle.oai_paged.proofs.PageLemmas.{entries_of-nil}
-use Rattle.oai_paged.proofs.entries.Entries.new.Goals as goal
-
-pub invariant_of-result : goal.invariant_of-result
-invariant_of-result c =
-    (are_entries c.new.result.items c.new-2.result.items [] (c.new.ensures.items ∙ sym entries_of-nil) c.new-2.ensures.items tt).1

@@ -1,7 +1,0 @@
-use Rattle.oai_paged.specs.Pages.{between}
-use Rattle.oai_paged.specs.Places.{AreCountedWithin}
-use Rattle.oai_paged.proofs.entries.Entries.set_counts.Given as goal
-
--- the items so far are counted, and stand where it says
-abbrev pub invariant-loop-at : goal.invariant-loop-at
-invariant-loop-at l = AreCountedWithin l.counts (between l.from l.at l.self)

@@ -1,5 +1,0 @@
-use Rattle.oai_paged.specs.Calls.{Forgets}
-use Rattle.oai_paged.proofs.names.forget_all.Given as goal
-
-abbrev pub invariant-loop-number : goal.invariant-loop-number
-invariant-loop-number g l = Forgets g.P.PagePool l.initial.pages l.pages

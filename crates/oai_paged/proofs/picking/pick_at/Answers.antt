@@ -1,6 +1,0 @@
-use Rattle.oai_paged.proofs.TestedLemmas.{reads_forgotten}
-use Rattle.oai_paged.proofs.picking.pick_at.Goals as goal
-
-pub returns-in-Err-clause-pages : goal.returns-in-Err-clause-pages
-returns-in-Err-clause-pages g c =
-    reads_forgotten g.P.PagePool c.in-Err.fault c.args.pages.now c.pick_in.new.pages c.forget_damaged.new.pages c.in-Err.ensures.pages c.forget_damaged.ensures

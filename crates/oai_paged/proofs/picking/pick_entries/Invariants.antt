@@ -1,7 +1,0 @@
-use Rattle.oai_paged.specs.Places.{is_wanted}
-use Rattle.oai_paged.proofs.PickingLemmas.{ArePickedFrom}
-use Rattle.oai_paged.proofs.picking.pick_entries.Given as goal
-
-abbrev pub invariant-entries : goal.invariant-entries
-invariant-entries l =
-    ArePickedFrom (is_wanted l.wanted.filter.now l.wanted.stamp l.wanted.identifier.now) l.most l.fn.part.items l.part.items l.skip l.left l.entries l.count l.counter l.rest

@@ -1,6 +1,0 @@
-use Rattle.std.proofs.Common.{take}
-use Rattle.oai_paged.specs.Sums.{AreTotals}
-use Rattle.oai_paged.proofs.sums.sets_of.Given as goal
-
-abbrev pub invariant-places : goal.invariant-places
-invariant-places l = AreTotals l.totals (take l.at l.places)

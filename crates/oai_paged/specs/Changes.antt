@@ -1,0 +1,92 @@
+-- What a call does to a directory, and to the pages of its places.
+use Rattle.std.specs.Prelude.{◌≡◌, ◌+◌, ◌<◌, ◌≤◌, ℕ, ℤ, Bool, true, List, [], ◌++◌, take, drop, is_some, IfNone, IfOk, IfSome, IsTrue, Option, Result, OnErr, OnOk, Vec, vec_capacity, vec_len}
+use Rattle.oai_catalogue.specs.Store.{Spends}
+use Rattle.oai_item.specs.Item.{ItemState}
+use Rattle.oai_item.specs.Items.{item_at, with_item, without_at}
+use Rattle.oai_item.specs.declared.faults.Fault.{Fault}
+use Rattle.oai_pool.specs.Counts.{count_of}
+use Rattle.oai_pool.specs.declared.pools.PagePool.{Ghosts}
+use Rattle.oai_places.specs.Directory.{IsDirectory, StandsIn}
+use Rattle.oai_places.specs.Pages.{fit_one}
+use Rattle.oai_places.specs.Places.{IsSoundPlace, PlaceState, items_on, named_in}
+use Rattle.oai_places.specs.Sums.{AreGroups, GroupState}
+use Rattle.oai_paged.specs.declared.changes.Changed.{Changed}
+use Rattle.oai_places.specs.declared.sizes.TheConstants.{MAX_OVERFLOW_PAGES}
+use Rattle.std.specs.List.{AllByRecursion}
+use Rattle.std.specs.declared.alloc.Global.{Global}
+use Rattle.oai_places.specs.Calls.{Renames}
+
+-- it leaves a directory and its pages as they were
+pub record ChangesNothing {P : Type 0} (g : Ghosts P) (before after : List PlaceState) (old new : P) : Type 0 where
+  pub places : after ≡ before
+  pub names : Renames g [] [] old new
+
+-- it changes a directory, by at most so many new pages; where it fails, directory and pages are as they were
+pub record Changes {P A : Type 0} (g : Ghosts P) (numbers : ℕ) (result : Result A Fault) (before after : List PlaceState) (old new : P) : Type 0 where
+  pub directory : OnOk result (IsDirectory (g.pages new) after)
+  pub names : OnOk result (Renames g before after old new)
+  pub err : OnErr result (ChangesNothing g before after old new)
+  pub pool : Spends g.room g.failures g.honest numbers result old new
+
+-- it adds the pages of entries: three and the overflow pages of one item at most, and one at most where all of them fit on one
+pub record AddsPages {P A : Type 0} (g : Ghosts P) (entries : List ItemState) (result : Result A Fault) (old new : P) : Type 0 where
+  pub pool : Spends g.room g.failures g.honest (3 + MAX_OVERFLOW_PAGES) result old new
+  pub few : fit_one entries ≡ true → Spends g.room g.failures g.honest 1 result old new
+
+-- pages of their own were added for the items, and named by these places
+pub record Adds {P : Type 0} (g : Ghosts P) (added : List ItemState) (places : List PlaceState) (old new : P) : Type 0 where
+  pub placed : AllByRecursion (IsSoundPlace (g.pages new)) places
+  pub items : items_on (g.pages new) places ≡ added
+  pub once : (n : ℕ) → named_in places n ≤ 1
+  pub fresh : (n : ℕ) → 0 < count_of (g.counts old) n → named_in places n ≡ 0
+  pub names : Renames g [] places old new
+
+-- so many places from `at` on were put in for those of a directory that are gone, whose pages are still named; put back, these make it what it was
+pub record Stages {P : Type 0} (g : Ghosts P) (at len : ℕ) (gone before after : List PlaceState) (old new : P) : Type 0 where
+  pub stands : StandsIn g new after
+  pub back : take at after ++ (gone ++ drop (at + len) after) ≡ before
+  pub names : Renames g [] (take len (drop at after)) old new
+  pub traded : (n : ℕ) → named_in after n + named_in gone n ≡ named_in before n + named_in (take len (drop at after)) n
+  pub within : (n : ℕ) → named_in gone n ≤ named_in before n
+
+-- the places that are gone can be put back for the new ones, so many from `at` on of those that stand there now: each of the two has room
+-- for the other's
+pub record HasWayBack (at len stand room gone gone_room : ℕ) : Type 0 where
+  pub within : at + len ≤ stand
+  pub there : stand + gone ≤ room
+  pub back : gone + len ≤ gone_room
+
+-- they are the places of these items, in the place of so many from `at` on
+pub record IsDirectoryChanged {P : Type 0} (g : Ghosts P) (items : List ItemState) (at len new_at new_len : ℕ) (gone before after : List PlaceState) (old new : P) : Type 0 where
+  pub place : new_at ≡ at
+  pub taken : gone ≡ take len (drop at before)
+  pub exchanged : after ≡ take at before ++ (take new_len (drop at after) ++ drop (at + len) before)
+  pub added : Adds g items (take new_len (drop new_at after)) old new
+  pub staged : Stages g new_at new_len gone before after old new
+
+-- the item of a datestamp and identifier was taken out, where there was one
+pub record IsRemoved (stamp : ℤ) (identifier : List ℕ) (found : Bool) (old new : List ItemState) : Type 0 where
+  pub was : found ≡ is_some (item_at stamp identifier old)
+  pub left : new ≡ without_at stamp identifier old
+
+-- the item is put in, by at most so many new pages as it may need, and the pages of the places that are gone are still named; where it fails, directory
+-- and pages are as they were. The places lose no room, and what was known of groups of them is known of the new ones
+pub record PutsItem {P : Type 0} (g : Ghosts P) (item : ItemState) (result : Result Changed Fault) (before after : Vec PlaceState Global) (known known_after : List GroupState) (old new : P) : Type 0 where
+  pub list : OnOk result (IsTrue (g.honest old) → items_on (g.pages new) after.items ≡ with_item item (items_on (g.pages old) before.items))
+  pub staged : IfOk result (λ changed. Stages g changed.at changed.len changed.gone.items before.items after.items old new)
+  pub err : OnErr result (ChangesNothing g before.items after.items old new)
+  pub capacity : vec_capacity before ≤ vec_capacity after
+  pub pool : Spends g.room g.failures g.honest (3 + MAX_OVERFLOW_PAGES) result old new
+  pub groups : AreGroups before.items known → AreGroups after.items known_after
+
+-- the item of a datestamp and identifier is taken out, where there is one, by one new page at most, and the pages that it was on are still named; where
+-- there is none or it fails, directory and pages are as they were. The change can be taken back, and what was known of groups of places is known of the
+-- new ones
+pub record TakesItemOut {P : Type 0} (g : Ghosts P) (stamp : ℤ) (identifier : List ℕ) (result : Result (Option Changed) Fault) (before after : Vec PlaceState Global) (known known_after : List GroupState) (old new : P) : Type 0 where
+  pub list : IfOk result (λ changed. IsTrue (g.honest old) → IsRemoved stamp identifier (is_some changed) (items_on (g.pages old) before.items) (items_on (g.pages new) after.items))
+  pub staged : IfOk result (λ changed. IfSome changed (λ some. Stages g some.at some.len some.gone.items before.items after.items old new))
+  pub back : IfOk result (λ changed. IfSome changed (λ some. HasWayBack some.at some.len (vec_len after) (vec_capacity after) (vec_len some.gone) (vec_capacity some.gone)))
+  pub none : IfOk result (λ changed. IfNone changed (ChangesNothing g before.items after.items old new))
+  pub err : OnErr result (ChangesNothing g before.items after.items old new)
+  pub pool : Spends g.room g.failures g.honest 1 result old new
+  pub groups : AreGroups before.items known → AreGroups after.items known_after

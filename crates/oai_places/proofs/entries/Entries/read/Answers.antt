@@ -1,0 +1,17 @@
+use Rattle.std.proofs.Common.{◌≡◌, ◌∙◌, Err, ap, sym}
+use Rattle.std.proofs.lemmas.List.{take_rest}
+use Rattle.std.proofs.lemmas.Result.{err_from_is_err_and}
+use Rattle.oai_places.specs.Pages.{first_number}
+use Rattle.oai_places.proofs.ReadLemmas.{entries_seen, no_page-entries, page_fails}
+use Rattle.oai_places.proofs.entries.Entries.read.Goals as goal
+
+pub returns-in_err-ends : goal.returns-in_err-ends
+returns-in_err-ends c =
+    let p = err_from_is_err_and c.from_residual.result c.from_residual.ensures.1 in
+    let count : c.first_number-count.result ≡ first_number c.args.page.now = c.first_number-count.ensures in
+    let rest = take_rest c.args.page.now 4 in
+    rw (p.1, p.2) (page_fails c.args.page.now c.in_err-ends.field-0.0 (λ is.
+    no_page-entries c.args.page.now (λ items behind s many e. c.in_err-ends.ensures.damaged (ap Err is) items behind s (many ∙ sym count) (rest ∙ e))))
+
+pub ending-requires-clause-entries : goal.ending-requires-clause-entries
+ending-requires-clause-entries c = entries_seen c.args.page.now _ _ _ _ (take_rest c.args.page.now 4) c.first_number-count.ensures c.in_ok-ends.ensures.read

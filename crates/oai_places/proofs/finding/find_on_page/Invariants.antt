@@ -1,0 +1,5 @@
+use Rattle.oai_places.specs.Finding.{IsSoughtBehind}
+use Rattle.oai_places.proofs.finding.find_on_page.Given as goal
+
+abbrev pub invariant-entries : goal.invariant-entries
+invariant-entries l = IsSoughtBehind l.stamp l.identifier l.page l.counter l.rest

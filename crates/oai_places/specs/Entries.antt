@@ -1,0 +1,62 @@
+-- The entries of a page in memory, for private functions.
+use Rattle.std.specs.Prelude.{◌≡◌, ◌+◌, ◌-◌, ◌≤◌, ℕ, List, [], ◌∷◌, ◌++◌, length, drop, Result, Ok, Err, ⊤}
+use Rattle.oai_item.specs.Encoding.{Spells, encoded}
+use Rattle.oai_item.specs.Item.{ItemState}
+use Rattle.oai_item.specs.declared.decodings.DecodeFault.{DecodeFault}
+use Rattle.oai_item.specs.declared.decodings.DecodeFault.TheVariants.{Damaged, NoMemory}
+use Rattle.oai_places.specs.Pages.{AreStorable, between, entries_of, entry_of, items_of_entries, size_of}
+use Rattle.oai_sums.specs.declared.spans.Span.{Span}
+
+-- the items of entries, of which each ends at one of the numbers
+abbrev pub items_with : List ℕ → List ℕ → List ItemState
+items_with bytes ends = items_of_entries (length ends) bytes
+
+-- where each entry ends, if the first begins at that number
+abbrev pub ends_from : ℕ → List ItemState → List ℕ
+ends_from start [] = []
+ends_from start (item ∷ items) = (start + length (entry_of item)) ∷ ends_from (start + length (entry_of item)) items
+
+-- the bytes are the entries of their items, which end at the numbers
+pub record AreEntries (bytes ends : List ℕ) : Type 0 where
+  pub spelling : bytes ≡ entries_of (items_with bytes ends)
+  pub ending : ends ≡ ends_from 0 (items_with bytes ends)
+  pub storable : AreStorable (items_with bytes ends)
+
+-- the first so many of the bytes are an entry
+pub record HasEntry (bytes : List ℕ) (len : ℕ) : Type 0 where
+  pub item : ItemState
+  pub spelled : Spells (encoded item) item
+  pub long : len ≡ length (entry_of item)
+  pub parts : bytes ≡ entry_of item ++ drop len bytes
+
+-- no entry stands in front of the bytes
+abbrev pub HasNoEntry : List ℕ → Type 0
+HasNoEntry bytes =
+    (item : ItemState) (behind : List ℕ) → Spells (encoded item) item → ¬ (bytes ≡ entry_of item ++ behind)
+
+-- what reading an entry in front of bytes answers: of how many bytes it is; or that there is none, unless memory was refused
+abbrev pub IsEntryReading : List ℕ → Result ℕ DecodeFault → Type 0
+IsEntryReading bytes (Ok len) = HasEntry bytes len
+IsEntryReading bytes (Err Damaged) = HasNoEntry bytes
+IsEntryReading bytes (Err NoMemory) = ⊤
+
+-- so many entries stand in front of the bytes, which end at these numbers, and are of so many bytes together
+pub record HasEntries (bytes ends : List ℕ) (count size : ℕ) : Type 0 where
+  pub items : List ItemState
+  pub storable : AreStorable items
+  pub many : length items ≡ count
+  pub long : size ≡ size_of items
+  pub parts : bytes ≡ entries_of items ++ drop size bytes
+  pub ending : ends ≡ ends_from 0 items
+
+-- a place among so many entries, from another one on or behind the last
+pub record IsPlaceFrom (from place len : ℕ) : Type 0 where
+  pub above : from ≤ place
+  pub within : place ≤ len
+
+-- the span of the item at one place among those from another one on
+pub record IsSpanOfOne (from at : ℕ) (items : List ItemState) (span : Span) : Type 0 where
+  pub first : span.first ≡ at - from
+  pub end : span.end ≡ at - from + 1
+  pub from_byte : span.from ≡ size_of (between from at items)
+  pub to_byte : span.to ≡ size_of (between from (at + 1) items)

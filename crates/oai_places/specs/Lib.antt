@@ -1,0 +1,12 @@
+pub mod Pages
+pub mod PageNumbers
+pub mod Entries
+pub mod Finding
+pub mod Places
+pub mod Searches
+pub mod Parts
+pub mod Picking
+pub mod Sums
+pub mod Directory
+pub mod Calls
+pub mod Recounts

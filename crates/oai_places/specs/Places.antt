@@ -1,0 +1,128 @@
+-- Places of a directory: where items stand in a pool of pages, and what is known of them.
+use Rattle.std.specs.Prelude.{◌≡◌, ◌==◌, ◌&&◌, ◌+◌, ◌<◌, ◌≤◌, ℕ, ℤ, Bool, true, List, [], ◌∷◌, length, drop, take, map, Option, None, Some, option_map, unwrap_or, slice_index}
+use Rattle.std.specs.List.{flat_map, list_all}
+use Rattle.std.specs.Option.{option_flatten}
+use Rattle.std.specs.Ordering.{nat_cmp, int_cmp, ordering_then, is_gt, is_lt}
+use Rattle.std.specs.declared.cmp.Ordering.{Ordering}
+use Rattle.std.specs.Cmp.Lexicographic.{slice_cmp}
+use Rattle.oai_item.specs.Item.{ItemState, has_record}
+use Rattle.oai_item.specs.Order.{place_cmp}
+use Rattle.oai_item.specs.Selection.{Filter, passes}
+use Rattle.oai_pool.specs.Names.{times}
+use Rattle.oai_sums.specs.Sums.{AreCounts, SetTotal, counted_in, number_in, span_in}
+use Rattle.oai_sums.specs.declared.spans.Span.{Span}
+use Rattle.oai_places.specs.Pages.{IsPage, begins_at, fit_one, items_in, joined, pages_of, size_of}
+use Rattle.oai_places.specs.declared.sizes.TheConstants.{FRONT_BYTES, MAX_OVERFLOW_PAGES}
+
+-- a place: the numbers of its pages, the datestamp and the identifier of its first item, how many items there are and how many bytes their entries
+-- have, prefixes of which each of them has a record, and how many are in each set, where that is known
+pub record PlaceState : Type 0 where
+  pub pages : List ℕ
+  pub stamp : ℤ
+  pub identifier : List ℕ
+  pub len : ℕ
+  pub size : ℕ
+  pub prefixes : List (List ℕ)
+  pub sets : Option (List SetTotal)
+
+-- the page under each number
+abbrev pub Pages : Type 0
+Pages = ℕ → Option (List ℕ)
+
+-- ---- the items
+
+-- the page under a number
+abbrev pub page_at : Pages → ℕ → List ℕ
+page_at pages n = unwrap_or (pages n) []
+
+-- the bytes of the pages under these numbers, of which the first has the entries, and the others are its overflow pages
+unfoldable pub bytes_on : Pages → List ℕ → List ℕ
+bytes_on pages numbers = joined (map (page_at pages) numbers)
+
+-- the items of a place
+unfoldable pub items_at : Pages → PlaceState → List ItemState
+items_at pages place = items_in (bytes_on pages place.pages)
+
+-- the items of places, one after the other
+unfoldable pub items_on : Pages → List PlaceState → List ItemState
+items_on pages places = flat_map (items_at pages) places
+
+-- each item has a record of each prefix
+unfoldable pub have_records : List (List ℕ) → List ItemState → Bool
+have_records prefixes items =
+    list_all (λ (item : ItemState). list_all (λ prefix. has_record prefix item.formats) prefixes) items
+
+-- the items of the set stand within the span of these items, and of the bytes of their entries
+pub record IsSpan (set : List ℕ) (items : List ItemState) (span : Span) : Type 0 where
+  pub order : span.first ≤ span.end
+  pub within : span.end ≤ length items
+  pub from : span.from ≡ size_of (take span.first items)
+  pub to : span.to ≡ size_of (take span.end items)
+  pub before : number_in set (take span.first items) ≡ 0
+  pub behind : number_in set (drop span.end items) ≡ 0
+
+-- each set has as many of the items as are counted in it, and they stand within its span
+pub record AreCountedWithin (totals : List SetTotal) (items : List ItemState) : Type 0 where
+  pub counts : AreCounts totals items
+  pub spans : (set : List ℕ) (span : Span) → span_in set totals ≡ Some span → IsSpan set items span
+
+-- where it is known how many are in each set, so many of the items are, and stand where it says
+abbrev pub AreSetCounts : Option (List SetTotal) → List ItemState → Type 0
+AreSetCounts sets items = (totals : List SetTotal) → sets ≡ Some totals → AreCountedWithin totals items
+
+-- how many items of the place are known to be in the set, where one is given
+abbrev pub known_in : PlaceState → Option (List ℕ) → Option ℕ
+known_in place None = Some place.len
+known_in place (Some set) = option_map (counted_in set) place.sets
+
+-- within which span of the items of the place those stand that are in the set, where one is given, and that is known
+abbrev pub span_at : PlaceState → Option (List ℕ) → Option Span
+span_at place None = None
+span_at place (Some set) = option_flatten (option_map (span_in set) place.sets)
+
+-- how many pages items may have: one where they fit on it; one item may have overflow pages besides, and then nothing but zeros stands
+-- behind the front of the first page
+pub record FitPages (pages : Pages) (numbers : List ℕ) (items : List ItemState) : Type 0 where
+  pub some : 0 < length numbers
+  pub few : length numbers ≤ MAX_OVERFLOW_PAGES + 1
+  pub one : length numbers ≤ 1 → fit_one items ≡ true
+  pub alone : 1 < length numbers → length items ≡ 1
+  pub zeros : 1 < length numbers → list_all (λ byte. byte == 0) (drop FRONT_BYTES (page_at pages (slice_index numbers 0))) ≡ true
+
+-- what is so of a place: its pages are those of its items, and as many as these may have; the first item is the one that the place names,
+-- and of all of them is so what it says
+pub record IsSoundPlace (pages : Pages) (place : PlaceState) : Type 0 where
+  pub written : map (page_at pages) place.pages ≡ pages_of (items_at pages place)
+  pub page : IsPage (bytes_on pages place.pages) (items_at pages place)
+  pub many : FitPages pages place.pages (items_at pages place)
+  pub begins : begins_at place.stamp place.identifier (items_at pages place) ≡ true
+  pub counted : length (items_at pages place) ≡ place.len
+  pub sized : size_of (items_at pages place) ≡ place.size
+  pub common : have_records place.prefixes (items_at pages place) ≡ true
+  pub sets : AreSetCounts place.sets (items_at pages place)
+
+-- ---- their order
+
+-- how the first item of a place stands to that datestamp and identifier
+abbrev pub first_cmp : PlaceState → ℤ → List ℕ → Ordering
+first_cmp place stamp identifier =
+    ordering_then (int_cmp place.stamp stamp) (slice_cmp nat_cmp place.identifier identifier)
+
+-- each item stands before the first one of the next place, where there is one
+abbrev pub are_below : List ItemState → List PlaceState → Bool
+are_below items [] = true
+are_below items (next ∷ _) = list_all (λ item. is_lt (place_cmp item next.stamp next.identifier)) items
+
+-- the item is asked for, and stands behind that datestamp and identifier
+abbrev pub is_wanted : Filter → ℤ → List ℕ → ItemState → Bool
+is_wanted asked stamp identifier item = is_gt (place_cmp item stamp identifier) && passes asked item
+
+-- ---- the names of pages
+
+-- the numbers that places name
+unfoldable pub page_numbers : List PlaceState → List ℕ
+page_numbers places = flat_map (λ (place : PlaceState). place.pages) places
+
+-- how often places name a number
+abbrev pub named_in : List PlaceState → ℕ → ℕ
+named_in places n = times n (page_numbers places)

@@ -1,0 +1,257 @@
+//! The bytes of entries, and what stands on them.
+ghost use Rattle.std.specs.Prelude.{◌≡◌, ◌==◌, ◌+◌, ◌-◌, ◌*◌, ◌^◌, ◌<◌, ◌≤◌, ℕ, List, [], true, ◌++◌, ◌∷◌, length, take, drop, replicate, filter, map, All, IfOk, IsErrOf, OnOk};
+ghost use Rattle.std.specs.List.{list_all};
+ghost use Rattle.oai_device.specs.declared.devices.TheConstants.{PAGE_BYTES};
+ghost use Rattle.oai_item.specs.Encoding.{Spells, encoded};
+ghost use Rattle.oai_item.specs.Item.{ItemState, has_record};
+ghost use Rattle.oai_item.specs.declared.sizes.TheConstants.{MAX_ITEM_BYTES};
+ghost use Rattle.oai_pool.specs.Kinds.{number_in, spells_item, spells_items};
+ghost use Rattle.oai_places.specs.Entries.{HasEntries, HasEntry, IsEntryReading};
+ghost use Rattle.oai_places.specs.Pages.{AreStorable, entries_of, entry_of, filled, first_number};
+
+use crate::sizes::NUMBER_BYTES;
+use oai_device::PAGE_BYTES;
+use oai_item::{DecodeFault, Item, Spelling, is_spelling};
+use oai_names::Prefix;
+use oai_pool::Page;
+use std::alloc::{AllocError, Global};
+
+/// The prefixes of an item's records. The error is out of memory.
+pub(crate) fn prefixes_of(alloc: Global, item: &Spelling<'_>) -> Result<Vec<Prefix>, AllocError>
+    ensures { IfOk result
+        (λ prefixes. prefixes.items ≡ map (λ format. format.0) item.now.formats) }
+{
+    let mut records = item.records();
+    let mut prefixes = Vec::with_capacity(alloc, records.len())?;
+    while let Some(format) = records.next() {
+        prefixes.push(Prefix::new(alloc, format.prefix)?)?;
+    }
+    Ok(prefixes)
+}
+
+/// Whether the item has a record of each of the prefixes.
+pub(crate) fn has_each(item: &Spelling<'_>, prefixes: &[Prefix]) -> bool
+    ensures { result ≡ list_all (λ prefix. has_record prefix item.now.formats) prefixes.now }
+{
+    prefixes
+        .iter()
+        .all(|prefix| item.has_record(prefix.as_str()))
+}
+
+/// Those of the prefixes of which the item has a record.
+pub(crate) fn common(prefixes: Vec<Prefix>, item: &Spelling<'_>) -> Vec<Prefix>
+    ensures { result.items
+        ≡ filter (λ prefix. has_record prefix item.now.formats) prefixes.items }
+{
+    let mut kept = prefixes;
+    kept.retain(|prefix| item.has_record(prefix.as_str()));
+    kept
+}
+
+/// Writes the two into the page, one behind the other, and zeros behind them.
+pub(crate) fn fill_with(page: &mut Page, front: &[u8], back: &[u8])
+    requires { length front.now + length back.now ≤ PAGE_BYTES }
+    ensures { page.new ≡ filled (front.now ++ back.now) }
+{
+    put_at(page, 0, front);
+    put_at(page, front.len(), back);
+    clear(&mut page[front.len() + back.len()..]);
+}
+
+/// Makes each of the bytes 0.
+fn clear(bytes: &mut [u8])
+    ensures { bytes.new ≡ replicate (length bytes.old) 0 }
+{
+    bytes.fill(0);
+}
+
+/// Writes the bytes into the page, from that place on.
+fn put_at(page: &mut Page, at: usize, bytes: &[u8])
+    requires { at + length bytes.now ≤ PAGE_BYTES }
+    ensures { page.new
+        ≡ take at page.old ++ (bytes.now ++ drop (at + length bytes.now) page.old) }
+{
+    page[at..at + bytes.len()].copy_from_slice(bytes);
+}
+
+/// The number in front of the bytes.
+pub(crate) fn first_number(bytes: &[u8]) -> usize
+    requires { 4 ≤ length bytes.now }
+    ensures { result ≡ first_number bytes.now }
+{
+    let mut number = [0; NUMBER_BYTES];
+    number.copy_from_slice(&bytes[..NUMBER_BYTES]);
+    u32::from_be_bytes(number) as usize
+}
+
+/// How many bytes the entry has that stands in front of the bytes. `Damaged` where none does; `NoMemory`, which is taken
+/// where its item is in many sets.
+fn entry_len(alloc: Global, bytes: &[u8]) -> Result<usize, DecodeFault>
+    ensures { IsEntryReading bytes.now result }
+{
+    if bytes.len() < NUMBER_BYTES {
+        return Err(DecodeFault::Damaged);
+    }
+    let len = first_number(bytes);
+    let rest = &bytes[NUMBER_BYTES..];
+    if rest.len() < len {
+        return Err(DecodeFault::Damaged);
+    }
+    if !is_spelling(alloc, &rest[..len])? {
+        return Err(DecodeFault::Damaged);
+    }
+    Ok(NUMBER_BYTES + len)
+}
+
+/// Where each of so many entries in front of the bytes ends, and the last of them. `Damaged` where there are not so
+/// many; `NoMemory`.
+pub(crate) fn read_ends(
+    alloc: Global,
+    bytes: &[u8],
+    count: usize,
+) -> Result<(Vec<usize>, usize), DecodeFault>
+    ensures read { IfOk result (λ read. HasEntries bytes.now read.0.items count read.1) }
+    ensures damaged { IsErrOf result DecodeFault.Damaged
+        → (items : List ItemState) (behind : List ℕ) → AreStorable items → length items ≡ count
+        → ¬ (bytes.now ≡ entries_of items ++ behind) }
+{
+    let mut ends = Vec::new(alloc);
+    let mut end = 0;
+    for _ in 0..count {
+        let len = entry_len(alloc, &bytes[end..])?;
+        end += len;
+        push_end(&mut ends, end)?;
+    }
+    Ok((ends, end))
+}
+
+/// Where each of so many entries in front of the bytes ends, each of which is known to spell an item, and the last of
+/// them. The error is out of memory.
+pub(crate) fn ends_of(
+    alloc: Global,
+    bytes: &[u8],
+    count: usize,
+) -> Result<(Vec<usize>, usize), AllocError>
+    requires { spells_items count bytes.now ≡ true }
+    ensures { IfOk result (λ read. HasEntries bytes.now read.0.items count read.1) }
+{
+    let mut ends = Vec::new(alloc);
+    let mut end = 0;
+    for _ in 0..count {
+        end += spelled_len(&bytes[end..]);
+        push_end(&mut ends, end)?;
+    }
+    Ok((ends, end))
+}
+
+/// How many bytes the entry has that stands in front of the bytes, which is known to spell an item.
+fn spelled_len(bytes: &[u8]) -> usize
+    requires { spells_item bytes.now ≡ true }
+    ensures entry { HasEntry bytes.now result }
+    ensures within { result ≤ length bytes.now }
+    ensures behind { result ≡ 4 + number_in bytes.now }
+{
+    NUMBER_BYTES + first_number(bytes)
+}
+
+/// Adds the end.
+fn push_end(ends: &mut Vec<usize>, end: usize) -> Result<(), AllocError>
+    ensures { OnOk result (ends.new.items ≡ ends.old.items ++ end ∷ []) }
+{
+    ends.push(end)?;
+    Ok(())
+}
+
+/// Whether each of the bytes is 0. The loop has no other end than the last byte, and what it finds is handed out of a
+/// function of its own, so that many bytes are tested at a time.
+#[inline(never)]
+pub(crate) fn are_zeros(bytes: &[u8]) -> bool
+    ensures { result ≡ list_all (λ byte. byte == 0) bytes.now }
+{
+    let mut zeros = true;
+    for byte in bytes {
+        zeros = zeros & (*byte == 0);
+    }
+    zeros
+}
+
+/// A copy of the bytes.
+pub(crate) fn copied(alloc: Global, bytes: &[u8]) -> Result<Vec<u8>, AllocError>
+    ensures { IfOk result (λ copy. copy.items ≡ bytes.now) }
+{
+    let mut copy = Vec::with_capacity(alloc, bytes.len())?;
+    copy.extend_from_slice(bytes)?;
+    Ok(copy)
+}
+
+/// A copy of the numbers.
+pub(crate) fn copied_ends(alloc: Global, ends: &[usize]) -> Result<Vec<usize>, AllocError>
+    ensures { IfOk result (λ copy. copy.items ≡ ends.now) }
+{
+    let mut copy = Vec::with_capacity(alloc, ends.len())?;
+    copy.extend_from_slice(ends)?;
+    Ok(copy)
+}
+
+/// A copy of the bytes, one part after the other.
+pub(crate) fn joined(
+    alloc: Global,
+    front: &[u8],
+    middle: &[u8],
+    back: &[u8],
+) -> Result<Vec<u8>, AllocError>
+    ensures { IfOk result (λ copy. copy.items ≡ front.now ++ (middle.now ++ back.now)) }
+{
+    let mut copy = copied(alloc, front)?;
+    copy.extend_from_slice(middle)?;
+    copy.extend_from_slice(back)?;
+    Ok(copy)
+}
+
+/// The entry of the item.
+pub(crate) fn entry_of(alloc: Global, item: &Item) -> Result<Vec<u8>, AllocError>
+    requires { length (encoded item.now) ≤ MAX_ITEM_BYTES }
+    ensures entry { IfOk result (λ bytes. bytes.items ≡ entry_of item.now) }
+    ensures spells { OnOk result (Spells (encoded item.now) item.now) }
+{
+    let spelling = spelling_of(alloc, item)?;
+    let number = (spelling.len() as u32).to_be_bytes();
+    let entry = joined(alloc, &number, spelling.as_slice(), &[])?;
+    Ok(entry)
+}
+
+/// The spelling of the item.
+fn spelling_of(alloc: Global, item: &Item) -> Result<Vec<u8>, AllocError>
+    requires { length (encoded item.now) ≤ MAX_ITEM_BYTES }
+    ensures spelling { IfOk result (λ bytes. bytes.items ≡ encoded item.now) }
+    ensures spells { OnOk result (Spells (encoded item.now) item.now) }
+{
+    match item.encoded_len() {
+        Ok(len) => {
+            let mut bytes = vec![in alloc; 0; len]?;
+            match item.encode_into(&mut bytes) {
+                Ok(_) => Ok(bytes),
+                Err(_) => unreachable!(),
+            }
+        }
+        Err(_) => unreachable!(),
+    }
+}
+
+/// Adds the ends, of entries that began at the one number and now begin at the other.
+pub(crate) fn push_moved(
+    ends: &mut Vec<usize>,
+    more: &[usize],
+    from: usize,
+    to: usize,
+) -> Result<(), AllocError>
+    requires above { All (λ end. from ≤ end) more.now }
+    requires fits { All (λ end. end + to < from + 2 ^ 64) more.now }
+    ensures { OnOk result
+        (ends.new.items ≡ ends.old.items ++ map (λ end. end - from + to) more.now) }
+{
+    for end in more {
+        ends.push(*end - from + to)?;
+    }
+    Ok(())
+}

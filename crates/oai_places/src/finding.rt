@@ -1,0 +1,109 @@
+//! An item that is looked for on a page, of which no other item is decoded.
+
+ghost use Rattle.std.specs.Prelude.{◌<◌, ◌≤◌, ◌≡◌, ◌==◌, ◌++◌, ◌^◌, ℕ, List, Some, length};
+ghost use Rattle.oai_item.specs.Decoding.{item_in};
+ghost use Rattle.oai_item.specs.Encoding.{Spells, encoded, encoded_text};
+ghost use Rattle.oai_item.specs.Item.{ItemState};
+ghost use Rattle.oai_item.specs.Items.{is_at};
+ghost use Rattle.oai_places.specs.Finding.{IsFinding, IsItemRead, IsTextParted};
+ghost use Rattle.oai_places.specs.Pages.{IsPage, begins_at, entry_of};
+
+use crate::entry_bytes::first_number;
+use crate::sizes::NUMBER_BYTES;
+use oai_item::{DecodeFault, Item, order_of_spelling};
+use std::alloc::Global;
+use std::cmp::Ordering;
+
+/// The item of that datestamp, in seconds from 1970 on, and identifier of those of the page, or None. The entries in
+/// front of its own are passed over by their lengths, and it alone is decoded. `Damaged` only where the bytes are not
+/// the page of any items; `NoMemory`.
+pub(crate) fn find_on_page(
+    alloc: Global,
+    page: &[u8],
+    stamp: i64,
+    identifier: &str,
+) -> Result<Option<Item>, DecodeFault>
+    requires { 4 ≤ length page.now }
+    ensures { (items : List ItemState) → IsPage page.now items → IsFinding stamp identifier.now items result }
+{
+    let mut rest = &page[NUMBER_BYTES..];
+    'entries: for _ in 0..first_number(page) {
+        let Some((spelling, behind)) = first_entry(rest) else {
+            return Err(DecodeFault::Damaged);
+        };
+        match order_of_spelling(spelling, stamp, identifier) {
+            Some(Ordering::Less) => {}
+            Some(Ordering::Equal) => return found(alloc, spelling),
+            Some(Ordering::Greater) => return Ok(None),
+            None => return Err(DecodeFault::Damaged),
+        }
+        rest = behind;
+    }
+    Ok(None)
+}
+
+/// Whether the page has so many items.
+pub(crate) fn has_items(page: &[u8], len: usize) -> bool
+    requires { 4 ≤ length page.now }
+    ensures { (items : List ItemState) → IsPage page.now items → result ≡ (length items == len) }
+{
+    first_number(page) == len
+}
+
+/// Whether the first item of the page has this datestamp, in seconds from 1970 on, and identifier.
+pub(crate) fn begins_on_page(page: &[u8], stamp: i64, identifier: &str) -> bool
+    requires { 4 ≤ length page.now }
+    ensures { (items : List ItemState) → IsPage page.now items → result ≡ begins_at stamp identifier.now items }
+{
+    match first_entry(&page[NUMBER_BYTES..]) {
+        Some((spelling, _)) => is_at(spelling, stamp, identifier),
+        None => false,
+    }
+}
+
+/// Whether the item that the bytes spell has this datestamp, in seconds from 1970 on, and identifier. Where they spell
+/// none, nothing is promised of the answer.
+fn is_at(spelling: &[u8], stamp: i64, identifier: &str) -> bool
+    ensures { (item : ItemState) → item_in spelling.now ≡ Some item → result ≡ is_at stamp identifier.now item }
+{
+    match order_of_spelling(spelling, stamp, identifier) {
+        Some(order) => order == Ordering::Equal,
+        None => false,
+    }
+}
+
+/// The spelling in the entry in front of the bytes, and the bytes behind it, or None where there is no such entry. The
+/// spelling is not tested.
+pub(crate) fn first_entry(bytes: &[u8]) -> Option<(&[u8], &[u8])>
+    ensures { (item : ItemState) (behind : List ℕ) → Spells (encoded item) item
+        → bytes.now ≡ entry_of item ++ behind → IsTextParted (encoded item) behind result }
+{
+    first_text(bytes)
+}
+
+/// The text in front of the bytes, which stands behind its length, and the bytes behind it, or None where there is none.
+/// Any bytes are a text here.
+pub(crate) fn first_text(bytes: &[u8]) -> Option<(&[u8], &[u8])>
+    ensures { (text behind : List ℕ) → length text < 2 ^ 32
+        → bytes.now ≡ encoded_text text ++ behind → IsTextParted text behind result }
+{
+    if bytes.len() < NUMBER_BYTES {
+        return None;
+    }
+    let len = first_number(bytes);
+    let rest = &bytes[NUMBER_BYTES..];
+    if rest.len() < len {
+        return None;
+    }
+    Some(rest.split_at(len))
+}
+
+/// The item that was found, which the bytes spell. `Damaged` where they spell none; `NoMemory`.
+fn found(alloc: Global, spelling: &[u8]) -> Result<Option<Item>, DecodeFault>
+    ensures { (item : ItemState) → Spells spelling.now item → IsItemRead item result }
+{
+    match Item::decode(alloc, spelling) {
+        Ok(item) => Ok(Some(item)),
+        Err(fault) => Err(fault),
+    }
+}

@@ -1,0 +1,278 @@
+//! Items that are picked from a page of which most are in other sets: the bytes are read within which those of the set
+//! stand, and what is in other sets among them is passed over by its length, and not tested.
+
+ghost use Rattle.std.specs.Prelude.{◌≡◌, ◌++◌, ◌+◌, ◌-◌, ◌<◌, ◌≤◌, ◌∷◌, ◌^◌, ℕ, List, [], Some, false, length, IfOk, IfSome, IsTrue};
+ghost use Rattle.oai_device.specs.Device.{range_of};
+ghost use Rattle.oai_device.specs.declared.devices.TheConstants.{PAGE_BYTES};
+ghost use Rattle.oai_item.specs.Encoding.{Spells, encoded_list, encoded_text};
+ghost use Rattle.oai_item.specs.Item.{ItemState};
+ghost use Rattle.oai_item.specs.Membership.{is_in};
+ghost use Rattle.oai_item.specs.Selection.{is_in_given};
+ghost use Rattle.oai_places.specs.Calls.{ReadsPages};
+ghost use Rattle.oai_places.specs.Pages.{AreStorable, entries_of};
+ghost use Rattle.oai_places.specs.Parts.{IsPartTaken};
+ghost use Rattle.oai_places.specs.Picking.{AreSetsFound, IsFoundWanted, IsPickable, IsPicked, IsPicking};
+ghost use Rattle.oai_places.specs.Places.{IsSoundPlace, is_wanted, items_at};
+ghost use Rattle.oai_places.specs.declared.sizes.TheConstants.{NUMBER_BYTES};
+ghost use Rattle.oai_pool.specs.Counts.{count_of};
+ghost use Rattle.oai_pool.specs.Names.{times};
+
+use crate::entry_bytes::first_number;
+use crate::faults::fault_of;
+use crate::finding::{first_entry, first_text};
+use crate::places::SharedPlace;
+use crate::reading::{Wanted, forget_damaged, is_item_wanted};
+use crate::sizes::NUMBER_BYTES;
+use oai_catalogue::Filter;
+use oai_device::PAGE_BYTES;
+use oai_item::{DecodeFault, Fault, Item, Spelling};
+use oai_pool::{PageNo, PagePool};
+use oai_sums::Span;
+use std::alloc::{AllocError, Global};
+
+/// The bytes before the identifier in the spelling of an item: whether it is live, and its datestamp.
+const STAMP_BYTES: usize = 9;
+
+/// Adds to the part those of the items of so many entries, which the bytes are, that are wanted, behind the first `skip`
+/// of them, until the part has `most` items; returns how many are still to be skipped. `Damaged` only where the bytes are
+/// not so many entries; `NoMemory`.
+pub(crate) fn pick_entries(
+    alloc: Global,
+    entries: &[u8],
+    count: usize,
+    wanted: Wanted<'_>,
+    skip: usize,
+    most: usize,
+    part: &mut Vec<Item>,
+) -> Result<usize, DecodeFault>
+    ensures { (items : List ItemState) → AreStorable items → length items ≡ count → entries.now ≡ entries_of items
+        → IsPicking (is_wanted wanted.entry.filter.now wanted.entry.stamp wanted.entry.identifier.now) most
+        part.old.items part.new.items skip items result }
+{
+    let mut left = skip;
+    let mut rest = entries;
+    'entries: for _ in 0..count {
+        if part.len() >= most {
+            return Ok(left);
+        }
+        let Some((spelling, behind)) = first_entry(rest) else {
+            return Err(DecodeFault::Damaged);
+        };
+        match pick_next(alloc, spelling, wanted, left, part) {
+            Ok(still) => left = still,
+            Err(fault) => return Err(fault),
+        }
+        rest = behind;
+    }
+    if !rest.is_empty() {
+        return Err(DecodeFault::Damaged);
+    }
+    Ok(left)
+}
+
+/// Adds the item that the bytes spell to the part, where it is wanted and none is to be skipped; returns how many are
+/// still to be skipped. `Damaged` only where they spell none; `NoMemory`.
+fn pick_next(
+    alloc: Global,
+    spelling: &[u8],
+    wanted: Wanted<'_>,
+    skip: usize,
+    part: &mut Vec<Item>,
+) -> Result<usize, DecodeFault>
+    ensures { (item : ItemState) (most : ℕ) → Spells spelling.now item → length part.old.items < most
+        → IsPicking (is_wanted wanted.entry.filter.now wanted.entry.stamp wanted.entry.identifier.now) most
+        part.old.items part.new.items skip (item ∷ []) result }
+{
+    match pick(alloc, spelling, wanted) {
+        Ok(Some(item)) => {
+            if skip > 0 {
+                return Ok(skip - 1);
+            }
+            match part.push(item) {
+                Ok(()) => Ok(skip),
+                Err(_) => Err(DecodeFault::NoMemory),
+            }
+        }
+        Ok(None) => Ok(skip),
+        Err(fault) => Err(fault),
+    }
+}
+
+/// The item that the bytes spell, where it is wanted. `Damaged` only where they spell none; `NoMemory`.
+fn pick(alloc: Global, spelling: &[u8], wanted: Wanted<'_>) -> Result<Option<Item>, DecodeFault>
+    ensures { (item : ItemState) → Spells spelling.now item
+        → IsPicked (is_wanted wanted.entry.filter.now wanted.entry.stamp wanted.entry.identifier.now) item result }
+{
+    if !may_be_in(spelling, wanted.filter) {
+        return Ok(None);
+    }
+    match Spelling::read(alloc, spelling) {
+        Ok(item) => Ok(copy_wanted(alloc, &item, wanted)?),
+        Err(fault) => Err(fault),
+    }
+}
+
+/// The item in memory of its own, where it is wanted. The error is out of memory.
+fn copy_wanted(
+    alloc: Global,
+    item: &Spelling<'_>,
+    wanted: Wanted<'_>,
+) -> Result<Option<Item>, AllocError>
+    ensures { IfOk result (λ found. IsFoundWanted
+        (is_wanted wanted.entry.filter.now wanted.entry.stamp wanted.entry.identifier.now) item.now found) }
+{
+    if !is_item_wanted(item, wanted) {
+        return Ok(None);
+    }
+    Ok(Some(Item::spelled(alloc, item)?))
+}
+
+/// Whether the item that the bytes spell may be in the set, where one is given: where it is in it, the answer is true.
+fn may_be_in(spelling: &[u8], filter: &Filter) -> bool
+    ensures { (item : ItemState) → Spells spelling.now item → result ≡ false → is_in_given filter.now.set item.sets ≡ false }
+{
+    let Some(set) = &filter.set else {
+        return true;
+    };
+    match sets_in(spelling) {
+        Some(sets) => may_have(sets, set.as_str()),
+        None => true,
+    }
+}
+
+/// The bytes of the item that these spell from the list of its setSpecs on. Where they spell none, nothing is promised
+/// of the answer; where they spell one, it is not None.
+fn sets_in(spelling: &[u8]) -> Option<&[u8]>
+    ensures { (item : ItemState) → Spells spelling.now item → AreSetsFound item result }
+{
+    if spelling.len() < STAMP_BYTES {
+        return None;
+    }
+    match first_text(&spelling[STAMP_BYTES..]) {
+        Some((_, sets)) => Some(sets),
+        None => None,
+    }
+}
+
+/// Whether a setSpec of the list in front of the bytes may be that of the set, or lie below it: where one is or does, the
+/// answer is true.
+fn may_have(bytes: &[u8], set: &str) -> bool
+    ensures { (sets : List (List ℕ)) (behind : List ℕ) → length bytes.now < 2 ^ 32
+        → bytes.now ≡ encoded_list encoded_text sets ++ behind → result ≡ false → is_in set.now sets ≡ false }
+{
+    if bytes.len() < NUMBER_BYTES {
+        return true;
+    }
+    let front = set.as_bytes();
+    let mut rest = &bytes[NUMBER_BYTES..];
+    'sets: for _ in 0..first_number(bytes) {
+        let Some((text, behind)) = first_text(rest) else {
+            return true;
+        };
+        if text.starts_with(front) {
+            return true;
+        }
+        rest = behind;
+    }
+    false
+}
+
+/// Where those items of the place stand that are in the set that is asked for, where it has one page, and half of its
+/// items at most are in the set.
+pub(crate) fn sparse_span(place: &SharedPlace, wanted: Wanted<'_>) -> Option<Span>
+    ensures { IfSome result (λ span. IsPickable place.now wanted.entry.filter.now.set span) }
+{
+    let filter = wanted.filter;
+    if place.is_long() {
+        return None;
+    }
+    if place.items_in(&filter.set)? > place.len() / 2 {
+        return None;
+    }
+    let span = place.span_in(&filter.set)?;
+    if span.from > span.to || span.to as usize > PAGE_BYTES - NUMBER_BYTES {
+        return None;
+    }
+    Some(span)
+}
+
+/// Adds the wanted items of the place, of which those in the set stand within the span, after the first `skip` to the part,
+/// up to `most`, and answers how many are then left to be skipped. It reads the bytes of the span alone, and tests what may
+/// be in the set. Any fault but `TooManyPages`. Where it is `Damaged`, the page is not kept in memory.
+pub(crate) fn pick_at<P: PagePool>(
+    alloc: Global,
+    pages: &mut P,
+    place: &SharedPlace,
+    span: Span,
+    wanted: Wanted<'_>,
+    skip: usize,
+    most: usize,
+    part: &mut Vec<Item>,
+) -> Result<usize, Fault>
+    requires pickable { IsPickable place.now wanted.filter.now.set span }
+    requires named { (n : ℕ) → 0 < times n place.now.pages → 0 < count_of (P.counts pages.old) n }
+    requires sound { IsSoundPlace (P.pages pages.old) place.now }
+    ensures taken { IfOk result (λ left. IsTrue (P.honest pages.old)
+        → IsPartTaken (is_wanted wanted.entry.filter.now wanted.entry.stamp wanted.entry.identifier.now) most
+        part.old.items part.new.items skip left (items_at (P.pages pages.old) place.now)) }
+    ensures pages { ReadsPages P.PagePool result pages.old pages.new }
+{
+    match pick_in(alloc, pages, place, span, wanted, skip, most, part) {
+        Ok(left) => Ok(left),
+        Err(fault) => {
+            forget_damaged(pages, place, fault);
+            Err(fault)
+        }
+    }
+}
+
+/// Adds the wanted items of the place, of which those in the set stand within the span, after the first `skip` to the part,
+/// up to `most`, and answers how many are then left to be skipped. Any fault but `TooManyPages`.
+fn pick_in<P: PagePool>(
+    alloc: Global,
+    pages: &mut P,
+    place: &SharedPlace,
+    span: Span,
+    wanted: Wanted<'_>,
+    skip: usize,
+    most: usize,
+    part: &mut Vec<Item>,
+) -> Result<usize, Fault>
+    requires pickable { IsPickable place.now wanted.filter.now.set span }
+    requires named { (n : ℕ) → 0 < times n place.now.pages → 0 < count_of (P.counts pages.old) n }
+    requires sound { IsSoundPlace (P.pages pages.old) place.now }
+    ensures taken { IfOk result (λ left. IsTrue (P.honest pages.old)
+        → IsPartTaken (is_wanted wanted.entry.filter.now wanted.entry.stamp wanted.entry.identifier.now) most
+        part.old.items part.new.items skip left (items_at (P.pages pages.old) place.now)) }
+    ensures pages { ReadsPages P.PagePool result pages.old pages.new }
+{
+    let bytes = read_span(alloc, pages, place.pages()[0], span)?;
+    let count = usize::from(span.end.saturating_sub(span.first));
+    match pick_entries(alloc, &bytes, count, wanted, skip, most, part) {
+        Ok(left) => Ok(left),
+        Err(DecodeFault::Damaged) => Err(Fault::Damaged),
+        Err(DecodeFault::NoMemory) => Err(Fault::NoMemory),
+    }
+}
+
+/// The bytes of the entries of the span, on the page of that number, which is named. Any fault but `Damaged` and `TooManyPages`.
+fn read_span<P: PagePool>(
+    alloc: Global,
+    pages: &mut P,
+    no: PageNo,
+    span: Span,
+) -> Result<Vec<u8>, Fault>
+    requires named { 0 < count_of (P.counts pages.old) no }
+    requires order { span.from ≤ span.to }
+    requires within { NUMBER_BYTES + span.to ≤ PAGE_BYTES }
+    ensures bytes { IfOk result (λ bytes. IsTrue (P.honest pages.old)
+        → range_of (NUMBER_BYTES + span.from) (span.to - span.from) (P.pages pages.old no) ≡ Some bytes.items) }
+    ensures pages { ReadsPages P.PagePool result pages.old pages.new }
+{
+    let len = (span.to - span.from) as usize;
+    let mut bytes = vec![in alloc; 0; len]?;
+    match pages.read_range(no, NUMBER_BYTES + span.from as usize, &mut bytes) {
+        Ok(()) => Ok(bytes),
+        Err(fault) => Err(fault_of(fault)),
+    }
+}

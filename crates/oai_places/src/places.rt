@@ -1,0 +1,207 @@
+ghost use Rattle.std.specs.Prelude.{◌≡◌, nat_lt, ℕ, length, option_copied, IfOk};
+ghost use Rattle.oai_names.specs.Names.{is_among};
+ghost use Rattle.oai_places.specs.Places.{first_cmp, known_in, span_at};
+
+use crate::page_numbers::PageNumbers;
+use oai_names::{Identifier, Prefix, Sequence, SetSpec};
+use oai_pool::PageNo;
+use oai_sums::{SetCounts, Span};
+use std::alloc::{AllocError, Global};
+use std::cmp::Ordering;
+use std::marker::Model;
+use std::rc::Rc;
+
+/// Where items that follow one another stand, and what is known of them without reading their page.
+#[derive(Drop)]
+struct Place {
+    pages: PageNumbers,
+    stamp: i64,
+    identifier: Identifier,
+    len: usize,
+    size: usize,
+    /// Many places have the same: these have one list in common, so that it is at hand where many are asked.
+    prefixes: Rc<Sequence<Prefix>>,
+    /// None where the sets were too many, or memory was refused.
+    sets: Option<SetCounts>,
+}
+
+impl Model for Place {
+    ghost use Rattle.oai_places.specs.Places.{PlaceState};
+
+    ghost Value = { PlaceState };
+
+    ghost view = { λ p. record {
+      pages = p.pages;
+      stamp = p.stamp;
+      identifier = p.identifier;
+      len = p.len;
+      size = p.size;
+      prefixes = p.prefixes.value;
+      sets = p.sets;
+    } };
+}
+
+/// A place that the directories of several versions may have in common: a copy of it takes no memory of its own.
+#[derive(Drop)]
+pub struct SharedPlace {
+    place: Rc<Place>,
+}
+
+impl Model for SharedPlace {
+    ghost use Rattle.oai_places.specs.Places.{PlaceState};
+
+    ghost Value = { PlaceState };
+
+    ghost view = { λ s. s.place.value };
+}
+
+impl SharedPlace {
+    /// The place of so many items on the pages of these numbers, of which the first item has this datestamp, in seconds
+    /// from 1970 on, and identifier, and each has a record of each of the prefixes. Their entries have `size` bytes, and so many are in each set,
+    /// where that is known. The error is out of memory.
+    pub fn new(
+        alloc: Global,
+        pages: &[PageNo],
+        stamp: i64,
+        identifier: Identifier,
+        len: usize,
+        size: usize,
+        prefixes: Rc<Sequence<Prefix>>,
+        sets: Option<SetCounts>,
+    ) -> Result<SharedPlace, AllocError>
+        ensures { IfOk result (λ place. place ≡ record {
+          pages = pages.now;
+          stamp = stamp;
+          identifier = identifier;
+          len = len;
+          size = size;
+          prefixes = prefixes.value;
+          sets = sets;
+        }) }
+    {
+        let place = Place {
+            pages: PageNumbers::new(alloc, pages)?,
+            stamp,
+            identifier,
+            len,
+            size,
+            prefixes,
+            sets,
+        };
+        Ok(SharedPlace {
+            place: Rc::new(alloc, place)?,
+        })
+    }
+
+    /// A copy of the place, which is counted. The error is out of memory, where no more copies can be counted.
+    pub(crate) fn copy(&self) -> Result<SharedPlace, AllocError>
+        ensures { IfOk result (λ copy. copy ≡ self.now) }
+    {
+        Ok(SharedPlace {
+            place: self.place.clone()?,
+        })
+    }
+
+    /// The numbers of its pages: that of the page of its entries, and behind it those of its overflow pages.
+    pub(crate) fn pages(&self) -> &[PageNo]
+        ensures { result.now ≡ self.now.pages }
+    {
+        self.place.pages.as_slice()
+    }
+
+    /// Whether it has overflow pages, and so one item alone.
+    pub fn is_long(&self) -> bool
+        ensures { result ≡ nat_lt 1 (length self.now.pages) }
+    {
+        self.pages().len() > 1
+    }
+
+    /// The datestamp of the first item, in seconds from 1970 on.
+    pub fn stamp(&self) -> i64
+        ensures { result ≡ self.now.stamp }
+    {
+        self.place.stamp
+    }
+
+    /// The identifier of the first item.
+    pub fn identifier(&self) -> &str
+        ensures { result.now ≡ self.now.identifier }
+    {
+        self.place.identifier.as_str()
+    }
+
+    /// How many items there are.
+    pub fn len(&self) -> usize
+        ensures { result ≡ self.now.len }
+    {
+        self.place.len
+    }
+
+    /// How many bytes their entries have.
+    pub fn size(&self) -> usize
+        ensures { result ≡ self.now.size }
+    {
+        self.place.size
+    }
+
+    /// The prefixes of which each item is known to have a record: a list that other places may have too.
+    pub fn prefixes(&self) -> &Rc<Sequence<Prefix>>
+        ensures { result.now.value ≡ self.now.prefixes }
+    {
+        &self.place.prefixes
+    }
+
+    /// Whether the prefix is one of those of which each item is known to have a record.
+    pub(crate) fn has_prefix(&self, prefix: &str) -> bool
+        ensures { result ≡ is_among self.now.prefixes prefix.now }
+    {
+        is_among(self.place.prefixes.as_slice(), prefix)
+    }
+
+    /// How many items are in the set, where one is given, or else how many there are; None where that is not known.
+    pub(crate) fn items_in(&self, set: &Option<SetSpec>) -> Option<usize>
+        ensures { result ≡ known_in self.now set.now }
+    {
+        match set {
+            Some(set) => match &self.place.sets {
+                Some(counts) => Some(counts.count(set.as_str())),
+                None => None,
+            },
+            None => Some(self.place.len),
+        }
+    }
+
+    /// Within which span of the items those stand that are in the set, where one is given, and that is known.
+    pub(crate) fn span_in(&self, set: &Option<SetSpec>) -> Option<Span>
+        ensures { result ≡ span_at self.now set.now }
+    {
+        match (set, &self.place.sets) {
+            (Some(set), Some(counts)) => counts.span(set.as_str()),
+            _ => None,
+        }
+    }
+
+    /// How many items are in each set, where that is known.
+    pub(crate) fn sets(&self) -> Option<&SetCounts>
+        ensures { option_copied result ≡ self.now.sets }
+    {
+        self.place.sets.as_ref()
+    }
+
+    /// How the first item stands to this datestamp, in seconds from 1970 on, and identifier.
+    pub fn order_to(&self, stamp: i64, identifier: &str) -> Ordering
+        ensures { result ≡ first_cmp self.now stamp identifier.now }
+    {
+        match self.stamp().cmp(&stamp) {
+            Ordering::Equal => self.identifier().cmp(identifier),
+            unequal => unequal,
+        }
+    }
+}
+
+/// Whether the prefix is one of these.
+pub(crate) fn is_among(prefixes: &[Prefix], prefix: &str) -> bool
+    ensures { result ≡ is_among prefixes.now prefix.now }
+{
+    prefixes.iter().any(|other| prefix == other.as_str())
+}

@@ -1,0 +1,22 @@
+ghost use Rattle.oai_places.specs.Searches.{BelongsAt};
+
+use crate::places::SharedPlace;
+use std::cmp::Ordering;
+
+/// To which place this datestamp, in seconds from 1970 on, and identifier belong: the last one whose first item does not
+/// stand behind them, or else the first. Of n places it looks at about log n.
+pub fn place_of(places: &[SharedPlace], stamp: i64, identifier: &str) -> usize
+    ensures { BelongsAt places.now stamp identifier.now result }
+{
+    let mut low = 0;
+    let mut high = places.len();
+    'halves: while high - low > 1 {
+        let middle = low + (high - low) / 2;
+        if places[middle].order_to(stamp, identifier) == Ordering::Greater {
+            high = middle;
+        } else {
+            low = middle;
+        }
+    }
+    low
+}

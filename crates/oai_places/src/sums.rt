@@ -1,0 +1,196 @@
+//! What is known of the items of places that follow one another, without a look at each of the places.
+ghost use Rattle.std.specs.Prelude.{◌≡◌, int_le, is_some, sum_by, true, IfOk, IfSome};
+ghost use Rattle.std.specs.List.{list_all};
+ghost use Rattle.oai_names.specs.Names.{is_among};
+ghost use Rattle.oai_places.specs.Places.{PlaceState};
+ghost use Rattle.oai_places.specs.Sums.{AreTotals, IsSum, have_prefixes, known_in_sum};
+
+use crate::places::{SharedPlace, is_among};
+use oai_names::{Prefix, Sequence, SetSpec};
+use oai_sums::SetCounts;
+use std::alloc::{AllocError, Global};
+use std::marker::Model;
+use std::rc::Rc;
+
+/// What is known of the items of places.
+#[derive(Drop)]
+struct Sum {
+    items: usize,
+    /// No place begins before this datestamp.
+    least: i64,
+    /// No place begins behind this datestamp.
+    greatest: i64,
+    prefixes: Sequence<Prefix>,
+    /// None where the sets were too many, or memory was refused.
+    sets: Option<SetCounts>,
+}
+
+impl Model for Sum {
+    ghost use Rattle.oai_places.specs.Sums.{SumState};
+
+    ghost Value = { SumState };
+
+    ghost view = { λ s. record {
+      items = s.items;
+      least = s.least;
+      greatest = s.greatest;
+      prefixes = s.prefixes;
+      sets = s.sets;
+    } };
+}
+
+/// A sum that the directories of several versions may have in common: a copy of it takes no memory of its own.
+#[derive(Drop)]
+pub(crate) struct SharedSum {
+    sum: Rc<Sum>,
+}
+
+impl Model for SharedSum {
+    ghost use Rattle.oai_places.specs.Sums.{SumState};
+
+    ghost Value = { SumState };
+
+    ghost view = { λ s. s.sum.value };
+}
+
+impl SharedSum {
+    /// The sum of the places. None where their items are too many to be counted, where they do not stand in order, or memory is refused.
+    pub(crate) fn of(alloc: Global, places: &[SharedPlace]) -> Option<SharedSum>
+        ensures { IfSome result (λ sum. IsSum sum places.now) }
+    {
+        let (Some(first), Some(last)) = (places.first(), places.last()) else {
+            return None;
+        };
+        let (least, greatest) = (first.stamp(), last.stamp());
+        if !begin_from(places, least) {
+            return None;
+        }
+        if !begin_by(places, greatest) {
+            return None;
+        }
+        let items = items_of(places)?;
+        let Ok(prefixes) = prefixes_of(alloc, first, places) else {
+            return None;
+        };
+        let sum = Sum {
+            items,
+            least,
+            greatest,
+            prefixes,
+            sets: sets_of(alloc, places),
+        };
+        match Rc::new(alloc, sum) {
+            Ok(sum) => Some(SharedSum { sum }),
+            Err(_) => None,
+        }
+    }
+
+    /// A copy of the sum, which is counted. The error is out of memory, where no more copies can be counted.
+    pub(crate) fn copy(&self) -> Result<SharedSum, AllocError>
+        ensures { IfOk result (λ copy. copy ≡ self.now) }
+    {
+        Ok(SharedSum {
+            sum: self.sum.clone()?,
+        })
+    }
+
+    /// How many items are in the set, where one is given, or else how many there are; None where that is not known.
+    pub(crate) fn items_in(&self, set: &Option<SetSpec>) -> Option<usize>
+        ensures { result ≡ known_in_sum self.now set.now }
+    {
+        match set {
+            Some(set) => match &self.sum.sets {
+                Some(counts) => Some(counts.count(set.as_str())),
+                None => None,
+            },
+            None => Some(self.sum.items),
+        }
+    }
+
+    /// Whether the prefix is one of those of which each item is known to have a record.
+    pub(crate) fn has_prefix(&self, prefix: &str) -> bool
+        ensures { result ≡ is_among self.now.prefixes prefix.now }
+    {
+        is_among(self.sum.prefixes.as_slice(), prefix)
+    }
+
+    /// The datestamp before which no place begins, in seconds from 1970 on.
+    pub(crate) fn least(&self) -> i64
+        ensures { result ≡ self.now.least }
+    {
+        self.sum.least
+    }
+
+    /// The datestamp behind which no place begins, in seconds from 1970 on.
+    pub(crate) fn greatest(&self) -> i64
+        ensures { result ≡ self.now.greatest }
+    {
+        self.sum.greatest
+    }
+}
+
+/// Whether no place begins before the datestamp, in seconds from 1970 on.
+fn begin_from(places: &[SharedPlace], stamp: i64) -> bool
+    ensures { result ≡ list_all (λ (place : PlaceState). int_le stamp place.stamp) places.now }
+{
+    places.iter().all(|place| stamp <= place.stamp())
+}
+
+/// Whether no place begins behind the datestamp, in seconds from 1970 on.
+fn begin_by(places: &[SharedPlace], stamp: i64) -> bool
+    ensures { result ≡ list_all (λ (place : PlaceState). int_le place.stamp stamp) places.now }
+{
+    places.iter().all(|place| place.stamp() <= stamp)
+}
+
+/// How many items the places have together, or None where they are too many to be counted.
+fn items_of(places: &[SharedPlace]) -> Option<usize>
+    ensures { IfSome result (λ items. sum_by (λ (place : PlaceState). place.len) places.now ≡ items) }
+{
+    let mut items = 0usize;
+    'places: for at in 0..places.len() {
+        items = items.checked_add(places[at].len())?;
+    }
+    Some(items)
+}
+
+/// Those of the prefixes of a place that each of the places has. The error is out of memory.
+fn prefixes_of(
+    alloc: Global,
+    first: &SharedPlace,
+    places: &[SharedPlace],
+) -> Result<Sequence<Prefix>, AllocError>
+    ensures { IfOk result (λ prefixes. have_prefixes prefixes places.now ≡ true) }
+{
+    let own = first.prefixes().as_slice();
+    let mut prefixes = Vec::new(alloc);
+    'prefixes: for at in 0..own.len() {
+        let prefix = &own[at];
+        if each_has(places, prefix.as_str()) {
+            prefixes.push(Prefix::new(alloc, prefix.as_str())?)?;
+        }
+    }
+    Ok(Sequence::new(prefixes))
+}
+
+/// Whether each of the places has the prefix.
+fn each_has(places: &[SharedPlace], prefix: &str) -> bool
+    ensures { result ≡ list_all (λ (place : PlaceState). is_among place.prefixes prefix.now) places.now }
+{
+    places.iter().all(|place| place.has_prefix(prefix))
+}
+
+/// How many items of the places are in each set. None where that is not known of each place, where there are too many sets, or memory is refused.
+fn sets_of(alloc: Global, places: &[SharedPlace]) -> Option<SetCounts>
+    ensures { IfSome result (λ totals. AreTotals totals places.now) }
+{
+    let mut totals = SetCounts::new(alloc);
+    'places: for at in 0..places.len() {
+        let Some(counts) = places[at].sets() else {
+            return None;
+        };
+        totals.add_all(counts)?;
+    }
+    totals.fit();
+    Some(totals)
+}
