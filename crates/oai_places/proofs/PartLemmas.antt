@@ -73,7 +73,7 @@ taken_past p most part skip items few rest =
       drop_past (x ∷ xs) ys (suc n) few = let e : suc n - length (x ∷ xs) ≡ n - length xs = omega arith in drop_past xs ys n (omega arith) ∙ ap (λ m. drop m ys) (sym e)
 
 -- a test that is weaker passes no fewer
-pub fewer : (p q : ItemState → Bool) → ((x : ItemState) → p x ≡ true → q x ≡ true) → (items : List ItemState) → length (filter p items) ≤ length (filter q items)
+pub fewer : {X : Type 0} (p q : X → Bool) → ((x : X) → p x ≡ true → q x ≡ true) → (items : List X) → length (filter p items) ≤ length (filter q items)
 fewer p q so [] = omega arith
 fewer p q so (x ∷ items) =
     let rest = fewer p q so items in

@@ -1,9 +1,9 @@
 -- Items that are picked from a page, entry by entry, and the setSpecs that are looked at before an item is tested.
-use Rattle.std.proofs.Common.{◌≡◌, ◌∙◌, ◌+◌, ◌-◌, ◌^◌, ◌<◌, ◌≤◌, ◌||◌, ℕ, ℤ, Bool, true, false, nat_eq, List, [], ◌∷◌, ◌++◌, Option, None, Some, Err, ⊎_elim, length, take, drop, get_or, refl, sym, ap, subst, arith, append_assoc, append-nil, length-append, length-drop}
+use Rattle.std.proofs.Common.{◌≡◌, ◌==◌, ◌∙◌, ◌+◌, ◌-◌, ◌^◌, ◌<◌, ◌≤◌, ◌||◌, ℕ, suc, zero, ℤ, Bool, true, false, nat_eq, List, [], ◌∷◌, ◌++◌, Option, None, Some, Err, ⊎_elim, length, take, drop, get_or, refl, sym, ap, subst, arith, append_assoc, append-nil, length-append, length-drop}
 use Rattle.std.specs.List.{flat_map, starts_with}
 use Rattle.std.proofs.lemmas.Bool.{both_ways, false_from_ne_true}
 use Rattle.std.proofs.lemmas.Bool.Decides.{Decides-eqb}
-use Rattle.std.proofs.lemmas.List.{drop_all, drop_at, drop_more, take_all}
+use Rattle.std.proofs.lemmas.List.{drop_at, drop_more, take_all}
 use Rattle.std.proofs.lemmas.Option.{same_Some}
 use Rattle.std.proofs.lemmas.Slice.Eq.{starts_is}
 use Rattle.oai_names.specs.Sets.{covers}
@@ -21,8 +21,8 @@ use Rattle.oai_places.specs.Pages.{AreStorable, entries_of, entry_of, first_numb
 use Rattle.oai_places.specs.Parts.{IsPartTaken}
 use Rattle.oai_places.specs.Picking.{IsFoundWanted, IsPicked, IsPicking}
 use Rattle.oai_places.specs.Places.{is_wanted}
-use Rattle.oai_places.proofs.EntryLemmas.{storable_at}
-use Rattle.oai_places.proofs.PageLemmas.{behind_number, entries_of-cons, entries_of-nil, number_back}
+use Rattle.oai_places.proofs.EntryLemmas.{size_is, storable_at}
+use Rattle.oai_places.proofs.PageLemmas.{behind_number, entries_of-cons, entries_of-nil, number_back, size_of-least}
 use Rattle.oai_places.proofs.PartLemmas.{taken_more, taken_one, taken_stopped}
 use Rattle.oai_places.proofs.WantedLemmas.{given_from}
 
@@ -208,18 +208,27 @@ found_added p most part new skip item found option h is none some new_is =
 
 -- ---- item by item
 
--- of the items before that place those that pass were added, and the bytes are the entries of the others
-pub record ArePicked (p : ItemState → Bool) (most : ℕ) (old new : List ItemState) (skip left : ℕ) (items : List ItemState) (passed : ℕ) (rest : List ℕ) : Type 0 where
+-- of the first items, up to some place, those that pass were added, and the bytes are the entries of the others
+pub record ArePicked (p : ItemState → Bool) (most : ℕ) (old new : List ItemState) (skip left : ℕ) (items : List ItemState) (rest : List ℕ) : Type 0 where
+  pub passed : ℕ
   pub taken : IsPartTaken p most old new skip left (take passed items)
   pub parts : rest ≡ entries_of (drop passed items)
 
--- so it is of any items of which the bytes are that many entries
-abbrev pub ArePickedFrom : (ItemState → Bool) → ℕ → List ItemState → List ItemState → ℕ → ℕ → List ℕ → ℕ → ℕ → List ℕ → Type 0
-ArePickedFrom p most old new skip left entries count passed rest =
-    (items : List ItemState) → AreStorable items → length items ≡ count → entries ≡ entries_of items → ArePicked p most old new skip left items passed rest
+-- so it is of any items whose entries the bytes are
+abbrev pub ArePickedFrom : (ItemState → Bool) → ℕ → List ItemState → List ItemState → ℕ → ℕ → List ℕ → List ℕ → Type 0
+ArePickedFrom p most old new skip left entries rest =
+    (items : List ItemState) → AreStorable items → entries ≡ entries_of items → ArePicked p most old new skip left items rest
 
-pub none_picked : (p : ItemState → Bool) (most : ℕ) (part : List ItemState) (skip : ℕ) (entries : List ℕ) (count : ℕ) → ArePickedFrom p most part part skip skip entries count 0 entries
-none_picked p most part skip entries count items stored many e = record { taken = λ others. refl; parts = e }
+pub none_picked : (p : ItemState → Bool) (most : ℕ) (part : List ItemState) (skip : ℕ) (entries : List ℕ) → ArePickedFrom p most part part skip skip entries entries
+none_picked p most part skip entries items stored e = record { passed = 0; taken = λ others. refl; parts = e }
+
+pub some_bytes : (n : ℕ) → (n == 0) ≡ false → 0 < n
+some_bytes zero h = absurd (both_ways true h refl)
+some_bytes (suc n) h = omega arith
+
+some_left : (items : List ItemState) → 0 < length (entries_of items) → 0 < length items
+some_left [] some = absurd (omega (arith, some, ap length entries_of-nil))
+some_left (item ∷ items) some = omega arith
 
 -- the entry of the item at that place stands in front
 pub record HasNextItem (items : List ItemState) (at : ℕ) (d : ItemState) (rest : List ℕ) : Type 0 where
@@ -227,32 +236,33 @@ pub record HasNextItem (items : List ItemState) (at : ℕ) (d : ItemState) (rest
   pub spelled : Spells (encoded (get_or items at d)) (get_or items at d)
   pub parts : rest ≡ entry_of (get_or items at d) ++ entries_of (drop (at + 1) items)
 
-pub next_item : (p : ItemState → Bool) (most : ℕ) (old new : List ItemState) (skip left : ℕ) (items : List ItemState) (at : ℕ) (d : ItemState) (rest : List ℕ)
-    → AreStorable items → at < length items → ArePicked p most old new skip left items at rest → HasNextItem items at d rest
-next_item p most old new skip left items at d rest stored within l = record {
-  within = within;
-  spelled = storable_at items at d stored within;
-  parts = l.parts ∙ ap entries_of (drop_more items at d within) ∙ entries_of-cons (get_or items at d) (drop (at + 1) items);
-}
+pub next_item : (p : ItemState → Bool) (most : ℕ) (old new : List ItemState) (skip left : ℕ) (items : List ItemState) (d : ItemState) (rest : List ℕ)
+    → AreStorable items → 0 < length rest → (l : ArePicked p most old new skip left items rest) → HasNextItem items l.passed d rest
+next_item p most old new skip left items d rest stored some l =
+    let at : ℕ = l.passed in
+    let within : at < length items = omega (arith, some_left (drop at items) (omega (arith, some, ap length l.parts)), length-drop at items) in
+    record {
+      within = within;
+      spelled = storable_at items at d stored within;
+      parts = l.parts ∙ ap entries_of (drop_more items at d within) ∙ entries_of-cons (get_or items at d) (drop (at + 1) items);
+    }
 
-pub one_picked : (p : ItemState → Bool) (most : ℕ) (old mid new : List ItemState) (skip between left : ℕ) (items : List ItemState) (at : ℕ) (d : ItemState) (rest after : List ℕ)
-    → ArePicked p most old mid skip between items at rest → at < length items → after ≡ entries_of (drop (at + 1) items) → IsPartTaken p most mid new between left (get_or items at d ∷ [])
-    → ArePicked p most old new skip left items (at + 1) after
-one_picked p most old mid new skip between left items at d rest after l within e more = record {
-  taken = taken_more p most old mid new skip between left items at d within l.taken more;
+pub one_picked : (p : ItemState → Bool) (most : ℕ) (old mid new : List ItemState) (skip between left : ℕ) (items : List ItemState) (d : ItemState) (rest after : List ℕ)
+    → (l : ArePicked p most old mid skip between items rest) → HasNextItem items l.passed d rest → after ≡ entries_of (drop (l.passed + 1) items)
+    → IsPartTaken p most mid new between left (get_or items l.passed d ∷ []) → ArePicked p most old new skip left items after
+one_picked p most old mid new skip between left items d rest after l next e more = record {
+  passed = l.passed + 1;
+  taken = taken_more p most old mid new skip between left items l.passed d next.within l.taken more;
   parts = e;
 }
 
-pub picked_all : (p : ItemState → Bool) (most : ℕ) (old new : List ItemState) (skip left : ℕ) (items : List ItemState) (passed : ℕ) (rest : List ℕ)
-    → passed ≡ length items → ArePicked p most old new skip left items passed rest → IsPartTaken p most old new skip left items
-picked_all p most old new skip left items passed rest all l =
-    subst (λ (xs : List ItemState). IsPartTaken p most old new skip left xs) (take_all passed items (omega (arith, all))) l.taken
-
-pub picked_enough : (p : ItemState → Bool) (most : ℕ) (old new : List ItemState) (skip left : ℕ) (items : List ItemState) (passed : ℕ) (rest : List ℕ)
-    → most ≤ length new → ArePicked p most old new skip left items passed rest → IsPartTaken p most old new skip left items
-picked_enough p most old new skip left items passed rest enough l = taken_stopped p most old new skip left items passed l.taken enough
-
 -- behind the last entry stands nothing
-pub none_behind : (p : ItemState → Bool) (most : ℕ) (old new : List ItemState) (skip left : ℕ) (items : List ItemState) (passed : ℕ) (rest : List ℕ)
-    → passed ≡ length items → ArePicked p most old new skip left items passed rest → rest ≡ []
-none_behind p most old new skip left items passed rest all l = l.parts ∙ ap entries_of (drop_all passed items (omega (arith, all))) ∙ entries_of-nil
+pub picked_all : (p : ItemState → Bool) (most : ℕ) (old new : List ItemState) (skip left : ℕ) (items : List ItemState) (rest : List ℕ)
+    → length rest ≡ 0 → ArePicked p most old new skip left items rest → IsPartTaken p most old new skip left items
+picked_all p most old new skip left items rest none l =
+    let all : length items ≤ l.passed = omega (arith, none, size_is rest (drop l.passed items) l.parts, size_of-least (drop l.passed items), length-drop l.passed items) in
+    subst (λ (xs : List ItemState). IsPartTaken p most old new skip left xs) (take_all l.passed items all) l.taken
+
+pub picked_enough : (p : ItemState → Bool) (most : ℕ) (old new : List ItemState) (skip left : ℕ) (items : List ItemState) (rest : List ℕ)
+    → most ≤ length new → ArePicked p most old new skip left items rest → IsPartTaken p most old new skip left items
+picked_enough p most old new skip left items rest enough l = taken_stopped p most old new skip left items l.passed l.taken enough

@@ -12,28 +12,31 @@ use Rattle.oai_item.specs.declared.decodings.DecodeFault.{DecodeFault}
 use Rattle.oai_item.specs.declared.decodings.DecodeFault.TheVariants.{Damaged, NoMemory}
 use Rattle.oai_sums.specs.Sums.{SetTotal, number_in, span_in}
 use Rattle.oai_sums.specs.declared.spans.Span.{Span}
+use Rattle.oai_places.specs.Entries.{ending_by}
 use Rattle.oai_places.specs.Pages.{AreStorable, IsPage, between, entries_of, size_of}
 use Rattle.oai_places.specs.Parts.{IsPartTaken}
 use Rattle.oai_places.specs.Picking.{IsPickable, IsPicking}
-use Rattle.oai_places.specs.Places.{AreSetCounts, IsSoundPlace, IsSpan, Pages, PlaceState, is_wanted, items_at, span_at}
-use Rattle.oai_places.proofs.BetweenLemmas.{length-between}
+use Rattle.oai_places.specs.Places.{AreSetCounts, IsSoundPlace, Pages, PlaceState, is_wanted, items_at, span_at}
+use Rattle.oai_places.specs.declared.sizes.TheConstants.{MAX_ENTRY_BYTES}
 use Rattle.oai_places.proofs.EntryLemmas.{entries_of-append, size_is, size_of-between, storable-between}
 use Rattle.oai_places.proofs.PartLemmas.{fewer, taken_both, taken_past}
 use Rattle.oai_places.proofs.ReadLemmas.{page_read}
 use Rattle.oai_places.proofs.ReadPlaces.{page_of_one}
+use Rattle.oai_places.proofs.ShortLemmas.{fit_parts}
+use Rattle.oai_places.proofs.SpanLemmas.{StandBetween, by_places}
 use Rattle.oai_places.proofs.WantedLemmas.{given_from}
 
 -- ---- where the items of a set stand
 
--- a set is asked for, and its items stand within the span
+-- a set is asked for, and its items stand within the span, from the one place up to the other
 pub record HasSpan (asked : Option (List ℕ)) (items : List ItemState) (span : Span) : Type 0 where
   pub set : List ℕ
   pub given : asked ≡ Some set
-  pub stands : IsSpan set items span
+  pub stands : StandBetween set items span (ending_by span.from items) (ending_by span.to items)
 
-pub span_known : (place : PlaceState) (asked : Option (List ℕ)) (span : Span) (items : List ItemState) → AreSetCounts place.sets items → span_at place asked ≡ Some span → HasSpan asked items span
-span_known place None span items sets known = let no : None ≡ Some span = known in absurd cc
-span_known place (Some set) span items sets known = by_totals place.sets refl where
+pub span_known : (place : PlaceState) (asked : Option (List ℕ)) (span : Span) (items : List ItemState) → AreSetCounts place.sets items → size_of items ≤ MAX_ENTRY_BYTES → span_at place asked ≡ Some span → HasSpan asked items span
+span_known place None span items sets fits known = let no : None ≡ Some span = known in absurd cc
+span_known place (Some set) span items sets fits known = by_totals place.sets refl where
   told : Option (List SetTotal) → Option Span
   told totals = option_flatten (option_map (span_in set) totals)
 
@@ -42,7 +45,7 @@ span_known place (Some set) span items sets known = by_totals place.sets refl wh
   by_totals (Some totals) is = record {
     set = set;
     given = refl;
-    stands = (sets totals is).spans set span (ap told (sym is) ∙ known);
+    stands = by_places set items span ((sets totals is).spans fits set span (ap told (sym is) ∙ known));
   }
 
 -- ---- what is taken of them is taken of all
@@ -98,39 +101,48 @@ span_bytes bytes items first end from to page order starts ends =
     let there : drop (4 + from) bytes ≡ within ++ (back ++ zeros) = sym (drop-drop from 4 bytes) ∙ ap (drop from) all ∙ drop_at front (within ++ (back ++ zeros)) from before in
     ap (take (to - from)) there ∙ take_at within (back ++ zeros) (to - from) long
 
+-- the items whose entries the span has
+abbrev pub stretch : Span → List ItemState → List ItemState
+stretch span items = between (ending_by span.from items) (ending_by span.to items) items
+
 -- what was read of the page of a place that has one
 span_read : (pages : Pages) (p : PlaceState) (numbers bytes : List ℕ) (asked : Option (List ℕ)) (span : Span) → numbers ≡ p.pages → length p.pages ≤ 1 → IsSoundPlace pages p → HasSpan asked (items_at pages p) span
-    → range_of (4 + span.from) (span.to - span.from) (pages (get_or numbers 0 0)) ≡ Some bytes → bytes ≡ entries_of (between span.first span.end (items_at pages p))
+    → range_of (4 + span.from) (span.to - span.from) (pages (get_or numbers 0 0)) ≡ Some bytes → bytes ≡ entries_of (stretch span (items_at pages p))
 span_read pages p numbers bytes asked span same one sound h read = by_page (pages (get_or numbers 0 0)) refl where
-  by_page : (page : Option (List ℕ)) → pages (get_or numbers 0 0) ≡ page → bytes ≡ entries_of (between span.first span.end (items_at pages p))
+  by_page : (page : Option (List ℕ)) → pages (get_or numbers 0 0) ≡ page → bytes ≡ entries_of (stretch span (items_at pages p))
   by_page None is = let no : None ≡ Some bytes = ap (range_of (4 + span.from) (span.to - span.from)) (sym is) ∙ read in absurd cc
   by_page (Some page) is =
       let own : IsPage page (items_at pages p) = page_of_one pages p numbers page same one sound (ap (λ (o : Option (List ℕ)). unwrap_or o []) (sym is)) in
       sym (same_Some _ _ (ap (range_of (4 + span.from) (span.to - span.from)) (sym is) ∙ read))
-      ∙ span_bytes page (items_at pages p) span.first span.end span.from span.to own h.stands.order h.stands.from h.stands.to
+      ∙ span_bytes page (items_at pages p) (ending_by span.from (items_at pages p)) (ending_by span.to (items_at pages p)) span.from span.to own h.stands.order h.stands.from h.stands.to
 
 -- ---- what is picked of these bytes is what is picked of the items of the place
 
-pub span_picked : (pages : Pages) (p : PlaceState) (numbers read entries : List ℕ) (asked : Filter) (stamp : ℤ) (identifier : List ℕ) (span : Span) (most : ℕ) (old new : List ItemState) (skip count : ℕ) (result : Result ℕ DecodeFault)
-    → numbers ≡ p.pages → IsSoundPlace pages p → IsPickable p asked.set span → range_of (4 + span.from) (span.to - span.from) (pages (get_or numbers 0 0)) ≡ Some read → entries ≡ read → count ≡ span.end - span.first
-    → ((items : List ItemState) → AreStorable items → length items ≡ count → entries ≡ entries_of items → IsPicking (is_wanted asked stamp identifier) most old new skip items result)
+pub span_picked : (pages : Pages) (p : PlaceState) (numbers read entries : List ℕ) (asked : Filter) (stamp : ℤ) (identifier : List ℕ) (span : Span) (most : ℕ) (old new : List ItemState) (skip : ℕ) (result : Result ℕ DecodeFault)
+    → numbers ≡ p.pages → IsSoundPlace pages p → IsPickable p asked.set span → range_of (4 + span.from) (span.to - span.from) (pages (get_or numbers 0 0)) ≡ Some read → entries ≡ read
+    → ((items : List ItemState) → AreStorable items → entries ≡ entries_of items → IsPicking (is_wanted asked stamp identifier) most old new skip items result)
     → IsPicking (is_wanted asked stamp identifier) most old new skip (items_at pages p) result
-span_picked pages p numbers read entries asked stamp identifier span most old new skip count result same sound h part whole many picked =
-    of_all result (picked within (storable-between span.first span.end items sound.page.fit.storable) (length-between span.first span.end items known.stands.within ∙ sym many)
-    (whole ∙ span_read pages p numbers read asked.set span same h.one sound known part)) where
+span_picked pages p numbers read entries asked stamp identifier span most old new skip result same sound h part whole picked =
+    of_all result (picked within (storable-between first end items sound.page.fit.storable) (whole ∙ span_read pages p numbers read asked.set span same h.one sound known part)) where
       items : List ItemState
       items = items_at pages p
 
+      first : ℕ
+      first = ending_by span.from items
+
+      end : ℕ
+      end = ending_by span.to items
+
       known : HasSpan asked.set items span
-      known = span_known p asked.set span items sound.sets h.known
+      known = span_known p asked.set span items sound.sets (fit_parts items (sound.many.one h.one)).0 h.known
 
       within : List ItemState
-      within = between span.first span.end items
+      within = stretch span items
 
       of_all : (result : Result ℕ DecodeFault) → IsPicking (is_wanted asked stamp identifier) most old new skip within result → IsPicking (is_wanted asked stamp identifier) most old new skip items result
       of_all (Ok left) taken =
-          taken_within (is_wanted asked stamp identifier) most old new skip left items span.first span.end known.stands.order
-          (none_wanted asked stamp identifier known.set (take span.first items) known.given known.stands.before)
-          (none_wanted asked stamp identifier known.set (drop span.end items) known.given known.stands.behind) taken
+          taken_within (is_wanted asked stamp identifier) most old new skip left items first end known.stands.order
+          (none_wanted asked stamp identifier known.set (take first items) known.given known.stands.before)
+          (none_wanted asked stamp identifier known.set (drop end items) known.given known.stands.behind) taken
       of_all (Err Damaged) damaged = damaged
       of_all (Err NoMemory) refused = tt

@@ -1,5 +1,5 @@
--- The entries of a page in memory, for private functions.
-use Rattle.std.specs.Prelude.{◌≡◌, ◌+◌, ◌-◌, ◌≤◌, ℕ, List, [], ◌∷◌, ◌++◌, length, drop, Result, Ok, Err, ⊤}
+-- The entries of a page in memory. What public functions promise rests on `items_with`, `ends_from` and `ending_by`; all else is for private functions.
+use Rattle.std.specs.Prelude.{◌≡◌, ◌+◌, ◌≤◌, nat_le, ℕ, List, [], ◌∷◌, ◌++◌, length, drop, filter, Result, Ok, Err, ⊤}
 use Rattle.oai_item.specs.Encoding.{Spells, encoded}
 use Rattle.oai_item.specs.Item.{ItemState}
 use Rattle.oai_item.specs.declared.decodings.DecodeFault.{DecodeFault}
@@ -54,9 +54,11 @@ pub record IsPlaceFrom (from place len : ℕ) : Type 0 where
   pub above : from ≤ place
   pub within : place ≤ len
 
--- the span of the item at one place among those from another one on
+-- how many of the entries end within the first so many bytes
+abbrev pub ending_by : ℕ → List ItemState → ℕ
+ending_by byte items = length (filter (λ end. nat_le end byte) (ends_from 0 items))
+
+-- the span of the entry of the item at one place among those from another one on
 pub record IsSpanOfOne (from at : ℕ) (items : List ItemState) (span : Span) : Type 0 where
-  pub first : span.first ≡ at - from
-  pub end : span.end ≡ at - from + 1
   pub from_byte : span.from ≡ size_of (between from at items)
   pub to_byte : span.to ≡ size_of (between from (at + 1) items)

@@ -11,8 +11,9 @@ use Rattle.oai_item.specs.Selection.{Filter, passes}
 use Rattle.oai_pool.specs.Names.{times}
 use Rattle.oai_sums.specs.Sums.{AreCounts, SetTotal, counted_in, number_in, span_in}
 use Rattle.oai_sums.specs.declared.spans.Span.{Span}
+use Rattle.oai_places.specs.Entries.{ending_by}
 use Rattle.oai_places.specs.Pages.{IsPage, begins_at, fit_one, items_in, joined, pages_of, size_of}
-use Rattle.oai_places.specs.declared.sizes.TheConstants.{FRONT_BYTES, MAX_OVERFLOW_PAGES}
+use Rattle.oai_places.specs.declared.sizes.TheConstants.{FRONT_BYTES, MAX_ENTRY_BYTES, MAX_OVERFLOW_PAGES}
 
 -- a place: the numbers of its pages, the datestamp and the identifier of its first item, how many items there are and how many bytes their entries
 -- have, prefixes of which each of them has a record, and how many are in each set, where that is known
@@ -52,21 +53,20 @@ unfoldable pub have_records : List (List ℕ) → List ItemState → Bool
 have_records prefixes items =
     list_all (λ (item : ItemState). list_all (λ prefix. has_record prefix item.formats) prefixes) items
 
--- the items of the set stand within the span of these items, and of the bytes of their entries
+-- the span begins and ends where entries of these items do, and no item of the set stands before it, or behind it
 pub record IsSpan (set : List ℕ) (items : List ItemState) (span : Span) : Type 0 where
-  pub order : span.first ≤ span.end
-  pub within : span.end ≤ length items
-  pub from : span.from ≡ size_of (take span.first items)
-  pub to : span.to ≡ size_of (take span.end items)
-  pub before : number_in set (take span.first items) ≡ 0
-  pub behind : number_in set (drop span.end items) ≡ 0
+  pub order : span.from ≤ span.to
+  pub from : span.from ≡ size_of (take (ending_by span.from items) items)
+  pub to : span.to ≡ size_of (take (ending_by span.to items) items)
+  pub before : number_in set (take (ending_by span.from items) items) ≡ 0
+  pub behind : number_in set (drop (ending_by span.to items) items) ≡ 0
 
--- each set has as many of the items as are counted in it, and they stand within its span
+-- each set has as many of the items as are counted in it; and where the entries of all have at most MAX_ENTRY_BYTES bytes, its items stand within its span
 pub record AreCountedWithin (totals : List SetTotal) (items : List ItemState) : Type 0 where
   pub counts : AreCounts totals items
-  pub spans : (set : List ℕ) (span : Span) → span_in set totals ≡ Some span → IsSpan set items span
+  pub spans : size_of items ≤ MAX_ENTRY_BYTES → (set : List ℕ) (span : Span) → span_in set totals ≡ Some span → IsSpan set items span
 
--- where it is known how many are in each set, so many of the items are, and stand where it says
+-- where it is known how many are in each set, so many of the items are; and these stand where it says, if the entries of all have at most MAX_ENTRY_BYTES bytes
 abbrev pub AreSetCounts : Option (List SetTotal) → List ItemState → Type 0
 AreSetCounts sets items = (totals : List SetTotal) → sets ≡ Some totals → AreCountedWithin totals items
 
@@ -75,7 +75,7 @@ abbrev pub known_in : PlaceState → Option (List ℕ) → Option ℕ
 known_in place None = Some place.len
 known_in place (Some set) = option_map (counted_in set) place.sets
 
--- within which span of the items of the place those stand that are in the set, where one is given, and that is known
+-- within which span of the entries of the place those stand that are in the set, where one is given, and that is known
 abbrev pub span_at : PlaceState → Option (List ℕ) → Option Span
 span_at place None = None
 span_at place (Some set) = option_flatten (option_map (span_in set) place.sets)

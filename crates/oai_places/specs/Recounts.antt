@@ -1,4 +1,4 @@
--- How often numbers are named after a call, for private functions.
+-- How often numbers are named after a call.
 use Rattle.std.specs.Prelude.{◌≡◌, ◌+◌, ◌<◌, ◌≤◌, ℕ, List, [], map}
 use Rattle.oai_pool.specs.Counts.{count_of}
 use Rattle.oai_pool.specs.Names.{times}

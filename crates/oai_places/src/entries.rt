@@ -188,9 +188,9 @@ impl Entries {
         Ok(item)
     }
 
-    /// The items, which fit on one page, with that one, in place of the one of its datestamp and identifier where there
-    /// is one; and where the entries are cut: around the item, where it needs overflow pages, or else as `cuts` says.
-    /// The error is out of memory.
+    /// The items, which fit on one page, with that one, whose spelling has at most `MAX_ITEM_BYTES` of oai_item, in place
+    /// of the one of its datestamp and identifier where there is one; and where the entries are cut: around the item,
+    /// where it needs overflow pages, or else as `cuts` says for the same `fills`. The error is out of memory.
     pub fn put(
         &self,
         alloc: Global,
@@ -337,7 +337,8 @@ impl Entries {
     }
 
     /// How many of the items from the one place up to the other are in each set, and where these stand, with setSpecs of
-    /// those names. None where there are too many sets, more items than a span can count, or memory is refused.
+    /// those names. Of where they stand nothing is promised where their entries have more than `MAX_ENTRY_BYTES` bytes
+    /// together. None where there are too many sets, or memory is refused.
     pub fn set_counts(
         &self,
         alloc: Global,
@@ -351,27 +352,24 @@ impl Entries {
     {
         let mut counts = SetCounts::new(alloc);
         for at in from..to {
-            let span = self.span_of(from, at)?;
-            counts.add(names, self.spelled(at).sets(), span)?;
+            counts.add(names, self.spelled(at).sets(), self.span_of(from, at))?;
         }
         counts.fit();
         Some(counts)
     }
 
-    /// Where the item at that place stands among those from `from` on, or None where more stand before it than a span can
-    /// count.
-    fn span_of(&self, from: usize, at: usize) -> Option<Span>
+    /// Where the entry of the item at that place stands among those from `from` on. Where those up to its end have more
+    /// than `MAX_ENTRY_BYTES` bytes, nothing is promised of the answer.
+    fn span_of(&self, from: usize, at: usize) -> Span
         requires order { from ≤ at }
         requires within { at < length self.now }
-        ensures { IfSome result (λ span. IsSpanOfOne from at self.now span) }
+        ensures { size_of (between from (at + 1) self.now) ≤ MAX_ENTRY_BYTES → IsSpanOfOne from at self.now result }
     {
         let _all = self.len();
-        Some(Span {
-            first: u16::try_from(at - from).ok()?,
-            end: u16::try_from(at - from + 1).ok()?,
-            from: u32::try_from(self.size_between(from, at)).ok()?,
-            to: u32::try_from(self.size_between(from, at + 1)).ok()?,
-        })
+        Span {
+            from: self.size_between(from, at).min(MAX_ENTRY_BYTES) as u16,
+            to: self.size_between(from, at + 1).min(MAX_ENTRY_BYTES) as u16,
+        }
     }
 
     /// How many bytes the entries from the one place up to the other have.

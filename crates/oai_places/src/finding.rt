@@ -1,6 +1,6 @@
 //! An item that is looked for on a page, of which no other item is decoded.
 
-ghost use Rattle.std.specs.Prelude.{◌<◌, ◌≤◌, ◌≡◌, ◌==◌, ◌++◌, ◌^◌, ℕ, List, Some, length};
+ghost use Rattle.std.specs.Prelude.{◌<◌, ◌≤◌, ◌≡◌, ◌==◌, ◌++◌, ◌^◌, ℕ, List, Some, length, IfSome};
 ghost use Rattle.oai_item.specs.Decoding.{item_in};
 ghost use Rattle.oai_item.specs.Encoding.{Spells, encoded, encoded_text};
 ghost use Rattle.oai_item.specs.Item.{ItemState};
@@ -75,7 +75,8 @@ fn is_at(spelling: &[u8], stamp: i64, identifier: &str) -> bool
 /// The spelling in the entry in front of the bytes, and the bytes behind it, or None where there is no such entry. The
 /// spelling is not tested.
 pub(crate) fn first_entry(bytes: &[u8]) -> Option<(&[u8], &[u8])>
-    ensures { (item : ItemState) (behind : List ℕ) → Spells (encoded item) item
+    ensures fewer { IfSome result (λ parts. length parts.1.now < length bytes.now) }
+    ensures parts { (item : ItemState) (behind : List ℕ) → Spells (encoded item) item
         → bytes.now ≡ entry_of item ++ behind → IsTextParted (encoded item) behind result }
 {
     first_text(bytes)
@@ -84,7 +85,8 @@ pub(crate) fn first_entry(bytes: &[u8]) -> Option<(&[u8], &[u8])>
 /// The text in front of the bytes, which stands behind its length, and the bytes behind it, or None where there is none.
 /// Any bytes are a text here.
 pub(crate) fn first_text(bytes: &[u8]) -> Option<(&[u8], &[u8])>
-    ensures { (text behind : List ℕ) → length text < 2 ^ 32
+    ensures fewer { IfSome result (λ parts. length parts.1.now < length bytes.now) }
+    ensures parts { (text behind : List ℕ) → length text < 2 ^ 32
         → bytes.now ≡ encoded_text text ++ behind → IsTextParted text behind result }
 {
     if bytes.len() < NUMBER_BYTES {

@@ -35,7 +35,8 @@ impl Model for Group {
     ghost view = { λ g. record { first = g.first; len = g.len; sum = g.sum } };
 }
 
-/// The groups of the places of a directory, in their order. A place may be in none.
+/// Groups of the places of a directory that follow one another, in their order: of each, where it is known, how many items
+/// it has, of which datestamps and prefixes, and how many are in each set. A place may be in none.
 #[derive(Drop)]
 pub struct Groups {
     groups: Vec<Group>,
@@ -88,8 +89,8 @@ impl Groups {
         Ok(Groups { groups })
     }
 
-    /// Forgets what is known of the groups that a place was changed of: so many from `at` on, for which so many others were put in. The groups
-    /// behind are moved.
+    /// Forgets what is known of the groups of which one of the `len` places from `at` on was exchanged, in whose place `count` others stand now. The
+    /// groups behind are moved.
     pub fn exchange(&mut self, at: usize, len: usize, count: usize)
         ensures { (before after : List PlaceState) → AreExchanged at len count before after
             → AreGroups before self.old → AreGroups after self.new }

@@ -33,28 +33,24 @@ use std::alloc::{AllocError, Global};
 /// The bytes before the identifier in the spelling of an item: whether it is live, and its datestamp.
 const STAMP_BYTES: usize = 9;
 
-/// Adds to the part those of the items of so many entries, which the bytes are, that are wanted, behind the first `skip`
-/// of them, until the part has `most` items; returns how many are still to be skipped. `Damaged` only where the bytes are
-/// not so many entries; `NoMemory`.
+/// The bytes are entries. Adds the wanted ones of their items to the part, but for the first `skip` wanted ones, until
+/// the part has `most` items; returns how many are still to be skipped. `Damaged` only where the bytes are not entries;
+/// `NoMemory`.
 pub(crate) fn pick_entries(
     alloc: Global,
     entries: &[u8],
-    count: usize,
     wanted: Wanted<'_>,
     skip: usize,
     most: usize,
     part: &mut Vec<Item>,
 ) -> Result<usize, DecodeFault>
-    ensures { (items : List ItemState) → AreStorable items → length items ≡ count → entries.now ≡ entries_of items
+    ensures { (items : List ItemState) → AreStorable items → entries.now ≡ entries_of items
         → IsPicking (is_wanted wanted.entry.filter.now wanted.entry.stamp wanted.entry.identifier.now) most
         part.old.items part.new.items skip items result }
 {
     let mut left = skip;
     let mut rest = entries;
-    'entries: for _ in 0..count {
-        if part.len() >= most {
-            return Ok(left);
-        }
+    'entries: while !rest.is_empty() && part.len() < most {
         let Some((spelling, behind)) = first_entry(rest) else {
             return Err(DecodeFault::Damaged);
         };
@@ -63,9 +59,6 @@ pub(crate) fn pick_entries(
             Err(fault) => return Err(fault),
         }
         rest = behind;
-    }
-    if !rest.is_empty() {
-        return Err(DecodeFault::Damaged);
     }
     Ok(left)
 }
@@ -190,7 +183,7 @@ pub(crate) fn sparse_span(place: &SharedPlace, wanted: Wanted<'_>) -> Option<Spa
         return None;
     }
     let span = place.span_in(&filter.set)?;
-    if span.from > span.to || span.to as usize > PAGE_BYTES - NUMBER_BYTES {
+    if span.from > span.to || usize::from(span.to) > PAGE_BYTES - NUMBER_BYTES {
         return None;
     }
     Some(span)
@@ -247,8 +240,7 @@ fn pick_in<P: PagePool>(
     ensures pages { ReadsPages P.PagePool result pages.old pages.new }
 {
     let bytes = read_span(alloc, pages, place.pages()[0], span)?;
-    let count = usize::from(span.end.saturating_sub(span.first));
-    match pick_entries(alloc, &bytes, count, wanted, skip, most, part) {
+    match pick_entries(alloc, &bytes, wanted, skip, most, part) {
         Ok(left) => Ok(left),
         Err(DecodeFault::Damaged) => Err(Fault::Damaged),
         Err(DecodeFault::NoMemory) => Err(Fault::NoMemory),
@@ -269,9 +261,9 @@ fn read_span<P: PagePool>(
         → range_of (NUMBER_BYTES + span.from) (span.to - span.from) (P.pages pages.old no) ≡ Some bytes.items) }
     ensures pages { ReadsPages P.PagePool result pages.old pages.new }
 {
-    let len = (span.to - span.from) as usize;
+    let len = usize::from(span.to - span.from);
     let mut bytes = vec![in alloc; 0; len]?;
-    match pages.read_range(no, NUMBER_BYTES + span.from as usize, &mut bytes) {
+    match pages.read_range(no, NUMBER_BYTES + usize::from(span.from), &mut bytes) {
         Ok(()) => Ok(bytes),
         Err(fault) => Err(fault_of(fault)),
     }

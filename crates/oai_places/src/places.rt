@@ -171,7 +171,7 @@ impl SharedPlace {
         }
     }
 
-    /// Within which span of the items those stand that are in the set, where one is given, and that is known.
+    /// Within which span of the entries those stand that are in the set, where one is given, and that is known.
     pub(crate) fn span_in(&self, set: &Option<SetSpec>) -> Option<Span>
         ensures { result ≡ span_at self.now set.now }
     {

@@ -10,7 +10,7 @@ use Rattle.oai_sums.specs.declared.spans.Span.{Span}
 unfoldable pub number_in : List ℕ → List ItemState → ℕ
 number_in set items = length (filter (λ (item : ItemState). is_in set item.sets) items)
 
--- a set, how many items are counted in it, and among which of all items these stand
+-- a set, how many items are counted in it, and within which bytes of the entries of all these stand
 pub record SetTotal : Type 0 where
   pub set : List ℕ
   pub count : ℕ
@@ -39,7 +39,7 @@ CountsMore passes old new = (set : List ℕ) → counted_in set new ≡ counted_
 
 -- ---- where the items of a set stand
 
--- among which items those of the set stand: nothing where it is not there
+-- within which bytes of the entries of all items those of the set stand: nothing where it is not there
 abbrev pub span_in : List ℕ → List SetTotal → Option Span
 span_in set [] = None
 span_in set (total ∷ totals) = if bytes_eq set total.set then Some total.span else span_in set totals
@@ -47,7 +47,7 @@ span_in set (total ∷ totals) = if bytes_eq set total.set then Some total.span 
 -- a span that goes on to the end of another one; or that one, where there is none before it
 abbrev pub widened : Option Span → Span → Span
 widened None more = more
-widened (Some span) more = record { first = span.first; from = span.from; end = more.end; to = more.to }
+widened (Some span) more = record { from = span.from; to = more.to }
 
 -- the spans of just those sets that pass go on to the end of that one
 abbrev pub SpansMore : (List ℕ → Bool) → Span → List SetTotal → List SetTotal → Type 0

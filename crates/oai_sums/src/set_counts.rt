@@ -15,7 +15,7 @@ use std::rc::Rc;
 /// How many sets are counted at most.
 pub const MAX_COUNTED_SETS: usize = 64;
 
-/// A set, how many items are in it, and among which items these stand.
+/// A set, how many items are in it, and within which bytes of the entries of all these stand.
 #[derive(Drop)]
 struct SetCount {
     set: Rc<Text>,
@@ -57,7 +57,7 @@ impl SetCount {
         self.count as usize
     }
 
-    /// Among which items those of the set stand.
+    /// Within which bytes of the entries the items of the set stand.
     fn span(&self) -> Span
         ensures { result ≡ self.now.span }
     {
@@ -83,7 +83,6 @@ impl SetCount {
         ensures { OnSome result (self.new ≡ record { set = self.old.set; count = self.old.count + 1; span = widened (Some self.old.span) span }) }
     {
         self.add(1)?;
-        self.span.end = span.end;
         self.span.to = span.to;
         Some(())
     }
@@ -102,9 +101,9 @@ impl SetCount {
     }
 }
 
-/// How many items are in each set, and among which of all items these stand: in the sets that their setSpecs say, and
-/// in those above these. An item counts once in each. Contracts see the sets with the counts and spans; a set that is
-/// not there has no items.
+/// How many items are in each set, and within which bytes of the entries of all these stand: in the sets that their
+/// setSpecs say, and in those above these. An item counts once in each. Contracts see the sets with the counts and spans;
+/// a set that is not there has no items.
 #[derive(Drop)]
 pub struct SetCounts {
     counts: Vec<SetCount>,
@@ -142,7 +141,8 @@ impl SetCounts {
         0
     }
 
-    /// Among which items those of the set stand; None where it has none.
+    /// Within which bytes of the entries the items of the set stand, as `add` was told; None where it has none. Behind
+    /// `add_all` nothing is promised.
     pub fn span(&self, set: &str) -> Option<Span>
         ensures { result ≡ span_in set.now self.now }
     {

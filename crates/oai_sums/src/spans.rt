@@ -1,14 +1,10 @@
 //! Where some of many items stand.
 
-/// A span of items among others that follow one another, and of the bytes of their entries.
+/// A span of the bytes of entries that follow one another.
 #[derive(Clone, Copy, Debug, PartialEq, Eq)]
 pub struct Span {
-    /// How many items stand before it.
-    pub first: u16,
-    /// How many items stand before its end.
-    pub end: u16,
-    /// How many bytes the entries before it have.
-    pub from: u32,
-    /// How many bytes the entries before its end have.
-    pub to: u32,
+    /// How many bytes stand before it.
+    pub from: u16,
+    /// How many bytes stand before its end.
+    pub to: u16,
 }

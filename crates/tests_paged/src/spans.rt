@@ -107,3 +107,19 @@ fn items_of_a_set_that_change(rt: HostRuntime) {
     both.call(&rt, Call::Replace(item(5, true), item(5, false)));
     assert_parts(&rt, &mut both);
 }
+
+/// An item of more bytes than a span can count, which has pages of its own: it is counted in its set without being read.
+#[test]
+fn item_of_many_bytes_in_the_set(rt: HostRuntime) {
+    let mut both = three_pages(&rt, rt.alloc(), &[4]);
+    let long = Sample {
+        in_set: true,
+        ..sized(33, 33, 100_000)
+    };
+    both.call(&rt, Call::Put(long));
+    assert_reads(&rt, &mut both, Call::Count(in_set()), 0);
+    assert_parts(&rt, &mut both);
+    both.call(&rt, Call::PartAfter(in_set(), item(32, false), 1));
+    both.call(&rt, Call::Remove(long));
+    assert_parts(&rt, &mut both);
+}

@@ -17,7 +17,7 @@ pub returns-in_default : goal.returns-in_default
 returns-in_default c = λ items is_page.
     let below = left_behind c.args.page.now c.entries.counter items is_page (omega (arith, c.entries-test.true, c.first_number-end.ensures)) in
     let first = first_seen _ c.args.identifier.now c.args.page.now c.entries.rest.now c.entries.counter items (length items - (c.entries.counter + 1)) c.entries.invariant is_page below in
-    c.in_default.ensures first.item first.behind first.spelled first.parts
+    c.in_default.ensures.parts first.item first.behind first.spelled first.parts
 
 pub returns-in-Some-Equal : goal.returns-in-Some-Equal
 returns-in-Some-Equal c = λ items is_page.
@@ -25,7 +25,7 @@ returns-in-Some-Equal c = λ items is_page.
     let below = left_behind c.args.page.now c.entries.counter items is_page (omega (arith, c.entries-test.true, c.first_number-end.ensures)) in
     let first = first_seen c.args.stamp c.args.identifier.now c.args.page.now c.entries.rest.now c.entries.counter items (length items - (c.entries.counter + 1))
     (subst (λ (s : ℤ). IsSoughtBehind s c.args.identifier.now c.args.page.now c.entries.counter c.entries.rest.now) is c.entries.invariant) is_page below in
-    let parts = c.in-Some.ensures first.item first.behind first.spelled first.parts in
+    let parts = c.in-Some.ensures.parts first.item first.behind first.spelled first.parts in
     let order = order_seen _ c.args.identifier.now c.in-Some.spelling.now first.item c.order_of_spelling.result first.spelled parts.0 c.order_of_spelling.ensures in
     let here = ap (λ (s : ℤ). place_cmp first.item s c.args.identifier.now) (sym is) ∙ same_Some _ _ (sym order ∙ c.in-Some-Equal.is) ∙ c.in-Some-Equal.field-0-is in
     finding_is c.args.stamp c.args.identifier.now items first.item c.found.result
@@ -37,7 +37,7 @@ returns-in-Some-Greater c = λ items is_page.
     let below = left_behind c.args.page.now c.entries.counter items is_page (omega (arith, c.entries-test.true, c.first_number-end.ensures)) in
     let first = first_seen c.args.stamp c.args.identifier.now c.args.page.now c.entries.rest.now c.entries.counter items (length items - (c.entries.counter + 1))
     (subst (λ (s : ℤ). IsSoughtBehind s c.args.identifier.now c.args.page.now c.entries.counter c.entries.rest.now) is c.entries.invariant) is_page below in
-    let parts = c.in-Some.ensures first.item first.behind first.spelled first.parts in
+    let parts = c.in-Some.ensures.parts first.item first.behind first.spelled first.parts in
     let order = order_seen _ c.args.identifier.now c.in-Some.spelling.now first.item c.order_of_spelling.result first.spelled parts.0 c.order_of_spelling.ensures in
     let here = ap (λ (s : ℤ). place_cmp first.item s c.args.identifier.now) (sym is) ∙ same_Some _ _ (sym order ∙ c.in-Some-Greater.is) ∙ c.in-Some-Greater.field-0-is in
     sym (first.above here)
@@ -46,14 +46,14 @@ pub returns-in-None : goal.returns-in-None
 returns-in-None c = λ items is_page.
     let below = left_behind c.args.page.now c.entries.counter items is_page (omega (arith, c.entries-test.true, c.first_number-end.ensures)) in
     let first = first_seen _ c.args.identifier.now c.args.page.now c.entries.rest.now c.entries.counter items (length items - (c.entries.counter + 1)) c.entries.invariant is_page below in
-    let parts = c.in-Some.ensures first.item first.behind first.spelled first.parts in
+    let parts = c.in-Some.ensures.parts first.item first.behind first.spelled first.parts in
     let order = order_seen _ c.args.identifier.now c.in-Some.spelling.now first.item c.order_of_spelling.result first.spelled parts.0 c.order_of_spelling.ensures in
     false≢true (ap is_some (sym c.in-None.is ∙ order))
 
 pub entries-preserved : goal.entries-preserved
 entries-preserved c = λ items left is_page many.
     let first = first_seen _ c.args.identifier.now c.args.page.now c.entries.rest.now c.entries.counter items left c.entries.invariant is_page many in
-    let parts = c.in-Some.ensures first.item first.behind first.spelled first.parts in
+    let parts = c.in-Some.ensures.parts first.item first.behind first.spelled first.parts in
     let order = order_seen _ c.args.identifier.now c.in-Some.spelling.now first.item c.order_of_spelling.result first.spelled parts.0 c.order_of_spelling.ensures in
     let here = same_Some _ _ (sym order ∙ c.in-Some-Less.is) ∙ c.in-Some-Less.field-0-is in
     subst (λ (bs : List ℕ). IsLeftToFind (to_z w64 (of_z w64 c.args.stamp)) c.args.identifier.now items left bs) (sym parts.1) (first.below here)

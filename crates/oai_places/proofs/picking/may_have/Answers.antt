@@ -13,7 +13,7 @@ pub sets-preserved : goal.sets-preserved
 sets-preserved c = λ sets behind left few e many.
     let front = c.as_bytes-front.result.now in
     let h = next_set front sets left c.sets.rest.now (c.sets.invariant sets behind (left + 1) few e (omega (arith, many))) in
-    let parts = c.in-Some.ensures h.text h.behind h.few h.parts in
+    let parts = c.in-Some.ensures.parts h.text h.behind h.few h.parts in
     let fails : covers front h.text ≡ false = not_covered front h.text (ap (λ t. starts_with nat_eq t front) (sym parts.0) ∙ sym c.starts_with.ensures.value ∙ c.if-starts_with.false) in
     subst (λ (bs : List ℕ). AreLeftToTest front sets left bs) (sym parts.1) (h.next fails)
 

@@ -17,19 +17,17 @@ read_span-requires-clause-named g c =
 pub returns-in-Ok-clause-taken : goal.returns-in-Ok-clause-taken
 returns-in-Ok-clause-taken g c =
     let pages = g.P.PagePool.pages c.args.pages.now in
-    let many : c.from-count.result ≡ c.args.span.end - c.args.span.first = omega (arith, c.from-count.ensures, c.saturating_sub.ensures) in
     λ honest. span_picked pages c.args.place.now c.pages.result.now c.in_ok-bytes.bytes.items c.deref.result.now c.args.wanted.filter.now c.args.wanted.stamp c.args.wanted.identifier.now c.args.span c.args.most
-    c.args.part.now.items c.pick_entries.new.part.items c.args.skip c.from-count.result (Ok c.in-Ok.left) c.pages.ensures c.requires.sound c.requires.pickable
-    (c.in_ok-bytes.ensures.bytes honest) c.deref.ensures.value many c.in-Ok.ensures
+    c.args.part.now.items c.pick_entries.new.part.items c.args.skip (Ok c.in-Ok.left) c.pages.ensures c.requires.sound c.requires.pickable
+    (c.in_ok-bytes.ensures.bytes honest) c.deref.ensures.value c.in-Ok.ensures
 
 pub returns-in-Err-Damaged-clause-pages : goal.returns-in-Err-Damaged-clause-pages
 returns-in-Err-Damaged-clause-pages g c =
     let G = g.P.PagePool in
     let p = c.args.pages.now in
     let q = c.read_span.new.pages in
-    let many : c.from-count.result ≡ c.args.span.end - c.args.span.first = omega (arith, c.from-count.ensures, c.saturating_sub.ensures) in
     reads_damaged G p q (read_more G c.read_span.result p p q (read_none G p) c.read_span.ensures.pages)
     (false_from_ne_true (G.honest p)
     (λ honest. span_picked (G.pages p) c.args.place.now c.pages.result.now c.in_ok-bytes.bytes.items c.deref.result.now c.args.wanted.filter.now c.args.wanted.stamp c.args.wanted.identifier.now c.args.span c.args.most
-    c.args.part.now.items c.pick_entries.new.part.items c.args.skip c.from-count.result (Err Damaged) c.pages.ensures c.requires.sound c.requires.pickable
-    (c.in_ok-bytes.ensures.bytes honest) c.deref.ensures.value many (rw c.in-Err-Damaged.field-0-is at c.in-Err-Damaged.ensures)))
+    c.args.part.now.items c.pick_entries.new.part.items c.args.skip (Err Damaged) c.pages.ensures c.requires.sound c.requires.pickable
+    (c.in_ok-bytes.ensures.bytes honest) c.deref.ensures.value (rw c.in-Err-Damaged.field-0-is at c.in-Err-Damaged.ensures)))

@@ -10,10 +10,10 @@ returns-then-spelling-lt-STAMP_BYTES c = λ item s. omega (arith, (sets_stand c.
 pub returns-in-Some : goal.returns-in-Some
 returns-in-Some c = λ item s.
     let h = sets_stand c.args.spelling.now item s in
-    let parts = c.in-Some.ensures item.identifier (from_sets item) h.few (take_rest c.args.spelling.now 9 ∙ h.parts) in
+    let parts = c.in-Some.ensures.parts item.identifier (from_sets item) h.few (take_rest c.args.spelling.now 9 ∙ h.parts) in
     (encoded_list encoded_record item.formats, parts.1, omega (arith, h.short, ap length parts.1))
 
 pub returns-in-None : goal.returns-in-None
 returns-in-None c = λ item s.
     let h = sets_stand c.args.spelling.now item s in
-    c.in-None.ensures item.identifier (from_sets item) h.few (take_rest c.args.spelling.now 9 ∙ h.parts)
+    c.in-None.ensures.parts item.identifier (from_sets item) h.few (take_rest c.args.spelling.now 9 ∙ h.parts)

@@ -19,8 +19,8 @@ loop-at-preserved c =
     let order : c.args.from ≤ c.loop-at.at = omega (arith, c.loop-at.auto.at) in
     let within : c.loop-at.at + 1 ≤ length c.args.self.now = omega (arith, c.loop-at-test.true, c.requires.within) in
     let one_more = between_more c.args.self.now c.args.from c.loop-at.at d order (omega (arith, within)) in
-    within_more c.loop-at.counts c.add.new.self items (between c.args.from (c.loop-at.at + 1) c.args.self.now) c.spelled.result c.in_ok-span.span c.loop-at.invariant
-    (last_one c.args.from c.loop-at.at c.args.self.now c.in_ok-span.span order within c.in_ok-span.ensures)
+    within_more c.loop-at.counts c.add.new.self items (between c.args.from (c.loop-at.at + 1) c.args.self.now) c.spelled.result c.span_of.result c.loop-at.invariant
+    (λ fits. last_one c.args.from c.loop-at.at c.args.self.now c.span_of.result (c.span_of.ensures fits))
     (λ set. rw c.sets.ensures at c.in_ok-add.ensures.counts set) (λ set. rw c.sets.ensures at c.in_ok-add.ensures.spans set)
     (one_more ∙ ap (λ (item : ItemState). items ++ item ∷ []) (sym (c.spelled.ensures d)))
 
