@@ -38,6 +38,7 @@ GROUPS = {
     },
     "What they cost": {
         "bench": "bench",
+        "set-costs": "sets",
         "daemon-bench": "connections",
         "serving": "connections",
         "instructions": "instructions",
