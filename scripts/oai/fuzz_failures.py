@@ -120,7 +120,9 @@ def fuzz_failures(scripts="300", lines="60", seed="71"):
       pages      a call of the store that asks for pages finds none
     An exchange that fails is made once more, up to three times; of a deposit the lines that were not done. Each failure
     must be told as one of its cause, with nothing else; all other answers, and with the first three troubles also how
-    many pages are named at the end, must be those without trouble. It says how many exchanges failed by each trouble,
+    many pages are named at the end, must be those without trouble. One failure is told by no answer, and shown as a
+    difference all the same: a page that is read to be joined with its neighbour, and cannot be read, stays; then there
+    is `0 failed`, or `exchange 0 differs`, which are the pages. It says how many exchanges failed by each trouble,
     and of each difference the seed of its script, which it writes into a file of the folder FOLDER (that of temporary
     files if it is not set). The last line is `N scripts, M differences`; the status is 0 where M is 0. A script has a
     seed of its own, SEED and the ones after it. COPY is a folder for the copy, which then stays.
