@@ -5,6 +5,7 @@ import json
 import os
 import re
 import shutil
+import sys
 import tempfile
 from pathlib import Path
 
@@ -20,8 +21,20 @@ BETWEEN = "\x1e"
 
 CACHES = [1, 2, 64]
 
-# The troubles, how many there are of each for a script, and whether each is told by an answer: a script may have no more calls of that kind.
+# The troubles, how many there are of each for a script, and whether it must come: else a script may have no more calls of that kind.
 TROUBLES = {"device": (2, True), "memory": (1, True), "room": (1, False), "store": (1, True), "refused": (1, True), "pages": (1, False)}
+
+# Those of a device, which counts its calls that fail.
+OF_DEVICES = ("device", "memory", "room")
+
+# The file of the store by which a page is joined with its neighbour, what is done there, twice, where that cannot be read, and what in the copy: the
+# device is told too, by a read of no byte of a page that is never named.
+MERGING = "crates/oai_paged/src/merging.rt"
+STAYS = "        Err(_) => merged,\n"
+TELLS = "        Err(_) => {\n            let _ = pages.read_range(oai_pool::MAX_PAGES, 0, &mut []);\n            merged\n        }\n"
+
+# What came of one trouble: exchanges that failed, calls of the device that did, pages that were not joined, and what differs.
+COURSE = r"(\d+) exchanges and (\d+) calls of the device failed, (\d+) unjoined(?: but (the pages|exchange \d+) differs?)?"
 
 # The kinds of lines that a deposit may have beside its first.
 MORE = [Author.deposit, Author.deposit, Author.deposit, Author.delete, Author.add_set, Author.purge, Author.bad_line]
@@ -64,8 +77,29 @@ def write(cases, scripts, lines, seed):
         (cases / f"{one}").write_text(script(one, lines), encoding="utf-8", newline="")
 
 
+def watch(place):
+    """Has the store of the copy tell the device of each page that it does not join; it stops where the store is not as it was."""
+    path = place / MERGING
+    text = path.read_text(encoding="utf-8")
+    if text.count(STAYS) != 2:
+        sys.exit(f"{MERGING}: {text.count(STAYS)} lines `{STAYS.strip()}`, not 2: where does a page stay that is not joined?")
+    path.write_text(text.replace(STAYS, TELLS), encoding="utf-8")
+
+
 def troubles_in(path):
     return path.read_text(encoding="utf-8").split(BETWEEN, 2)[1].split("\n")
+
+
+def is_told(name, course):
+    """Whether there was trouble, each call of a device that failed is told by an exchange of its own that failed or left a page that was not joined,
+    and all else is as without trouble; where a page was not joined there may be another number of them."""
+    failures, calls, unjoined = (int(course[it]) for it in (1, 2, 3))
+    comes = calls if name in OF_DEVICES else failures
+    if TROUBLES[name][1] and comes == 0:
+        return False
+    if name in OF_DEVICES and calls != failures + unjoined:
+        return False
+    return course[4] is None or (course[4] == "the pages" and unjoined > 0)
 
 
 def differences_of(outcome, troubles, counts):
@@ -78,12 +112,13 @@ def differences_of(outcome, troubles, counts):
     differences = []
     for line in troubles:
         name = line.split(" ")[0]
-        course = re.search(rf"{line}: (\d+) failed(, exchange \d+ differs)?", outcome)
-        if course is None or course[2] or (course[1] == "0" and TROUBLES[name][1]):
-            differences.append(f"{line}: {course[0] if course else outcome}")
+        course = re.search(rf"{line}: {COURSE}", outcome)
+        if course is None or not is_told(name, course):
+            differences.append(course[0] if course else f"{line}: {outcome}")
         else:
             counts[f"runs with {name}"] += 1
             counts[f"failures of {name}"] += int(course[1])
+            counts[f"unjoined with {name}"] += int(course[3])
     return differences
 
 
@@ -100,7 +135,8 @@ def tally(cases, told):
         differing += len(differences)
     print(f"{counts['calls of devices']} calls of devices, {counts['calls of stores']} of stores in the scripts without trouble")
     for name in TROUBLES:
-        print(f"{name}: {counts[f'runs with {name}']} runs, in which {counts[f'failures of {name}']} exchanges failed")
+        unjoined = f"; pages not joined: {counts[f'unjoined with {name}']}" if name in OF_DEVICES else ""
+        print(f"{name}: {counts[f'runs with {name}']} runs, in which {counts[f'failures of {name}']} exchanges failed{unjoined}")
     print(f"{len(paths)} scripts, {differing} differences")
     return int(differing > 0)
 
@@ -120,16 +156,19 @@ def fuzz_failures(scripts="300", lines="60", seed="71"):
       pages      a call of the store that asks for pages finds none
     An exchange that fails is made once more, up to three times; of a deposit the lines that were not done. Each failure
     must be told as one of its cause, with nothing else; all other answers, and with the first three troubles also how
-    many pages are named at the end, must be those without trouble. One failure is told by no answer, and shown as a
-    difference all the same: a page that is read to be joined with its neighbour, and cannot be read, stays; then there
-    is `0 failed`, or `exchange 0 differs`, which are the pages. It says how many exchanges failed by each trouble,
-    and of each difference the seed of its script, which it writes into a file of the folder FOLDER (that of temporary
-    files if it is not set). The last line is `N scripts, M differences`; the status is 0 where M is 0. A script has a
-    seed of its own, SEED and the ones after it. COPY is a folder for the copy, which then stays.
+    many pages are named at the end, must be those without trouble. One failure is told by no answer: where a page is to
+    be joined with its neighbour, and that cannot be read, both stay. In the copy the store tells the device when it
+    leaves a page so. With the first three troubles as many calls must have failed as exchanges failed and pages were
+    not joined, together; and only where some were not joined may there be another number of pages at the end. It says
+    how many exchanges failed by each trouble and how many pages were not joined, and of each difference the seed of its
+    script, which it writes into a file of the folder FOLDER (that of temporary files if it is not set). The last line
+    is `N scripts, M differences`; the status is 0 where M is 0. A script has a seed of its own, SEED and the ones after
+    it. COPY is a folder for the copy, which then stays.
 
     Usage: scripts/run fuzz-failures [SCRIPTS [LINES [SEED]]], which are 300, 60 and 71 if not given
     """
     with Tool("fuzz_failures") as tool:
+        watch(tool.place)
         cases, told = tool.place / "cases", tool.place / "outcomes"
         shutil.rmtree(cases, ignore_errors=True)
         cases.mkdir()
