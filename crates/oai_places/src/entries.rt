@@ -22,7 +22,7 @@ use oai_device::PAGE_BYTES;
 use oai_item::{DecodeFault, Item, Spelling};
 use oai_names::{Identifier, Prefix, Sequence};
 use oai_pool::Page;
-use oai_sums::{SetCounts, SetNames, Span};
+use oai_sums::{PackedCounts, SetCounts, SetNames, Span};
 use std::alloc::{AllocError, Global};
 use std::cmp::Ordering;
 use std::marker::Model;
@@ -345,7 +345,7 @@ impl Entries {
         names: &mut SetNames,
         from: usize,
         to: usize,
-    ) -> Option<SetCounts>
+    ) -> Option<PackedCounts>
         requires order { from ≤ to }
         requires within { to ≤ length self.now }
         ensures { AreSetCounts result (between from to self.now) }
@@ -354,8 +354,7 @@ impl Entries {
         for at in from..to {
             counts.add(names, self.spelled(at).sets(), self.span_of(from, at))?;
         }
-        counts.fit();
-        Some(counts)
+        counts.packed(alloc)
     }
 
     /// Where the entry of the item at that place stands among those from `from` on. Where those up to its end have more

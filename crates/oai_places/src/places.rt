@@ -5,7 +5,7 @@ ghost use Rattle.oai_places.specs.Places.{first_cmp, known_in, span_at};
 use crate::page_numbers::PageNumbers;
 use oai_names::{Identifier, Prefix, Sequence, SetSpec};
 use oai_pool::PageNo;
-use oai_sums::{SetCounts, Span};
+use oai_sums::{PackedCounts, Span};
 use std::alloc::{AllocError, Global};
 use std::cmp::Ordering;
 use std::marker::Model;
@@ -22,7 +22,7 @@ struct Place {
     /// Many places have the same: these have one list in common, so that it is at hand where many are asked.
     prefixes: Rc<Sequence<Prefix>>,
     /// None where the sets were too many, or memory was refused.
-    sets: Option<SetCounts>,
+    sets: Option<PackedCounts>,
 }
 
 impl Model for Place {
@@ -67,7 +67,7 @@ impl SharedPlace {
         len: usize,
         size: usize,
         prefixes: Rc<Sequence<Prefix>>,
-        sets: Option<SetCounts>,
+        sets: Option<PackedCounts>,
     ) -> Result<SharedPlace, AllocError>
         ensures { IfOk result (λ place. place ≡ record {
           pages = pages.now;
@@ -182,7 +182,7 @@ impl SharedPlace {
     }
 
     /// How many items are in each set, where that is known.
-    pub(crate) fn sets(&self) -> Option<&SetCounts>
+    pub(crate) fn sets(&self) -> Option<&PackedCounts>
         ensures { option_copied result ≡ self.now.sets }
     {
         self.place.sets.as_ref()

@@ -7,7 +7,7 @@ ghost use Rattle.oai_places.specs.Sums.{AreTotals, IsSum, have_prefixes, known_i
 
 use crate::places::{SharedPlace, is_among};
 use oai_names::{Prefix, Sequence, SetSpec};
-use oai_sums::SetCounts;
+use oai_sums::{PackedCounts, SetCounts};
 use std::alloc::{AllocError, Global};
 use std::marker::Model;
 use std::rc::Rc;
@@ -22,7 +22,7 @@ struct Sum {
     greatest: i64,
     prefixes: Sequence<Prefix>,
     /// None where the sets were too many, or memory was refused.
-    sets: Option<SetCounts>,
+    sets: Option<PackedCounts>,
 }
 
 impl Model for Sum {
@@ -181,7 +181,7 @@ fn each_has(places: &[SharedPlace], prefix: &str) -> bool
 }
 
 /// How many items of the places are in each set. None where that is not known of each place, where there are too many sets, or memory is refused.
-fn sets_of(alloc: Global, places: &[SharedPlace]) -> Option<SetCounts>
+fn sets_of(alloc: Global, places: &[SharedPlace]) -> Option<PackedCounts>
     ensures { IfSome result (λ totals. AreTotals totals places.now) }
 {
     let mut totals = SetCounts::new(alloc);
@@ -191,6 +191,5 @@ fn sets_of(alloc: Global, places: &[SharedPlace]) -> Option<SetCounts>
         };
         totals.add_all(counts)?;
     }
-    totals.fit();
-    Some(totals)
+    totals.packed(alloc)
 }

@@ -1,3 +1,4 @@
 pub mod CountLemmas
 pub mod NumberLemmas
 pub mod SpanLemmas
+pub mod PackedLemmas

@@ -1,9 +1,10 @@
 -- How many of many items are in each set. OAI-PMH 2.0, section 2.6: an item that is in a set is in each set above it too.
-use Rattle.std.specs.Prelude.{◌≡◌, ◌+◌, ℕ, Bool, if◌then◌else◌, List, [], ◌∷◌, length, filter, not, Option, None, Some}
+use Rattle.std.specs.Prelude.{◌≡◌, ◌≢◌, ◌==◌, ◌+◌, ℕ, Bool, true, if◌then◌else◌, List, [], ◌∷◌, length, filter, not, Option, None, Some}
 use Rattle.std.specs.List.{list_all}
 use Rattle.std.specs.Str.{bytes_eq}
 use Rattle.oai_item.specs.Item.{ItemState}
 use Rattle.oai_item.specs.Membership.{is_in}
+use Rattle.oai_sums.specs.declared.packed_counts.Several.{Several}
 use Rattle.oai_sums.specs.declared.spans.Span.{Span}
 
 -- how many of the items are in the set
@@ -52,3 +53,26 @@ widened (Some span) more = record { from = span.from; to = more.to }
 -- the spans of just those sets that pass go on to the end of that one
 abbrev pub SpansMore : (List ℕ → Bool) → Span → List SetTotal → List SetTotal → Type 0
 SpansMore passes span old new = (set : List ℕ) → span_in set new ≡ (if passes set then Some (widened (span_in set old) span) else span_in set old)
+
+-- ---- packed counts
+
+-- how many items the set at that place has: one, where it is not said how many
+abbrev pub count_at : List Several → ℕ → ℕ
+count_at [] at = 1
+count_at (other ∷ others) at = if other.at == at then other.count else count_at others at
+
+-- it is not said how many items the set at that place has
+abbrev pub is_lone : List Several → ℕ → Bool
+is_lone several at = list_all (λ (other : Several). not (other.at == at)) several
+
+-- the set at that place has so many items, of which nothing was said, and the others have as many as before
+pub record IsCounted (at count : ℕ) (old new : List Several) : Type 0 where
+  pub own : count_at new at ≡ count
+  pub others : (other : ℕ) → other ≢ at → count_at new other ≡ count_at old other
+  pub lone : (other : ℕ) → other ≢ at → is_lone old other ≡ true → is_lone new other ≡ true
+
+-- the sets from that place on, each with its count and its span
+abbrev pub totals_from : ℕ → List (List ℕ) → List Span → List Several → List SetTotal
+totals_from at [] spans several = []
+totals_from at (set ∷ sets) [] several = []
+totals_from at (set ∷ sets) (span ∷ spans) several = record { set = set; count = count_at several at; span = span } ∷ totals_from (at + 1) sets spans several

@@ -1,10 +1,12 @@
 //! What is known of many items at once: how many of them are in each set, and where these stand.
 #![tactic(auto)]
 
+mod packed_counts;
 mod set_counts;
 mod set_names;
 mod spans;
 
+pub use packed_counts::PackedCounts;
 pub use set_counts::{MAX_COUNTED_SETS, SetCounts};
 pub use set_names::SetNames;
 pub use spans::Span;

@@ -1,24 +1,27 @@
-ghost use Rattle.std.specs.Prelude.{◌≡◌, ◌≤◌, ◌+◌, ◌&&◌, ◌++◌, ◌∷◌, if◌then◌else◌, ℕ, List, [], true, not, length, take, IfSome, IsTrue, OnSome, OnOk};
+ghost use Rattle.std.specs.Prelude.{◌≡◌, ◌+◌, ◌&&◌, ◌++◌, ◌∷◌, if◌then◌else◌, ℕ, List, [], not, IfSome, OnSome, OnOk};
 ghost use Rattle.std.specs.Str.{bytes_eq};
 ghost use Rattle.oai_item.specs.Membership.{is_in};
 ghost use Rattle.oai_names.specs.Sets.{covers};
-ghost use Rattle.oai_sums.specs.Sums.{CountsMore, SpansMore, counted_in, lacks, one_if, span_in, widened};
+ghost use Rattle.oai_sums.specs.Sums.{CountsMore, SpansMore, counted_in, widened};
 
-use crate::set_names::SetNames;
+use crate::packed_counts::{PackedCounts, push, say_count};
+use crate::set_names::{SetName, SetNames};
 use crate::spans::Span;
 use oai_item::SpelledSets;
-use oai_names::{Text, covers, parent_of};
+use oai_names::{covers, parent_of};
 use std::alloc::Global;
 use std::marker::Model;
-use std::rc::Rc;
 
 /// How many sets are counted at most.
 pub const MAX_COUNTED_SETS: usize = 64;
 
+/// The span of items of which it is not known where they stand.
+const NOWHERE: Span = Span { from: 0, to: 0 };
+
 /// A set, how many items are in it, and within which bytes of the entries of all these stand.
 #[derive(Drop)]
 struct SetCount {
-    set: Rc<Text>,
+    set: SetName,
     count: u32,
     span: Span,
 }
@@ -28,19 +31,15 @@ impl Model for SetCount {
 
     ghost Value = { SetTotal };
 
-    ghost view = { λ c. record { set = c.set.value; count = c.count; span = c.span } };
+    ghost view = { λ c. record { set = c.set; count = c.count; span = c.span } };
 }
 
 impl SetCount {
-    /// A set with one item, which stands there.
-    fn one(set: Rc<Text>, span: Span) -> SetCount
-        ensures { result ≡ record { set = set.value; count = 1; span = span } }
+    /// A set with so many items, which stand there.
+    fn of(set: SetName, count: u32, span: Span) -> SetCount
+        ensures { result ≡ record { set = set; count = count; span = span } }
     {
-        SetCount {
-            set,
-            count: 1,
-            span,
-        }
+        SetCount { set, count, span }
     }
 
     /// The setSpec.
@@ -48,34 +47,6 @@ impl SetCount {
         ensures { result.now ≡ self.now.set }
     {
         self.set.as_str()
-    }
-
-    /// How many items are in the set.
-    fn count(&self) -> usize
-        ensures { result ≡ self.now.count }
-    {
-        self.count as usize
-    }
-
-    /// Within which bytes of the entries the items of the set stand.
-    fn span(&self) -> Span
-        ensures { result ≡ self.now.span }
-    {
-        self.span
-    }
-
-    /// A copy of the count, which has its setSpec in common, or None where memory is refused.
-    fn copy(&self) -> Option<SetCount>
-        ensures { IfSome result (λ copy. copy ≡ self.now) }
-    {
-        match self.set.clone() {
-            Ok(set) => Some(SetCount {
-                set,
-                count: self.count,
-                span: self.span,
-            }),
-            Err(_) => None,
-        }
     }
 
     /// One item more, which stands there, behind the others; or None where they are too many to be counted.
@@ -101,9 +72,9 @@ impl SetCount {
     }
 }
 
-/// How many items are in each set, and within which bytes of the entries of all these stand: in the sets that their
-/// setSpecs say, and in those above these. An item counts once in each. Contracts see the sets with the counts and spans;
-/// a set that is not there has no items.
+/// How many items are in each set, and within which bytes of the entries of all these stand, while they are counted: in
+/// the sets that their setSpecs say, and in those above these. An item counts once in each. Contracts see the sets with
+/// the counts and spans; a set that is not there has no items.
 #[derive(Drop)]
 pub struct SetCounts {
     counts: Vec<SetCount>,
@@ -128,33 +99,6 @@ impl SetCounts {
         }
     }
 
-    /// How many items are in the set.
-    pub fn count(&self, set: &str) -> usize
-        ensures { result ≡ counted_in set.now self.now }
-    {
-        for at in 0..self.counts.len() {
-            let count = &self.counts[at];
-            if set == count.set() {
-                return count.count();
-            }
-        }
-        0
-    }
-
-    /// Within which bytes of the entries the items of the set stand, as `add` was told; None where it has none. Behind
-    /// `add_all` nothing is promised.
-    pub fn span(&self, set: &str) -> Option<Span>
-        ensures { result ≡ span_in set.now self.now }
-    {
-        for at in 0..self.counts.len() {
-            let count = &self.counts[at];
-            if set == count.set() {
-                return Some(count.span());
-            }
-        }
-        None
-    }
-
     /// Counts an item of these setSpecs too, which stands there, behind the others. None where there would be more than
     /// `MAX_COUNTED_SETS` sets, where one has too many items to be counted, or memory is refused; the counts are then
     /// those of no items in particular.
@@ -175,54 +119,55 @@ impl SetCounts {
     /// Counts the items of other counts too. None where there would be more than `MAX_COUNTED_SETS` sets, where one has
     /// too many items to be counted, or memory is refused; the counts are then those of no items in particular. In any
     /// case nothing is known of the spans behind it.
-    pub fn add_all(&mut self, others: &SetCounts) -> Option<()>
+    pub fn add_all(&mut self, others: &PackedCounts) -> Option<()>
         ensures { OnSome result ((set : List ℕ) → counted_in set self.new ≡ counted_in set self.old + counted_in set others.now) }
     {
-        for at in 0..others.counts.len() {
-            let other = &others.counts[at];
-            if !others.lacks(at, other.set()) {
+        for at in 0..others.len() {
+            let set = others.set(at);
+            if !others.lacks(at, set.as_str()) {
                 return None;
             }
-            self.add_count(other)?;
+            self.add_count(set, others.count_at(at))?;
         }
         Some(())
     }
 
-    /// Whether the set is none of the first so many.
-    fn lacks(&self, most: usize, set: &str) -> bool
-        requires { most ≤ length self.now }
-        ensures { IsTrue result → lacks set.now (take most self.now) ≡ true }
-    {
-        for at in 0..most {
-            if set == self.counts[at].set() {
-                return false;
-            }
-        }
-        true
-    }
-
-    /// Counts the items of the set too that another count has.
-    fn add_count(&mut self, other: &SetCount) -> Option<()>
-        ensures { OnSome result ((set : List ℕ) → counted_in set self.new
-            ≡ counted_in set self.old + (if bytes_eq set other.now.set then other.now.count else 0)) }
+    /// So many items more in the set. Where it stands nowhere so far, its span is any.
+    fn add_count(&mut self, set: &SetName, more: u32) -> Option<()>
+        ensures { OnSome result ((q : List ℕ) → counted_in q self.new
+            ≡ counted_in q self.old + (if bytes_eq q set.now then more else 0)) }
     {
         for at in 0..self.counts.len() {
-            if other.set() == self.counts[at].set() {
-                return self.counts[at].add(other.count);
+            if set.as_str() == self.counts[at].set() {
+                return self.counts[at].add(more);
             }
         }
         if self.counts.len() >= MAX_COUNTED_SETS {
             return None;
         }
-        let copy = other.copy()?;
-        self.push(copy)
+        push(&mut self.counts, SetCount::of(set.copy()?, more, NOWHERE))
     }
 
-    /// Frees the memory that is kept for more sets, as far as that can be done. It takes no memory of its own.
-    pub fn fit(&mut self)
-        ensures { self.new ≡ self.old }
+    /// The same in as little memory as that takes. None where a set has more than 65,535 items, or memory is refused.
+    pub fn packed(&self, alloc: Global) -> Option<PackedCounts>
+        ensures { IfSome result (λ packed. packed ≡ self.now) }
     {
-        self.counts.shrink_to_fit();
+        let many = self.counts.len();
+        let Ok(mut sets) = Vec::with_capacity(alloc, many) else {
+            return None;
+        };
+        let Ok(mut spans) = Vec::with_capacity(alloc, many) else {
+            return None;
+        };
+        let mut several = Vec::new(alloc);
+        for at in 0..many {
+            let count = &self.counts[at];
+            push(&mut sets, count.set.copy()?)?;
+            push(&mut spans, count.span)?;
+            say_count(&mut several, at, count.count)?;
+        }
+        several.shrink_to_fit();
+        Some(PackedCounts::new(sets, spans, several))
     }
 
     /// Counts an item, which stands there, in the set and in those above it, but in none in which one of the other
@@ -276,20 +221,7 @@ impl SetCounts {
         if self.counts.len() >= MAX_COUNTED_SETS {
             return None;
         }
-        match names.name(set) {
-            Ok(name) => self.push(SetCount::one(name, span)),
-            Err(_) => None,
-        }
-    }
-
-    /// Puts a set behind the others, or gives None where memory is refused.
-    fn push(&mut self, count: SetCount) -> Option<()>
-        ensures { OnSome result (self.new ≡ self.old ++ count ∷ []) }
-    {
-        match self.counts.push(count) {
-            Ok(()) => Some(()),
-            Err(_) => None,
-        }
+        push(&mut self.counts, SetCount::of(names.name(set)?, 1, span))
     }
 }
 

@@ -1,15 +1,62 @@
-ghost use Rattle.std.specs.Prelude.{◌≡◌, ◌≤◌, IfOk, vec_len};
+ghost use Rattle.std.specs.Prelude.{◌≡◌, ◌≤◌, IfSome, vec_len};
 
 use oai_names::Text;
-use std::alloc::{AllocError, Global};
+use std::alloc::Global;
+use std::marker::Model;
 use std::rc::Rc;
+
+/// A setSpec that counts speak of. Its copies have one text in common.
+#[derive(Drop)]
+pub(crate) struct SetName {
+    text: Rc<Text>,
+}
+
+impl Model for SetName {
+    ghost use Rattle.std.specs.Prelude.{List, ℕ};
+
+    ghost Value = { List ℕ };
+
+    ghost view = { λ n. n.text.value };
+}
+
+impl SetName {
+    /// The name that is this setSpec, or None where memory is refused.
+    fn new(alloc: Global, set: &str) -> Option<SetName>
+        ensures { IfSome result (λ name. name ≡ set.now) }
+    {
+        let Ok(text) = Text::new(alloc, set) else {
+            return None;
+        };
+        match Rc::new(alloc, text) {
+            Ok(text) => Some(SetName { text }),
+            Err(_) => None,
+        }
+    }
+
+    /// The setSpec.
+    pub(crate) fn as_str(&self) -> &str
+        ensures { result.now ≡ self.now }
+    {
+        self.text.as_str()
+    }
+
+    /// A copy of the name, which is counted, or None where no more copies can be counted.
+    pub(crate) fn copy(&self) -> Option<SetName>
+        ensures { IfSome result (λ copy. copy ≡ self.now) }
+    {
+        match self.text.clone() {
+            Ok(text) => Some(SetName { text }),
+            Err(_) => None,
+        }
+    }
+}
 
 /// The setSpecs of the sets that items were counted in, each once: all counts of a set have its setSpec in common.
 #[derive(Drop)]
 pub struct SetNames {
     alloc: Global,
     /// In the order of their bytes.
-    names: Vec<Rc<Text>>,
+    names: Vec<SetName>,
 }
 
 impl SetNames {
@@ -21,20 +68,22 @@ impl SetNames {
         }
     }
 
-    /// The one copy of the setSpec, which is made where there is none. The error is out of memory.
-    pub(crate) fn name(&mut self, set: &str) -> Result<Rc<Text>, AllocError>
-        ensures { IfOk result (λ name. name.value ≡ set.now) }
+    /// The one copy of the setSpec, which is made where there is none; None where memory is refused.
+    pub(crate) fn name(&mut self, set: &str) -> Option<SetName>
+        ensures { IfSome result (λ name. name ≡ set.now) }
     {
         let at = self.place_of(set);
         if at < self.names.len() {
             let name = &self.names[at];
             if name.as_str() == set {
-                return name.clone();
+                return name.copy();
             }
         }
-        let name = Rc::new(self.alloc, Text::new(self.alloc, set)?)?;
-        self.names.insert(at, name.clone()?)?;
-        Ok(name)
+        let name = SetName::new(self.alloc, set)?;
+        match self.names.insert(at, name.copy()?) {
+            Ok(()) => Some(name),
+            Err(_) => None,
+        }
     }
 
     /// Where the setSpec is, or would stand.

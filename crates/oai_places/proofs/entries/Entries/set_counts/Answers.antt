@@ -1,3 +1,4 @@
+use Rattle.std.specs.Prelude.{IfSome}
 use Rattle.std.proofs.Common.{◌≡◌, ◌∙◌, ◌+◌, ◌∷◌, ◌++◌, ◌≤◌, length, ℕ, List, pos, [], ap, subst, sym, arith, Some}
 use Rattle.oai_item.specs.Item.{ItemState}
 use Rattle.oai_item.proofs.Around.{only_place}
@@ -24,12 +25,9 @@ loop-at-preserved c =
     (λ set. rw c.sets.ensures at c.in_ok-add.ensures.counts set) (λ set. rw c.sets.ensures at c.in_ok-add.ensures.spans set)
     (one_more ∙ ap (λ (item : ItemState). items ++ item ∷ []) (sym (c.spelled.ensures d)))
 
-some_one : {A : Type 0} (a b : A) → Some a ≡ Some b → a ≡ b
-some_one a b e = cc
-
 pub returns : goal.returns
 returns c =
     let whole : c.loop-at.at ≡ c.args.to = omega (arith, c.loop-at-test.false, c.loop-at.auto.at-end c.requires.order) in
     λ totals is.
-    subst (λ (counts : List SetTotal). AreCountedWithin counts (between c.args.from c.args.to c.args.self.now)) (sym c.fit.ensures ∙ some_one c.fit.new.self totals is)
+    subst (λ (counts : List SetTotal). AreCountedWithin counts (between c.args.from c.args.to c.args.self.now)) (sym (subst (λ packed. IfSome packed (λ (counts : List SetTotal). counts ≡ c.loop-at.counts)) is c.packed.ensures))
     (subst (λ (n : ℕ). AreCountedWithin c.loop-at.counts (between c.args.from n c.args.self.now)) whole c.loop-at.invariant)

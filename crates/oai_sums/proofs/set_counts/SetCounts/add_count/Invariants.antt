@@ -6,5 +6,5 @@ use Rattle.oai_sums.proofs.set_counts.SetCounts.add_count.Given as goal
 abbrev pub invariant-loop-at : goal.invariant-loop-at
 invariant-loop-at l = record {
   same : l.self-inside.counts.items ≡ l.fn.self;
-  none : lacks l.other.set (take l.at l.fn.self) ≡ true;
+  none : lacks l.set (take l.at l.fn.self) ≡ true;
 }

@@ -44,18 +44,24 @@ loop-at-preserved c =
           (ap (bytes_eq c.args.set.now) (sym c.set.ensures) ∙ sym c.eq.ensures ∙ c.if-eq.false) (ap (λ zs. lacks c.args.set.now (take c.loop-at.at zs)) same ∙ c.loop-at.invariant.none);
     }
 
-pub returns-in-Ok : goal.returns-in-Ok
-returns-in-Ok c =
+pub returns-clause-counts : goal.returns-clause-counts
+returns-clause-counts c =
     let set = c.args.set.now in
     let totals : List SetTotal = c.args.self.now in
     let whole : take c.loop-at.at totals ≡ totals = take_all c.loop-at.at totals (omega (arith, c.loop-at-test.false, c.len-at-end.ensures, c.self.inside.counts.ok.0, ap length c.self.view_is)) in
-    let added : c.one.result ≡ record { set = set; count = 1; span = c.args.span } = c.one.ensures ∙ ap (λ s. record { set = s; count = 1; span = c.args.span }) c.in-Ok.ensures in
+    let added : c.of.result ≡ record { set = set; count = 1; span = c.args.span } = c.of.ensures ∙ ap (λ s. record { set = s; count = 1; span = c.args.span }) c.in_ok-name.ensures in
     let lack : lacks set totals ≡ true = ap (lacks set) (sym whole) ∙ c.loop-at.invariant.none in
-    record {
-      counts = on_some_map (c.push.new.self ≡ c.loop-at.self-inside.counts.items ++ c.one.result ∷ []) (CountsMore (λ q. bytes_eq q set) totals c.push.new.self) c.push.result
-          (λ more q. ap (counted_in q) (more ∙ (λ i. c.loop-at.invariant.same i ++ added i ∷ [])) ∙ counts_new set q 1 c.args.span totals lack)
-          c.push.ensures;
-      spans = on_some_map (c.push.new.self ≡ c.loop-at.self-inside.counts.items ++ c.one.result ∷ []) (SpansMore (λ q. bytes_eq q set) c.args.span totals c.push.new.self) c.push.result
-          (λ more q. ap (span_in q) (more ∙ (λ i. c.loop-at.invariant.same i ++ added i ∷ [])) ∙ spans_new set q 1 c.args.span totals lack)
-          c.push.ensures;
-    }
+    on_some_map (c.push.new.items.items ≡ c.loop-at.self-inside.counts.items ++ c.of.result ∷ []) (CountsMore (λ q. bytes_eq q set) totals c.push.new.items.items) c.push.result
+    (λ more q. ap (counted_in q) (more ∙ (λ i. c.loop-at.invariant.same i ++ added i ∷ [])) ∙ counts_new set q 1 c.args.span totals lack)
+    c.push.ensures
+
+pub returns-clause-spans : goal.returns-clause-spans
+returns-clause-spans c =
+    let set = c.args.set.now in
+    let totals : List SetTotal = c.args.self.now in
+    let whole : take c.loop-at.at totals ≡ totals = take_all c.loop-at.at totals (omega (arith, c.loop-at-test.false, c.len-at-end.ensures, c.self.inside.counts.ok.0, ap length c.self.view_is)) in
+    let added : c.of.result ≡ record { set = set; count = 1; span = c.args.span } = c.of.ensures ∙ ap (λ s. record { set = s; count = 1; span = c.args.span }) c.in_ok-name.ensures in
+    let lack : lacks set totals ≡ true = ap (lacks set) (sym whole) ∙ c.loop-at.invariant.none in
+    on_some_map (c.push.new.items.items ≡ c.loop-at.self-inside.counts.items ++ c.of.result ∷ []) (SpansMore (λ q. bytes_eq q set) c.args.span totals c.push.new.items.items) c.push.result
+    (λ more q. ap (span_in q) (more ∙ (λ i. c.loop-at.invariant.same i ++ added i ∷ [])) ∙ spans_new set q 1 c.args.span totals lack)
+    c.push.ensures

@@ -1,6 +1,6 @@
 use Rattle.std.proofs.Common.{◌≡◌, take, true}
 use Rattle.oai_sums.specs.Sums.{lacks}
-use Rattle.oai_sums.proofs.set_counts.SetCounts.lacks.Given as goal
+use Rattle.oai_sums.proofs.packed_counts.PackedCounts.lacks.Given as goal
 
 -- the set is none of those so far
 abbrev pub invariant-loop-at : goal.invariant-loop-at

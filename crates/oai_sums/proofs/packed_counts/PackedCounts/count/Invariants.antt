@@ -1,6 +1,6 @@
 use Rattle.std.proofs.Common.{◌≡◌, drop}
 use Rattle.oai_sums.specs.Sums.{counted_in}
-use Rattle.oai_sums.proofs.set_counts.SetCounts.count.Given as goal
+use Rattle.oai_sums.proofs.packed_counts.PackedCounts.count.Given as goal
 
 -- the set is none of those so far
 abbrev pub invariant-loop-at : goal.invariant-loop-at

@@ -1,0 +1,25 @@
+use Rattle.std.proofs.Common.{◌≡◌, ◌∙◌, ◌<◌, List, Some, ap, arith, length, sym, get_or}
+use Rattle.std.specs.Str.{bytes_eq}
+use Rattle.oai_sums.specs.Sums.{SetTotal}
+use Rattle.oai_sums.proofs.CountLemmas.{counted_at, counted_past}
+use Rattle.oai_sums.proofs.PackedLemmas.{no_total, read_any}
+use Rattle.oai_sums.proofs.packed_counts.PackedCounts.count.Goals as goal
+
+pub returns-then-eq : goal.returns-then-eq
+returns-then-eq c =
+    let totals : List SetTotal = c.args.self.now in
+    let own : SetTotal = get_or totals c.loop-at.at no_total in
+    let within : c.loop-at.at < length totals = omega (arith, c.loop-at-test.true, c.len-at-end.ensures) in
+    (c.count_at.ensures no_total)
+    ∙ counted_at c.args.set.now totals c.loop-at.at own within (read_any totals c.loop-at.at no_total own within)
+    (ap (bytes_eq c.args.set.now) (sym (c.as_str.ensures ∙ c.set.ensures no_total)) ∙ sym c.eq.ensures ∙ c.if-eq.true)
+    ∙ c.loop-at.invariant
+
+pub loop-at-preserved : goal.loop-at-preserved
+loop-at-preserved c =
+    let totals : List SetTotal = c.args.self.now in
+    let own : SetTotal = get_or totals c.loop-at.at no_total in
+    let within : c.loop-at.at < length totals = omega (arith, c.loop-at-test.true, c.len-at-end.ensures) in
+    counted_past c.args.set.now totals c.loop-at.at own within (read_any totals c.loop-at.at no_total own within)
+    (ap (bytes_eq c.args.set.now) (sym (c.as_str.ensures ∙ c.set.ensures no_total)) ∙ sym c.eq.ensures ∙ c.if-eq.false)
+    ∙ c.loop-at.invariant

@@ -1,0 +1,18 @@
+use Rattle.std.proofs.Common.{◌∙◌, ◌<◌, List, ap, arith, length, sym, get_or}
+use Rattle.std.specs.Str.{bytes_eq}
+use Rattle.oai_sums.specs.Sums.{SetTotal}
+use Rattle.oai_sums.proofs.CountLemmas.{lacks-none, lacks_past}
+use Rattle.oai_sums.proofs.PackedLemmas.{no_total, read_any}
+use Rattle.oai_sums.proofs.packed_counts.PackedCounts.lacks.Goals as goal
+
+pub loop-at-init : goal.loop-at-init
+loop-at-init c = lacks-none c.args.set.now
+
+pub loop-at-preserved : goal.loop-at-preserved
+loop-at-preserved c =
+    let totals : List SetTotal = c.args.self.now in
+    let own : SetTotal = get_or totals c.loop-at.at no_total in
+    let within : c.loop-at.at < length totals = omega (arith, c.loop-at-test.true, c.requires) in
+    lacks_past c.args.set.now totals c.loop-at.at own within (read_any totals c.loop-at.at no_total own within)
+    (ap (bytes_eq c.args.set.now) (sym (c.as_str.ensures ∙ c.set.ensures no_total)) ∙ sym c.eq.ensures ∙ c.if-eq.false)
+    c.loop-at.invariant
