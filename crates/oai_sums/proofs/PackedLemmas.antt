@@ -1,8 +1,8 @@
 -- Packed counts: what stands at each place, and one set more.
-use Rattle.std.proofs.Common.{◌≡◌, ◌∙◌, ◌+◌, ◌<◌, ◌≤◌, ◌==◌, ◌≢◌, ℕ, zero, suc, Bool, true, false, not, if◌then◌else◌, List, [], ◌∷◌, ◌++◌, length, take, drop, get_or, refl, sym, ap, arith}
+use Rattle.std.proofs.Common.{◌≡◌, ◌∙◌, ◌+◌, ◌<◌, ◌==◌, ◌≢◌, ℕ, zero, suc, Bool, true, false, not, if◌then◌else◌, List, [], ◌∷◌, ◌++◌, length, drop, get_or, refl, sym, ap, arith}
 use Rattle.std.proofs.lemmas.Bool.{and_from, and_parts, eq-eqb, false≢true, ne_eqb}
 use Rattle.std.proofs.lemmas.List.{drop_more}
-use Rattle.oai_sums.specs.Sums.{IsCounted, SetTotal, count_at, is_lone, totals_from}
+use Rattle.oai_sums.specs.Sums.{IsCounted, SetTotal, count_at, is_unsaid, totals_from}
 use Rattle.oai_sums.specs.declared.packed_counts.Several.{Several}
 use Rattle.oai_sums.specs.declared.spans.Span.{Span}
 use Rattle.oai_sums.proofs.CountLemmas.{if_false, if_true}
@@ -43,14 +43,14 @@ not_so : (b : Bool) → not b ≡ true → b ≡ false
 not_so true h = absurd (false≢true h)
 not_so false h = refl
 
-pub lone_one : (several : List Several) (at : ℕ) → is_lone several at ≡ true → count_at several at ≡ 1
-lone_one [] at h = refl
-lone_one (other ∷ others) at h =
+pub unsaid_one : (several : List Several) (at : ℕ) → is_unsaid several at ≡ true → count_at several at ≡ 1
+unsaid_one [] at h = refl
+unsaid_one (other ∷ others) at h =
     let parts = and_parts _ _ h in
-    if_false (other.at == at) other.count (count_at others at) (not_so _ parts.0) ∙ lone_one others at parts.1
+    if_false (other.at == at) other.count (count_at others at) (not_so _ parts.0) ∙ unsaid_one others at parts.1
 
 -- one more, for a place that none of them is for
-pub count_own : (several : List Several) (at : ℕ) (new : Several) → is_lone several at ≡ true → new.at ≡ at → count_at (several ++ new ∷ []) at ≡ new.count
+pub count_own : (several : List Several) (at : ℕ) (new : Several) → is_unsaid several at ≡ true → new.at ≡ at → count_at (several ++ new ∷ []) at ≡ new.count
 count_own [] at new h is = if_true (new.at == at) new.count 1 (eq-eqb new.at at is)
 count_own (other ∷ others) at new h is =
     let parts = and_parts _ _ h in
@@ -60,20 +60,20 @@ pub count_other : (several : List Several) (at : ℕ) (new : Several) → new.at
 count_other [] at new apart = if_false (new.at == at) new.count 1 (ne_eqb new.at at apart)
 count_other (other ∷ others) at new apart = ap (λ n. if other.at == at then other.count else n) (count_other others at new apart)
 
-pub lone_more : (several : List Several) (at : ℕ) (new : Several) → is_lone several at ≡ true → new.at ≢ at → is_lone (several ++ new ∷ []) at ≡ true
-lone_more [] at new h apart = rw (ne_eqb new.at at apart) refl
-lone_more (other ∷ others) at new h apart =
+pub unsaid_more : (several : List Several) (at : ℕ) (new : Several) → is_unsaid several at ≡ true → new.at ≢ at → is_unsaid (several ++ new ∷ []) at ≡ true
+unsaid_more [] at new h apart = rw (ne_eqb new.at at apart) refl
+unsaid_more (other ∷ others) at new h apart =
     let parts = and_parts _ _ h in
-    and_from _ _ parts.0 (lone_more others at new parts.1 apart)
+    and_from _ _ parts.0 (unsaid_more others at new parts.1 apart)
 
-pub counted_one : (several : List Several) (at count : ℕ) → is_lone several at ≡ true → count ≡ 1 → IsCounted at count several several
-counted_one several at count lone one = record { own = lone_one several at lone ∙ sym one; others = λ other apart. refl; lone = λ other apart h. h }
+pub counted_one : (several : List Several) (at count : ℕ) → is_unsaid several at ≡ true → count ≡ 1 → IsCounted at count several several
+counted_one several at count lone one = record { own = unsaid_one several at lone ∙ sym one; others = λ other apart. refl; unsaid = λ other apart h. h }
 
-pub counted_several : (several : List Several) (at count : ℕ) (new : Several) → is_lone several at ≡ true → new.at ≡ at → new.count ≡ count → IsCounted at count several (several ++ new ∷ [])
+pub counted_several : (several : List Several) (at count : ℕ) (new : Several) → is_unsaid several at ≡ true → new.at ≡ at → new.count ≡ count → IsCounted at count several (several ++ new ∷ [])
 counted_several several at count new lone is many = record {
   own = count_own several at new lone is ∙ many;
   others = λ other apart. count_other several other new (λ same. apart (sym same ∙ is));
-  lone = λ other apart h. lone_more several other new h (λ same. apart (sym same ∙ is));
+  unsaid = λ other apart h. unsaid_more several other new h (λ same. apart (sym same ∙ is));
 }
 
 -- ---- one set more

@@ -61,17 +61,17 @@ abbrev pub count_at : List Several → ℕ → ℕ
 count_at [] at = 1
 count_at (other ∷ others) at = if other.at == at then other.count else count_at others at
 
--- it is not said how many items the set at that place has
-abbrev pub is_lone : List Several → ℕ → Bool
-is_lone several at = list_all (λ (other : Several). not (other.at == at)) several
+-- nothing is said of how many items the set at that place has
+abbrev pub is_unsaid : List Several → ℕ → Bool
+is_unsaid several at = list_all (λ (other : Several). not (other.at == at)) several
 
--- the set at that place has so many items, of which nothing was said, and the others have as many as before
+-- the set at that place has so many items, each other set has as many as before, and of no other set is anything said that was not said before
 pub record IsCounted (at count : ℕ) (old new : List Several) : Type 0 where
   pub own : count_at new at ≡ count
   pub others : (other : ℕ) → other ≢ at → count_at new other ≡ count_at old other
-  pub lone : (other : ℕ) → other ≢ at → is_lone old other ≡ true → is_lone new other ≡ true
+  pub unsaid : (other : ℕ) → other ≢ at → is_unsaid old other ≡ true → is_unsaid new other ≡ true
 
--- the sets from that place on, each with its count and its span
+-- the sets, the first of which stands at that place, each with its count and its span
 abbrev pub totals_from : ℕ → List (List ℕ) → List Span → List Several → List SetTotal
 totals_from at [] spans several = []
 totals_from at (set ∷ sets) [] several = []

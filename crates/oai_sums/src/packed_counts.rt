@@ -1,15 +1,15 @@
 ghost use Rattle.std.specs.Prelude.{◌≡◌, ◌<◌, ◌≤◌, ◌++◌, ◌∷◌, [], HoldsAt, IsTrue, OnSome, length, take, true};
-ghost use Rattle.oai_sums.specs.Sums.{IsCounted, SetTotal, counted_in, is_lone, lacks, span_in, totals_from};
+ghost use Rattle.oai_sums.specs.Sums.{IsCounted, counted_in, is_unsaid, lacks, span_in, totals_from};
 
-use crate::set_names::SetName;
+use crate::set_names::SharedSetSpec;
 use crate::spans::Span;
 use std::marker::Model;
 
 /// A set with several items: where it stands among the sets, and how many.
 #[derive(Clone, Copy)]
 pub(crate) struct Several {
-    pub(crate) at: u16,
-    pub(crate) count: u16,
+    at: u16,
+    count: u32,
 }
 
 /// Puts an item behind the others, or gives None where memory is refused.
@@ -22,29 +22,29 @@ pub(crate) fn push<T: Drop>(items: &mut Vec<T>, item: T) -> Option<()>
     }
 }
 
-/// Says how many items the set at that place has, unless it is one. None where the place or the number is more than
-/// 65,535, or memory is refused.
+/// Says how many items the set at that place has, of which nothing was said; of a set of one item nothing is said. None
+/// where the place is more than 65,535, or memory is refused.
 pub(crate) fn say_count(several: &mut Vec<Several>, at: usize, count: u32) -> Option<()>
-    requires { is_lone several.old.items at ≡ true }
+    requires { is_unsaid several.old.items at ≡ true }
     ensures { OnSome result (IsCounted at count several.old.items several.new.items) }
 {
     if count == 1 {
         return Some(());
     }
-    let (Ok(at), Ok(count)) = (u16::try_from(at), u16::try_from(count)) else {
-        return None;
-    };
-    push(several, Several { at, count })
+    match u16::try_from(at) {
+        Ok(at) => push(several, Several { at, count }),
+        Err(_) => None,
+    }
 }
 
 /// How many items are in each set, and within which bytes of the entries of all these stand, as `SetCounts` had them
-/// when they were packed. A set of one item takes 12 bytes, another one 16. Contracts see the sets with the
-/// counts and spans; a set that is not there has no items.
+/// when they were packed. A set of one item takes 12 bytes, any other 20, without its setSpec, which counts
+/// share. Contracts see the sets with the counts and spans; a set that is not there has no items.
 #[derive(Drop)]
 pub struct PackedCounts {
-    sets: Vec<SetName>,
+    sets: Vec<SharedSetSpec>,
     spans: Vec<Span>,
-    /// The sets with several items; the others have one each.
+    /// The sets that have not just one item.
     several: Vec<Several>,
 }
 
@@ -60,8 +60,13 @@ impl Model for PackedCounts {
 }
 
 impl PackedCounts {
-    /// The counts of these sets, with the spans in the same order. Each set has one item where it is none of `several`.
-    pub(crate) fn new(sets: Vec<SetName>, spans: Vec<Span>, several: Vec<Several>) -> PackedCounts
+    /// The counts of these sets, with as many spans, in the same order. A set has one item where no entry of `several` has
+    /// its place.
+    pub(crate) fn new(
+        sets: Vec<SharedSetSpec>,
+        spans: Vec<Span>,
+        several: Vec<Several>,
+    ) -> PackedCounts
         requires { length spans.items ≡ length sets.items }
         ensures { result ≡ totals_from 0 sets.items spans.items several.items }
     {
@@ -105,7 +110,7 @@ impl PackedCounts {
     }
 
     /// The set at that place.
-    pub(crate) fn set(&self, at: usize) -> &SetName
+    pub(crate) fn set(&self, at: usize) -> &SharedSetSpec
         requires { at < length self.now }
         ensures { HoldsAt (λ total. result.now ≡ total.set) self.now at }
     {
@@ -117,10 +122,10 @@ impl PackedCounts {
         requires { at < length self.now }
         ensures { HoldsAt (λ total. result ≡ total.count) self.now at }
     {
-        for entry in 0..self.several.len() {
-            let several = self.several[entry];
-            if several.at as usize == at {
-                return several.count as u32;
+        for index in 0..self.several.len() {
+            let own = self.several[index];
+            if own.at as usize == at {
+                return own.count;
             }
         }
         1

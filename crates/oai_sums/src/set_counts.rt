@@ -1,11 +1,11 @@
-ghost use Rattle.std.specs.Prelude.{◌≡◌, ◌+◌, ◌&&◌, ◌++◌, ◌∷◌, if◌then◌else◌, ℕ, List, [], not, IfSome, OnSome, OnOk};
+ghost use Rattle.std.specs.Prelude.{◌≡◌, ◌+◌, ◌&&◌, if◌then◌else◌, ℕ, List, [], not, IfSome, OnSome};
 ghost use Rattle.std.specs.Str.{bytes_eq};
 ghost use Rattle.oai_item.specs.Membership.{is_in};
 ghost use Rattle.oai_names.specs.Sets.{covers};
 ghost use Rattle.oai_sums.specs.Sums.{CountsMore, SpansMore, counted_in, widened};
 
 use crate::packed_counts::{PackedCounts, push, say_count};
-use crate::set_names::{SetName, SetNames};
+use crate::set_names::{SetNames, SharedSetSpec};
 use crate::spans::Span;
 use oai_item::SpelledSets;
 use oai_names::{covers, parent_of};
@@ -15,13 +15,13 @@ use std::marker::Model;
 /// How many sets are counted at most.
 pub const MAX_COUNTED_SETS: usize = 64;
 
-/// The span of items of which it is not known where they stand.
-const NOWHERE: Span = Span { from: 0, to: 0 };
+/// What is kept for a span where it is not known where the items stand.
+const UNKNOWN: Span = Span { from: 0, to: 0 };
 
 /// A set, how many items are in it, and within which bytes of the entries of all these stand.
 #[derive(Drop)]
 struct SetCount {
-    set: SetName,
+    set: SharedSetSpec,
     count: u32,
     span: Span,
 }
@@ -36,7 +36,7 @@ impl Model for SetCount {
 
 impl SetCount {
     /// A set with so many items, which stand there.
-    fn of(set: SetName, count: u32, span: Span) -> SetCount
+    fn of(set: SharedSetSpec, count: u32, span: Span) -> SetCount
         ensures { result ≡ record { set = set; count = count; span = span } }
     {
         SetCount { set, count, span }
@@ -132,8 +132,9 @@ impl SetCounts {
         Some(())
     }
 
-    /// So many items more in the set. Where it stands nowhere so far, its span is any.
-    fn add_count(&mut self, set: &SetName, more: u32) -> Option<()>
+    /// Counts so many items more in the set. None where there would be more than `MAX_COUNTED_SETS` sets, where the set
+    /// has too many items to be counted, or memory is refused. Nothing is promised of its span.
+    fn add_count(&mut self, set: &SharedSetSpec, more: u32) -> Option<()>
         ensures { OnSome result ((q : List ℕ) → counted_in q self.new
             ≡ counted_in q self.old + (if bytes_eq q set.now then more else 0)) }
     {
@@ -145,22 +146,23 @@ impl SetCounts {
         if self.counts.len() >= MAX_COUNTED_SETS {
             return None;
         }
-        push(&mut self.counts, SetCount::of(set.copy()?, more, NOWHERE))
+        push(&mut self.counts, SetCount::of(set.copy()?, more, UNKNOWN))
     }
 
-    /// The same in as little memory as that takes. None where a set has more than 65,535 items, or memory is refused.
+    /// The same counts, as they are kept: no room is left for more sets, as far as that can be done. None where memory is
+    /// refused.
     pub fn packed(&self, alloc: Global) -> Option<PackedCounts>
         ensures { IfSome result (λ packed. packed ≡ self.now) }
     {
-        let many = self.counts.len();
-        let Ok(mut sets) = Vec::with_capacity(alloc, many) else {
+        let len = self.counts.len();
+        let Ok(mut sets) = Vec::with_capacity(alloc, len) else {
             return None;
         };
-        let Ok(mut spans) = Vec::with_capacity(alloc, many) else {
+        let Ok(mut spans) = Vec::with_capacity(alloc, len) else {
             return None;
         };
         let mut several = Vec::new(alloc);
-        for at in 0..many {
+        for at in 0..len {
             let count = &self.counts[at];
             push(&mut sets, count.set.copy()?)?;
             push(&mut spans, count.span)?;

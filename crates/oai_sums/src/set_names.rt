@@ -7,11 +7,11 @@ use std::rc::Rc;
 
 /// A setSpec that counts speak of. Its copies have one text in common.
 #[derive(Drop)]
-pub(crate) struct SetName {
+pub(crate) struct SharedSetSpec {
     text: Rc<Text>,
 }
 
-impl Model for SetName {
+impl Model for SharedSetSpec {
     ghost use Rattle.std.specs.Prelude.{List, ℕ};
 
     ghost Value = { List ℕ };
@@ -19,16 +19,16 @@ impl Model for SetName {
     ghost view = { λ n. n.text.value };
 }
 
-impl SetName {
-    /// The name that is this setSpec, or None where memory is refused.
-    fn new(alloc: Global, set: &str) -> Option<SetName>
+impl SharedSetSpec {
+    /// The setSpec, as the first of its copies, or None where memory is refused.
+    fn new(alloc: Global, set: &str) -> Option<SharedSetSpec>
         ensures { IfSome result (λ name. name ≡ set.now) }
     {
         let Ok(text) = Text::new(alloc, set) else {
             return None;
         };
         match Rc::new(alloc, text) {
-            Ok(text) => Some(SetName { text }),
+            Ok(text) => Some(SharedSetSpec { text }),
             Err(_) => None,
         }
     }
@@ -40,12 +40,12 @@ impl SetName {
         self.text.as_str()
     }
 
-    /// A copy of the name, which is counted, or None where no more copies can be counted.
-    pub(crate) fn copy(&self) -> Option<SetName>
+    /// A copy of the setSpec, which is counted, or None where no more copies can be counted.
+    pub(crate) fn copy(&self) -> Option<SharedSetSpec>
         ensures { IfSome result (λ copy. copy ≡ self.now) }
     {
         match self.text.clone() {
-            Ok(text) => Some(SetName { text }),
+            Ok(text) => Some(SharedSetSpec { text }),
             Err(_) => None,
         }
     }
@@ -56,7 +56,7 @@ impl SetName {
 pub struct SetNames {
     alloc: Global,
     /// In the order of their bytes.
-    names: Vec<SetName>,
+    names: Vec<SharedSetSpec>,
 }
 
 impl SetNames {
@@ -69,7 +69,7 @@ impl SetNames {
     }
 
     /// The one copy of the setSpec, which is made where there is none; None where memory is refused.
-    pub(crate) fn name(&mut self, set: &str) -> Option<SetName>
+    pub(crate) fn name(&mut self, set: &str) -> Option<SharedSetSpec>
         ensures { IfSome result (λ name. name ≡ set.now) }
     {
         let at = self.place_of(set);
@@ -79,7 +79,7 @@ impl SetNames {
                 return name.copy();
             }
         }
-        let name = SetName::new(self.alloc, set)?;
+        let name = SharedSetSpec::new(self.alloc, set)?;
         match self.names.insert(at, name.copy()?) {
             Ok(()) => Some(name),
             Err(_) => None,

@@ -1,4 +1,4 @@
-use Rattle.std.proofs.Common.{◌≡◌, ◌∙◌, ◌<◌, List, Some, ap, arith, length, sym, get_or}
+use Rattle.std.proofs.Common.{◌∙◌, ◌<◌, List, ap, arith, length, sym, get_or}
 use Rattle.std.specs.Str.{bytes_eq}
 use Rattle.oai_sums.specs.Sums.{SetTotal}
 use Rattle.oai_sums.proofs.CountLemmas.{counted_at, counted_past}

@@ -1,4 +1,4 @@
-use Rattle.std.proofs.Common.{◌≡◌, ◌∙◌, ◌<◌, ap, arith, length, sym, get_or}
+use Rattle.std.proofs.Common.{◌∙◌, ◌<◌, ap, arith, length, sym, get_or}
 use Rattle.std.proofs.lemmas.List.{get_or_read}
 use Rattle.oai_sums.specs.Sums.{SetTotal}
 use Rattle.oai_sums.proofs.PackedLemmas.{total_at, totals_length}

@@ -1,4 +1,4 @@
-use Rattle.std.proofs.Common.{◌≡◌, ◌≢◌, ◌∙◌, ◌+◌, ◌<◌, ◌++◌, ◌∷◌, [], ℕ, List, ap, arith, get_or, length, length-append, sym, take}
+use Rattle.std.proofs.Common.{◌≡◌, ◌≢◌, ◌∙◌, ◌+◌, ◌<◌, ◌++◌, ◌∷◌, [], ℕ, List, ap, arith, length, length-append, sym, take}
 use Rattle.std.proofs.lemmas.List.{take_more}
 use Rattle.oai_sums.specs.Sums.{SetTotal, count_at, totals_from}
 use Rattle.oai_sums.specs.declared.packed_counts.Several.{Several}
@@ -18,7 +18,7 @@ loop-at-preserved c =
     let set : List ℕ = c.in_ok-copy.field-0 in
     let span : Span = c.count.inside.span in
     let items : List SetTotal = c.self.inside.counts.items in
-    let within : at < length items = omega (arith, c.loop-at-test.true, c.len-many.ensures, c.self.inside.counts.ok.0) in
+    let within : at < length items = omega (arith, c.loop-at-test.true, c.len-len.ensures, c.self.inside.counts.ok.0) in
     let same : length spans ≡ length sets = c.loop-at.invariant.spans ∙ sym c.loop-at.invariant.sets in
     let kept : (other : ℕ) → other < 0 + length sets → other ≢ at = λ other below. omega (arith, below, c.loop-at.invariant.sets) in
     let counted : count_at new (0 + length sets) ≡ c.count.inside.count = ap (count_at new) (omega (arith, c.loop-at.invariant.sets)) ∙ c.in_ok-say_count.ensures.own in
@@ -32,5 +32,5 @@ loop-at-preserved c =
           ∙ (λ i. take at (sym c.self.view_is i) ++ c.index-count.ensures i ∷ [])
           ∙ sym (take_more items at own within)
           ∙ ap (take (at + 1)) c.self.view_is;
-      lone = λ other above. c.in_ok-say_count.ensures.lone other (omega (arith, above)) (c.loop-at.invariant.lone other (omega (arith, above)));
+      unsaid = λ other above. c.in_ok-say_count.ensures.unsaid other (omega (arith, above)) (c.loop-at.invariant.unsaid other (omega (arith, above)));
     }
