@@ -11,7 +11,7 @@ from oai.servers import Server
 
 # In how many sets each item is whose memory is measured, and of how many, and how many items there are then.
 SETS_OF_ITEM = 3
-SETS = [10, 30, 100]
+SETS = [10, 30, 100, 1000]
 MEASURED = 500_000
 
 
@@ -75,7 +75,7 @@ def set_costs(size="1000000", turns="5"):
     SIZE items, 1,000,000 if not given, of which every tenth is in the set, with the file of the pages on a disk, and
     CACHES of 64 pages and 4,096. On one server for each cache, in turns, five if TURNS is not given: a harvest of all
     in parts of 100, one of the set, and for five seconds each first parts of all, of the set, and of the set within the
-    middle half of the datestamps. It prints the medians. Then, of 500,000 items in three sets each, of 10, 30 and 100:
+    middle half of the datestamps. It prints the medians. Then, of 500,000 items in three sets each, of 10 to 1,000:
     how many bytes of memory an item takes more than where there are no sets. It judges nothing.
 
     Usage: scripts/run set-costs [SIZE [TURNS]]
