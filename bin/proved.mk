@@ -1,5 +1,6 @@
 # Proves and builds PROGRAM, and before it each crate that it stands on, as crates.txt names them; bin/proved calls it in the folder of the repository.
-# By -j crates that do not stand on one another are built side by side. What has not changed takes rt a moment.
+# By -j crates that do not stand on one another are built side by side, each in a room of its own in the folder ROOMS (build-library). Make begins with
+# the crate that a line of crates.txt names first: there the one with the longest way below it stands. What has not changed takes rt a moment.
 
 named = $(shell sed -n 's/^$1[^:]*://p' crates.txt)
 used = $(filter $(notdir $(wildcard crates/*)),$(call named,$1))
@@ -18,7 +19,7 @@ built = @begun=$$(date +%s); mkdir -p crates/$@/out; \
 	fi
 
 $(libraries):
-	$(call built,rt lib --jobs 1)
+	$(call built,cd ../.. && bin/build-library $(ROOMS) $@ $(call below,$@))
 
 # (building runs the program too, which says how it is called: what counts is that it is there)
 $(PROGRAM):
