@@ -1,6 +1,6 @@
 -- What a server says where it stops, and with which status it ends. This repository's own.
 use Rattle.std.specs.Prelude.{ℕ, ℤ, List, ◌++◌, codes, decimal, pos, string_bytes}
-use Rattle.oai_cli.specs.Stops as other
+use Rattle.oai_startup.specs.Stops as other
 use Rattle.oai_item.specs.declared.faults.Fault.{Fault}
 use Rattle.oai_item.specs.declared.faults.Fault.TheVariants.{Damaged as IsDamaged, Device, NoMemory, TooManyPages}
 use Rattle.oai_time.specs.Clock.{tick}

@@ -6,11 +6,11 @@ ghost use Rattle.std.specs.Prelude.{IfOk, IsTrue, OnOk};
 use crate::journals::{begin_reading, create_journal, stop_of_journal};
 use crate::recoveries::{Counted, stop_of_recovery};
 use crate::stop::{Aspect, Difference, Stop};
-use oai_cli::Stop as Other;
 use oai_durable::{CheckpointFault, RecoverFault, checkpoint, recover};
 use oai_http::Replayed;
 use oai_item::Fault;
 use oai_journal::Recovery;
+use oai_startup::Stop as Other;
 use sqlite_disk::Disk;
 use std::alloc::Global;
 

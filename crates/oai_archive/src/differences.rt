@@ -1,8 +1,8 @@
 //! What two configurations of one archive have to have in common.
 use crate::stop::{Aspect, Difference, Stop};
-use oai_cli::config_in;
 use oai_config::NamedConfig;
 use oai_settings::RepoConfig;
+use oai_startup::config_in;
 use std::alloc::Global;
 
 /// Whether an archive of the one configuration may go on with the other, as far as the two texts show it: it has a repository of the name of

@@ -2,7 +2,6 @@
 use crate::journals::{begin_reading, config_text, stop_of_reading};
 use crate::recoveries::{Counted, stop_of_recovery};
 use crate::stop::Stop;
-use oai_cli::{Stop as Other, config_in, host_on};
 use oai_device::MemoryDevice;
 use oai_dump::{deletion_line, deposit_line, set_line};
 use oai_durable::{RecoverFault, recover};
@@ -10,6 +9,7 @@ use oai_http::{Part, PartKind, Replayed, SaveFault, Sink, SinkFault};
 use oai_item::{DecodeFault, Fault, Item};
 use oai_journal::{Recovery, RecoveryFault};
 use oai_names::SetSpec;
+use oai_startup::{Stop as Other, config_in, host_on};
 use sqlite_disk::Disk;
 use std::alloc::Global;
 use std::io::Write;

@@ -5,8 +5,8 @@ ghost use Rattle.std.specs.Prelude.{IfOk, IsTrue};
 
 use crate::firsts::{PROGRAM, config_of, is_of, write_first};
 use crate::stop::Stop;
-use oai_cli::Stop as Other;
 use oai_journal::{FileJournal, JournalFault, Kind, Record, Recovery, RecoveryFault};
+use oai_startup::Stop as Other;
 use sqlite_disk::Disk;
 use std::alloc::Global;
 

@@ -2,10 +2,10 @@
 ghost use Rattle.std.specs.Prelude.{◌≡◌};
 ghost use Rattle.oai_archive.specs.Stops as spec;
 ghost use Rattle.oai_archive.specs.declared.stop.Stop.TheVariants as stop;
-ghost use Rattle.oai_cli.specs.declared.stop.Stop.TheVariants as other;
+ghost use Rattle.oai_startup.specs.declared.stop.Stop.TheVariants as other;
 
-use oai_cli::Stop as Other;
 use oai_item::Fault;
+use oai_startup::Stop as Other;
 use oai_time::{Clock, write_second};
 use std::alloc::AllocError;
 use std::error::Error;

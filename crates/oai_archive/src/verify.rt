@@ -8,8 +8,8 @@ ghost use Rattle.std.specs.Prelude.{◌≡◌, ◌++◌, ◌∷◌, [], List, So
 use crate::firsts::config_of;
 use crate::journals::stop_of_reading;
 use crate::stop::Stop;
-use oai_cli::Stop as Other;
 use oai_journal::Recovery;
+use oai_startup::Stop as Other;
 use sqlite_disk::Disk;
 use std::alloc::Global;
 use std::io::Write;

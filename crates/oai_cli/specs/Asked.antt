@@ -6,8 +6,8 @@ use Rattle.oai_http.specs.declared.exchanges.Answer.{Answer}
 use Rattle.oai_http.specs.declared.exchanges.Call.{Call}
 use Rattle.oai_cli.specs.ExchangeLines.{IsUnspecified, is_bad, is_line_filled, shown, parse_exchange}
 use Rattle.oai_cli.specs.NumberedLines.{AreFirst, IsAt, line_count}
-use Rattle.oai_cli.specs.declared.stop.Stop.{Stop}
-use Rattle.oai_cli.specs.declared.stop.Stop.TheVariants.{BadExchange, OutputFault}
+use Rattle.oai_startup.specs.declared.stop.Stop.{Stop}
+use Rattle.oai_startup.specs.declared.stop.Stop.TheVariants.{BadExchange, OutputFault}
 
 -- the lines spell exchanges with the host; these were answered, each of them is what it is over every store, and the answers were written
 pub record AreDone (lines : List (List ℕ)) (old new : HostState) (Writes : List ℕ → Type 0) : Type 0 where

@@ -11,7 +11,7 @@ use Rattle.oai_http.specs.Exchanges.{call_of}
 use Rattle.oai_http.specs.declared.exchanges.Answer.{Answer}
 use Rattle.oai_http.specs.declared.exchanges.Call.{Call}
 use Rattle.oai_http.specs.declared.exchanges.Exchange.{Exchange}
-use Rattle.oai_cli.specs.Numbers.{moment_of}
+use Rattle.oai_startup.specs.Numbers.{moment_of}
 
 -- ---- a line: `<moment> <METHOD> <target>`, and then for a body one space and the body to the end of the line
 

@@ -3,8 +3,8 @@ use Rattle.std.specs.Prelude.{◌≡◌, ◌⊎◌, ℕ, ◌+◌, Bool, true, fa
 use Rattle.std.specs.Io.KnownBytes.{prepend_known}
 use Rattle.std.specs.Option.{option_map}
 use Rattle.oai_cli.specs.NumberedLines.{line_count, lines_of}
-use Rattle.oai_cli.specs.declared.stop.Stop.{Stop}
-use Rattle.oai_cli.specs.declared.stop.Stop.TheVariants.{InputFault, NoMemory}
+use Rattle.oai_startup.specs.declared.stop.Stop.{Stop}
+use Rattle.oai_startup.specs.declared.stop.Stop.TheVariants.{InputFault, NoMemory}
 
 -- an input that is read: the bytes that were read ahead, whether all lines were given, and the line that was given last, with its number
 pub record Input : Type 0 where

@@ -15,8 +15,8 @@ use Rattle.oai_cli.specs.ExchangeLines.{IsUnspecified, is_line_filled}
 use Rattle.oai_cli.specs.Outputs.{StaysApart, OthersStay, output_in, with_output}
 use Rattle.oai_cli.specs.NumberedLines.{AreFirst, IsAt, line_count}
 use Rattle.oai_cli.specs.declared.trace.events.Event.{Event}
-use Rattle.oai_cli.specs.declared.stop.Stop.{Stop}
-use Rattle.oai_cli.specs.declared.stop.Stop.TheVariants.{BadPiece, InputFault, TooManyConnections, NoMemory, OutputFault}
+use Rattle.oai_startup.specs.declared.stop.Stop.{Stop}
+use Rattle.oai_startup.specs.declared.stop.Stop.TheVariants.{BadPiece, InputFault, TooManyConnections, NoMemory, OutputFault}
 use Rattle.std.specs.BTreeMap.{BTreeMap, get}
 use Rattle.std.specs.Ordering.{nat_cmp}
 

@@ -8,7 +8,7 @@ ghost use Rattle.oai_cli.specs.ExchangeLines as spec;
 ghost use Rattle.oai_cli.specs.NumberedLines.{lines_of};
 ghost use Rattle.oai_cli.specs.Stops.{StopsAsking};
 ghost use Rattle.oai_cli.specs.Asked.{AreEnded, IsLineOutcome};
-ghost use Rattle.oai_cli.specs.declared.stop.Stop.TheVariants.{BadExchange, OutputFault};
+ghost use Rattle.oai_startup.specs.declared.stop.Stop.TheVariants.{BadExchange, OutputFault};
 
 pub(crate) mod answers;
 pub(crate) mod exchanges;
@@ -16,9 +16,9 @@ pub(crate) mod exchanges;
 use crate::ask::answers::write_answer;
 use crate::ask::exchanges::parse_exchange;
 use crate::input::lines::Lines;
-use crate::stop::Stop;
 use oai_catalogue::Versions;
 use oai_host::Host;
+use oai_startup::Stop;
 use std::alloc::Global;
 use std::io::{Read, Write};
 

@@ -6,11 +6,11 @@ ghost use Rattle.hex.specs.Hex.{IsBytes};
 ghost use Rattle.oai_http.specs.declared.exchanges.Call.{Call};
 ghost use Rattle.oai_cli.specs.EventLines.{IsTraceable, IsWritableEvent, event_line, parse_event};
 ghost use Rattle.oai_cli.specs.ExchangeLines.{IsSpellable, call_line, parse_exchange};
-ghost use Rattle.oai_cli.specs.Numbers.{moment_of, number_in};
+ghost use Rattle.oai_startup.specs.Numbers.{moment_of, number_in};
 ghost use Rattle.oai_cli.specs.declared.trace.events.Event.{Event};
 
-use crate::input::limits::{MAX_READS, READ_BYTES};
 use crate::trace::MAX_CONNECTIONS;
+use oai_startup::{MAX_READS, READ_BYTES};
 
 /// What is written of a moment, a number, a call and an event is read as that again, and what a trace writes
 /// of a connection can stand in a trace. It is a theorem: the function is empty.

@@ -7,9 +7,9 @@ pub(crate) mod buffers;
 pub(crate) mod streams;
 
 use crate::serve::streams::serve_stream;
-use crate::stop::Stop;
 use oai_front::Front;
 use oai_http::Handler;
+use oai_startup::Stop;
 use std::alloc::Global;
 use std::io::{self, Read, Write};
 use std::net::{Ipv4Addr, Net, OpenListener, OpenStream, SocketAddr, SocketAddrV4};

@@ -8,7 +8,7 @@ ghost use Rattle.oai_cli.specs.NumberedLines.{lines_of};
 ghost use Rattle.oai_cli.specs.Stops.{StopsTracing};
 ghost use Rattle.oai_cli.specs.Traces as spec;
 ghost use Rattle.oai_cli.specs.Traces.{IsBroken, IsLine, tracing};
-ghost use Rattle.oai_cli.specs.declared.stop.Stop.TheVariants.{NoMemory, OutputFault};
+ghost use Rattle.oai_startup.specs.declared.stop.Stop.TheVariants.{NoMemory, OutputFault};
 
 pub(crate) mod events;
 pub(crate) mod labels;
@@ -16,11 +16,11 @@ pub(crate) mod outputs;
 
 use crate::connections::take_in;
 use crate::input::lines::Lines;
-use crate::stop::Stop;
 use crate::trace::events::{Event, parse_event};
 use crate::trace::labels::{Labels, connection_of, report};
 use oai_front::{ConnId, Front};
 use oai_http::Handler;
+use oai_startup::Stop;
 use std::alloc::Global;
 use std::collections::BTreeMap;
 use std::io::{Read, Write};

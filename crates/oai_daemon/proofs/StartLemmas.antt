@@ -2,7 +2,7 @@
 use Rattle.std.proofs.Common.{ℕ, Bool, IsTrue, List, [], Ok, subst}
 use Rattle.oai_config.specs.Configs.{HostConfig}
 use Rattle.oai_config.specs.Reading.{IsRead}
-use Rattle.oai_cli.specs.Begun.{IsBegunOn}
+use Rattle.oai_startup.specs.Begun.{IsBegunOn}
 use Rattle.oai_host.specs.Hosts.{HostState, Repository}
 use Rattle.oai_archive.specs.Readings.{HasBegun}
 use Rattle.oai_journal.specs.Records.{Entry}

@@ -2,7 +2,7 @@
 use crate::places::Place;
 use crate::renewals::renew;
 use oai_archive::{Stop, verify_journal};
-use oai_cli::config_in;
+use oai_startup::config_in;
 use std::alloc::Global;
 use std::io::Write;
 use std::rt::Clock;

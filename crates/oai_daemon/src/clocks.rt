@@ -1,6 +1,6 @@
 //! The clock of a server.
 use oai_archive::Stop;
-use oai_cli::Stop as Other;
+use oai_startup::Stop as Other;
 use std::cell::Cell;
 use std::io;
 use std::rt::Clock;

@@ -8,11 +8,11 @@ use crate::places::Place;
 use crate::starts::start;
 use crate::watched::Watched;
 use oai_archive::Stop;
-use oai_cli::{Stop as Other, config_in};
 use oai_durable::resume;
 use oai_http::{Replayed, Settled};
 use oai_journal::{FileJournal, Journal, Recovery};
 use oai_serving::{ServeFault, Server, Sockets, Stream};
+use oai_startup::{Stop as Other, config_in};
 use std::alloc::Global;
 use std::rt::Clock;
 

@@ -11,10 +11,10 @@ use crate::places::Place;
 use crate::recoveries::recover_all;
 use crate::renewals::replace_journal;
 use oai_archive::Stop;
-use oai_cli::{config_in, host_on};
 use oai_host::Host;
 use oai_journal::Recovery;
 use oai_paged::PagedVersions;
+use oai_startup::{config_in, host_on};
 use std::alloc::Global;
 use std::rt::Clock;
 

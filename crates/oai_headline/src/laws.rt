@@ -12,7 +12,7 @@ ghost use Rattle.oai_config.specs.Configs.{HostConfig, IsHostConfig};
 ghost use Rattle.oai_http.specs.declared.exchanges.Answer.{Answer};
 ghost use Rattle.oai_host.specs.Hosts.{AreAnswered, AreExchanged, HostState};
 ghost use Rattle.oai_host.specs.Tasks.{asking, task_of};
-ghost use Rattle.oai_cli.specs.Begun.{IsBegunOn};
+ghost use Rattle.oai_startup.specs.Begun.{IsBegunOn};
 ghost use Rattle.oai_headline.specs.Chains.{AreReached, IsFollowing, IsStepOf};
 ghost use Rattle.oai_headline.specs.Headline.{HaveRules, IsMadeOf};
 ghost use Rattle.oai_headline.specs.Throughout.{IsTrueVisit, IsThroughout, left_by, calls_done, visits_given};

@@ -5,7 +5,7 @@ ghost use Rattle.oai_host.specs.Hosts.{AreExchanged, HostState};
 ghost use Rattle.oai_http.specs.declared.exchanges.Answer.{Answer};
 ghost use Rattle.oai_http.specs.declared.exchanges.Call.{Call};
 ghost use Rattle.oai_headline.specs.Served.{AreServedOnPages};
-ghost use Rattle.oai_cli.specs.Begun.{IsBegunOn};
+ghost use Rattle.oai_startup.specs.Begun.{IsBegunOn};
 
 use oai_device::PageDevice;
 

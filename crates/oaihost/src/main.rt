@@ -3,14 +3,14 @@
 
 ghost use Rattle.std.specs.Prelude.{◌≡◌, IfOk};
 ghost use Rattle.std.specs.Process.{exit_status};
-ghost use Rattle.oai_cli.specs.Stops as spec;
+ghost use Rattle.oai_startup.specs.Stops as spec;
 
-use oai_cli::{
-    MAX_CONNECTIONS, Stop, ask_lines, check_config, empty_file, host_on, read_config, read_file,
-    read_number, serve_port, trace_lines, warnings_in,
-};
+use oai_cli::{MAX_CONNECTIONS, ask_lines, serve_port, trace_lines};
 use oai_device::{FileDevice, MemoryDevice};
 use oai_front::Front;
+use oai_startup::{
+    Stop, check_config, empty_file, host_on, read_config, read_file, read_number, warnings_in,
+};
 use std::env;
 use std::fs::File;
 use std::io::{self, BufWriter};

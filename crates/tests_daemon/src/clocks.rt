@@ -70,7 +70,10 @@ fn clock_gains_a_day(rt: HostRuntime) {
     let mut place = MemoryPlace::new(rt.alloc(), 100).expect(&rt, "place");
     place.rounds = 10;
     let ended = serve(rt.alloc(), &mut place, &clock, configuration());
-    assert_eq!(&rt; ended, Ok(Err(Stop::Common(oai_cli::Stop::SocketFault))));
+    assert_eq!(&rt;
+        ended,
+        Ok(Err(Stop::Common(oai_startup::Stop::SocketFault)))
+    );
 }
 
 /// A start in a place whose journal ends with a tick at that moment makes these calls.
@@ -78,7 +81,10 @@ fn assert_calls(rt: &impl Abort, alloc: Global, moment: i64, calls: &str) {
     let mut place = MemoryPlace::new(alloc, 100).expect(rt, "place");
     place.tick = Some(moment);
     let ended = serve(alloc, &mut place, &Standing, configuration());
-    assert_eq!(rt; ended, Ok(Err(Stop::Common(oai_cli::Stop::SocketFault))));
+    assert_eq!(rt;
+        ended,
+        Ok(Err(Stop::Common(oai_startup::Stop::SocketFault)))
+    );
     assert_eq!(rt; place.calls.as_str(), calls);
 }
 

@@ -4,11 +4,11 @@ ghost use Rattle.oai_journal.specs.Recovered.{disk_of};
 ghost use Rattle.std.specs.Prelude.{IsTrue};
 
 use oai_archive::Stop;
-use oai_cli::Stop as Other;
 use oai_daemon::{Note, Place};
 use oai_device::MemoryDevice;
 use oai_journal::{FileJournal, Journal, Kind, Record, Recovery};
 use oai_serving::{Readiness, Sockets, Stream};
+use oai_startup::Stop as Other;
 use sqlite_disk::{Disk, Memory};
 use std::alloc::{AllocError, Global};
 use std::io::{self, ErrorKind};

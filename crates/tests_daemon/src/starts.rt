@@ -2,8 +2,8 @@
 use crate::clocks::Standing;
 use crate::places::{MemoryPlace, configuration};
 use oai_archive::{Aspect, Difference, Stop};
-use oai_cli::Stop as Other;
 use oai_daemon::serve;
+use oai_startup::Stop as Other;
 use std::alloc::Global;
 use std::panic::Expect;
 use std::process::Abort;

@@ -2,9 +2,10 @@
 //! same exchange again is answered as if nothing had happened.
 use crate::assertions::{assert_same, assert_same_at};
 use oai_catalogue::{PlainVersions, Versions};
-use oai_cli::{config_in, write_answer};
+use oai_cli::write_answer;
 use oai_host::{Answer, Exchange, Host};
 use oai_item::Fault;
+use oai_startup::config_in;
 use std::alloc::Global;
 use std::panic::Expect;
 use std::process::Abort;

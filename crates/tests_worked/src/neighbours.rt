@@ -2,10 +2,11 @@
 //! few pages the cache of both has.
 use crate::asking::assert_transcript;
 use crate::assertions::{assert_same, assert_same_at};
-use oai_cli::{ask_lines, config_in, host_on};
+use oai_cli::ask_lines;
 use oai_device::MemoryDevice;
 use oai_host::Host;
 use oai_paged::PagedVersions;
+use oai_startup::{config_in, host_on};
 use std::alloc::Global;
 use std::panic::Expect;
 use std::process::Abort;

@@ -3,8 +3,9 @@ ghost use Rattle.std.specs.Prelude.{◌≡◌};
 ghost use Rattle.std.specs.Option.{option_copied, option_map};
 ghost use Rattle.oai_cli.specs.ExchangeLines as spec;
 
-use crate::input::parts::{cut, has_two_spaces, read_moment};
+use crate::input::parts::{cut, has_two_spaces};
 use oai_http::{Exchange, FORM};
+use oai_startup::read_moment;
 
 /// Reads a line: three or four parts between single spaces, of which the last goes to the end. It is a
 /// moment in seconds from 1970 on, a method, a target and a body; the body of a POST is a form.

@@ -4,12 +4,11 @@ ghost use Rattle.std.specs.Io.KnownBytes.{Consumes, IsAtEnd};
 ghost use Rattle.std.specs.List.{position};
 ghost use Rattle.oai_host.specs.Bodies.{is_line_end};
 ghost use Rattle.oai_cli.specs.Inputs as spec;
-ghost use Rattle.oai_cli.specs.declared.input.limits.TheConstants.{MAX_READS, READ_BYTES};
-ghost use Rattle.oai_cli.specs.declared.stop.Stop.TheVariants.{InputFault, NoMemory};
+ghost use Rattle.oai_startup.specs.declared.limits.TheConstants.{MAX_READS, READ_BYTES};
+ghost use Rattle.oai_startup.specs.declared.stop.Stop.TheVariants.{InputFault, NoMemory};
 
-use crate::input::limits::{MAX_READS, READ_BYTES};
-use crate::stop::Stop;
 use memchr::memchr;
+use oai_startup::{MAX_READS, READ_BYTES, Stop};
 use std::alloc::Global;
 use std::io::Read;
 use std::marker::Model;

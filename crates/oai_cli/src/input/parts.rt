@@ -1,11 +1,7 @@
-//! The parts of a line, between single spaces, and the numbers that they spell.
+//! The parts of a line, between single spaces.
 ghost use Rattle.std.specs.Prelude.{◌≡◌, ◌≤◌, length, nat_le};
 ghost use Rattle.std.specs.List.{count_by, list_any, position, position_or_len};
 ghost use Rattle.oai_cli.specs.ExchangeLines as spec;
-ghost use Rattle.oai_cli.specs.Numbers.{moment_of, number_in};
-
-/// What begins no number here, though `parse` takes it.
-const PLUS: &[u8] = b"+";
 
 /// How many spaces the text has.
 pub(crate) fn spaces(text: &[u8]) -> usize
@@ -58,30 +54,4 @@ fn first_space(text: &[u8]) -> Option<usize>
     ensures { result ≡ position spec.is_separator text.now }
 {
     text.iter().position(|b| *b == b' ')
-}
-
-/// Reads a moment: decimal digits, after a minus where it is negative.
-pub(crate) fn read_moment(text: &[u8]) -> Option<i64>
-    ensures { result ≡ moment_of text.now }
-{
-    if text.starts_with(PLUS) {
-        return None;
-    }
-    let Ok(text) = std::str::from_utf8(text) else {
-        return None;
-    };
-    text.parse().ok()
-}
-
-/// Reads a number: decimal digits alone, below 2^64.
-pub fn read_number(text: &[u8]) -> Option<u64>
-    ensures { result ≡ number_in text.now }
-{
-    if text.starts_with(PLUS) {
-        return None;
-    }
-    let Ok(text) = std::str::from_utf8(text) else {
-        return None;
-    };
-    text.parse().ok()
 }

@@ -4,13 +4,13 @@ ghost use Rattle.std.specs.Io.KnownBytes.{Appends, IsAtEnd};
 ghost use Rattle.oai_front.specs.declared.faults.PieceFault.{PieceFault};
 ghost use Rattle.oai_cli.specs.Outputs.{IsPieceAnswered, StaysApart, IsForgotten, IsServed, AnswersPieces, IsUsed, OthersStay, is_taking, IsOpenedFault, IsReadOnFault};
 ghost use Rattle.oai_cli.specs.declared.serve.streams.StreamFault.TheVariants as fault;
-ghost use Rattle.oai_cli.specs.declared.input.limits.TheConstants.{READ_BYTES};
+ghost use Rattle.oai_startup.specs.declared.limits.TheConstants.{READ_BYTES};
 
 use crate::connections::{forget_connection, take_in};
-use crate::input::limits::{MAX_READS, READ_BYTES};
 use crate::serve::buffers::{OutputBuffer, flush_output};
 use oai_front::{ConnId, Front, OpenFault, PieceFault};
 use oai_http::Handler;
+use oai_startup::{MAX_READS, READ_BYTES};
 use std::alloc::Global;
 use std::io::{Read, Write};
 use std::rt::Clock;

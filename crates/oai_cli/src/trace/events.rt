@@ -2,10 +2,10 @@
 ghost use Rattle.std.specs.Prelude.{◌≡◌};
 ghost use Rattle.oai_cli.specs.EventLines as spec;
 
-use crate::input::parts::{cut, read_moment, read_number, spaces};
-use crate::stop::Stop;
+use crate::input::parts::{cut, spaces};
 use hex::FromHexError;
 use oai_names::Sequence;
+use oai_startup::{Stop, read_moment, read_number};
 use std::alloc::Global;
 
 /// A line of a trace, as it is parsed: at a moment a piece comes on a connection, or the connection's end.

@@ -8,13 +8,13 @@ ghost use Rattle.oai_cli.specs.EventLines.{shown_close, shown_output};
 ghost use Rattle.oai_cli.specs.Outputs.{StaysApart, IsEmptied, IsUsed, output_of};
 ghost use Rattle.oai_cli.specs.Traces as spec;
 ghost use Rattle.oai_cli.specs.Traces.{IsBroken, IsUnopened, tracing};
-ghost use Rattle.oai_cli.specs.declared.stop.Stop.TheVariants.{NoMemory, OutputFault};
+ghost use Rattle.oai_startup.specs.declared.stop.Stop.TheVariants.{NoMemory, OutputFault};
 
 use crate::connections::forget_connection;
-use crate::stop::Stop;
 use crate::trace::outputs::take_output;
 use oai_front::{ConnId, Front, OpenFault};
 use oai_http::Handler;
+use oai_startup::Stop;
 use std::alloc::Global;
 use std::collections::BTreeMap;
 use std::io::Write;

@@ -1,12 +1,12 @@
 //! All that a connection has to write, at once.
 ghost use Rattle.std.specs.Prelude.{◌≡◌, ◌++◌, IfOk, IfErr, OnOk};
 ghost use Rattle.oai_cli.specs.Outputs as spec;
-ghost use Rattle.oai_cli.specs.declared.stop.Stop.TheVariants.{NoMemory};
+ghost use Rattle.oai_startup.specs.declared.stop.Stop.TheVariants.{NoMemory};
 
 use crate::connections::next_output;
-use crate::stop::Stop;
 use oai_front::{ConnId, Front};
 use oai_http::Handler;
+use oai_startup::Stop;
 use std::alloc::Global;
 
 /// Takes all that the connection has to write. The error is `NoMemory`.

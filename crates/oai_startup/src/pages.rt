@@ -3,10 +3,10 @@ ghost use Rattle.std.specs.Prelude.{◌≡◌, IfErr, IfOk};
 ghost use Rattle.oai_catalogue.specs.Store.{no_lists};
 ghost use Rattle.oai_paged.specs.Store.{pool_of};
 ghost use Rattle.oai_pool.specs.Pool.{device_of};
-ghost use Rattle.oai_cli.specs.Begun.{IsBegunOn, all_calls};
-ghost use Rattle.oai_cli.specs.declared.stop.Stop.TheVariants.{NoMemory};
+ghost use Rattle.oai_startup.specs.Begun.{IsBegunOn, all_calls};
+ghost use Rattle.oai_startup.specs.declared.stop.Stop.TheVariants.{NoMemory};
 
-use crate::input::configurations::host_over;
+use crate::configurations::host_over;
 use crate::stop::Stop;
 use oai_catalogue::Versions;
 use oai_device::PageDevice;

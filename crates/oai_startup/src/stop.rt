@@ -1,6 +1,6 @@
 //! Why the program stops, what it says then, and its exit status.
 ghost use Rattle.std.specs.Prelude.{◌≡◌};
-ghost use Rattle.oai_cli.specs.Stops as spec;
+ghost use Rattle.oai_startup.specs.Stops as spec;
 
 use oai_host::ReadFault;
 use std::error::Error;
@@ -59,7 +59,7 @@ impl Stop {
 /// What the program says of it on standard error.
 impl fmt::Display for Stop {
     ghost use Rattle.std.specs.Prelude.{Some};
-    ghost use Rattle.oai_cli.specs.Stops.{stop_text};
+    ghost use Rattle.oai_startup.specs.Stops.{stop_text};
 
     ghost output = { λ stop. Some (stop_text stop) };
 

@@ -1,6 +1,6 @@
 use Rattle.std.proofs.Common.{◌<◌, vec_len}
 use Rattle.std.specs.Io.KnownBytes.{Consumes}
-use Rattle.oai_cli.proofs.input.configurations.read_text.Given as goal
+use Rattle.oai_startup.proofs.configurations.read_text.Given as goal
 
 -- the text so far is what was read
 abbrev pub invariant-loop : goal.invariant-loop

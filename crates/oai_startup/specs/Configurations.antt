@@ -4,8 +4,8 @@ use Rattle.oai_config.specs.Configs.{HostConfig}
 use Rattle.oai_config.specs.Reading.{IsRead}
 use Rattle.oai_config.specs.Warnings.{warnings_of}
 use Rattle.oai_config.specs.declared.faults.ReadFault.TheVariants as fault
-use Rattle.oai_cli.specs.declared.stop.Stop.{Stop}
-use Rattle.oai_cli.specs.declared.stop.Stop.TheVariants.{BadConfig, CannotRead, NoMemory, OutputFault}
+use Rattle.oai_startup.specs.declared.stop.Stop.{Stop}
+use Rattle.oai_startup.specs.declared.stop.Stop.TheVariants.{BadConfig, CannotRead, NoMemory, OutputFault}
 
 -- the configuration in the text; or its fault; or memory was refused
 abbrev pub IsConfigIn : List ℕ → Result HostConfig Stop → Type 0

@@ -4,10 +4,10 @@ ghost use Rattle.std.specs.Io.KnownBytes.{Appends};
 ghost use Rattle.std.specs.String.{string_bytes};
 ghost use Rattle.oai_host.specs.Hosts.{begun};
 ghost use Rattle.oai_config.specs.Reading.{IsRead};
-ghost use Rattle.oai_cli.specs.Configurations as spec;
-ghost use Rattle.oai_cli.specs.declared.stop.Stop.TheVariants.{NoMemory, OutputFault};
+ghost use Rattle.oai_startup.specs.Configurations as spec;
+ghost use Rattle.oai_startup.specs.declared.stop.Stop.TheVariants.{NoMemory, OutputFault};
 
-use crate::input::limits::{MAX_READS, READ_BYTES};
+use crate::limits::{MAX_READS, READ_BYTES};
 use crate::stop::Stop;
 use oai_catalogue::Versions;
 use oai_config::write_warnings;

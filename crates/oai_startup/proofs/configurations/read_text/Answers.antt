@@ -1,7 +1,7 @@
 -- A piece more was read, or all was.
 use Rattle.std.proofs.Common.{◌≡◌, ◌++◌, [], take, refl, rules}
-use Rattle.oai_cli.proofs.KnownLemmas.{consumed_end, consumes_both, consumes_none, read_front}
-use Rattle.oai_cli.proofs.input.configurations.read_text.Goals as goal
+use Rattle.oai_startup.proofs.KnownLemmas.{consumed_end, consumes_both, consumes_none, read_front}
+use Rattle.oai_startup.proofs.configurations.read_text.Goals as goal
 
 pub loop-init : goal.loop-init
 loop-init g c = record { read = rw c.new-text.ensures.items (consumes_none (g.R.Read.remaining c.args.reader.now)); room = search rules }
