@@ -1,7 +1,8 @@
 //! A checkpoint, written on a disk beside an archive's journal, and read back before it takes its place.
 ghost use Rattle.oai_archive.specs.Readings.{HasBegun, IsReadBack};
+ghost use Rattle.oai_durable.specs.Checkpoints.{HoldsCheckpoint};
 ghost use Rattle.oai_journal.specs.Recovered.{disk_of};
-ghost use Rattle.std.specs.Prelude.{IfOk, IsTrue, OnOk};
+ghost use Rattle.std.specs.Prelude.{◌≡◌, IfOk, IsTrue, OnOk};
 
 use crate::journals::{begin_reading, create_journal, stop_of_journal};
 use crate::recoveries::{Counted, stop_of_recovery};
@@ -9,13 +10,13 @@ use crate::stop::{Aspect, Difference, Stop};
 use oai_durable::{CheckpointFault, RecoverFault, checkpoint, recover};
 use oai_http::Replayed;
 use oai_item::Fault;
-use oai_journal::Recovery;
+use oai_journal::{FileJournal, Journal, Recovery};
 use oai_startup::Stop as Other;
 use sqlite_disk::Disk;
 use std::alloc::Global;
 
 /// Writes what the handler keeps as a checkpoint on the disk, which is empty, at the moment, with the configuration in the text, and the
-/// number of each next list raised by so many.
+/// number of each next list raised by so many. The journal that is returned holds its records.
 pub fn write_checkpoint<H: Replayed, D: Disk + Drop>(
     alloc: Global,
     disk: D,
@@ -23,10 +24,20 @@ pub fn write_checkpoint<H: Replayed, D: Disk + Drop>(
     text: &[u8],
     handler: &mut H,
     raise: u32,
-) -> Result<(), Stop> {
+) -> Result<FileJournal<D>, Stop>
+    ensures saved { IfOk result (λ written. IsTrue (H.is_honest handler.old)
+        → HoldsCheckpoint (record {
+          leaving = record { redone = H.redone; restored = H.restored };
+          reply = H.reply;
+          parts = H.parts;
+          ended = H.ended;
+          emptied = H.emptied;
+        }) ⟦<FileJournal<D> as Journal>⟧ (H.kept handler.old) raise written) }
+    ensures same { H.kept handler.new ≡ H.kept handler.old }
+{
     let journal = create_journal(alloc, disk, moment, text)?;
     match checkpoint(handler, raise, journal) {
-        Ok(_) => Ok(()),
+        Ok(written) => Ok(written),
         Err(CheckpointFault::Reading(Fault::NoMemory)) => Err(Stop::Common(Other::NoMemory)),
         Err(CheckpointFault::Reading(_)) => Err(Stop::Common(Other::DeviceFault)),
         Err(CheckpointFault::Numbers) => Err(Stop::CannotWrite),

@@ -1,7 +1,10 @@
 //! The journal of an archive, begun, and read as far as its first record.
 ghost use Rattle.oai_archive.specs.Readings.{HasBegun, IsReadBack};
-ghost use Rattle.oai_journal.specs.Recovered.{disk_of};
-ghost use Rattle.std.specs.Prelude.{IfOk, IsTrue};
+ghost use Rattle.oai_archive.specs.Firsts.{IsOf, first_body, program};
+ghost use Rattle.oai_journal.specs.Kept.{HoldsFirst};
+ghost use Rattle.oai_journal.specs.Records.{Entry};
+ghost use Rattle.oai_journal.specs.Recovered.{current, disk_of};
+ghost use Rattle.std.specs.Prelude.{◌≡◌, IfOk, IsTrue, Some};
 
 use crate::firsts::{PROGRAM, config_of, is_of, write_first};
 use crate::stop::Stop;
@@ -16,7 +19,10 @@ pub fn create_journal<D: Disk + Drop>(
     disk: D,
     moment: i64,
     text: &[u8],
-) -> Result<FileJournal<D>, Stop> {
+) -> Result<FileJournal<D>, Stop>
+    ensures { IfOk result (λ journal. (first : Entry) × HoldsFirst D.Disk.seen D.Disk.may_leave journal first
+        × (first.name ≡ program) × (first.body ≡ first_body text.now)) }
+{
     let body = write_first(alloc, text)?;
     let first = Record {
         moment,
@@ -65,7 +71,10 @@ pub fn has_config<D: Disk + Drop>(
     alloc: Global,
     recovery: &Recovery<D>,
     text: &[u8],
-) -> Result<bool, Stop> {
+) -> Result<bool, Stop>
+    ensures { IfOk result (λ same. IsTrue same → (first : Entry) → current recovery.now ≡ Some first
+        → IsOf first.name first.body text.now) }
+{
     match recovery.record() {
         Some(first) => is_of(alloc, &first, text),
         None => Err(Stop::NotOurs),

@@ -52,7 +52,8 @@ fn begin_checkpoint<P: Place, H: Replayed, C: Clock>(
     raise: u32,
 ) -> Result<(), Stop> {
     let disk = place.begin_journal()?;
-    write_checkpoint(alloc, disk, moment_of(clock)?, text, handler, raise)
+    drop(write_checkpoint(alloc, disk, moment_of(clock)?, text, handler, raise)?);
+    Ok(())
 }
 
 /// Reads the checkpoint back that was written, as a start does, and makes it the journal of the place.

@@ -81,3 +81,10 @@ pub journal_left : {D : Type 0} (seen : D → List ℕ) (may_leave : D → List 
 journal_left seen may_leave journal entries durable found held left =
     let survives = (held.1).survives left.file left.left in
     record { count = survives.count; enough = survives.enough; is = survives.only left.first found left.ends }
+
+-- and it leaves one
+pub journal_stays : {D : Type 0} (seen : D → List ℕ) (may_leave : D → List ℕ → Type 0) → ((disk : D) → may_leave disk (seen disk)) → (journal : FileJournal D) (entries : List Entry) (durable : ℕ)
+    → HoldsRecords seen may_leave journal entries durable → (found : List Entry) × MayLeaveRecords may_leave journal.disk found
+journal_stays seen may_leave stays journal entries durable held =
+    let survives = (held.1).survives (seen journal.disk) (stays journal.disk) in
+    (take survives.count entries, record { file = seen journal.disk; left = stays journal.disk; first = held.0; ends = survives.ends })

@@ -31,7 +31,7 @@ pub struct FileJournal<D: Disk> {
 
 impl<D: Disk + Drop> Journal for FileJournal<D> {
     ghost use Rattle.oai_journal.specs.Kept.{HasRoom, HoldsRecords, HasNotStopped, LeavesAllOrNone, MayLeaveRecords};
-    ghost use Rattle.oai_journal.specs.Kept.{journal_left, room_for_less};
+    ghost use Rattle.oai_journal.specs.Kept.{journal_left, journal_stays, room_for_less};
 
     ghost holds = { λ journal entries durable. HoldsRecords D.Disk.seen D.Disk.may_leave journal entries durable };
 
@@ -40,6 +40,9 @@ impl<D: Disk + Drop> Journal for FileJournal<D> {
     ghost has_room = { λ journal bytes. HasRoom journal.pending bytes };
 
     ghost less_room = { λ journal bytes less low room. room_for_less journal.pending bytes less low room };
+
+    ghost stays = { λ journal entries durable held.
+        journal_stays D.Disk.seen D.Disk.may_leave D.Disk.seen_may_stay journal entries durable held };
 
     ghost left = { λ journal entries durable found held left.
         journal_left D.Disk.seen D.Disk.may_leave journal entries durable found held left };

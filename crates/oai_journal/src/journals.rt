@@ -72,6 +72,10 @@ pub trait Journal: Drop {
     ghost less_room: { (journal : Self) (bytes less : ℕ) → less ≤ bytes → has_room journal bytes
         → has_room journal less };
 
+    /// A crash leaves some records.
+    ghost stays: { (journal : Self) (entries : List Entry) (durable : ℕ) → holds journal entries durable
+        → (found : List Entry) × may_leave journal found };
+
     /// What a crash leaves is a prefix of the records that has all durable ones.
     ghost left: { (journal : Self) (entries : List Entry) (durable : ℕ) (found : List Entry)
         → holds journal entries durable → may_leave journal found → IsLeft durable entries found };
