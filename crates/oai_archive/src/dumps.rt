@@ -24,19 +24,29 @@ pub fn dump_repository<D: Disk + Drop, W: Write>(
     name: &str,
     writer: &mut W,
 ) -> Result<(), Stop> {
-    let mut recovery = begin_reading(alloc, disk)?;
+    let recovery = begin_reading(alloc, disk)?;
     let text = config_text(alloc, &recovery)?;
     check_name(alloc, &text, name)?;
-    let mut host = host_on(alloc, config_in(alloc, &text)?, MemoryDevice::new(alloc))?;
-    perform_all(&mut host, &mut recovery)?;
-    drop(recovery);
+    let host = host_on(alloc, config_in(alloc, &text)?, MemoryDevice::new(alloc))?;
+    dump_replayed(alloc, host, recovery, name, writer)
+}
+
+/// Replays the records of the journal by the handler, and writes what its repository of that name holds.
+fn dump_replayed<H: Replayed + Drop, D: Disk + Drop, W: Write>(
+    alloc: Global,
+    mut handler: H,
+    mut recovery: Recovery<D>,
+    name: &str,
+    writer: &mut W,
+) -> Result<(), Stop> {
+    perform_all(&mut handler, &mut recovery)?;
     let mut lines = Lines {
         alloc,
         name: name.as_bytes(),
         writer,
         stop: None,
     };
-    let saved = host.save(0, &mut lines);
+    let saved = handler.save(0, &mut lines);
     finish(saved, lines)
 }
 

@@ -1,10 +1,12 @@
 //! A journal that is replaced by a checkpoint.
 use crate::clocks::moment_of;
+use crate::dated::Dated;
 use crate::journals::read_first;
 use crate::places::Place;
-use crate::starts::{Started, host_in, recovered_host};
+use crate::starts::{host_in, recovered_host};
 use oai_archive::{Stop, check_differences, config_text, read_checkpoint, write_checkpoint};
 use oai_http::Replayed;
+use oai_journal::Recovery;
 use std::alloc::Global;
 use std::rt::Clock;
 
@@ -25,13 +27,13 @@ pub(crate) fn renew<P: Place, C: Clock>(
     replace_journal(alloc, place, clock, text, started, raise)
 }
 
-/// Replaces the journal of the place, whose records the host has performed again, as `renew` does.
-pub(crate) fn replace_journal<P: Place, C: Clock>(
+/// Replaces the journal of the place, whose records the handler has replayed, as `renew` does.
+pub(crate) fn replace_journal<P: Place, H: Replayed + Drop, C: Clock>(
     alloc: Global,
     place: &mut P,
     clock: &C,
     text: &[u8],
-    started: Started<P>,
+    started: (Recovery<P::Disk>, Dated<H>),
     raise: u32,
 ) -> Result<(), Stop> {
     let (recovery, mut recovered) = started;
@@ -60,6 +62,16 @@ fn begin_checkpoint<P: Place, H: Replayed, C: Clock>(
 fn keep_checkpoint<P: Place>(alloc: Global, place: &mut P, text: &[u8]) -> Result<(), Stop> {
     let disk = place.open_begun()?;
     let host = host_in(alloc, place, text)?;
-    let begun = read_checkpoint(alloc, disk, host)?;
+    keep_read_back(alloc, place, disk, host)
+}
+
+/// Reads the checkpoint on the disk back by the handler, and makes it the journal of the place.
+fn keep_read_back<P: Place, H: Replayed + Drop>(
+    alloc: Global,
+    place: &mut P,
+    disk: P::Disk,
+    handler: H,
+) -> Result<(), Stop> {
+    let begun = read_checkpoint(alloc, disk, handler)?;
     place.keep_journal(begun)
 }

@@ -97,7 +97,7 @@ fn read_port(text: &[u8]) -> Option<u16> {
 }
 
 /// Serves the configuration in the file on the port, with the journal in the folder.
-fn run_serve(rt: &HostRuntime, path: &str, port: u16, folder: &str) -> Result<(), Stop> {
+fn run_serve<'a>(rt: &'a HostRuntime, path: &str, port: u16, folder: &'a str) -> Result<(), Stop> {
     let text = read_file(rt, path)?;
     let mut place = HostPlace::new(rt, folder, port);
     serve(rt.alloc(), &mut place, rt, &text)?.outcome()
