@@ -1,6 +1,6 @@
-//! What the program does with its inputs and outputs, over any readers, writers, streams and clocks: the
-//! configuration that it is called with and the host of it, over any device of pages, the exchanges and the
-//! connections that stand in the lines of an input, and the connections that it serves.
+//! What the program does with its inputs and outputs, over any readers, writers, streams and clocks: the configuration
+//! that it is called with and its host, over any device of pages, the exchanges and the connections in the lines of an
+//! input, and the connections that it serves.
 #![tactic(auto)]
 
 mod ask;
