@@ -1,4 +1,4 @@
--- A life of the server that people run: a start, and the service behind it. This repository's own.
+-- A life of the server that people run: a startup, and the service after it. This repository's own.
 use Rattle.std.specs.Prelude.{◌≡◌, ℕ, Bool, IsTrue, List, [], length, map, Option, Result, Ok}
 use Rattle.oai_config.specs.Configs.{HostConfig}
 use Rattle.oai_config.specs.Reading.{IsRead}
@@ -14,15 +14,16 @@ use Rattle.oai_serving.specs.declared.faults.ServeFault.{ServeFault}
 use Rattle.oai_durable.specs.Journaled.{IsExchange, IsHeld, IsSettled, Parts}
 use Rattle.oai_daemon.specs.Archives.{archived}
 
--- the host begins with these records performed again, which are all that the journal's file has, and all of them are durable
+-- the host begins with these records replayed, which are all that the journal's file has, and all of them are durable
 pub record BeginsWithAll {D : Type 0} (j : journal.Ghosts (FileJournal D)) (file : List ℕ) (config : HostConfig) (parts : Parts HostState (FileJournal D)) : Type 0 where
   pub first : Entry
   pub found : List Entry
   pub all : IsUndamaged file first found
   pub held : IsHeld archived j (map begun config.repositories) parts found (length found)
 
--- the server of the configuration in the text lived: over a disk that gave back what was written to it, as far as the journal was read, it began with
--- all of the journal's records performed again; it had no connection then; and it was a service
+-- the server of the configuration in the text lived: over a disk that returned what was written to it, as far as the
+-- journal was read, it began with all of the journal's records replayed; it had no connection then; and it was a
+-- service
 pub record HasLived {S D : Type 0} (j : journal.Ghosts (FileJournal D)) (seen : D → List ℕ) (is_clean : D → Bool) (contents remaining : S → Option (List ℕ)) (text : List ℕ) : Type 0 where
   pub config : HostConfig
   pub read : IsRead text (Ok config)

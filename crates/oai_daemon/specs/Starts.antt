@@ -1,4 +1,4 @@
--- How far a start has come, of which a life is made. This repository's own.
+-- How far a startup has come, with which a life begins. This repository's own.
 use Rattle.std.specs.Prelude.{◌≡◌, ℕ, Bool, IsTrue, List, [], length, map, Option, Result, Ok}
 use Rattle.oai_config.specs.Configs.{HostConfig}
 use Rattle.oai_config.specs.Reading.{IsRead}
@@ -16,16 +16,16 @@ use Rattle.oai_durable.specs.Records.{Leaving}
 use Rattle.oai_durable.specs.Recovered.{HasRedone, IsRecovered}
 use Rattle.oai_daemon.specs.Archives.{archived}
 
--- all records of the journal were read and performed again, from that beginning
+-- all records of the journal were read and replayed, from that beginning
 abbrev pub HasRedoneAll : {H K D : Type 0} → (H → K) → (H → Bool) → Leaving K → (D → List ℕ) → (D → List ℕ → Type 0) → K → H → Recovery D → Type 0
 HasRedoneAll kept is_honest leaving seen may_leave begun handler recovery =
     (first : Entry) × (count : ℕ) × IsRecovered kept is_honest leaving seen may_leave begun handler recovery first count
 
--- the host is of the configuration in the text, as it begins
+-- the host is of the configuration in the text, in its initial state
 abbrev pub IsHostOf : List ℕ → HostState → Type 0
 IsHostOf text host = (config : HostConfig) × IsRead text (Ok config) × (host.repositories ≡ map begun config.repositories)
 
--- the host of the configuration in the text has performed all records of the journal again
+-- the host of the configuration in the text has replayed all records of the journal
 pub record HasStarted {D : Type 0} (seen : D → List ℕ) (may_leave : D → List ℕ → Type 0) (is_clean : D → Bool) (text : List ℕ) (host : HostState) (recovery : Recovery D) : Type 0 where
   pub config : HostConfig
   pub read : IsRead text (Ok config)
@@ -44,7 +44,7 @@ pub record HasServed {S H : Type 0} (step : Steps H) (settled : Settles H) (cont
   pub none : old.last ≡ 0
   pub serves : IsService step settled contents remaining known later old result new
 
--- the handler served with the journal whose records it performed again
+-- the handler served with the journal whose records it replayed
 pub record HasResumed {S H D : Type 0} (h : Replaying H) (j : journal.Ghosts (FileJournal D)) (seen : D → List ℕ) (may_leave : D → List ℕ → Type 0)
     (contents remaining : S → Option (List ℕ)) (handler : H) (recovery : Recovery D) : Type 0 where
   pub parts : Parts H (FileJournal D)
