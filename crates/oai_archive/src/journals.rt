@@ -72,7 +72,8 @@ pub fn has_config<D: Disk + Drop>(
     }
 }
 
-/// A copy of the configuration in the first record, which was read. The errors are `NotOurs`, `OfVersion` and `NoMemory`.
+/// A copy of the configuration in the first record, which was read. The errors are `NotOurs`, `OfVersion` and
+/// `NoMemory`.
 pub fn config_text<D: Disk + Drop>(alloc: Global, recovery: &Recovery<D>) -> Result<Vec<u8>, Stop> {
     let Some(first) = recovery.record() else {
         return Err(Stop::NotOurs);
