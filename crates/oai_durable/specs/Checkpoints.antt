@@ -101,8 +101,8 @@ abbrev pub raises_by : Event → List ℕ
 raises_by (done entry) = []
 raises_by (lists_ended raise) = raise ∷ []
 
--- the stages are one history: it leaves what the records of the last of them leave, every answer that was sent has its
--- place in it, in order over all lives, and only checkpoints ended lists
+-- the stages are one history: it has the effect of the records that the last of them left, every answer that was sent
+-- has its place in it, in order over all lives, and only checkpoints ended lists
 pub record IsHistory {K : Type 0} (s : Saving K) (begun : K) (stages : List Stage) (left : List Entry) : Type 0 where
   pub history : List Event
   pub leaves : after_all s begun history ≡ redone_all s.leaving begun left

@@ -35,7 +35,7 @@ pub record Life : Type 0 where
   pub answered : List Exchanged
   pub held : List Exchanged
 
--- it begins in the state that the records leave that it found; and it leaves all of these, those of the exchanges whose
+-- it begins in the state after the records that it found; and it leaves all of these, then those of the exchanges whose
 -- answers were sent, and a prefix of the others
 pub record IsLife {K : Type 0} (leaving : Leaving K) (reply : K → Call → Answer) (begun : K) (found : List Entry) (life : Life) (left : List Entry) : Type 0 where
   pub places : HavePlaces leaving reply begun found (life.answered ++ life.held)

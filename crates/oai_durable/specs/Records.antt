@@ -19,7 +19,7 @@ kind_of Deposits lines = Deposit
 kind_of Requests [] = Tick
 kind_of Requests (byte ∷ bytes) = Oai
 
--- the most bytes that a record of the exchange may have: those of its target or of its body
+-- the maximum length of a record of the exchange: that of its target or of its body
 abbrev pub most_in : Exchange → ℕ
 most_in exchange = max (length exchange.target.now) (length exchange.body.now)
 

@@ -67,11 +67,11 @@ pub fn service_law<S: Stream, H: Replayed, J: Journal>()
         → IsRemembered S.contents S.remaining (record { redone = H.redone; restored = H.restored }) H.reply begun found known later old new left }
 {}
 
-/// Lives, with checkpoints between them: all of them are one history, which leaves what the records of the last stage
-/// leave. Every answer that was sent has its place in it, in order over all lives: an answer without a fault is what
-/// the history before it makes of the request, and its own record follows. All else in it was performed, and its answer
-/// held back; or it is a checkpoint, at which all lists ended and the number of each next list was raised. So a token
-/// is answered as before or refused, and no list number is given twice.
+/// Lives, with checkpoints between them: all of them are one history, with the effect of the records that the last
+/// stage left. Every answer that was sent has its place in it, in order over all lives: an answer without a fault is
+/// what the history before it makes of the request, and its own record follows. All else in it was performed, and its
+/// answer held back; or it is a checkpoint, at which all lists ended and the number of each next list was raised. So a
+/// token is answered as before or refused, and no list number is given twice.
 pub fn stages_law<H: Replayed>()
     ensures { (begun : H.Kept) (stages : List Stage) (left : List Entry)
         → H.emptied begun ≡ begun

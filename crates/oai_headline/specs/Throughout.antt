@@ -1,4 +1,4 @@
--- The theorem of a host whatever memory was refused and whichever device calls failed, in one record. OAI-PMH 2.0,
+-- The theorem of a host whatever memory was refused and whichever device calls failed, in one definition. OAI-PMH 2.0,
 -- sections 2.7, 3.1.2.2 and 3.5; deposits, and many repositories behind one interface, are this repository's own.
 use Rattle.std.specs.Prelude.{◌≡◌, ◌<◌, ℕ, Bool, true, false, ◌&&◌, if◌then◌else◌, is_none, List, [], ◌∷◌, ◌++◌, length, take, filter, Option, None, Some, unwrap_or}
 use Rattle.std.specs.List.{AllByRecursion, AllZip, flat_map}

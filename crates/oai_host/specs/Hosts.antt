@@ -80,8 +80,8 @@ AreExchanged (call ∷ calls) [] before after = ⊥
 AreExchanged (call ∷ calls) (answer ∷ answers) before after =
     (between : HostState) × IsExchanged call answer before between × AreExchanged calls answers between after
 
--- between the exchanges of a repository others may use the store: its device stays as honest as it was, and may have
--- failed more often
+-- between the exchanges of a repository others may use the store: the honesty of its device is unchanged, and it may
+-- have failed more often
 pub record IsLater (old new : StoreState) : Type 0 where
   pub honesty : new.honest ≡ old.honest
   pub count : old.failures ≤ new.failures

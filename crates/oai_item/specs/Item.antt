@@ -23,11 +23,11 @@ pub record ItemState : Type 0 where
   pub sets : List (List ℕ)
   pub formats : List Metadata
 
--- the first text stands before the second, byte by byte
+-- the first text precedes the second, byte by byte
 abbrev pub is_before : List ℕ → List ℕ → Bool
 is_before a b = is_lt (slice_cmp nat_cmp a b)
 
--- each prefix stands before the next
+-- each prefix precedes the next
 abbrev pub are_rising : List Metadata → Bool
 are_rising [] = true
 are_rising (a ∷ []) = true

@@ -11,7 +11,7 @@ use Rattle.oai_item.specs.Order.{are_in_order}
 use Rattle.oai_settings.specs.Config.{Config}
 use Rattle.oai_laws.specs.Following.{ListRequest}
 
--- ---- what is asked for
+-- ---- what the request asks for
 
 -- the datestamp is not before the day or the second that the text of `from` stands for (section 2.7.1)
 abbrev pub IsFrom : List ℕ → ℤ → Type 0

@@ -23,7 +23,7 @@ pub record AreEntries (bytes ends : List ℕ) : Type 0 where
   pub ending : ends ≡ ends_from 0 (items_with bytes ends)
   pub storable : AreStorable (items_with bytes ends)
 
--- the first so many of the bytes are an entry
+-- the first that many bytes are an entry
 pub record HasEntry (bytes : List ℕ) (len : ℕ) : Type 0 where
   pub item : ItemState
   pub spelled : Spells (encoded item) item

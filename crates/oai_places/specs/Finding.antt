@@ -1,5 +1,5 @@
--- What is looked for on a page whose entries were not validated, for private functions. All of it is said of the items
--- whose page the bytes are; if they are that of none, as they may be over a faulty device, nothing is said.
+-- What is looked for on a page whose entries were not validated, for private functions. The definitions speak of the
+-- items whose page the bytes are, and say nothing if there are none, as over a faulty device.
 use Rattle.std.specs.Prelude.{◌≡◌, ◌+◌, ℕ, ℤ, true, List, ◌++◌, length, Option, Some, None, Result, Ok, Err, ⊤}
 use Rattle.oai_item.specs.Item.{ItemState}
 use Rattle.oai_item.specs.Items.{item_at}

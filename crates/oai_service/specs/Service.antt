@@ -1,5 +1,5 @@
--- The theorem of a server over all its lives, in one record. OAI-PMH 2.0, sections 2.7, 3.1.2.2 and 3.5; connections,
--- deposits, lives, and many repositories behind one interface are this repository's own.
+-- The theorem of a server over all its lives, in one definition. OAI-PMH 2.0, sections 2.7, 3.1.2.2 and 3.5;
+-- connections, deposits, lives, and many repositories behind one interface are this repository's own.
 use Rattle.std.specs.Prelude.{◌≡◌, ℕ, List, [], ◌∷◌, ◌++◌, map, Option}
 use Rattle.std.specs.List.{AllByRecursion, AllZip, flat_map}
 use Rattle.oai_journal.specs.Records.{Entry}
@@ -76,14 +76,15 @@ eras_left begun before (era ∷ eras) = eras_left begun (redone_all leaving begu
 
 -- ---- the theorem
 
--- the eras are one history, which is told. `received`: each client read a prefix of the answers to the messages that it
--- sent. `recorded`: a turn did what the replay of its own record does, after the records before it. `answered`: at each
--- repository each answer without a fault is the machine's after what was performed before it, in whichever life, and
--- one with a fault did what its number of lines says, or nothing. `kept`: in an era each life begins with the records
--- of all turns before it, those of the answers that were sent among them. `ended`: each era begins with all that was
--- kept before it except the open lists, and raises the number of the next list. `followed`: if visits without a fault
--- follow a list by its unexpired tokens within an era, their pages, joined, are the records selected at the first of
--- them; a token of an earlier era is refused. `harvested`: harvests miss nothing, in whichever eras they are made
+-- the eras are one history, written as turns. `received`: each client read a prefix of the answers to the messages that
+-- it sent. `recorded`: a turn did what the replay of its own record does, after the records before it. `answered`: at
+-- each repository each answer without a fault is the machine's after what was performed before it, in whichever life,
+-- and one with a fault did what its number of lines says, or nothing. `kept`: in an era each life begins with the
+-- records of all turns before it, those of the answers that were sent among them. `ended`: each era begins with all
+-- that was kept before it except the open lists, and raises the number of the next list. `followed`: if visits without
+-- a fault follow a list by its unexpired tokens within an era, their pages, joined, are the records selected at the
+-- first of them; a token of an earlier era is refused. `harvested`: harvests miss nothing, in whichever eras they are
+-- made
 pub record IsServed {S H J : Type 0} (config : HostConfig) (contents remaining : S → Option (List ℕ)) (eras : List (ServerEra S H J)) : Type 0 where
   pub told : List (List Told)
   pub received : AllZip (λ (era : ServerEra S H J) (t : List Told). AllZip (IsReceivedIn contents remaining) era.lives t) eras told
