@@ -57,8 +57,8 @@ impl Copy {
     }
 }
 
-/// What a new copy holds after harvests, one after the other: under each identifier the last item with that identifier
-/// in any of them, in the order of the identifiers, which are distinct. A theorem, proved by an empty function.
+/// After harvests, one after the other, a new copy holds under each identifier the last item with that identifier in
+/// any of them, in the order of the identifiers, which are distinct. A theorem, proved by an empty function.
 pub fn copy_law()
     ensures last { (harvests : List (List ItemState)) (identifier : List ℕ)
         → item_named identifier (caught_up_with [] harvests)

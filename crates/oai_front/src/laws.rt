@@ -46,9 +46,9 @@ pub fn run_law<H: Handler>()
     ensures begun { IsUnfinished [] }
 {}
 
-/// What a client reads of an answer, by the grammar of `httparse` and whatever follows: the status, one length, which
-/// is the body's, and whether the connection is closed. So it knows where the next answer begins. A theorem, proved by
-/// an empty function.
+/// A client reads of an answer, by the grammar of `httparse` and whatever follows, the status, one length, which is the
+/// body's, and whether the connection is closed. So it knows where the next answer begins. A theorem, proved by an
+/// empty function.
 pub fn head_law()
     ensures answers { (target : List ℕ) (last : Bool) (answer : Given) (others : List ℕ)
         → IsReadBack (answer_bytes target last answer ++ others) answer.status last answer.body others }

@@ -38,12 +38,13 @@ pub fn carried_law()
         → AllByRecursion (IsWrittenVisit config) (visits config state calls) }
 {}
 
-/// A list that is followed by exchanges (OAI-PMH 2.0, section 3.5). Among the exchanges with a repository alone, from
-/// its beginning on, one requests a list that is too long for one answer and is not answered 503; and others, each
-/// after the one before it, come with the token that the previous answer prints, before its expirationDate. Then each
-/// of them is a step of the machine and is answered with its page, written; and the pages, joined, are what was
-/// selected at the first of them, as `following_law` of `oai_laws` says. And exchanges whose steps are a chain of the
-/// machine are such a chain: the machine's answers satisfy what is required of a printed token. The function is empty.
+/// A list that is followed by exchanges is what was selected at its first request (OAI-PMH 2.0, section 3.5). Among the
+/// exchanges with a repository alone, from its beginning on, one requests a list that is too long for one answer and is
+/// not answered 503; and others, each after the one before it, come with the token that the previous answer prints,
+/// before its expirationDate. Then each of them is a step of the machine and is answered with its page, written; and
+/// the pages, joined, are what was selected at the first of them, as `following_law` of `oai_laws` says. And exchanges
+/// whose steps are a chain of the machine are such a chain: the machine's answers satisfy what is required of a printed
+/// token. The function is empty.
 pub fn visits_law()
     ensures reached { (config : Config) (calls : List Call) (list_request : ListRequest) (first : Visit)
         (others : List Visit) → IsConfig config → AreRepositoryFormats config.formats

@@ -310,7 +310,8 @@ fn is_in(mut sets: SpelledSets<'_>, set: &str) -> bool
     false
 }
 
-/// What `item_in`, the decoder as a function, returns: the item that the bytes encode, if they encode one.
+/// `item_in`, the decoder as a function, returns the item that the bytes encode, if they encode one. A theorem, proved
+/// by an empty function.
 pub fn spelling_law()
     ensures spelled { (bytes : List ℕ) (item : ItemState)
         → Spells bytes item → item_in bytes ≡ Some item }

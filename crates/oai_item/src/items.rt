@@ -278,8 +278,8 @@ pub fn is_in(set: &SetSpec, sets: &[SetSpec]) -> bool
     sets.iter().any(|other| set.covers(other))
 }
 
-/// What reducing an item's setSpecs preserves: the item is in the same sets (OAI-PMH 2.0, section 2.6), and of two
-/// setSpecs that stay, at different positions, neither covers the other. A theorem, proved by an empty function.
+/// Reducing an item's setSpecs leaves the item in the same sets (OAI-PMH 2.0, section 2.6), and of two setSpecs that
+/// stay, at different positions, neither covers the other. A theorem, proved by an empty function.
 #[tactic(auto, using(crate::proofs::Kept::reduced_apart, crate::proofs::SetLaws::same_sets))]
 pub fn set_law()
     ensures membership { (s : List ℕ) (sets : List (List ℕ))
@@ -287,8 +287,8 @@ pub fn set_law()
     ensures apart { (sets : List (List ℕ)) → NoneCovers (reduced sets) }
 {}
 
-/// What encoding and decoding items guarantees: bytes encode at most one item, and decoding an encoded item returns
-/// that item, unless memory runs out. A theorem, proved by an empty function.
+/// Bytes encode at most one item, and decoding an encoded item returns that item, unless memory runs out. A theorem,
+/// proved by an empty function.
 #[tactic(auto, using(crate::proofs::Spelled::same_spelled, crate::proofs::Spelled::round_trip))]
 pub fn encoding_law()
     ensures one { (bytes : List ℕ) (item other : ItemState)

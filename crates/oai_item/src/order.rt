@@ -64,9 +64,9 @@ pub fn items_after<'a>(items: &'a [Item], stamp: i64, identifier: &str) -> &'a [
     }
 }
 
-/// What inserting and removing an item preserves. After an insertion the members are the new item and the old ones;
-/// after the removal of a datestamp and identifier, the others; and items that rise strictly by datestamp and
-/// identifier still do. A theorem, proved by an empty function.
+/// Inserting and removing an item preserves the other members and the order. After an insertion the members are the new
+/// item and the old ones; after the removal of a datestamp and identifier, the others; and items that rise strictly by
+/// datestamp and identifier still do. A theorem, proved by an empty function.
 pub fn order_law()
     ensures members { (item : ItemState) (items : List ItemState) (other : ItemState)
         → Contains (placed item items) other ↔ ((other ≡ item) ⊎ Contains items other) }

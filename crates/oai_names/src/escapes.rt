@@ -41,10 +41,10 @@ pub fn escape_attr(text: &str, out: &mut Vec<u8>) -> Result<(), AllocError>
     escape(Place::Attribute, text, out)
 }
 
-/// What escaping guarantees. Apart from the `&` of its entities, no byte is left that a reader would take for markup or
-/// would change: in an element `<` and CR (XML 1.0, sections 2.4 and 2.11); in the value of an attribute these, the
-/// quote, tab and LF (section 3.3.3). Two texts with the same spelling are equal. A theorem, proved by an empty
-/// function.
+/// Escaped texts hold no markup, and two texts with the same escaped form are equal. Apart from the `&` of its
+/// entities, no byte is left that a reader would take for markup or would change: in an element `<` and CR (XML 1.0,
+/// sections 2.4 and 2.11); in the value of an attribute these, the quote, tab and LF (section 3.3.3). A theorem, proved
+/// by an empty function.
 pub fn escape_law()
     ensures element { (text : List ℕ)
         → list_any (is_one_of (60 ∷ 13 ∷ [])) (spec.escaped_text text) ≡ false }

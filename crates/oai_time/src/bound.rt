@@ -86,8 +86,8 @@ pub fn is_no_finer_than(bound: Bound, granularity: Granularity) -> bool
     }
 }
 
-/// The law of the calendar: each date of a year from 0000 to 9999, a month from 1 to 12, and a day from 1 to the
-/// month's last is the text of a day; and the numbers of the definitions are the seconds that their comments say, 0
+/// Each date of the calendar is the text of a day. That is each date of a year from 0000 to 9999, a month from 1 to 12,
+/// and a day from 1 to the month's last; and the numbers of the definitions are the seconds that their comments say, 0
 /// being 1970-01-01T00:00:00Z. A theorem, proved by an empty function.
 pub fn calendar_law()
     ensures dates { HasEachDate }
