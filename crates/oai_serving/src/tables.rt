@@ -11,7 +11,7 @@ use std::alloc::Global;
 /// The maximum number of open connections.
 pub const MAX_LINKS: usize = 1_024;
 
-/// The output bytes that may be held in a round before it performs no more.
+/// The bytes that may be held in a round before it performs no more.
 const MAX_ROUND_BYTES: usize = 16_777_216;
 
 /// The bytes that all links together may hold.
