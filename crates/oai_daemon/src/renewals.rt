@@ -1,4 +1,4 @@
-//! A journal that is replaced by a checkpoint.
+//! Replaces a journal by a checkpoint.
 use crate::clocks::moment_of;
 use crate::dated::Dated;
 use crate::journals::read_first;
@@ -10,9 +10,10 @@ use oai_journal::Recovery;
 use std::alloc::Global;
 use std::rt::Clock;
 
-/// Replaces the journal of the place by a checkpoint with the configuration in the text, which may be another one that the archive can
-/// go on with. All open lists have ended then, and the number of each next list is raised by so many. Where another configuration does
-/// not serve, or a fault comes, the journal is as it was: a checkpoint takes its place only once it was read back.
+/// Replaces the journal of the place by a checkpoint with the configuration in the text, which may be another one with
+/// which the archive can continue. All open lists have ended then, and the number of each next list is raised by that
+/// much. If the configuration does not match, or after a fault, the journal is unchanged: a checkpoint replaces it only
+/// once it was read back.
 pub(crate) fn renew<P: Place, C: Clock>(
     alloc: Global,
     place: &mut P,
@@ -43,8 +44,8 @@ pub(crate) fn replace_journal<P: Place, H: Replayed + Drop, C: Clock>(
     keep_checkpoint(alloc, place, text)
 }
 
-/// Writes what the handler keeps as a checkpoint beside the journal of the place, with the configuration in the text, and the number of
-/// each next list raised by so many.
+/// Writes the handler's state as a checkpoint beside the journal of the place, with the configuration in the text, and
+/// the number of each next list raised by that much.
 fn begin_checkpoint<P: Place, H: Replayed, C: Clock>(
     alloc: Global,
     place: &mut P,
@@ -58,7 +59,7 @@ fn begin_checkpoint<P: Place, H: Replayed, C: Clock>(
     Ok(())
 }
 
-/// Reads the checkpoint back that was written, as a start does, and makes it the journal of the place.
+/// Reads the written checkpoint back, as a startup does, and makes it the journal of the place.
 fn keep_checkpoint<P: Place>(alloc: Global, place: &mut P, text: &[u8]) -> Result<(), Stop> {
     let disk = place.open_begun()?;
     let host = host_in(alloc, place, text)?;

@@ -11,7 +11,7 @@ use Rattle.oai_serving.specs.Tables.{AreLinksAnswered, AreLinksKept, AreSent}
 use Rattle.oai_serving.specs.declared.faults.ServeFault.{ServeFault}
 use Rattle.oai_serving.specs.declared.faults.ServeFault.TheVariants.{Wait, Clock, Unsettled}
 
--- what performs the messages, the links, and how many streams were accepted
+-- the handler, the links, and how many streams were accepted
 pub record World (S H : Type 0) : Type 0 where
   pub handler : H
   pub links : Slab (Link S)
@@ -19,13 +19,13 @@ pub record World (S H : Type 0) : Type 0 where
 
 -- ---- steps of a round
 
--- links were written, or taken away
+-- links were written, or removed
 pub record AreLinksWritten {S H : Type 0} (contents remaining : S → Option (List ℕ)) (old new : World S H) : Type 0 where
   pub handler : new.handler ≡ old.handler
   pub last : new.last ≡ old.last
   pub links : AreSent contents remaining old.links new.links
 
--- streams were accepted, each with the next number, and links begin with them, or they were let go
+-- streams were accepted, each with the next number, and links begin with them, or they were dropped
 pub record AreAccepted {S H : Type 0} (contents remaining : S → Option (List ℕ)) (known later : Option (List S)) (old new : World S H) : Type 0 where
   pub streams : List S
   pub accepts : Accepts known later streams
@@ -34,11 +34,11 @@ pub record AreAccepted {S H : Type 0} (contents remaining : S → Option (List �
   pub kept : (accepted : List S) (served : List Served) → old.last ≡ length accepted → AreLinksKept contents remaining accepted served old.links
       → AreLinksKept contents remaining (accepted ++ streams) served new.links
 
--- that link was put under a key that had none, or was let go; no other changes
+-- that link was stored under a key that had none, or was dropped; no other changes
 abbrev pub HasOneMore : {S : Type 0} → Link S → Slab (Link S) → Slab (Link S) → Type 0
 HasOneMore link old new = ((key : ℕ) × (get old key ≡ None) × Updates old new key (Some link)) ⊎ SameValues old new
 
--- the stream was accepted with the next number, and a link begins with it, or it was let go
+-- the stream was accepted with the next number, and a link begins with it, or it was dropped
 pub record IsAdmitted {S H : Type 0} (contents remaining : S → Option (List ℕ)) (stream : S) (old new : World S H) : Type 0 where
   pub handler : new.handler ≡ old.handler
   pub last : new.last ≡ old.last + 1
@@ -47,19 +47,19 @@ pub record IsAdmitted {S H : Type 0} (contents remaining : S → Option (List �
 
 -- ---- a round
 
--- what a handler does to settle: from what it was it may return that, and go on as what it then is
+-- the settling of a handler: in that state it may return that, and get to that next state
 abbrev pub Settles : Type 0 → Type 1
 Settles H = H → Result Unit SettleFault → H → Type 0
 
--- how a round ends: the handler settled, or did not, or came to nothing
+-- how a round ends: the handler settled, or did not, or was not called
 abbrev pub IsRoundSettled : {H : Type 0} → Settles H → H → Result Unit ServeFault → H → Type 0
 IsRoundSettled settled mid (Ok done) new = settled mid (Ok tt) new
 IsRoundSettled settled mid (Err Unsettled) new = (cause : SettleFault) × settled mid (Err cause) new
 IsRoundSettled settled mid (Err Wait) new = new ≡ mid
 IsRoundSettled settled mid (Err Clock) new = new ≡ mid
 
--- after a round that was Ok the links are what came of all that was served; after another no client has more than the answers to what was
--- served before the round
+-- after a round that was Ok the links are the result of all that was served; after another no client has more than the
+-- answers to what was served before the round
 abbrev pub RoundOutcome : {S : Type 0} → (S → Option (List ℕ)) → (S → Option (List ℕ)) → List S → List Served → List Served → Result Unit ServeFault → Slab (Link S) → Type 0
 RoundOutcome contents remaining accepted earlier served (Ok done) links = AreLinksKept contents remaining accepted (earlier ++ served) links
 RoundOutcome contents remaining accepted earlier served (Err fault) links = AreLinksAnswered contents remaining accepted earlier links
@@ -73,7 +73,8 @@ pub record IsPerformance {S H : Type 0} (step : Steps H) (settled : Settles H) (
   pub last : new.last ≡ old.last
   pub outcome : (accepted : List S) (earlier : List Served) → AreLinksKept contents remaining accepted earlier old.links → RoundOutcome contents remaining accepted earlier served result new.links
 
--- a round: streams are accepted, links are read, what comes is served, the handler settles, and only then links are written
+-- a round: streams are accepted, links are read, what comes is served, the handler settles, and only then links are
+-- written
 pub record IsRound {S H : Type 0} (step : Steps H) (settled : Settles H) (contents remaining : S → Option (List ℕ)) (known later : Option (List S))
     (old : World S H) (result : Result Unit ServeFault) (new : World S H) : Type 0 where
   pub served : List Served
@@ -106,7 +107,7 @@ pub record AreRounds {S H : Type 0} (step : Steps H) (settled : Settles H) (cont
   pub kept : (accepted : List S) (earlier : List Served) → old.last ≡ length accepted → AreLinksKept contents remaining accepted earlier old.links
       → AreLinksKept contents remaining (accepted ++ streams) (earlier ++ served_in rounds) new.links
 
--- how it ended: what the last round performed, and whether the handler settled behind it
+-- how it ended: what the last round performed, and whether the handler settled after it
 pub record IsEnd {H : Type 0} (step : Steps H) (settled : Settles H) (mid : H) (fault : ServeFault) (new : H) : Type 0 where
   pub served : List Served
   pub performed : H
@@ -117,8 +118,9 @@ abbrev pub EndsService : {H : Type 0} → Steps H → Settles H → H → Result
 EndsService step settled mid (Ok done) new = new ≡ mid
 EndsService step settled mid (Err fault) new = IsEnd step settled mid fault new
 
--- a service: rounds in which the handler settled, and one that ended it, in which further messages may have been performed. No client has more
--- than the front of the answers to those of its messages that were served in the rounds that settled
+-- a service: rounds in which the handler settled, and one that ended it, in which further messages may have been
+-- performed. Each client has at most a prefix of the answers to those of its messages that were served in the rounds
+-- that settled
 pub record IsService {S H : Type 0} (step : Steps H) (settled : Settles H) (contents remaining : S → Option (List ℕ)) (known later : Option (List S)) (old : World S H) (result : Result Unit ServeFault) (new : World S H) : Type 0 where
   pub rounds : List (List Served)
   pub mid : H

@@ -5,8 +5,8 @@ ghost use Rattle.oai_serving.specs.Tables.{AreLinksKept};
 
 use crate::sockets::Stream;
 
-/// A server with no links, where no stream was accepted and nothing served, is one from which `serve` goes on. A
-/// theorem, proved by an empty function.
+/// `serve` may continue from a server with no links, of which no stream was accepted and nothing served. A theorem,
+/// proved by an empty function.
 pub fn begin_law<S: Stream>()
     ensures { (links : Slab (Link S)) → links.slots ≡ [] → AreLinksKept S.contents S.remaining [] [] links }
 {}

@@ -1,4 +1,4 @@
-//! Rounds of all connections.
+//! The event loop: rounds over all connections.
 ghost use Rattle.std.specs.Prelude.{◌≡◌, ◌<◌, ◌+◌, ◌^◌, [], IfOk};
 ghost use Rattle.oai_serving.specs.declared.tables.TheConstants.{MAX_LINKS};
 ghost use Rattle.slab.specs.Slab.{slab_len};
@@ -16,14 +16,15 @@ use std::marker::Model;
 use std::rt::Clock;
 use std::time::Duration;
 
-/// The most seconds of a wait.
+/// The maximum number of seconds of a wait.
 const WAIT_SECONDS: u64 = 1;
 
-/// The seconds after which a failed `accept` is tried again.
+/// The seconds after which a failed `accept` is retried.
 const RETRY_SECONDS: u64 = 1;
 
-/// Connections, and the handler that performs their messages; `keys` is above each key that a link had. It goes in rounds: what became ready is read and
-/// performed, the handler settles, and then what was answered is written.
+/// Connections, and the handler that performs their messages; `keys` is above each key that a link had. It runs in
+/// rounds: input that is ready is read and performed, the handler settles (group commit), and then the answers are
+/// written.
 #[derive(Drop)]
 pub struct Server<S, H> {
     handler: H,
@@ -50,7 +51,7 @@ impl<S, H> Model for Server<S, H> {
 }
 
 impl<S: Stream + Drop, H: Settled> Server<S, H> {
-    /// A server of no connections. The error is out of memory.
+    /// A server without connections. The error is out of memory.
     pub fn new(alloc: Global, handler: H) -> Result<Server<S, H>, AllocError>
     where
         H: Drop,
@@ -73,8 +74,8 @@ impl<S: Stream + Drop, H: Settled> Server<S, H> {
         })
     }
 
-    /// Serves until it cannot wait, the clock cannot be read, or the handler does not settle. What a client
-    /// receives is the front of the answers to its messages, each of which the handler settled before.
+    /// Serves until it cannot wait, the clock cannot be read, or the handler does not settle. A client receives a
+    /// prefix of the answers to its messages, each of which the handler settled before.
     pub fn serve<K: Sockets<S>, C: Clock>(
         &mut self,
         sockets: &mut K,
@@ -92,9 +93,9 @@ impl<S: Stream + Drop, H: Settled> Server<S, H> {
         Ok(())
     }
 
-    /// A round: waits until something becomes ready, at most a second, accepts connections, reads each that can
-    /// be read once, and performs what came; then the handler settles; and then what waits is written. Where
-    /// the handler does not settle nothing is written.
+    /// A round: waits until something becomes ready, at most a second, accepts connections, reads each readable one
+    /// once, and performs what came; then the handler settles; and then the output is written. If the handler does not
+    /// settle, nothing is written.
     pub fn round<K: Sockets<S>, C: Clock>(
         &mut self,
         sockets: &mut K,
@@ -118,7 +119,7 @@ impl<S: Stream + Drop, H: Settled> Server<S, H> {
         self.perform(moment, second)
     }
 
-    /// How long to wait at most: not at all where something can be done.
+    /// The maximum time to wait: 0 if something can be done.
     fn patience(&self) -> Duration {
         if self.is_accepting() || is_any_busy(&self.links) {
             return Duration::ZERO;
@@ -126,7 +127,7 @@ impl<S: Stream + Drop, H: Settled> Server<S, H> {
         Duration::from_secs(WAIT_SECONDS)
     }
 
-    /// Whether a connection may wait for which there is a place.
+    /// Whether a connection may wait to be accepted for which there is a place.
     fn is_accepting(&self) -> bool {
         self.waiting && self.retry == 0 && self.links.len() < MAX_LINKS
     }
@@ -154,15 +155,15 @@ impl<S: Stream + Drop, H: Settled> Server<S, H> {
         }
     }
 
-    /// Writes what waits on all links.
+    /// Writes the waiting output of all links.
     fn put(&mut self, second: u64)
         ensures { AreLinksWritten S.contents S.remaining self.old self.new }
     {
         put_all(self.alloc, &mut self.links, self.keys, second);
     }
 
-    /// Takes away the links that are over, and others while all keep more than they may. It comes at the
-    /// beginning of a round, so that at the end of each the links are there that were written in it.
+    /// Removes the links that are over, and others while all together hold more than they may. It is called at the
+    /// begin of a round, so that at the end of each the links that it wrote to still exist.
     fn end_links(&mut self)
         ensures { AreLinksWritten S.contents S.remaining self.old self.new }
     {
@@ -170,7 +171,7 @@ impl<S: Stream + Drop, H: Settled> Server<S, H> {
         shed_all(&mut self.links);
     }
 
-    /// Takes note of what became ready.
+    /// Notes what became ready.
     fn note_all<K: Sockets<S>>(&mut self, sockets: &K, count: usize)
         ensures { AreLinksWritten S.contents S.remaining self.old self.new }
     {
@@ -179,7 +180,7 @@ impl<S: Stream + Drop, H: Settled> Server<S, H> {
         }
     }
 
-    /// Takes note of one readiness.
+    /// Notes one readiness.
     fn note(&mut self, readiness: Option<Readiness>)
         ensures { AreLinksWritten S.contents S.remaining self.old self.new }
     {
@@ -197,7 +198,7 @@ impl<S: Stream + Drop, H: Settled> Server<S, H> {
         }
     }
 
-    /// Accepts the connections that wait, as far as there are places.
+    /// Accepts the waiting connections, as far as there are places.
     fn accept_all<K: Sockets<S>>(&mut self, sockets: &mut K, second: u64)
         ensures { AreAccepted S.contents S.remaining (K.accepted sockets.old) (K.accepted sockets.new)
             self.old self.new }
@@ -213,7 +214,7 @@ impl<S: Stream + Drop, H: Settled> Server<S, H> {
         }
     }
 
-    /// Accepts the next connection, where there is a place; whether a further one may wait.
+    /// Accepts the next connection, if there is a place; returns whether a further one may wait.
     fn accept_next<K: Sockets<S>>(&mut self, sockets: &mut K, second: u64) -> bool
         ensures { AreAccepted S.contents S.remaining (K.accepted sockets.old) (K.accepted sockets.new)
             self.old self.new }
@@ -237,8 +238,7 @@ impl<S: Stream + Drop, H: Settled> Server<S, H> {
         }
     }
 
-    /// Begins a link with the stream, which was accepted. It is let go where it cannot be watched or memory is
-    /// refused.
+    /// Begins a link with the accepted stream, which is dropped if it cannot be watched or memory runs out.
     fn admit<K: Sockets<S>>(&mut self, sockets: &mut K, mut stream: S, second: u64)
         requires place { slab_len self.old.links < MAX_LINKS }
         requires number { self.old.last + 1 < 2 ^ 64 }
@@ -256,7 +256,7 @@ impl<S: Stream + Drop, H: Settled> Server<S, H> {
         self.keep(link);
     }
 
-    /// Keeps a link; it is let go where memory is refused.
+    /// Stores a link, which is dropped if memory runs out.
     fn keep(&mut self, link: Link<S>)
         requires { slab_len self.old.links < MAX_LINKS }
         ensures handler { self.new.handler ≡ self.old.handler }
@@ -278,7 +278,7 @@ fn moment_of<C: Clock>(clock: &C) -> Result<i64, ServeFault> {
     }
 }
 
-/// The second of a clock that does not go back. The error is that it cannot be read.
+/// The second of a monotonic clock. The error is that it cannot be read.
 fn second_of<C: Clock>(clock: &C) -> Result<u64, ServeFault> {
     match clock.monotonic() {
         Ok(time) => Ok(time.as_secs()),
