@@ -13,7 +13,7 @@ from oai.programs import needs, oaihost
 from oai.servers import Server, write_configuration
 
 PAGE = "docs/PERFORMANCE.md"
-SECTION = "\n## Instructions of five operations\n"
+SECTION = "\n## Instructions\n"
 
 START = 1_704_067_200  # 2024-01-01T00:00:00Z
 
@@ -98,14 +98,14 @@ OPERATIONS = {
 
 
 def last_figures():
-    """The last figure of each operation in the page's section on them, as it stands there."""
+    """The figure of each operation under `ask` in the page's table of them, as it stands there: its third column."""
     figures = {}
     with open(PAGE, encoding="utf-8") as page:
         section = page.read().split(SECTION, 1)[1].split("\n## ", 1)[0]
     for line in section.splitlines():
         cells = [it.strip() for it in line.strip().strip("|").split("|")]
         if cells[0] in OPERATIONS:
-            figures[cells[0]] = cells[-1]
+            figures[cells[0]] = cells[2]
     return figures
 
 
