@@ -53,8 +53,6 @@ def idle_clients():
     write, has done nothing for 60 seconds, and serves the next one. The first is let go after a minute, the second
     after some three: the buffers of the system take a part of what is written at last. The status is 0 where that is
     so. Where OAIHOSTD is set that program is tried, which serves the next client at once.
-
-    Usage: scripts/run idle-clients
     """
     with Server(configuration(100, 60, 10, 10)) as server:
         each = [

@@ -380,7 +380,7 @@ def rounds(config, folder, count, chance, known):
     return count
 
 
-def kill(count, seed=None):
+def kill(count: int, seed: int = None):
     """Kills a server with -9 at N random moments, starts it again each time, and shows that it kept what it acknowledged.
 
     That is every deposit and every deletion, with its datestamp; every token that it handed out; and no number of a
@@ -396,10 +396,8 @@ def kill(count, seed=None):
 
     It writes its seed to standard error, and names each difference; its last line is `N kills, 0 differences`, and its
     status is 0 where there are none.
-
-    Usage: scripts/run kill N [SEED]
     """
-    count, seed = int(count), random.randrange(1 << 32) if seed is None else int(seed)
+    seed = random.randrange(1 << 32) if seed is None else seed
     print(f"seed {seed}", file=sys.stderr)
     chance, kills, differences = random.Random(seed), 0, 0
     with tempfile.TemporaryDirectory(prefix="kill-") as place:

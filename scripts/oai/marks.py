@@ -64,8 +64,6 @@ def marks(log=None):
     Each mutant of must-fail/ that the log of a gate reports gets the line `refused: by a name`, or loses it. The log is
     what `bash .ci/run` or `rt must-fail` prints. Those of planted/ are marked by `scripts/run planted`. The last line
     says how many are marked.
-
-    Usage: scripts/run marks [LOG]
     """
     changed = 0
     if log is not None:

@@ -378,8 +378,6 @@ def planted(*names):
     took away, which says little of the contract: the file of such a bug gets the line `refused: by a name`, and
     docs/PROVING.md counts these. A bug with a line `refused: by TESTS` is proved, and named; these tests refuse it, and
     are not run here. Its last line is `N refused, M not`; the status is 0 where M is 0.
-
-    Usage: scripts/run planted [CRATE|CRATE/EDIT..]
     """
     needs("rt")
     unknown = [it for it in names if not os.path.isdir(f"crates/{it}/planted") and not os.path.isfile(planted_file(it))]

@@ -227,8 +227,6 @@ def readme():
     sentence stands in two of CONFIGURATION, OPERATIONS and PROTOCOL. docs/TESTING.md names each file of tests in an
     entry of its crate. docs/PROVING.md counts the edits as the script `marks` does. scripts/README.md names each script,
     and each script that a page or a comment calls is there. The last line is `N problems`.
-
-    Usage: scripts/run readme
     """
     check_sizes()
     for crate in proved():

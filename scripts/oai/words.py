@@ -110,8 +110,6 @@ def words(*crates):
     PHRASES in the pages, each with its line, and how many there are in the doc comments of src/. Blocks of code are not
     looked at. The status is 1 where a page has such a phrase; and, with the names of crates after it, where one of them
     defines a word of several meanings.
-
-    Usage: scripts/run words [CRATE..]
     """
     places = collections.defaultdict(dict)
     for path in sorted(TOP.glob("crates/*/specs/*.antt")):
