@@ -3,7 +3,7 @@
 import importlib
 
 GROUPS = {
-    "The pages and the sources": {
+    "The tests, the pages and the sources": {
         "test": "tests",
         "readme": "readme",
         "contracts": "contracts",
