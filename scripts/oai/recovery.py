@@ -72,12 +72,12 @@ def journals(top, config, count, requests):
 
 
 def recovery(items: int = 10_000, requests: int = 5_000):
-    """Measures what a start of `oaihostd` costs for what its journal has.
+    """Measures what crash recovery of `oaihostd` costs.
 
     Journals are made by a server: of ITEMS and twice as many items, deposited in messages of 500, and behind ITEMS of
     them of REQUESTS and twice as many requests for parts of a list by tokens. For each it prints how many records and bytes the journal has, how many
     seconds a start takes, and how many megabytes of memory it then has; and then, of the differences, how many
-    instructions, by valgrind's callgrind, a line takes that is performed again, and a request by a token. It judges
+    instructions, by valgrind's callgrind, a line takes that is replayed, and a request by a token. It judges
     nothing.
     """
     needs("valgrind")
@@ -86,8 +86,8 @@ def recovery(items: int = 10_000, requests: int = 5_000):
         write_configuration(config, CONFIGURATION)
         names = f"{items} items", f"{2 * items} items", f"{requests} requests by tokens", f"{2 * requests} requests by tokens"
         first, second, third, fourth = [measured(name, config, it) for name, it in zip(names, journals(top, config, items, requests))]
-    print(f"a line performed again: {(second - first) // items} instructions")
-    print(f"a request by a token performed again: {(fourth - third) // requests} instructions")
+    print(f"a line replayed: {(second - first) // items} instructions")
+    print(f"a request by a token replayed: {(fourth - third) // requests} instructions")
 
 
 def turn_of(number, turn):

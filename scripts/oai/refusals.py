@@ -183,7 +183,7 @@ def refuse_growth(letters: int = 1, *scripts: typing.Literal["exchange", "run", 
                  one, and behind an answered 503 the message
       clock      commands at a later moment, each on a host of its own: behind one that is refused, Identify at the first moment
       token      the token of a list's second part: where it is refused, that of the third part is none that was handed out; then the token again
-      recover    the script's journal, performed again: a recovery that is refused is made once more, and what is asked then is answered as by the
+      recover    the script's journal, replayed: a recovery that is refused is made once more, and what is asked then is answered as by the
                  host that ended
       copy       a harvester's copy that catches up with one harvest after the other: where a call is refused, its items are as before; then it again
     Answers and pages, and the items of the copy, must be those of the undisturbed run. Of each it prints how many

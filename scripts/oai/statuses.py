@@ -251,9 +251,9 @@ def try_damages(trial, folder):
     second = data.index(b" deposit a ")
     begins = second - 11
     damages = {
-        "the first gate closed": (0, "-", 0), "a byte of the first head": (1, "x", 0), "a moment": (second - 1, "x", begins),
+        "the first commit byte closed": (0, "-", 0), "a byte of the first head": (1, "x", 0), "a moment": (second - 1, "x", begins),
         "a kind": (second + 1, "x", begins), "a length": (second + 11, "x", begins), "a byte of a body": (second + 40, "x", begins),
-        "a gate before another group closed": (begins, "-", begins),
+        "a commit byte before another group closed": (begins, "-", begins),
     }  # fmt: skip
     for what, (at, byte, place) in damages.items():
         other = changed_journal(folder, what, at, byte)
