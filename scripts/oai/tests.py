@@ -30,7 +30,8 @@ def test(crate):
         return 2
     found = crates_of_tests(crate)
     if not found:
-        print(f"test: crates/{crate}/README.md names no crate of tests", file=sys.stderr)
+        above = [it for it, others in uses().items() if crate in others and has_tests(it)]
+        print(f"test: crates/{crate}/README.md names no crate of tests; those above it are {', '.join(above) or 'none'}", file=sys.stderr)
         return 2
     failed = [it for it in found if subprocess.run(["rt", "try", "--test", "--seconds", "300"], cwd=TOP / "crates" / it, check=False).returncode]
     return int(bool(failed))
