@@ -23,17 +23,26 @@ fn are_xml_chars(text: &str) -> bool
     text.chars().all(is_xml_char)
 }
 
-/// Whether each byte is that of a character of ASCII from the space on, as in most texts. Such a text
-/// needs no decoding: all of these characters are XML's. The loop has no other end than the last byte,
-/// so that many bytes are tested at a time.
+/// Whether each byte is that of a character of ASCII from the space on, or tab, LF or CR, as in most texts.
+/// Such a text needs no decoding: all of these characters are XML's. The loop has no other end than the
+/// last byte, and what it finds is handed out of a function of its own, so that many bytes are tested at a
+/// time.
+#[inline(never)]
 fn are_plain(bytes: &[u8]) -> bool
     ensures { result ≡ list_all is_plain_byte bytes.now }
 {
     let mut plain = true;
     for b in bytes {
-        plain = plain & (*b >= b' ' && *b <= 0x7f);
+        plain = plain & is_plain_byte(*b);
     }
     plain
+}
+
+/// Whether the byte is a character of ASCII that XML allows. All are compared, so that there is no branch.
+fn is_plain_byte(b: u8) -> bool
+    ensures { result ≡ is_plain_byte b }
+{
+    ((b >= b' ') & (b <= 0x7f)) | (b == b'\t') | (b == b'\n') | (b == b'\r')
 }
 
 /// The production `Char` of XML 1.0, section 2.2.
