@@ -23,16 +23,25 @@ fn are_xml_chars(text: &str) -> bool
     text.chars().all(is_xml_char)
 }
 
-/// Whether each byte is an ASCII character from the space on, as in most texts. Such a text needs no decoding: all of
-/// these are characters of XML. The loop ends only at the last byte, so that it can be vectorized.
+/// Whether each byte is an ASCII character from the space on, or tab, LF or CR, as in most texts. Such a text needs no
+/// decoding: all of these are characters of XML. The loop ends only at the last byte, and stands in a function of its
+/// own, so that it can be vectorized.
+#[inline(never)]
 fn are_plain(bytes: &[u8]) -> bool
     ensures { result ≡ list_all is_plain_byte bytes.now }
 {
     let mut plain = true;
     for b in bytes {
-        plain = plain & (*b >= b' ' && *b <= 0x7f);
+        plain = plain & is_plain_byte(*b);
     }
     plain
+}
+
+/// Whether the byte is a character of ASCII that XML allows. All are compared, so that there is no branch.
+fn is_plain_byte(b: u8) -> bool
+    ensures { result ≡ is_plain_byte b }
+{
+    ((b >= b' ') & (b <= 0x7f)) | (b == b'\t') | (b == b'\n') | (b == b'\r')
 }
 
 /// The production `Char` of XML 1.0, section 2.2.
