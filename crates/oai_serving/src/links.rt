@@ -409,6 +409,20 @@ impl<S: Stream> Link<S> {
         }
     }
 
+    /// The number of its connection.
+    pub(crate) fn number(&self) -> u64
+        ensures { result ≡ self.now.connection.number }
+    {
+        self.connection.number()
+    }
+
+    /// Its stream.
+    pub(crate) fn into_stream(self) -> S
+        ensures { result ≡ self.stream }
+    {
+        self.stream
+    }
+
     /// Whether it is to be taken away.
     pub(crate) fn is_over(&self) -> bool {
         self.phase == Phase::Over

@@ -1,6 +1,6 @@
 //! What connections come from, and what they are read from and written to.
-ghost use Rattle.std.specs.Prelude.{ℕ, List, [], Option, None};
-ghost use Rattle.oai_serving.specs.Accepted.{Accepts, IsAcceptance};
+ghost use Rattle.std.specs.Prelude.{ℕ, List, [], ◌∷◌, Option, None};
+ghost use Rattle.oai_serving.specs.Accepted.{Accepts, IsAcceptance, LetsGo};
 ghost use Rattle.std.specs.Io.{ReadsAtMost, WritesAtMost};
 ghost use Rattle.std.specs.Io.KnownBytes.{Keeps, ReadConsumes, WriteAppends};
 
@@ -53,25 +53,36 @@ pub enum Readiness {
 }
 
 /// A listener, and the readiness of the streams that were accepted. What is reported may be of a stream that
-/// was taken away, or not so; and a change is reported once.
+/// was let go, or not so; and a change is reported once.
 pub trait Sockets<S: Stream> {
     /// The streams that were accepted, in order, as they were then, where they are known.
     ghost accepted: { Self → Option (List S) } = { λ _. None };
 
+    /// The streams that were let go, in order, as they were then, each with its number, where they are known.
+    ghost gone: { Self → Option (List (ℕ × S)) } = { λ _. None };
+
     /// Waits until something becomes ready, at most so long, and returns how many readinesses there are.
     fn wait(&mut self, most: Duration) -> io::Result<usize>
-        ensures { Accepts (accepted self.old) (accepted self.new) [] };
+        ensures accepted { Accepts (accepted self.old) (accepted self.new) [] }
+        ensures gone { LetsGo (gone self.old) (gone self.new) [] };
 
     /// The readiness at that place of the last wait.
     fn ready(&self, at: usize) -> Option<Readiness>;
 
     /// The next connection; None where none waits.
     fn accept(&mut self) -> io::Result<Option<S>>
-        ensures { IsAcceptance (accepted self.old) result (accepted self.new) };
+        ensures accepted { IsAcceptance (accepted self.old) result (accepted self.new) }
+        ensures gone { LetsGo (gone self.old) (gone self.new) [] };
 
     /// Has a wait report the stream under the key, once, for as long as it lives.
     fn watch(&mut self, stream: &mut S, key: usize) -> io::Result<()>
         ensures contents { Keeps (S.contents stream.old) (S.contents stream.new) }
         ensures remaining { Keeps (S.remaining stream.old) (S.remaining stream.new) }
-        ensures accepted { Accepts (accepted self.old) (accepted self.new) [] };
+        ensures accepted { Accepts (accepted self.old) (accepted self.new) [] }
+        ensures gone { LetsGo (gone self.old) (gone self.new) [] };
+
+    /// Takes a stream whose connection is over, with its number, and drops it.
+    fn let_go(&mut self, number: u64, stream: S)
+        ensures accepted { Accepts (accepted self.old) (accepted self.new) [] }
+        ensures gone { LetsGo (gone self.old) (gone self.new) ((number, stream) ∷ []) };
 }
