@@ -1,5 +1,5 @@
 //! The journal of an archive, begun, and read as far as its first record.
-ghost use Rattle.oai_archive.specs.Readings.{HasBegun, IsReadBack};
+ghost use Rattle.oai_archive.specs.Readings.{HasBegun, IsReadBack, IsVerified};
 ghost use Rattle.oai_archive.specs.Firsts.{IsOf, first_body, program};
 ghost use Rattle.oai_journal.specs.Kept.{HoldsFirst};
 ghost use Rattle.oai_journal.specs.Records.{Entry};
@@ -56,6 +56,8 @@ pub fn begin_reading<D: Disk + Drop>(alloc: Global, disk: D) -> Result<Recovery<
 pub fn read_begun<D: Disk + Drop>(alloc: Global, disk: D) -> Result<Recovery<D>, Stop>
     ensures whole { IfOk result (λ begun. IsTrue (D.Disk.is_clean (disk_of begun))
         → IsReadBack D.Disk.seen D.Disk.may_leave begun) }
+    ensures none { IfOk result (λ begun. IsTrue (D.Disk.is_clean (disk_of begun))
+        → IsVerified D.Disk.seen begun 0) }
 {
     let mut recovery = begin_reading(alloc, disk)?;
     match recovery.advance() {
@@ -82,7 +84,10 @@ pub fn has_config<D: Disk + Drop>(
 }
 
 /// A copy of the configuration in the first record, which was read. The errors are `NotOurs`, `OfVersion` and `NoMemory`.
-pub fn config_text<D: Disk + Drop>(alloc: Global, recovery: &Recovery<D>) -> Result<Vec<u8>, Stop> {
+pub fn config_text<D: Disk + Drop>(alloc: Global, recovery: &Recovery<D>) -> Result<Vec<u8>, Stop>
+    ensures { IfOk result (λ text. (first : Entry) → current recovery.now ≡ Some first
+        → IsOf first.name first.body text.items) }
+{
     let Some(first) = recovery.record() else {
         return Err(Stop::NotOurs);
     };

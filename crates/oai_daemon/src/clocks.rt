@@ -1,4 +1,7 @@
 //! The clock of a server.
+ghost use Rattle.oai_daemon.specs.Ends.{moment_at};
+ghost use Rattle.std.specs.Prelude.{◌≡◌};
+
 use oai_archive::Stop;
 use oai_startup::Stop as Other;
 use std::cell::Cell;
@@ -80,6 +83,8 @@ pub(crate) fn second_of<C: Clock>(clock: &C) -> u64 {
 }
 
 /// The second from 1970 on, as a moment.
-pub(crate) fn to_moment(second: u64) -> i64 {
+pub(crate) fn to_moment(second: u64) -> i64
+    ensures { result ≡ moment_at second }
+{
     i64::try_from(second).unwrap_or(i64::MAX)
 }

@@ -21,4 +21,5 @@ pub use host_places::HostPlace;
 pub use laws::archive_law;
 pub use notes::Note;
 pub use places::Place;
-pub use service::serve;
+pub use service::{Ended, Hosting, serve};
+pub use watched::Watched;

@@ -52,7 +52,7 @@ pub(crate) fn recover_all<P: Place, H: Replayed + Drop, C: Clock>(
     ensures recovered { IfOk result (λ dated. IsTrue (P.Disk.Disk.is_clean (disk_of recovery.new)) → (first : Entry)
         → HasRecovered P.Disk.Disk.seen P.Disk.Disk.may_leave recovery.old first []
         → HasRedoneAll H.kept H.is_honest (record { redone = H.redone; restored = H.restored })
-        P.Disk.Disk.seen P.Disk.Disk.may_leave (H.kept handler) dated.handler recovery.new) }
+        P.Disk.Disk.seen P.Disk.Disk.may_leave (H.kept handler) dated.handler recovery.new first) }
     ensures clean { IsTrue (P.Disk.Disk.is_clean (disk_of recovery.new))
         → IsTrue (P.Disk.Disk.is_clean (disk_of recovery.old)) }
 {

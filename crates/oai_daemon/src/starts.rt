@@ -1,12 +1,12 @@
 //! A host that has performed a journal again.
-ghost use Rattle.oai_archive.specs.Readings.{HasBegun};
+ghost use Rattle.oai_archive.specs.Readings.{HasBegunFor};
 ghost use Rattle.oai_daemon.specs.Starts.{HasStarted, IsHostOf};
 ghost use Rattle.oai_journal.specs.Recovered.{disk_of};
 ghost use Rattle.std.specs.Prelude.{IfOk, IsTrue};
 
 use crate::clocks::moment_of;
 use crate::dated::Dated;
-use crate::journals::{open_journal, read_first};
+use crate::journals::{open_journal, reopen_journal};
 use crate::places::Place;
 use crate::recoveries::recover_all;
 use crate::renewals::replace_journal;
@@ -58,7 +58,7 @@ fn restart<P: Place, C: Clock>(
         started.1.handler started.0) }
 {
     replace_journal(alloc, place, clock, text, started, 0)?;
-    let recovery = read_first(alloc, place)?;
+    let recovery = reopen_journal(alloc, place, text)?;
     recovered_host(alloc, place, clock, text, recovery)
 }
 
@@ -72,7 +72,7 @@ pub(crate) fn recovered_host<P: Place, C: Clock>(
     mut recovery: Recovery<P::Disk>,
 ) -> Result<Started<P>, Stop>
     requires { IsTrue (P.Disk.Disk.is_clean (disk_of recovery))
-        → HasBegun P.Disk.Disk.seen P.Disk.Disk.may_leave recovery }
+        → HasBegunFor P.Disk.Disk.seen P.Disk.Disk.may_leave text.now recovery }
     ensures { IfOk result (λ started. HasStarted P.Disk.Disk.seen P.Disk.Disk.may_leave P.Disk.Disk.is_clean text.now
         started.1.handler started.0) }
 {

@@ -10,7 +10,7 @@ use std::marker::Model;
 /// A handler, and the place to which each exchange is reported that it answers with 500 (Internal Server Error); of equal faults once a second,
 /// with how many they were since.
 #[derive(Drop)]
-pub(crate) struct Watched<'a, H, P> {
+pub struct Watched<'a, H, P> {
     handler: H,
     place: &'a mut P,
     /// The fault that was reported last, and at which moment.

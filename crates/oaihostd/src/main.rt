@@ -99,7 +99,8 @@ fn read_port(text: &[u8]) -> Option<u16> {
 /// Serves the configuration in the file on the port, with the journal in the folder.
 fn run_serve(rt: &HostRuntime, path: &str, port: u16, folder: &str) -> Result<(), Stop> {
     let text = read_file(rt, path)?;
-    serve(rt.alloc(), &mut HostPlace::new(rt, folder, port), rt, &text)?
+    let mut place = HostPlace::new(rt, folder, port);
+    serve(rt.alloc(), &mut place, rt, &text)?.outcome()
 }
 
 /// Reads the journal in the folder, and writes how many records and bytes it has.
