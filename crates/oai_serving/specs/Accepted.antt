@@ -1,5 +1,6 @@
--- Streams that are accepted one after the other, if they are known. This repository's own.
-use Rattle.std.specs.Prelude.{◌≡◌, List, [], ◌∷◌, ◌++◌, ⊤, Option, Some, None, Result, Ok, Err}
+-- Streams that are accepted one after the other, and let go once their connections are over, if they are
+-- known. This repository's own.
+use Rattle.std.specs.Prelude.{◌≡◌, ℕ, List, [], ◌∷◌, ◌++◌, ⊤, Option, Some, None, Result, Ok, Err}
 
 -- these are appended to the known streams
 abbrev pub Accepts : {S : Type 0} → Option (List S) → Option (List S) → List S → Type 0
@@ -17,3 +18,20 @@ abbrev pub IsAcceptance : {S E : Type 0} → Option (List S) → Result (Option 
 IsAcceptance known (Ok (Some stream)) later = Accepts known later (stream ∷ [])
 IsAcceptance known (Ok None) later = Accepts known later []
 IsAcceptance known (Err fault) later = Accepts known later []
+
+-- known streams, each with its number, grow by these
+abbrev pub LetsGo : {S : Type 0} → Option (List (ℕ × S)) → Option (List (ℕ × S)) → List (ℕ × S) → Type 0
+LetsGo known later streams = Accepts known later streams
+
+-- what is known of sockets: the streams that were accepted, as they were then, and those that were let go, as they were then, each with its number
+pub record Known (S : Type 0) : Type 0 where
+  pub accepted : Option (List S)
+  pub gone : Option (List (ℕ × S))
+
+abbrev pub known_of : {S : Type 0} → Option (List S) → Option (List (ℕ × S)) → Known S
+known_of accepted gone = record { accepted = accepted; gone = gone }
+
+-- those streams were accepted in between, and those let go
+pub record Passes {S : Type 0} (known later : Known S) (streams : List S) (parted : List (ℕ × S)) : Type 0 where
+  pub accepts : Accepts known.accepted later.accepted streams
+  pub lets_go : LetsGo known.gone later.gone parted

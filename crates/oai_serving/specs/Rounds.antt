@@ -5,9 +5,9 @@ use Rattle.slab.specs.Slab.{SameValues, Slab, Updates, get}
 use Rattle.oai_http.specs.declared.handlers.SettleFault.{SettleFault}
 use Rattle.oai_front.specs.Performing.{Chain, Steps}
 use Rattle.oai_front.specs.Runs.{Served, Serves}
-use Rattle.oai_serving.specs.Accepted.{Accepts}
+use Rattle.oai_serving.specs.Accepted.{Known, Passes}
 use Rattle.oai_serving.specs.Links.{Link}
-use Rattle.oai_serving.specs.Tables.{AreLinksAnswered, AreLinksKept, AreSent}
+use Rattle.oai_serving.specs.Tables.{AreAllAnswered, AreAllKept, AreEnded, AreSent}
 use Rattle.oai_serving.specs.declared.faults.ServeFault.{ServeFault}
 use Rattle.oai_serving.specs.declared.faults.ServeFault.TheVariants.{Wait, Clock, Unsettled}
 
@@ -19,31 +19,45 @@ pub record World (S H : Type 0) : Type 0 where
 
 -- ---- steps of a round
 
--- links were written, or removed
+-- links were written
 pub record AreLinksWritten {S H : Type 0} (contents remaining : S → Option (List ℕ)) (old new : World S H) : Type 0 where
   pub handler : new.handler ≡ old.handler
   pub last : new.last ≡ old.last
   pub links : AreSent contents remaining old.links new.links
 
--- streams were accepted, each with the next number, and links begin with them, or they were dropped
-pub record AreAccepted {S H : Type 0} (contents remaining : S → Option (List ℕ)) (known later : Option (List S)) (old new : World S H) : Type 0 where
+-- links were removed, and the stream of each was let go with its number
+pub record AreLinksEnded {S H : Type 0} (contents remaining : S → Option (List ℕ)) (known later : Known S) (old new : World S H) : Type 0 where
+  pub handler : new.handler ≡ old.handler
+  pub last : new.last ≡ old.last
+  pub links : AreEnded contents remaining known later old.links new.links
+
+-- streams were accepted, each with the next number, and links begin with them, or they were let go
+pub record AreAccepted {S H : Type 0} (contents remaining : S → Option (List ℕ)) (known later : Known S) (old new : World S H) : Type 0 where
   pub streams : List S
-  pub accepts : Accepts known later streams
+  pub parted : List (ℕ × S)
+  pub passes : Passes known later streams parted
   pub handler : new.handler ≡ old.handler
   pub last : new.last ≡ old.last + length streams
-  pub kept : (accepted : List S) (served : List Served) → old.last ≡ length accepted → AreLinksKept contents remaining accepted served old.links
-      → AreLinksKept contents remaining (accepted ++ streams) served new.links
+  pub kept : (accepted : List S) (gone : List (ℕ × S)) (served : List Served) → old.last ≡ length accepted → AreAllKept contents remaining accepted gone served old.links
+      → AreAllKept contents remaining (accepted ++ streams) (gone ++ parted) served new.links
 
--- that link was stored under a key that had none, or was dropped; no other changes
+-- that link was stored under a key that had none; no other changes
 abbrev pub HasOneMore : {S : Type 0} → Link S → Slab (Link S) → Slab (Link S) → Type 0
-HasOneMore link old new = ((key : ℕ) × (get old key ≡ None) × Updates old new key (Some link)) ⊎ SameValues old new
+HasOneMore link old new = (key : ℕ) × (get old key ≡ None) × Updates old new key (Some link)
 
--- the stream was accepted with the next number, and a link begins with it, or it was dropped
-pub record IsAdmitted {S H : Type 0} (contents remaining : S → Option (List ℕ)) (stream : S) (old new : World S H) : Type 0 where
+-- that link was stored under a key that had none; or its stream was let go with its number, and no link changes
+abbrev pub IsPlaced : {S : Type 0} → Known S → Known S → Link S → Slab (Link S) → Slab (Link S) → Type 0
+IsPlaced known later link old new =
+    (Passes known later [] [] × HasOneMore link old new) ⊎ (Passes known later [] ((link.connection.number, link.stream) ∷ []) × SameValues old new)
+
+-- the stream was accepted with the next number, and a link begins with it, or it was let go with that number
+pub record IsAdmitted {S H : Type 0} (contents remaining : S → Option (List ℕ)) (known later : Known S) (stream : S) (old new : World S H) : Type 0 where
+  pub parted : List (ℕ × S)
+  pub passes : Passes known later [] parted
   pub handler : new.handler ≡ old.handler
   pub last : new.last ≡ old.last + 1
-  pub kept : (accepted : List S) (served : List Served) → old.last ≡ length accepted → AreLinksKept contents remaining accepted served old.links
-      → AreLinksKept contents remaining (accepted ++ stream ∷ []) served new.links
+  pub kept : (accepted : List S) (gone : List (ℕ × S)) (served : List Served) → old.last ≡ length accepted → AreAllKept contents remaining accepted gone served old.links
+      → AreAllKept contents remaining (accepted ++ stream ∷ []) (gone ++ parted) served new.links
 
 -- ---- a round
 
@@ -59,10 +73,11 @@ IsRoundSettled settled mid (Err Wait) new = new ≡ mid
 IsRoundSettled settled mid (Err Clock) new = new ≡ mid
 
 -- after a round that was Ok the links are the result of all that was served; after another no client has more than the
--- answers to what was served before the round
-abbrev pub RoundOutcome : {S : Type 0} → (S → Option (List ℕ)) → (S → Option (List ℕ)) → List S → List Served → List Served → Result Unit ServeFault → Slab (Link S) → Type 0
-RoundOutcome contents remaining accepted earlier served (Ok done) links = AreLinksKept contents remaining accepted (earlier ++ served) links
-RoundOutcome contents remaining accepted earlier served (Err fault) links = AreLinksAnswered contents remaining accepted earlier links
+-- answers to what was served before the round, whether it has a link or was let go
+abbrev pub RoundOutcome : {S : Type 0} → (S → Option (List ℕ)) → (S → Option (List ℕ)) → List S → List (ℕ × S) → List Served → List Served → Result Unit ServeFault
+    → Slab (Link S) → Type 0
+RoundOutcome contents remaining accepted gone earlier served (Ok done) links = AreAllKept contents remaining accepted gone (earlier ++ served) links
+RoundOutcome contents remaining accepted gone earlier served (Err fault) links = AreAllAnswered contents remaining accepted gone earlier links
 
 -- links are read, what comes is served, the handler settles, and only then links are written
 pub record IsPerformance {S H : Type 0} (step : Steps H) (settled : Settles H) (contents remaining : S → Option (List ℕ)) (old : World S H) (result : Result Unit ServeFault) (new : World S H) : Type 0 where
@@ -71,21 +86,23 @@ pub record IsPerformance {S H : Type 0} (step : Steps H) (settled : Settles H) (
   pub run : Serves step old.handler served mid
   pub settles : IsRoundSettled settled mid result new.handler
   pub last : new.last ≡ old.last
-  pub outcome : (accepted : List S) (earlier : List Served) → AreLinksKept contents remaining accepted earlier old.links → RoundOutcome contents remaining accepted earlier served result new.links
+  pub outcome : (accepted : List S) (gone : List (ℕ × S)) (earlier : List Served) → AreAllKept contents remaining accepted gone earlier old.links
+      → RoundOutcome contents remaining accepted gone earlier served result new.links
 
--- a round: streams are accepted, links are read, what comes is served, the handler settles, and only then links are
--- written
-pub record IsRound {S H : Type 0} (step : Steps H) (settled : Settles H) (contents remaining : S → Option (List ℕ)) (known later : Option (List S))
+-- a round: links are removed, and their streams let go; streams are accepted, links are read, what comes is served, the
+-- handler settles, and only then links are written
+pub record IsRound {S H : Type 0} (step : Steps H) (settled : Settles H) (contents remaining : S → Option (List ℕ)) (known later : Known S)
     (old : World S H) (result : Result Unit ServeFault) (new : World S H) : Type 0 where
   pub served : List Served
   pub mid : H
   pub run : Serves step old.handler served mid
   pub settles : IsRoundSettled settled mid result new.handler
   pub streams : List S
-  pub accepts : Accepts known later streams
+  pub parted : List (ℕ × S)
+  pub passes : Passes known later streams parted
   pub last : new.last ≡ old.last + length streams
-  pub outcome : (accepted : List S) (earlier : List Served) → old.last ≡ length accepted → AreLinksKept contents remaining accepted earlier old.links
-      → RoundOutcome contents remaining (accepted ++ streams) earlier served result new.links
+  pub outcome : (accepted : List S) (gone : List (ℕ × S)) (earlier : List Served) → old.last ≡ length accepted → AreAllKept contents remaining accepted gone earlier old.links
+      → RoundOutcome contents remaining (accepted ++ streams) (gone ++ parted) earlier served result new.links
 
 -- ---- rounds
 
@@ -98,14 +115,15 @@ abbrev pub AreSettled : {H : Type 0} → Steps H → Settles H → List (List Se
 AreSettled {H} step settled rounds old new = Chain (λ served before after. (mid : H) × Serves step before served mid × settled mid (Ok tt) after) rounds old new
 
 -- rounds, all of them Ok
-pub record AreRounds {S H : Type 0} (step : Steps H) (settled : Settles H) (contents remaining : S → Option (List ℕ)) (known later : Option (List S)) (old new : World S H) : Type 0 where
+pub record AreRounds {S H : Type 0} (step : Steps H) (settled : Settles H) (contents remaining : S → Option (List ℕ)) (known later : Known S) (old new : World S H) : Type 0 where
   pub rounds : List (List Served)
   pub settles : AreSettled step settled rounds old.handler new.handler
   pub streams : List S
-  pub accepts : Accepts known later streams
+  pub parted : List (ℕ × S)
+  pub passes : Passes known later streams parted
   pub last : new.last ≡ old.last + length streams
-  pub kept : (accepted : List S) (earlier : List Served) → old.last ≡ length accepted → AreLinksKept contents remaining accepted earlier old.links
-      → AreLinksKept contents remaining (accepted ++ streams) (earlier ++ served_in rounds) new.links
+  pub kept : (accepted : List S) (gone : List (ℕ × S)) (earlier : List Served) → old.last ≡ length accepted → AreAllKept contents remaining accepted gone earlier old.links
+      → AreAllKept contents remaining (accepted ++ streams) (gone ++ parted) (earlier ++ served_in rounds) new.links
 
 -- how it ended: what the last round performed, and whether the handler settled after it
 pub record IsEnd {H : Type 0} (step : Steps H) (settled : Settles H) (mid : H) (fault : ServeFault) (new : H) : Type 0 where
@@ -119,14 +137,15 @@ EndsService step settled mid (Ok done) new = new ≡ mid
 EndsService step settled mid (Err fault) new = IsEnd step settled mid fault new
 
 -- a service: rounds in which the handler settled, and one that ended it, in which further messages may have been
--- performed. Each client has at most a prefix of the answers to those of its messages that were served in the rounds
--- that settled
-pub record IsService {S H : Type 0} (step : Steps H) (settled : Settles H) (contents remaining : S → Option (List ℕ)) (known later : Option (List S)) (old : World S H) (result : Result Unit ServeFault) (new : World S H) : Type 0 where
+-- performed. Each stream that was accepted stands under a link, or was let go, and each client has at most a prefix of
+-- the answers to those of its messages that were served in the rounds that settled
+pub record IsService {S H : Type 0} (step : Steps H) (settled : Settles H) (contents remaining : S → Option (List ℕ)) (known later : Known S) (old : World S H) (result : Result Unit ServeFault) (new : World S H) : Type 0 where
   pub rounds : List (List Served)
   pub mid : H
   pub settles : AreSettled step settled rounds old.handler mid
   pub ends : EndsService step settled mid result new.handler
   pub streams : List S
-  pub accepts : Accepts known later streams
-  pub answered : (accepted : List S) (earlier : List Served) → old.last ≡ length accepted → AreLinksKept contents remaining accepted earlier old.links
-      → AreLinksAnswered contents remaining (accepted ++ streams) (earlier ++ served_in rounds) new.links
+  pub parted : List (ℕ × S)
+  pub passes : Passes known later streams parted
+  pub answered : (accepted : List S) (gone : List (ℕ × S)) (earlier : List Served) → old.last ≡ length accepted → AreAllKept contents remaining accepted gone earlier old.links
+      → AreAllAnswered contents remaining (accepted ++ streams) (gone ++ parted) (earlier ++ served_in rounds) new.links

@@ -408,6 +408,20 @@ impl<S: Stream> Link<S> {
         }
     }
 
+    /// The number of its connection.
+    pub(crate) fn number(&self) -> u64
+        ensures { result ≡ self.now.connection.number }
+    {
+        self.connection.number()
+    }
+
+    /// Its stream.
+    pub(crate) fn into_stream(self) -> S
+        ensures { result ≡ self.stream }
+    {
+        self.stream
+    }
+
     /// Whether it has to be removed.
     pub(crate) fn is_over(&self) -> bool {
         self.phase == Phase::Over

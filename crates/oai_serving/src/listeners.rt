@@ -107,4 +107,8 @@ impl Sockets<Socket> for Listener {
             .registry()
             .register(&mut stream.stream, token, interests)
     }
+
+    fn let_go(&mut self, _number: u64, stream: Socket) {
+        drop(stream);
+    }
 }

@@ -2,13 +2,15 @@
 ghost use Rattle.std.specs.Prelude.{◌≡◌, ◌<◌, ◌+◌, ◌^◌, [], IfOk};
 ghost use Rattle.oai_serving.specs.declared.tables.TheConstants.{MAX_LINKS};
 ghost use Rattle.slab.specs.Slab.{slab_len};
-ghost use Rattle.oai_serving.specs.Accepted.{Accepts};
-ghost use Rattle.oai_serving.specs.Rounds.{AreAccepted, HasOneMore, IsAdmitted, IsPerformance, IsRound, IsService, AreLinksWritten};
+ghost use Rattle.oai_serving.specs.Accepted.{known_of};
+ghost use Rattle.oai_serving.specs.Rounds.{AreAccepted, AreLinksEnded, AreLinksWritten, IsAdmitted, IsPerformance, IsPlaced, IsRound, IsService};
 
 use crate::faults::ServeFault;
 use crate::links::{Link, READ_BYTES};
 use crate::sockets::{Readiness, Sockets, Stream};
-use crate::tables::{MAX_LINKS, end_all, is_any_busy, note_at, put_all, read_all, shed_all};
+use crate::tables::{
+    MAX_LINKS, end_all, is_any_busy, let_go, note_at, put_all, read_all, shed_all,
+};
 use oai_http::Settled;
 use slab::Slab;
 use std::alloc::{AllocError, Global};
@@ -81,8 +83,8 @@ impl<S: Stream + Drop, H: Settled> Server<S, H> {
         sockets: &mut K,
         clock: &C,
     ) -> Result<(), ServeFault>
-        ensures { IsService H.step H.settled S.contents S.remaining (K.accepted sockets.old)
-            (K.accepted sockets.new) self.old result self.new }
+        ensures { IsService H.step H.settled S.contents S.remaining (known_of (K.accepted sockets.old) (K.gone sockets.old))
+            (known_of (K.accepted sockets.new) (K.gone sockets.new)) self.old result self.new }
     {
         for _ in 0..u64::MAX {
             match self.round(sockets, clock) {
@@ -101,8 +103,8 @@ impl<S: Stream + Drop, H: Settled> Server<S, H> {
         sockets: &mut K,
         clock: &C,
     ) -> Result<(), ServeFault>
-        ensures { IsRound H.step H.settled S.contents S.remaining (K.accepted sockets.old)
-            (K.accepted sockets.new) self.old result self.new }
+        ensures { IsRound H.step H.settled S.contents S.remaining (known_of (K.accepted sockets.old) (K.gone sockets.old))
+            (known_of (K.accepted sockets.new) (K.gone sockets.new)) self.old result self.new }
     {
         let Ok(count) = sockets.wait(self.patience()) else {
             return Err(ServeFault::Wait);
@@ -114,7 +116,7 @@ impl<S: Stream + Drop, H: Settled> Server<S, H> {
             return Err(ServeFault::Clock);
         };
         self.note_all(sockets, count);
-        self.end_links();
+        self.end_links(sockets);
         self.accept_all(sockets, second);
         self.perform(moment, second)
     }
@@ -163,12 +165,13 @@ impl<S: Stream + Drop, H: Settled> Server<S, H> {
     }
 
     /// Removes the links that are over, and others while all together hold more than they may. It is called at the
-    /// begin of a round, so that at the end of each the links that it wrote to still exist.
-    fn end_links(&mut self)
-        ensures { AreLinksWritten S.contents S.remaining self.old self.new }
+    /// beginning of a round, so that at the end of each the links that it wrote to still exist.
+    fn end_links<K: Sockets<S>>(&mut self, sockets: &mut K)
+        ensures { AreLinksEnded S.contents S.remaining (known_of (K.accepted sockets.old) (K.gone sockets.old))
+            (known_of (K.accepted sockets.new) (K.gone sockets.new)) self.old self.new }
     {
-        end_all(&mut self.links, self.keys);
-        shed_all(&mut self.links);
+        end_all(sockets, &mut self.links, self.keys);
+        shed_all(sockets, &mut self.links);
     }
 
     /// Notes what became ready.
@@ -200,8 +203,8 @@ impl<S: Stream + Drop, H: Settled> Server<S, H> {
 
     /// Accepts the waiting connections, as far as there are places.
     fn accept_all<K: Sockets<S>>(&mut self, sockets: &mut K, second: u64)
-        ensures { AreAccepted S.contents S.remaining (K.accepted sockets.old) (K.accepted sockets.new)
-            self.old self.new }
+        ensures { AreAccepted S.contents S.remaining (known_of (K.accepted sockets.old) (K.gone sockets.old))
+            (known_of (K.accepted sockets.new) (K.gone sockets.new)) self.old self.new }
     {
         if second < self.retry {
             return;
@@ -216,8 +219,8 @@ impl<S: Stream + Drop, H: Settled> Server<S, H> {
 
     /// Accepts the next connection, if there is a place; returns whether a further one may wait.
     fn accept_next<K: Sockets<S>>(&mut self, sockets: &mut K, second: u64) -> bool
-        ensures { AreAccepted S.contents S.remaining (K.accepted sockets.old) (K.accepted sockets.new)
-            self.old self.new }
+        ensures { AreAccepted S.contents S.remaining (known_of (K.accepted sockets.old) (K.gone sockets.old))
+            (known_of (K.accepted sockets.new) (K.gone sockets.new)) self.old self.new }
     {
         if !self.waiting || self.links.len() >= MAX_LINKS || self.last == u64::MAX {
             return false;
@@ -242,30 +245,32 @@ impl<S: Stream + Drop, H: Settled> Server<S, H> {
     fn admit<K: Sockets<S>>(&mut self, sockets: &mut K, mut stream: S, second: u64)
         requires place { slab_len self.old.links < MAX_LINKS }
         requires number { self.old.last + 1 < 2 ^ 64 }
-        ensures admitted { IsAdmitted S.contents S.remaining stream self.old self.new }
-        ensures accepted { Accepts (K.accepted sockets.old) (K.accepted sockets.new) [] }
+        ensures { IsAdmitted S.contents S.remaining (known_of (K.accepted sockets.old) (K.gone sockets.old))
+            (known_of (K.accepted sockets.new) (K.gone sockets.new)) stream self.old self.new }
     {
         let number = self.last + 1;
         self.last = number;
         let key = self.links.vacant_key();
         self.keys = self.keys.max(key.saturating_add(1));
         if sockets.watch(&mut stream, key).is_err() {
+            sockets.let_go(number, stream);
             return;
         }
         let link = Link::new(self.alloc, number, stream, second);
-        self.keep(link);
+        self.keep(sockets, link);
     }
 
-    /// Stores a link, which is dropped if memory runs out.
-    fn keep(&mut self, link: Link<S>)
+    /// Stores a link; its stream is let go if memory runs out.
+    fn keep<K: Sockets<S>>(&mut self, sockets: &mut K, link: Link<S>)
         requires { slab_len self.old.links < MAX_LINKS }
         ensures handler { self.new.handler ≡ self.old.handler }
         ensures last { self.new.last ≡ self.old.last }
-        ensures links { HasOneMore link self.old.links self.new.links }
+        ensures links { IsPlaced (known_of (K.accepted sockets.old) (K.gone sockets.old))
+            (known_of (K.accepted sockets.new) (K.gone sockets.new)) link self.old.links self.new.links }
     {
         match self.links.insert(link) {
             Ok(_) => {}
-            Err(_) => {}
+            Err(failed) => let_go(sockets, failed.value),
         }
     }
 }

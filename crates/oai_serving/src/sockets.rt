@@ -1,6 +1,6 @@
 //! Where connections come from, and what they are read from and written to.
-ghost use Rattle.std.specs.Prelude.{ℕ, List, [], Option, None};
-ghost use Rattle.oai_serving.specs.Accepted.{Accepts, IsAcceptance};
+ghost use Rattle.std.specs.Prelude.{ℕ, List, [], ◌∷◌, Option, None};
+ghost use Rattle.oai_serving.specs.Accepted.{Accepts, IsAcceptance, LetsGo};
 ghost use Rattle.std.specs.Io.{ReadsAtMost, WritesAtMost};
 ghost use Rattle.std.specs.Io.KnownBytes.{Keeps, ReadConsumes, WriteAppends};
 
@@ -53,25 +53,36 @@ pub enum Readiness {
 }
 
 /// A listener, and the readiness of the streams that were accepted. A report may be spurious, or of a stream that was
-/// removed; and a change is reported once.
+/// let go; and a change is reported once.
 pub trait Sockets<S: Stream> {
     /// The streams that were accepted, in order, in their state then, if they are known.
     ghost accepted: { Self → Option (List S) } = { λ _. None };
 
+    /// The streams that were let go, in order, as they were then, each with its number, if they are known.
+    ghost gone: { Self → Option (List (ℕ × S)) } = { λ _. None };
+
     /// Waits until something becomes ready, at most that long, and returns how many readinesses there are.
     fn wait(&mut self, most: Duration) -> io::Result<usize>
-        ensures { Accepts (accepted self.old) (accepted self.new) [] };
+        ensures accepted { Accepts (accepted self.old) (accepted self.new) [] }
+        ensures gone { LetsGo (gone self.old) (gone self.new) [] };
 
     /// The readiness at that position of the last wait.
     fn ready(&self, at: usize) -> Option<Readiness>;
 
     /// The next connection; None if none waits.
     fn accept(&mut self) -> io::Result<Option<S>>
-        ensures { IsAcceptance (accepted self.old) result (accepted self.new) };
+        ensures accepted { IsAcceptance (accepted self.old) result (accepted self.new) }
+        ensures gone { LetsGo (gone self.old) (gone self.new) [] };
 
     /// Has each wait report changes of the stream under the key, for as long as it lives.
     fn watch(&mut self, stream: &mut S, key: usize) -> io::Result<()>
         ensures contents { Keeps (S.contents stream.old) (S.contents stream.new) }
         ensures remaining { Keeps (S.remaining stream.old) (S.remaining stream.new) }
-        ensures accepted { Accepts (accepted self.old) (accepted self.new) [] };
+        ensures accepted { Accepts (accepted self.old) (accepted self.new) [] }
+        ensures gone { LetsGo (gone self.old) (gone self.new) [] };
+
+    /// Takes a stream whose connection is over, with its number, and drops it.
+    fn let_go(&mut self, number: u64, stream: S)
+        ensures accepted { Accepts (accepted self.old) (accepted self.new) [] }
+        ensures gone { LetsGo (gone self.old) (gone self.new) ((number, stream) ∷ []) };
 }

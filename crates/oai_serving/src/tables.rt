@@ -1,9 +1,10 @@
 //! Links under keys.
-ghost use Rattle.std.specs.Prelude.{◌≡◌, ◌≤◌, ◌<◌, length};
-ghost use Rattle.oai_serving.specs.Tables.{AreSent, AreTurned};
+ghost use Rattle.std.specs.Prelude.{◌≡◌, ◌≤◌, ◌<◌, [], ◌∷◌, length};
+ghost use Rattle.oai_serving.specs.Accepted.{Passes, known_of};
+ghost use Rattle.oai_serving.specs.Tables.{AreEnded, AreSent, AreTurned};
 
 use crate::links::Link;
-use crate::sockets::Stream;
+use crate::sockets::{Sockets, Stream};
 use oai_http::Handler;
 use slab::Slab;
 use std::alloc::Global;
@@ -92,19 +93,37 @@ fn put_at<S: Stream>(alloc: Global, links: &mut Slab<Link<S>>, key: usize, secon
 }
 
 /// Removes the link with the key, if it is over.
-fn end_at<S: Stream + Drop>(links: &mut Slab<Link<S>>, key: usize)
-    ensures { AreSent S.contents S.remaining links.old links.new }
+fn end_at<S: Stream + Drop, K: Sockets<S>>(sockets: &mut K, links: &mut Slab<Link<S>>, key: usize)
+    ensures { AreEnded S.contents S.remaining (known_of (K.accepted sockets.old) (K.gone sockets.old))
+        (known_of (K.accepted sockets.new) (K.gone sockets.new)) links.old links.new }
 {
     if is_over_at(links, key) {
-        take_away(links, key);
+        take_away(sockets, links, key);
     }
 }
 
-/// Removes the link with the key, if there is one.
-fn take_away<S: Stream + Drop>(links: &mut Slab<Link<S>>, key: usize)
-    ensures { AreSent S.contents S.remaining links.old links.new }
+/// Removes the link with the key, if there is one, and lets its stream go.
+fn take_away<S: Stream + Drop, K: Sockets<S>>(
+    sockets: &mut K,
+    links: &mut Slab<Link<S>>,
+    key: usize,
+)
+    ensures { AreEnded S.contents S.remaining (known_of (K.accepted sockets.old) (K.gone sockets.old))
+        (known_of (K.accepted sockets.new) (K.gone sockets.new)) links.old links.new }
 {
-    links.try_remove(key);
+    match links.try_remove(key) {
+        Some(link) => let_go(sockets, link),
+        None => {}
+    }
+}
+
+/// Lets the stream of a link go, with its number.
+pub(crate) fn let_go<S: Stream + Drop, K: Sockets<S>>(sockets: &mut K, link: Link<S>)
+    ensures { Passes (known_of (K.accepted sockets.old) (K.gone sockets.old))
+        (known_of (K.accepted sockets.new) (K.gone sockets.new)) [] ((link.connection.number, link.stream) ∷ []) }
+{
+    let number = link.number();
+    sockets.let_go(number, link.into_stream());
 }
 
 /// Whether the link with the key is over.
@@ -125,24 +144,30 @@ pub(crate) fn put_all<S: Stream>(alloc: Global, links: &mut Slab<Link<S>>, most:
 }
 
 /// Removes those of the links with the first `most` keys that are over.
-pub(crate) fn end_all<S: Stream + Drop>(links: &mut Slab<Link<S>>, most: usize)
-    ensures { AreSent S.contents S.remaining links.old links.new }
+pub(crate) fn end_all<S: Stream + Drop, K: Sockets<S>>(
+    sockets: &mut K,
+    links: &mut Slab<Link<S>>,
+    most: usize,
+)
+    ensures { AreEnded S.contents S.remaining (known_of (K.accepted sockets.old) (K.gone sockets.old))
+        (known_of (K.accepted sockets.new) (K.gone sockets.new)) links.old links.new }
 {
     for key in 0..most {
-        end_at(links, key);
+        end_at(sockets, links, key);
     }
 }
 
 /// Removes links while all together hold more than they may, the one that was idle longest first.
-pub(crate) fn shed_all<S: Stream + Drop>(links: &mut Slab<Link<S>>)
-    ensures { AreSent S.contents S.remaining links.old links.new }
+pub(crate) fn shed_all<S: Stream + Drop, K: Sockets<S>>(sockets: &mut K, links: &mut Slab<Link<S>>)
+    ensures { AreEnded S.contents S.remaining (known_of (K.accepted sockets.old) (K.gone sockets.old))
+        (known_of (K.accepted sockets.new) (K.gone sockets.new)) links.old links.new }
 {
     for _ in 0..links.capacity() {
         if size_of(links) <= MAX_BYTES {
             return;
         }
         let key = idlest_of(links);
-        take_away(links, key);
+        take_away(sockets, links, key);
     }
 }
 
