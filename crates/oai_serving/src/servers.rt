@@ -86,7 +86,7 @@ impl<S: Stream + Drop, H: Settled> Server<S, H> {
         ensures { IsService H.step H.settled S.contents S.remaining (known_of (K.accepted sockets.old) (K.gone sockets.old))
             (known_of (K.accepted sockets.new) (K.gone sockets.new)) self.old result self.new }
     {
-        for _ in 0..u64::MAX {
+        for _count in 0..u64::MAX {
             match self.round(sockets, clock) {
                 Ok(()) => {}
                 Err(fault) => return Err(fault),

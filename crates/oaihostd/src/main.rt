@@ -100,7 +100,8 @@ fn read_port(text: &[u8]) -> Option<u16> {
 fn run_serve<'a>(rt: &'a HostRuntime, path: &str, port: u16, folder: &'a str) -> Result<(), Stop> {
     let text = read_file(rt, path)?;
     let mut place = HostPlace::new(rt, folder, port);
-    serve(rt.alloc(), &mut place, rt, &text)?.outcome()
+    let ended = serve(rt.alloc(), &mut place, rt, &text)?;
+    ended.outcome()
 }
 
 /// Reads the journal in the folder, and writes how many records and bytes it has.
