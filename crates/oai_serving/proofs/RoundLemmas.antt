@@ -19,7 +19,7 @@ use Rattle.oai_serving.specs.Accepted.{Known, Passes}
 use Rattle.oai_serving.specs.Links.{IsLinkFollowed, Link, opened}
 use Rattle.oai_serving.specs.Received.{IsReceived}
 use Rattle.oai_serving.specs.Rounds.{AreAccepted, AreLinksEnded, AreLinksWritten, AreRounds, AreSettled, HasOneMore, IsAdmitted, IsPerformance, IsPlaced, IsRound, IsRoundSettled, IsService, RoundOutcome, Settles, World, served_in}
-use Rattle.oai_serving.specs.Tables.{AreAllAnswered, AreAllKept, AreAllThere, AreGoneAnswered, AreLinksKept, AreTurned, HasLinkOf, IsAnswered, IsLinkKept, IsNumbered}
+use Rattle.oai_serving.specs.Tables.{AreAllKept, AreAllThere, AreGoneAnswered, AreLinksKept, AreTurned, HasLinkOf, IsLinkKept, IsNumbered}
 use Rattle.oai_serving.specs.declared.faults.ServeFault.{ServeFault}
 use Rattle.oai_serving.specs.declared.faults.ServeFault.TheVariants.{Unsettled}
 

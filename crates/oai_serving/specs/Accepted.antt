@@ -8,7 +8,7 @@ Accepts None later streams = ⊤
 Accepts (Some known) None streams = ⊥
 Accepts (Some known) (Some later) streams = later ≡ known ++ streams
 
--- no stream was accepted yet
+-- none is known yet
 abbrev pub AcceptsNone : {S : Type 0} → Option (List S) → Type 0
 AcceptsNone None = ⊤
 AcceptsNone (Some known) = known ≡ []
@@ -35,3 +35,8 @@ known_of accepted gone = record { accepted = accepted; gone = gone }
 pub record Passes {S : Type 0} (known later : Known S) (streams : List S) (parted : List (ℕ × S)) : Type 0 where
   pub accepts : Accepts known.accepted later.accepted streams
   pub lets_go : LetsGo known.gone later.gone parted
+
+-- none was accepted or let go yet
+pub record PassesNone {S : Type 0} (known : Known S) : Type 0 where
+  pub accepted : AcceptsNone known.accepted
+  pub gone : AcceptsNone known.gone

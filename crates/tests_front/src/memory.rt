@@ -214,6 +214,10 @@ impl Sockets<Client> for Waiting {
         self.keys = self.keys.max(key.saturating_add(1));
         Ok(())
     }
+
+    fn let_go(&mut self, _number: u64, stream: Client) {
+        drop(stream);
+    }
 }
 
 /// A clock that stands at that second, and 2024 began with its start.

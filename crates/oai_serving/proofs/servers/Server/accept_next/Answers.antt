@@ -11,4 +11,4 @@ pub returns-in-Ok-Some : goal.returns-in-Ok-Some
 returns-in-Ok-Some g c =
     let mid : Known g.row.S.Denot = known_of (g.K.Sockets.accepted c.accept.new.self) (g.K.Sockets.gone c.accept.new.self) in
     accepted_one g.S.Stream.contents g.S.Stream.remaining _ mid _ c.in-Ok-Some.stream c.args.self.now c.admit.new.self
-    (record { accepts = c.in-Ok-Some.ensures.accepted; lets_go = c.in-Ok-Some.ensures.gone }) c.admit.ensures
+    (record { accepts = rw c.in-Ok-Some.field-0-is at c.in-Ok-Some.ensures.accepted; lets_go = c.in-Ok-Some.ensures.gone }) c.admit.ensures
