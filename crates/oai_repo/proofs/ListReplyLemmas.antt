@@ -59,31 +59,21 @@ selection_opens config clock open_lists verb format items many =
 answering : OpenLists → Answer → Response × OpenLists
 answering open_lists answer = (with_answer answer, open_lists)
 
-complete_some : (config : Config) (verb : ListVerb) (format : Format) (items : List ItemState) → 0 < length items → complete_answer config verb format items ≡ answer_by_verb verb format (complete_page config items)
+pub complete_some : (config : Config) (verb : ListVerb) (format : Format) (items : List ItemState) → 0 < length items → complete_answer config verb format items ≡ answer_by_verb verb format (complete_page config items)
 complete_some config verb format [] h = absurd (omega (arith, h))
 complete_some config verb format (item ∷ items) h = refl
 
-complete_none : (config : Config) (verb : ListVerb) (format : Format) (items : List ItemState) → length items ≡ 0 → complete_answer config verb format items ≡ fails NoRecordsMatch
+pub complete_none : (config : Config) (verb : ListVerb) (format : Format) (items : List ItemState) → length items ≡ 0 → complete_answer config verb format items ≡ fails NoRecordsMatch
 complete_none config verb format [] h = refl
 complete_none config verb format (item ∷ items) h = absurd (omega (arith, h))
 
--- some, and no more
-pub selection_complete : (config : Config) (clock : ℤ) (open_lists : OpenLists) (verb : ListVerb) (format : Format) (items first : List ItemState) → first ≡ take (config.chunk + 1) items → 0 < length first → length first ≤ config.chunk
-    → selection_response config clock open_lists verb format items ≡ (with_answer (answer_by_verb verb format (complete_page config first)), open_lists)
+-- no more than a part has
+pub selection_whole : (config : Config) (clock : ℤ) (open_lists : OpenLists) (verb : ListVerb) (format : Format) (items first : List ItemState) → first ≡ take (config.chunk + 1) items → length first ≤ config.chunk
+    → selection_response config clock open_lists verb format items ≡ (with_answer (complete_answer config verb format first), open_lists)
 unfolding answering
-selection_complete config clock open_lists verb format items first is some small =
+selection_whole config clock open_lists verb format items first is small =
     let all : first ≡ items = few_first config.chunk items first is small in
-    few config clock open_lists verb format items (omega (arith, small, ap length all))
-    ∙ ap (answering open_lists) (complete_some config verb format items (omega (arith, some, ap length all)) ∙ ap (λ xs. answer_by_verb verb format (complete_page config xs)) (sym all))
-
--- none
-pub selection_empty : (config : Config) (clock : ℤ) (open_lists : OpenLists) (verb : ListVerb) (format : Format) (items first : List ItemState) → first ≡ take (config.chunk + 1) items → length first ≡ 0
-    → selection_response config clock open_lists verb format items ≡ (with_answer (fails NoRecordsMatch), open_lists)
-unfolding answering
-selection_empty config clock open_lists verb format items first is none =
-    let all : first ≡ items = few_first config.chunk items first is (omega (arith, none)) in
-    few config clock open_lists verb format items (omega (arith, none, ap length all))
-    ∙ ap (answering open_lists) (complete_none config verb format items (omega (arith, none, ap length all)))
+    few config clock open_lists verb format items (omega (arith, small, ap length all)) ∙ ap (λ xs. answering open_lists (complete_answer config verb format xs)) (sym all)
 
 -- ---- a list request
 
