@@ -1,5 +1,5 @@
 -- What a list request is replied, by the first of the items that it selects: all of them, or the first part of a list.
-use Rattle.std.proofs.Common.{◌≡◌, ◌∙◌, ℕ, ℤ, ◌+◌, ◌<◌, ◌≤◌, min, false, ◌&&◌, List, [], ◌∷◌, length, take, Option, Some, is_some, refl, sym, ap, subst, arith}
+use Rattle.std.proofs.Common.{◌≡◌, ◌∙◌, ℕ, ℤ, ◌+◌, ◌<◌, ◌≤◌, min, true, false, ◌&&◌, List, [], ◌∷◌, length, take, Option, None, Some, is_some, refl, sym, ap, subst, arith}
 use Rattle.std.specs.Prelude.{nat_le}
 use Rattle.std.proofs.lemmas.Bool.{cond-true, cond-false, le-leb, lt-leb}
 use Rattle.std.proofs.lemmas.List.{length-take, take-take, take_all}
@@ -10,7 +10,7 @@ use Rattle.oai_item.specs.Item.{ItemState}
 use Rattle.oai_item.specs.Selection.{Filter}
 use Rattle.oai_item.specs.declared.formats.Format.{Format}
 use Rattle.oai_answers.specs.Answers.{Answer, Attributes, fails}
-use Rattle.oai_answers.specs.declared.errors.ErrorCode.TheVariants.{NoRecordsMatch, NoSetHierarchy}
+use Rattle.oai_answers.specs.declared.errors.ErrorCode.TheVariants.{CannotDisseminateFormat, NoRecordsMatch, NoSetHierarchy}
 use Rattle.oai_catalogue.specs.Store.{Lists}
 use Rattle.oai_lists.specs.OpenLists.{Table}
 use Rattle.oai_repo.specs.Answers.{filter_of}
@@ -88,6 +88,26 @@ response_in_format repo table lists request format sets known =
     let items : List ItemState = view_selected repo lists (filter_asked request) in
     cond-false (is_some request.set.now && has_no_sets repo.sets.now) (with_answer (fails NoSetHierarchy), open_lists) (format_response config repo.clock open_lists request.verb (format_named request.prefix.now config.formats) items) sets
     ∙ ap (λ f. format_response config repo.clock open_lists request.verb f items) known
+
+-- a set is asked for where there are none
+pub response_no_sets : (repo : RepoView) (table : Table) (lists : Lists) (request : ListRequest) → (is_some request.set.now && has_no_sets repo.sets.now) ≡ true
+    → view_list_response repo table lists request ≡ (with_answer (fails NoSetHierarchy), view_open_lists repo table lists)
+response_no_sets repo table lists request sets =
+    let config : Config = repo.config.now in
+    let open_lists : OpenLists = view_open_lists repo table lists in
+    cond-true (is_some request.set.now && has_no_sets repo.sets.now) (with_answer (fails NoSetHierarchy), open_lists)
+    (format_response config repo.clock open_lists request.verb (format_named request.prefix.now config.formats) (view_selected repo lists (filter_asked request))) sets
+
+-- in a format that the repository lacks
+pub response_no_format : (repo : RepoView) (table : Table) (lists : Lists) (request : ListRequest) → (is_some request.set.now && has_no_sets repo.sets.now) ≡ false
+    → format_named request.prefix.now repo.config.now.formats ≡ None
+    → view_list_response repo table lists request ≡ (with_answer (fails CannotDisseminateFormat), view_open_lists repo table lists)
+response_no_format repo table lists request sets unknown =
+    let config : Config = repo.config.now in
+    let open_lists : OpenLists = view_open_lists repo table lists in
+    let items : List ItemState = view_selected repo lists (filter_asked request) in
+    cond-false (is_some request.set.now && has_no_sets repo.sets.now) (with_answer (fails NoSetHierarchy), open_lists) (format_response config repo.clock open_lists request.verb (format_named request.prefix.now config.formats) items) sets
+    ∙ ap (λ f. format_response config repo.clock open_lists request.verb f items) unknown
 
 -- with what asks for the items
 pub response_selected : (repo : RepoView) (table : Table) (lists : Lists) (request : ListRequest) (selection : Selection) → (is_some request.set.now && has_no_sets repo.sets.now) ≡ false

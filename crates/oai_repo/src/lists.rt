@@ -15,7 +15,7 @@ ghost use Rattle.oai_repo.specs.Answers as spec;
 ghost use Rattle.oai_repo.specs.Fields.{AreInUse, open_lists_of, versions_in};
 ghost use Rattle.oai_repo.specs.Listing as listing;
 ghost use Rattle.oai_repo.specs.Tables.{dropped_at, has_end, version_ended, without_version};
-ghost use Rattle.oai_repo.specs.Views.{HasListBegun, IsFilter, IsOfFormat, IsReady, IsViewReply, Leaves, document_reply, first_items, view_list_response, view_new_list, view_open_lists, view_selected, view_selection_response, view_wait};
+ghost use Rattle.oai_repo.specs.Views.{HasListBegun, IsFilter, IsOfFormat, IsReady, IsSelection, IsViewReply, Leaves, document_reply, first_items, view_list_response, view_new_list, view_open_lists, view_selected, view_selection_response, view_wait};
 
 use crate::parts::mark_behind;
 use crate::responses::{Reply, make_reply, reply_with_error};
@@ -56,8 +56,7 @@ pub(crate) struct Selection<'a> {
     pub(crate) filter: Filter,
 }
 
-/// Replies to a list request: a set is asked for only where there are sets, and one that the repository
-/// lacks has no items.
+/// Replies to a list request.
 pub(crate) fn reply_with_list<V: Versions>(
     repo: &RepoView<'_>,
     lists: &mut Lists,
@@ -73,21 +72,36 @@ pub(crate) fn reply_with_list<V: Versions>(
     ensures left { Leaves V.Versions result repo.now lists.old store.old lists.new store.new }
     ensures store { Spends V.room V.failures V.honest 1 result store.old store.new }
 {
+    let asked = selection_of(repo, request)?;
+    match asked {
+        Ok(selection) => reply_with_selection(repo, lists, store, &selection),
+        Err(code) => Ok(reply_with_error(repo, code)?),
+    }
+}
+
+/// What a list request selects, or the error that it is answered with: a set is asked for only where there are
+/// sets, and one that the repository lacks has no items.
+pub(crate) fn selection_of<'a>(
+    repo: &RepoView<'a>,
+    request: &ListRequest<'_>,
+) -> Result<Result<Selection<'a>, ErrorCode>, AllocError>
+    requires { is_of_records request.now.verb ≡ true }
+    ensures { IfOk result (λ asked. IsSelection repo.now request.now asked) }
+{
     if lacks_sets(repo.sets, request.set) {
-        return Ok(reply_with_error(repo, ErrorCode::NoSetHierarchy)?);
+        return Ok(Err(ErrorCode::NoSetHierarchy));
     }
     let Some(format) = repo.config.formats().find_named(request.prefix) else {
-        return Ok(reply_with_error(repo, ErrorCode::CannotDisseminateFormat)?);
+        return Ok(Err(ErrorCode::CannotDisseminateFormat));
     };
     let Some(filter) = filter_of(repo.alloc, repo.sets, &format.prefix, request)? else {
-        return Ok(reply_with_error(repo, ErrorCode::NoRecordsMatch)?);
+        return Ok(Err(ErrorCode::NoRecordsMatch));
     };
-    let selection = Selection {
+    Ok(Ok(Selection {
         verb: request.verb,
         format,
         filter,
-    };
-    reply_with_selection(repo, lists, store, &selection)
+    }))
 }
 
 /// Replies with what is selected: whole where it is no more than a part of a list may have.
@@ -320,14 +334,14 @@ pub(crate) fn answer_by_verb<'a>(verb: ListVerb, format: &'a Format, list: Liste
 }
 
 /// Whether a set is asked for where there are none.
-pub(crate) fn lacks_sets(sets: &SetTree, set: &Option<Text>) -> bool
+fn lacks_sets(sets: &SetTree, set: &Option<Text>) -> bool
     ensures { result ≡ (is_some set.now && listing.has_no_sets sets.now) }
 {
     set.is_some() && sets.as_slice().is_empty()
 }
 
 /// What asks for the items, or None where the repository lacks the set.
-pub(crate) fn filter_of(
+fn filter_of(
     alloc: Global,
     sets: &SetTree,
     prefix: &Prefix,

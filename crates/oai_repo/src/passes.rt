@@ -12,7 +12,7 @@ ghost use Rattle.oai_repo.specs.Listing as listing;
 ghost use Rattle.oai_repo.specs.Tables.{IsKeptTable, IsLeftOpen};
 ghost use Rattle.oai_repo.specs.Views.{IsOfFormat, IsReady, Leaves, view_ask_response, view_list_response, view_numbers, view_open_lists, view_response, view_selected, view_selection_response, view_token_response};
 
-use crate::lists::{ListRequest, Selection, filter_of, lacks_sets, start_unread};
+use crate::lists::{ListRequest, Selection, selection_of, start_unread};
 use crate::tokens::{carry_on, chunk_of, continued, cursor_behind};
 use crate::view::RepoView;
 use oai_args::{ArgFault, Ask, read_request};
@@ -127,21 +127,11 @@ fn pass_list<V: Versions>(
     ensures left { Leaves V.Versions result repo.now lists.old store.old lists.new store.new }
     ensures store { Spends V.room V.failures V.honest 1 result store.old store.new }
 {
-    if lacks_sets(repo.sets, request.set) {
-        return Ok(());
+    let asked = selection_of(repo, request)?;
+    match asked {
+        Ok(selection) => pass_selection(repo, lists, store, &selection),
+        Err(_) => Ok(()),
     }
-    let Some(format) = repo.config.formats().find_named(request.prefix) else {
-        return Ok(());
-    };
-    let Some(filter) = filter_of(repo.alloc, repo.sets, &format.prefix, request)? else {
-        return Ok(());
-    };
-    let selection = Selection {
-        verb: request.verb,
-        format,
-        filter,
-    };
-    pass_selection(repo, lists, store, &selection)
 }
 
 /// Passes a list request by what is selected: a list begins where that is more than a part of a list may have. No page
