@@ -1,10 +1,10 @@
 -- What the calls behind those of a repository do to its items, in the store and in the index: this repository's own.
-use Rattle.std.specs.Prelude.{◌≡◌, ◌⊎◌, ℕ, ℤ, Bool, true, not, List, Option, None, Some, Result, Ok, Err, IsSome, IsTrue, OnErr}
+use Rattle.std.specs.Prelude.{◌≡◌, ◌⊎◌, ℕ, ℤ, Bool, true, false, not, List, Option, None, Some, Result, Ok, Err, IsSome, IsTrue, OnErr}
 use Rattle.std.specs.Option.{option_or}
 use Rattle.oai_item.specs.declared.changes.Change.{Change}
 use Rattle.oai_item.specs.declared.refusals.ChangeRefusal.{ChangeRefusal}
 use Rattle.oai_item.specs.Item.{ItemState}
-use Rattle.oai_item.specs.Items.{item_named}
+use Rattle.oai_item.specs.Items.{is_named, item_named}
 use Rattle.oai_catalogue.specs.Store.{Lists, list_at, with_list, without_list}
 use Rattle.oai_catalogue.specs.declared.versions.Versions.{Ghosts}
 use Rattle.oai_repo.specs.Calls.{early_refusal}
@@ -52,6 +52,11 @@ pub record StandsOn {V : Type 0} (g : Ghosts V) (index : ItemIndex) (store : V) 
 pub record HoldsItems {V : Type 0} (g : Ghosts V) (config : Config) (index : ItemIndex) (sets : List NamedSet) (store : V) : Type 0 where
   pub stands : IsSome (g.lists store index.version)
   pub indexed : IsTrue (g.honest store) → IsIndexed config index sets (g.lists store)
+
+-- there is an item, and it has that identifier
+abbrev pub is_one_named : List ℕ → Option ItemState → Bool
+is_one_named identifier None = false
+is_one_named identifier (Some item) = is_named identifier item
 
 -- the item has an entry, and an honest store holds it, of the size that it may have
 pub record HoldsItem {V : Type 0} (g : Ghosts V) (index : ItemIndex) (item : ItemState) (store : V) : Type 0 where

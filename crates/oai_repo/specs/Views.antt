@@ -1,12 +1,13 @@
 -- What a request sees of a repository, its precondition and its effect, and the reply: this repository's own.
-use Rattle.std.specs.Prelude.{◌≡◌, ◌+◌, ◌+ℤ◌, ◌<◌, ℕ, ℤ, pos, true, false, List, ◌∷◌, take, Option, None, Some, Result, IsSome, IsTrue, OnErr}
+use Rattle.std.specs.Prelude.{◌≡◌, ◌+◌, ◌+ℤ◌, ◌<◌, ℕ, ℤ, pos, true, false, List, ◌∷◌, take, Option, None, Some, Result, Ok, Err, IsSome, IsTrue, OnErr}
 use Rattle.oai_names.specs.declared.list_verbs.ListVerb.{ListVerb}
 use Rattle.oai_names.specs.Sets.{HasSetsAbove, has_set}
 use Rattle.oai_item.specs.Formats.{format_named}
 use Rattle.oai_item.specs.Item.{ItemState}
 use Rattle.oai_item.specs.Items.{item_named}
 use Rattle.oai_item.specs.Selection.{Filter, selected}
-use Rattle.oai_answers.specs.Answers.{Answer, Attributes}
+use Rattle.oai_answers.specs.Answers.{Answer, Attributes, fails}
+use Rattle.oai_answers.specs.declared.errors.ErrorCode.{ErrorCode}
 use Rattle.oai_answers.specs.Borrowed.{attributes_of}
 use Rattle.oai_answers.specs.Documents.{document}
 use Rattle.oai_catalogue.specs.Store.{Lists, list_at, with_list}
@@ -18,7 +19,7 @@ use Rattle.oai_lists.specs.Tokens.{token_of}
 use Rattle.oai_args.specs.Asks.{AskOrError}
 use Rattle.oai_args.specs.Verbs.{is_of_records}
 use Rattle.oai_args.specs.declared.requests.Ask.{Ask}
-use Rattle.oai_repo.specs.Answers.{document_at, filter_of}
+use Rattle.oai_repo.specs.Answers.{document_at, filter_of, item_formats_answer, record_answer}
 use Rattle.oai_settings.specs.Config.{Config, is_in_years}
 use Rattle.oai_repo.specs.Fields.{AreInUse, IsIndexed, TableAgrees, is_counted, is_marked, open_lists_of, holdings_of, stored_items, versions_in}
 use Rattle.oai_repo.specs.Listing.{Response, ask_response, list_response, new_list, opens_list, request_response, retry_after, selection_response, token_response, wait_at, with_answer}
@@ -149,6 +150,11 @@ first_items repo lists filter = take (repo.config.now.chunk + 1) (view_selected 
 
 -- ---- the responses
 
+-- about an item, if there is one: to GetRecord of that prefix, or to ListMetadataFormats where no prefix is given
+abbrev pub answer_about_item : Config → Option ItemState → Option (List ℕ) → Answer
+answer_about_item config item (Some prefix) = record_answer config item prefix
+answer_about_item config item None = item_formats_answer config item
+
 -- to a list request
 abbrev pub view_list_response : RepoView → Table → Lists → ListRequest → Response × OpenLists
 view_list_response repo table lists request =
@@ -158,6 +164,13 @@ view_list_response repo table lists request =
 abbrev pub view_selection_response : RepoView → Table → Lists → Selection → Response × OpenLists
 view_selection_response repo table lists selection =
     selection_response repo.config.now repo.clock (view_open_lists repo table lists) selection.verb selection.format.now (view_selected repo lists selection.filter)
+
+-- a list request comes to what is selected, whatever the lists are, or to an error, over the lists of an honest store
+abbrev pub IsSelection : RepoView → ListRequest → Result Selection ErrorCode → Type 0
+IsSelection repo request (Ok selection) =
+    IsOfFormat repo.config.now selection × ((table : Table) (lists : Lists) → view_list_response repo table lists request ≡ view_selection_response repo table lists selection)
+IsSelection repo request (Err code) =
+    (table : Table) (lists : Lists) → IsViewIndexed repo lists → view_list_response repo table lists request ≡ (with_answer (fails code), view_open_lists repo table lists)
 
 -- a list begins, or the request has to wait
 abbrev pub view_new_list : RepoView → Table → Lists → Selection → Option ℤ → Response × OpenLists
