@@ -25,8 +25,7 @@ pub(crate) fn texts_value(alloc: Global, specs: &[SetSpec]) -> Result<Value, All
 {
     let mut texts = Vec::with_capacity(alloc, specs.len())?;
     for spec in specs {
-        let text = text_value(alloc, spec.as_str())?;
-        texts.push(text).unwrap();
+        texts.push(text_value(alloc, spec.as_str())?)?;
     }
     Ok(Value::Array(texts))
 }

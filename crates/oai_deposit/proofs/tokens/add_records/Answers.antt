@@ -2,11 +2,11 @@ use Rattle.std.proofs.Common.{◌≡◌, ◌∷◌, [], ◌++◌, true, rules}
 use Rattle.oai_item.specs.Item.{Metadata}
 use Rattle.oai_deposit.specs.Tokens.{record_tokens, may_follow}
 use Rattle.oai_deposit.proofs.TokenLemmas.{one_more, rising_more}
-use Rattle.oai_deposit.proofs.tokens.take_records.Goals as goal
+use Rattle.oai_deposit.proofs.tokens.add_records.Goals as goal
 
-pub loop-records-preserved : goal.loop-records-preserved
-loop-records-preserved c =
-    let l = c.loop-records in
+pub loop-prefix-preserved : goal.loop-prefix-preserved
+loop-prefix-preserved c =
+    let l = c.loop-prefix in
     let r : Metadata = (c.in_ok-prefix-2.prefix, c.in_ok-take_fields.field-0) in
     let pushed : c.push.new.self.items ≡ l.records.items ++ r ∷ [] = search rules in
     let taken : l.reader ≡ record_tokens r ++ c.take_fields.new.reader = search rules in
