@@ -24,7 +24,7 @@ README_LINES, ALL_LINES, COLUMNS, CRATE_LINES = 120, 2000, 120, 40
 
 # A path ends so, or begins with a folder of the repository or of a crate.
 SUFFIXES = (".rt", ".antt", ".py", ".edit", ".md", ".pl")
-FOLDERS = {"src", "specs", "proofs", "must-fail", "planted", ".ci"} | {it.name for it in TOP.iterdir() if it.is_dir()} | {it.name for it in TOP.glob("crates/*")}
+FOLDERS = {"src", "specs", "proofs", "must-fail", "planted", ".ci"} | {it.name for it in [*TOP.iterdir(), *TOP.glob("crates/*")] if it.is_dir()}
 
 # A number of such things in a page has to be one of COUNTS.
 COUNTED = re.compile(r"\b(\d[\d,]*) (crates|mutants|laws|tests|scripts|modules)\b")
@@ -38,7 +38,9 @@ LIMITS = {
         "256": ("oai_names", "MAX_SET_SPEC_BYTES"), "2,097,152": ("oai_front", "MAX_DEPOSIT_BYTES"), "16,384": ("oai_front", "MAX_HEAD_BYTES"),
         "64": ("oai_front", "MAX_HEAD_FIELDS"), "1,024": ("oai_serving", "MAX_LINKS"), "4,294,967,295": ("oai_pool", "MAX_PAGES"),
     },
-    "docs/PROTOCOL.md": {"1,048,576": ("oai_front", "MAX_BODY_BYTES"), "2,097,152": ("oai_front", "MAX_DEPOSIT_BYTES"), "16,384": ("oai_front", "MAX_HEAD_BYTES")},
+    "docs/PROTOCOL.md": {
+        "1,048,576": ("oai_front", "MAX_BODY_BYTES"), "2,097,152": ("oai_front", "MAX_DEPOSIT_BYTES"), "16,384": ("oai_front", "MAX_HEAD_BYTES"),
+    },
 }  # fmt: skip
 problems = []
 
