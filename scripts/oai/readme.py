@@ -1,6 +1,7 @@
 """Checks the pages of the repository."""
 
 import collections
+import functools
 import re
 
 from oai.arguments import usage_of
@@ -19,6 +20,9 @@ WORDS = {
     if file.suffix in (".rt", ".antt")
     for word in re.findall(r"\w+", file.read_text())
 }
+# A name in backquotes, which the repository has somewhere, or which is of OAI-PMH or of the toolchain.
+NAME = re.compile(r"\b(?:[A-Za-z]\w*_\w+|[a-z]\w*[a-z][A-Z]\w*|[A-Z]\w*[a-z][A-Z]\w*)\b")
+OUTSIDE = {"setDescription", "OnPartial"}
 USERS = ["docs/CONFIGURATION.md", "docs/OPERATIONS.md", "docs/PROTOCOL.md"]
 README_LINES, ALL_LINES, COLUMNS, CRATE_LINES = 120, 2000, 120, 40
 
@@ -213,6 +217,22 @@ def check_paths(path):
                 problem(f"{path}: there is no {word}")
 
 
+@functools.cache
+def names_of_all():
+    """Each word of the sources, the proofs, the scripts, the page and what builds them."""
+    texts = [*TOP.glob("crates/*/proofs/**/*.antt"), *TOP.glob("crates/*/*/*.edit"), *TOP.glob("scripts/**/*.*"), *TOP.glob("web/*"), *TOP.glob("bin/*"), TOP / ".ci/run"]
+    return WORDS | set(CRATES) | {word for path in texts if path.suffix != ".svg" for word in re.findall(r"\w+", path.read_text())}
+
+
+def check_names(path):
+    """Each name in backquotes of more than one word stands somewhere in the repository."""
+    text = re.sub(r"^```.*?^```|^    [^\n]*$", "", (TOP / path).read_text(), flags=re.MULTILINE | re.DOTALL)
+    for quoted in re.findall(r"`([^`\n]+)`", text):
+        for name in NAME.findall(quoted):
+            if name not in names_of_all() | OUTSIDE:
+                problem(f"{path}: nothing has the name {name}")
+
+
 def check_crates_named(path):
     """Each crate in backquotes."""
     for name in re.findall(r"`((?:oai|tests)_[a-z]\w*)`", (TOP / path).read_text()):
@@ -298,7 +318,7 @@ def readme():
     README.md has at most 120 lines, docs/*.md together 2,000, each line of these at most 120 columns; the README of a
     crate has at most 40 lines, and shows a caller: a block of code. Every crate of crates.txt that is not one of tests
     has one. Every link to a file of this repository leads to one, and to a heading of it where it names one; every path
-    in backquotes leads to a file or a folder, and every crate in backquotes is there. In README.md a link to a file
+    in backquotes leads to a file or a folder, and every crate and every name of several words in backquotes is there. In README.md a link to a file
     whose text is names in backquotes leads to a file that defines each of them. In docs/THEOREMS.md a row of the table
     of what is proved names functions of a crate's src/, then definitions of specs/, and a file of one of these crates.
     There, and in the tables of docs/ARCHITECTURE.md, each definition stands in the file that is named before it, and
@@ -316,6 +336,7 @@ def readme():
     for path in [*PAGES, "scripts/README.md", *CRATE_PAGES]:
         check_paths(path)
         check_crates_named(path)
+        check_names(path)
     for check in (check_proved, check_architecture, check_theorems, check_sentences, check_testing, check_counts, check_commands, check_scripts):
         check()
     for text in problems:
