@@ -220,8 +220,9 @@ def check_paths(path):
 @functools.cache
 def names_of_all():
     """Each word of the sources, the proofs, the scripts, the page and what builds them."""
-    texts = [*TOP.glob("crates/*/proofs/**/*.antt"), *TOP.glob("crates/*/*/*.edit"), *TOP.glob("scripts/**/*.*"), *TOP.glob("web/*"), *TOP.glob("bin/*"), TOP / ".ci/run"]
-    return WORDS | set(CRATES) | {word for path in texts if path.suffix != ".svg" for word in re.findall(r"\w+", path.read_text())}
+    folders = "crates/*/proofs/**/*.antt", "crates/*/*/*.edit", "scripts/**/*.*", "web/*.js", "web/*.conf", "bin/*", ".ci/run"
+    texts = [path.read_text() for folder in folders for path in TOP.glob(folder)]
+    return WORDS | set(CRATES) | {word for text in texts for word in re.findall(r"\w+", text)}
 
 
 def check_names(path):
