@@ -1,6 +1,7 @@
 """Checks the pages of the repository."""
 
 import collections
+import functools
 import re
 
 from oai.arguments import usage_of
@@ -19,12 +20,15 @@ WORDS = {
     if file.suffix in (".rt", ".antt")
     for word in re.findall(r"\w+", file.read_text())
 }
+# A name in backquotes, which the repository has somewhere, or which is of OAI-PMH or of the toolchain.
+NAME = re.compile(r"\b(?:[A-Za-z]\w*_\w+|[a-z]\w*[a-z][A-Z]\w*|[A-Z]\w*[a-z][A-Z]\w*)\b")
+OUTSIDE = {"setDescription", "OnPartial"}
 USERS = ["docs/CONFIGURATION.md", "docs/OPERATIONS.md", "docs/PROTOCOL.md"]
 README_LINES, ALL_LINES, COLUMNS, CRATE_LINES = 120, 2000, 120, 40
 
 # A path ends so, or begins with a folder of the repository or of a crate.
 SUFFIXES = (".rt", ".antt", ".py", ".edit", ".md", ".pl")
-FOLDERS = {"src", "specs", "proofs", "must-fail", "planted", ".ci"} | {it.name for it in TOP.iterdir() if it.is_dir()} | {it.name for it in TOP.glob("crates/*")}
+FOLDERS = {"src", "specs", "proofs", "must-fail", "planted", ".ci"} | {it.name for it in [*TOP.iterdir(), *TOP.glob("crates/*")] if it.is_dir()}
 
 # A number of such things in a page has to be one of COUNTS.
 COUNTED = re.compile(r"\b(\d[\d,]*) (crates|mutants|laws|tests|scripts|modules)\b")
@@ -38,7 +42,9 @@ LIMITS = {
         "256": ("oai_names", "MAX_SET_SPEC_BYTES"), "2,097,152": ("oai_front", "MAX_DEPOSIT_BYTES"), "16,384": ("oai_front", "MAX_HEAD_BYTES"),
         "64": ("oai_front", "MAX_HEAD_FIELDS"), "1,024": ("oai_serving", "MAX_LINKS"), "4,294,967,295": ("oai_pool", "MAX_PAGES"),
     },
-    "docs/PROTOCOL.md": {"1,048,576": ("oai_front", "MAX_BODY_BYTES"), "2,097,152": ("oai_front", "MAX_DEPOSIT_BYTES"), "16,384": ("oai_front", "MAX_HEAD_BYTES")},
+    "docs/PROTOCOL.md": {
+        "1,048,576": ("oai_front", "MAX_BODY_BYTES"), "2,097,152": ("oai_front", "MAX_DEPOSIT_BYTES"), "16,384": ("oai_front", "MAX_HEAD_BYTES"),
+    },
 }  # fmt: skip
 problems = []
 
@@ -211,6 +217,23 @@ def check_paths(path):
                 problem(f"{path}: there is no {word}")
 
 
+@functools.cache
+def names_of_all():
+    """Each word of the sources, the proofs, the scripts, the page and what builds them."""
+    folders = "crates/*/proofs/**/*.antt", "crates/*/*/*.edit", "scripts/**/*.*", "web/*.js", "web/*.conf", "bin/*", ".ci/run"
+    texts = [path.read_text() for folder in folders for path in TOP.glob(folder)]
+    return WORDS | set(CRATES) | {word for text in texts for word in re.findall(r"\w+", text)}
+
+
+def check_names(path):
+    """Each name in backquotes of more than one word stands somewhere in the repository."""
+    text = re.sub(r"^```.*?^```|^    [^\n]*$", "", (TOP / path).read_text(), flags=re.MULTILINE | re.DOTALL)
+    for quoted in re.findall(r"`([^`\n]+)`", text):
+        for name in NAME.findall(quoted):
+            if name not in names_of_all() | OUTSIDE:
+                problem(f"{path}: nothing has the name {name}")
+
+
 def check_crates_named(path):
     """Each crate in backquotes."""
     for name in re.findall(r"`((?:oai|tests)_[a-z]\w*)`", (TOP / path).read_text()):
@@ -296,7 +319,7 @@ def readme():
     README.md has at most 120 lines, docs/*.md together 2,000, each line of these at most 120 columns; the README of a
     crate has at most 40 lines, and shows a caller: a block of code. Every crate of crates.txt that is not one of tests
     has one. Every link to a file of this repository leads to one, and to a heading of it where it names one; every path
-    in backquotes leads to a file or a folder, and every crate in backquotes is there. In README.md a link to a file
+    in backquotes leads to a file or a folder, and every crate and every name of several words in backquotes is there. In README.md a link to a file
     whose text is names in backquotes leads to a file that defines each of them. In docs/THEOREMS.md a row of the table
     of what is proved names functions of a crate's src/, then definitions of specs/, and a file of one of these crates.
     There, and in the tables of docs/ARCHITECTURE.md, each definition stands in the file that is named before it, and
@@ -314,6 +337,7 @@ def readme():
     for path in [*PAGES, "scripts/README.md", *CRATE_PAGES]:
         check_paths(path)
         check_crates_named(path)
+        check_names(path)
     for check in (check_proved, check_architecture, check_theorems, check_sentences, check_testing, check_counts, check_commands, check_scripts):
         check()
     for text in problems:

@@ -8,6 +8,9 @@ from oai.crates import uses
 from oai.programs import TOP, needs
 from oai.refusals import has_tests
 
+# For how many seconds a test may go on.
+SECONDS = 30
+
 
 def crates_of_tests(crate):
     """The crate itself if it has tests, or those of tests that its README names."""
@@ -18,11 +21,33 @@ def crates_of_tests(crate):
     return [it for it in dict.fromkeys(named) if it in uses() and has_tests(it)]
 
 
+def run_tests(crate):
+    """Runs the tests of a crate of tests, and prints what `rt try --test` prints; the names of those that failed, and of those that took too long."""
+    failed, slow, name = [], [], None
+    command = ["rt", "try", "--test", "--seconds", str(SECONDS)]
+    with subprocess.Popen(command, cwd=TOP / "crates" / crate, stdout=subprocess.PIPE, stderr=subprocess.STDOUT, text=True) as running:
+        for line in running.stdout:
+            print(line, end="", flush=True)
+            found = re.match(r"test (\S+) \.\.\. FAILED", line)
+            if found:
+                name = f"{crate} {found[1]}"
+                failed.append(name)
+            elif name and "checked: no-answer" in line:
+                failed.remove(name)
+                slow.append(name)
+                name = None
+    if running.returncode and not failed and not slow:
+        failed.append(crate)
+    return failed, slow
+
+
 def test(crate):
-    """Runs the tests of a crate, compiled with checks and without a proof, in half a minute to some minutes.
+    """Runs the tests of a crate, compiled with checks and without a proof: mostly within a minute.
 
     CRATE is a crate of tests, or one whose README names its crates of tests. It prints what `rt try --test` prints: a
-    line for each test, and their number. The status is 0 where all pass. `bash .ci/run` alone proves them.
+    line for each test, and their number. The checks make a few tests so slow that they are given up after 30 seconds:
+    it names them, and `bash .ci/run` runs them. The last line is `N failed, M given up`; the status is 0 where N is 0.
+    Nothing is proved of the tests.
     """
     needs("rt")
     if crate not in uses():
@@ -33,5 +58,9 @@ def test(crate):
         above = [it for it, others in uses().items() if crate in others and has_tests(it)]
         print(f"test: crates/{crate}/README.md names no crate of tests; those above it are {', '.join(above) or 'none'}", file=sys.stderr)
         return 2
-    failed = [it for it in found if subprocess.run(["rt", "try", "--test", "--seconds", "300"], cwd=TOP / "crates" / it, check=False).returncode]
+    failed, slow = (sum(parts, []) for parts in zip(*map(run_tests, found)))
+    for what, names in (("failed", failed), ("given up, which the gate runs", slow)):
+        for name in names:
+            print(f"{name}: {what}")
+    print(f"{len(failed)} failed, {len(slow)} given up")
     return int(bool(failed))
