@@ -9,6 +9,7 @@ GROUPS = {
         "contracts": "contracts",
         "words": "words",
         "clauses": "clauses",
+        "statement": "statement",
         "pages": "pages",
         "lives": "fuzz",
         "planted": "planted",
