@@ -177,7 +177,7 @@ def check_scripts():
 
 def check_commands():
     """The README of a program has a row for each command of its usage, and no other; its man page and OPERATIONS name each."""
-    for program, home, man in (("oaihost", "oai_cli", "oaihost.1"), ("oaihostd", "oai_archive", "oaihostd.8")):
+    for program, home, man in (("oaihost", "oai_startup", "oaihost.1"), ("oaihostd", "oai_archive", "oaihostd.8")):
         usage = re.search(rf'"usage: {program} ([^"]*)"', (TOP / "crates" / home / "src/stop.rt").read_text())[1].split(" | ")
         rows = re.findall(r"^\| `([a-z]+[A-Z ]*)` \|", (TOP / "crates" / program / "README.md").read_text(), re.MULTILINE)
         for command in sorted(set(usage) ^ set(rows)):
