@@ -3,9 +3,9 @@
 use Rattle.std.specs.Prelude.{◌≡◌, ℕ, List, [], ◌∷◌, ◌++◌, map, Option}
 use Rattle.std.specs.List.{AllByRecursion, AllZip, flat_map}
 use Rattle.oai_journal.specs.Records.{Entry}
-use Rattle.oai_serving.specs.Accepted.{Accepts}
+use Rattle.oai_serving.specs.Accepted.{Passes}
 use Rattle.oai_serving.specs.Rounds.{served_in}
-use Rattle.oai_serving.specs.Tables.{AreLinksAnswered}
+use Rattle.oai_serving.specs.Tables.{AreAllAnswered}
 use Rattle.oai_config.specs.Configs.{HostConfig, NamedConfig}
 use Rattle.oai_host.specs.Alone.{own_answers, own_calls}
 use Rattle.oai_host.specs.Hosts.{Repository, begun}
@@ -30,15 +30,16 @@ abbrev pub all_turns : List Told → List Turn
 all_turns told = flat_map turns_of told
 
 -- of the life: its answered turns are the messages that were served in its rounds that settled, in order; its held ones are the first of those that
--- were served behind them; and each client whose connection is open at its end received the front of the answers to those of the former that it
--- sent, in order
+-- were served behind them; and each client that was accepted, whether its connection is open at the end or its stream was let go, received the front
+-- of the answers to those of the former that it sent, in order
 pub record IsReceivedIn {S H J : Type 0} (contents remaining : S → Option (List ℕ)) (life : ServerLife S H J) (told : Told) : Type 0 where
   pub those : AreThose (map its told.answered) (served_in life.rounds)
   pub lost : List Turn
   pub held : AreThose (map its (told.held ++ lost)) life.behind
   pub streams : List S
-  pub accepts : Accepts life.known life.later streams
-  pub clients : AreLinksAnswered contents remaining streams (served_in life.rounds) life.new.links
+  pub gone : List (ℕ × S)
+  pub passes : Passes life.known life.later streams gone
+  pub clients : AreAllAnswered contents remaining streams gone (served_in life.rounds) life.new.links
 
 -- each life finds just the records of the turns of all lives before it, and the last one leaves its own behind them
 abbrev pub AreKept : {S H J : Type 0} → List Entry → List (ServerLife S H J) → List Told → List Entry → Type 0
@@ -75,7 +76,7 @@ eras_left begun before (era ∷ eras) = eras_left begun (redone_all leaving begu
 
 -- ---- the theorem
 
--- the eras are one history, which is told. `received`: what each client read is the front of the answers to the messages that it sent. `recorded`:
+-- the eras are one history, which is told. `received`: what each client that was ever accepted was sent is the front of the answers to the messages that it sent. `recorded`:
 -- what a turn did is what its own record leaves behind the records before it. `answered`: at each repository each answer without a fault is the
 -- machine's after what was performed before it, in whichever life, and one with a fault did what its number of lines says, or nothing.
 -- `kept`: in an era each life begins with the records of all turns before it, those of the answers that left among them. `ended`: each era begins with
