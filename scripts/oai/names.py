@@ -3,7 +3,8 @@
 import importlib
 
 GROUPS = {
-    "The pages and the sources": {
+    "The tests, the pages and the sources": {
+        "test": "tests",
         "readme": "readme",
         "contracts": "contracts",
         "words": "words",
@@ -31,6 +32,7 @@ GROUPS = {
         "full-disk": "disks",
         "daemon-full-disk": "disks",
         "idle-clients": "idle",
+        "proxy-answers": "proxy",
         "proxy-load": "proxy",
         "fuzz-failures": "fuzz_failures",
         "refuse-growth": "refusals",

@@ -15,14 +15,14 @@ abbrev pub HasBegunFor : {D : Type 0} → (D → List ℕ) → (D → List ℕ �
 HasBegunFor seen may_leave text recovery =
     (first : Entry) × HasRecovered seen may_leave recovery first [] × (current recovery ≡ Some first) × IsOf first.name first.body text
 
--- it was read to its end: it is a whole journal, and a crash leaves no other bytes of it than those that were read
+-- it was read to its end: it is a whole journal, and a crash leaves exactly the bytes that were read
 pub record IsReadBack {D : Type 0} (seen : D → List ℕ) (may_leave : D → List ℕ → Type 0) (recovery : Recovery D) : Type 0 where
   pub first : Entry
   pub entries : List Entry
   pub has : HasRecovered seen may_leave recovery first entries
   pub whole : IsUndamaged (seen (disk_of recovery)) first entries
 
--- so it was, and so many records stand behind its first one
+-- the same, and that many records follow its first one
 pub record IsVerified {D : Type 0} (seen : D → List ℕ) (recovery : Recovery D) (count : ℕ) : Type 0 where
   pub first : Entry
   pub entries : List Entry

@@ -1,4 +1,4 @@
-//! A checkpoint, written on a disk beside an archive's journal, and read back before it takes its place.
+//! Writes a checkpoint on a disk beside an archive's journal, and reads it back before it replaces the journal.
 ghost use Rattle.oai_archive.specs.Readings.{HasBegun, IsReadBack};
 ghost use Rattle.oai_durable.specs.Checkpoints.{HoldsCheckpoint};
 ghost use Rattle.oai_journal.specs.Recovered.{disk_of};
@@ -15,8 +15,8 @@ use oai_startup::Stop as Other;
 use sqlite_disk::Disk;
 use std::alloc::Global;
 
-/// Writes what the handler keeps as a checkpoint on the disk, which is empty, at the moment, with the configuration in the text, and the
-/// number of each next list raised by so many. The journal that is returned holds its records.
+/// Writes the handler's state as a checkpoint on the disk, which is empty, at the moment, with the configuration in the
+/// text, and the number of each next list raised by that much. The journal that is returned holds its records.
 pub fn write_checkpoint<H: Replayed, D: Disk + Drop>(
     alloc: Global,
     disk: D,
@@ -45,8 +45,8 @@ pub fn write_checkpoint<H: Replayed, D: Disk + Drop>(
     }
 }
 
-/// The checkpoint on the disk, which was read to its end, as a start does, by a handler that keeps its parts. Where the handler does not keep
-/// one of them, the error is the name of its repository.
+/// The checkpoint on the disk, read to its end, as a startup does, by a handler that restores its parts. If the handler
+/// rejects a part, the error has the name of its repository.
 pub fn read_checkpoint<H: Replayed + Drop, D: Disk + Drop>(
     alloc: Global,
     disk: D,
@@ -60,7 +60,7 @@ pub fn read_checkpoint<H: Replayed + Drop, D: Disk + Drop>(
     Ok(recovery)
 }
 
-/// Restores the parts of a checkpoint, of which the first record was read.
+/// Restores the parts of a checkpoint whose first record was read.
 fn restore_all<H: Replayed, D: Disk + Drop>(
     alloc: Global,
     handler: &mut H,
@@ -77,7 +77,7 @@ fn restore_all<H: Replayed, D: Disk + Drop>(
     }
 }
 
-/// That the configuration does not allow the part that was read last.
+/// The error that the configuration does not allow the part that was read last.
 fn unfit<D: Disk + Drop>(alloc: Global, recovery: &Recovery<D>) -> Stop {
     let Some(part) = recovery.record() else {
         return Stop::NotOurs;

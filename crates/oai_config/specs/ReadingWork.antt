@@ -1,5 +1,5 @@
--- What the calls give that the reading of a text is made of, step by step. Words that tie the code to the definitions; the contract of the whole
--- (`Reading`) needs none of them.
+-- What the calls give that the reading of a text is made of, step by step. Words that tie the code to the definitions;
+-- the contract of the whole (`Reading`) needs none of them.
 use Rattle.std.specs.Prelude.{◌≡◌, ◌||◌, ℕ, Bool, false, nat_le, if◌then◌else◌, List, Option, Some, None, is_none, Result, Ok, Err}
 use Rattle.std.specs.List.{list_any}
 use Rattle.oai_deposit.specs.Json.{TakesMemory, json_in}
@@ -82,7 +82,8 @@ HasSettingsOr settings (Err fault) = IsLowest (λ cause. is_wrong_alone cause se
 abbrev pub or_alone : (ReadFault → Bool) → List Settings → ReadFault → Bool
 or_alone causes settings cause = causes cause || list_any (is_wrong_alone cause) settings
 
--- the repositories of the settings, where there are no causes; or the lowest of those and of the faults in any repository
+-- the repositories of the settings, where there are no causes; or the lowest of those and of the faults in any
+-- repository
 abbrev pub AreMade : (ReadFault → Bool) → List Settings → Result (List NamedConfig) ReadFault → Type 0
 AreMade causes settings (Ok entries) = ((fault : ReadFault) → or_alone causes settings fault ≡ false) × HaveSettings settings entries
 AreMade causes settings (Err NoMemory) = Unit {0}

@@ -1,4 +1,4 @@
--- A life of the server that people run: a start, and the service behind it. This repository's own.
+-- A life of the server that people run: a startup, and the service after it. This repository's own.
 use Rattle.std.specs.Prelude.{◌≡◌, ℕ, Bool, IsTrue, List, [], length, map, Option, Result, Ok}
 use Rattle.oai_config.specs.Configs.{HostConfig}
 use Rattle.oai_config.specs.Reading.{IsRead}
@@ -25,7 +25,7 @@ pub record BeginsWithAll {D : Type 0} (j : journal.Ghosts (FileJournal D)) (file
   pub all : IsUndamaged file first found
   pub held : IsHeld archived j (map begun config.repositories) parts found (length found)
 
--- the server of the configuration in the text lived until it ended so, in that world, after those streams were accepted: over a disk that gave back
+-- the server of the configuration in the text lived until it ended so, in that world, after those streams were accepted: over a disk that returned
 -- what was written to it, as far as the journal was read, it began with all of the journal's records replayed; it had no connection then, and none was
 -- accepted before; and it was a service
 pub record HasLived {S D : Type 0} (j : journal.Ghosts (FileJournal D)) (seen : D → List ℕ) (is_clean : D → Bool) (contents remaining : S → Option (List ℕ)) (text : List ℕ)

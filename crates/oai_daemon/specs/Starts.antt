@@ -1,4 +1,4 @@
--- How far a start has come, of which a life is made. This repository's own.
+-- How far a startup has come, with which a life begins. This repository's own.
 use Rattle.std.specs.Prelude.{◌≡◌, ℕ, Bool, IsTrue, List, [], length, map, Option, Result, Ok}
 use Rattle.oai_config.specs.Configs.{HostConfig}
 use Rattle.oai_config.specs.Reading.{IsRead}
@@ -23,7 +23,7 @@ abbrev pub HasRedoneAll : {H K D : Type 0} → (H → K) → (H → Bool) → Le
 HasRedoneAll kept is_honest leaving seen may_leave begun handler recovery first =
     (count : ℕ) × IsRecovered kept is_honest leaving seen may_leave begun handler recovery first count
 
--- the host is of the configuration in the text, as it begins
+-- the host is of the configuration in the text, in its initial state
 abbrev pub IsHostOf : List ℕ → HostState → Type 0
 IsHostOf text host = (config : HostConfig) × IsRead text (Ok config) × (host.repositories ≡ map begun config.repositories)
 

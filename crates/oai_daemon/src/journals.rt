@@ -12,9 +12,9 @@ use oai_journal::Recovery;
 use std::alloc::Global;
 use std::rt::Clock;
 
-/// The journal of the place, of which the first record is read: it is of the configuration in the text, but for how many pages the cache
-/// has. Where there is none it is begun; where it is of another configuration that the archive can go on with, it is replaced by a
-/// checkpoint, and the open lists have ended.
+/// The journal of the place, whose first record is read: it has the configuration in the text, ignoring the size of the
+/// cache. If there is none it is begun; if it has another configuration with which the archive can continue, it is
+/// replaced by a checkpoint, and the open lists have ended.
 pub(crate) fn open_journal<P: Place, C: Clock>(
     alloc: Global,
     place: &mut P,
@@ -54,7 +54,7 @@ pub(crate) fn reopen_journal<P: Place>(
     Err(Stop::NotOurs)
 }
 
-/// The journal of the place, of which the first record is read.
+/// The journal of the place, whose first record is read.
 pub(crate) fn read_first<P: Place>(alloc: Global, place: &mut P) -> Result<Recovery<P::Disk>, Stop>
     ensures { IfOk result (λ recovery. IsTrue (P.Disk.Disk.is_clean (disk_of recovery))
         → HasBegun P.Disk.Disk.seen P.Disk.Disk.may_leave recovery) }

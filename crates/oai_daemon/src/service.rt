@@ -1,4 +1,4 @@
-//! A start, and the service behind it.
+//! A startup, and the service after it.
 ghost use Rattle.oai_daemon.specs.Ends.{outcome_of, stop_of};
 ghost use Rattle.oai_daemon.specs.Lives.{HasLived};
 ghost use Rattle.oai_daemon.specs.Starts.{HasResumed, HasServed};
@@ -54,13 +54,13 @@ pub type Hosting<'a, P> = Watched<
     P,
 >;
 
-/// Serves the repositories of the configuration in the text, in the state that the journal of the place gives, until it is
-/// killed or cannot go on. What is performed stands in the journal, synced, before it is answered. The error is why it stopped before
-/// it served; the value is what its service ended with.
+/// Serves the repositories of the configuration in the text, in the state that the journal of the place gives, until it
+/// is killed or cannot continue. What is performed is logged in the journal, and synced, before it is answered. The
+/// error is why it stopped before it served; the value is what its service ended with.
 ///
-/// A start goes in this order, and stops at the first fault: the configuration, the folder, the port, the journal and its
-/// first record, the pages, all other records, and the report of where the server listens. A journal of another configuration, and
-/// one that is long while no list is open, is replaced by a checkpoint before that.
+/// A startup goes in this order, and stops at the first fault: the configuration, the folder, the port, the journal and
+/// its first record, the pages, all other records, and the report of where the server listens. A journal with another
+/// configuration, and one that is long while no list is open, is replaced by a checkpoint before that.
 pub fn serve<'a, P: Place, C: Clock>(
     alloc: Global,
     place: &'a mut P,
@@ -86,7 +86,7 @@ fn open<P: Place>(alloc: Global, place: &mut P, text: &[u8]) -> Result<P::Port, 
     place.listen()
 }
 
-/// Serves the handler, which has replayed all that the journal has.
+/// Serves the handler, which has replayed the whole journal.
 fn serve_over<'a, P: Place, H: Replayed + Drop, C: Clock>(
     alloc: Global,
     place: &'a mut P,
@@ -115,7 +115,7 @@ fn serve_over<'a, P: Place, H: Replayed + Drop, C: Clock>(
     serve_at(alloc, &GuardedClock::new(clock), watched, port)
 }
 
-/// Serves the handler until it is killed or cannot go on. The error is out of memory, before it served.
+/// Serves the handler until it is killed or cannot continue. The error is out of memory, before it served.
 fn serve_at<S: Stream + Drop, K: Sockets<S> + Drop, H: Settled + Drop, C: Clock>(
     alloc: Global,
     clock: &GuardedClock<'_, C>,
@@ -137,7 +137,7 @@ fn serve_at<S: Stream + Drop, K: Sockets<S> + Drop, H: Settled + Drop, C: Clock>
     })
 }
 
-/// Why the program stops, where its service ended, and the clock jumped to that second, or did not jump.
+/// Why the server stops when its service ended, and the clock jumped to that second, or did not jump.
 fn stop_of(fault: ServeFault, jumped: Option<u64>) -> Stop
     ensures { result ≡ stop_of fault jumped }
 {

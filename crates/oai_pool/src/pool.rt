@@ -13,8 +13,8 @@ use std::alloc::Global;
 use std::num::NonZeroUsize;
 use std::rc::Rc;
 
-/// A pool of pages on a device, with a cache. Beside the pages of its cache it keeps one page more in
-/// memory, for the next one to be read.
+/// A pool of pages on a device, with a cache. Besides the cached pages it holds one spare page in memory, into which
+/// the next one is read.
 #[derive(Drop)]
 pub struct Pool<D: PageDevice> {
     alloc: Global,
@@ -115,7 +115,7 @@ impl<D: PageDevice> Pool<D> {
     ghost use Rattle.std.specs.Prelude.{◌≡◌, IfOk};
     ghost use Rattle.oai_pool.specs.Pool.{device_of};
 
-    /// A pool of no pages on that device, with a cache of at most `cache_pages` pages. NoMemory.
+    /// An empty pool on that device, with a cache of at most `cache_pages` pages. The error is NoMemory.
     pub fn new(alloc: Global, device: D, cache_pages: usize) -> Result<Pool<D>, PoolFault>
         requires { 0 < cache_pages }
         ensures counts { IfOk result (λ pool. ⟦<Pool<D> as PagePool>⟧.counts pool ≡ []) }
@@ -135,7 +135,7 @@ impl<D: PageDevice> Pool<D> {
         })
     }
 
-    /// The device on which the pages are.
+    /// The device that stores the pages.
     pub fn device(&self) -> &D
         ensures { result.now ≡ device_of self.now }
     {

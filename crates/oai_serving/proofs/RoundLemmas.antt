@@ -394,9 +394,10 @@ module _ {S H : Type 0} (step : Steps H) (settled : Settles H) (contents remaini
   served_more rounds served =
       flat_map-append (λ (xs : List Served). xs) rounds (served ∷ []) ∙ ap (λ (xs : List Served). served_in rounds ++ xs) (append-nil served)
 
-  pub rounds_none : (known : Known S) (world : World S H) → AreRounds step settled contents remaining known known world world
+  pub rounds_none : (known : Known S) (world : World S H) → AreRounds step settled contents remaining 0 known known world world
   rounds_none known world = record {
     rounds = [];
+    many = refl;
     settles = refl;
     streams = [];
     parted = [];
@@ -407,45 +408,48 @@ module _ {S H : Type 0} (step : Steps H) (settled : Settles H) (contents remaini
         (sym (append-nil earlier)) k;
   }
 
-  pub rounds_more : (known mid later : Known S) (a b c : World S H) → AreRounds step settled contents remaining known mid a b
-      → IsRound step settled contents remaining mid later b (Ok tt) c → AreRounds step settled contents remaining known later a c
-  rounds_more known mid later a b c s r = record {
+  pub rounds_more : (count : ℕ) (known mid later : Known S) (a b c : World S H) → AreRounds step settled contents remaining count known mid a b
+      → IsRound step settled contents remaining mid later b (Ok tt) c → AreRounds step settled contents remaining (count + 1) known later a c
+  rounds_more count known mid later a b c s r = record {
     rounds = s.rounds ++ r.served ∷ [];
+    many = length-append s.rounds (r.served ∷ []) ∙ ap (λ (n : ℕ). n + 1) s.many;
     settles = settled_more s.rounds r.served a.handler b.handler c.handler s.settles (r.mid, r.run, r.settles);
     streams = s.streams ++ r.streams;
     parted = s.parted ++ r.parted;
     passes = passes_then known mid later s.streams r.streams s.parted r.parted s.passes r.passes;
     last = omega (arith, s.last, r.last, length-append s.streams r.streams);
-    kept = λ accepted gone earlier count k.
+    kept = λ accepted gone earlier before k.
         all_as contents remaining ((accepted ++ s.streams) ++ r.streams) (accepted ++ (s.streams ++ r.streams)) ((gone ++ s.parted) ++ r.parted) (gone ++ (s.parted ++ r.parted))
         ((earlier ++ served_in s.rounds) ++ r.served) (earlier ++ served_in (s.rounds ++ r.served ∷ [])) c.links (append_assoc accepted s.streams r.streams)
         (append_assoc gone s.parted r.parted)
         (append_assoc earlier (served_in s.rounds) r.served ∙ ap (λ (xs : List Served). earlier ++ xs) (sym (served_more s.rounds r.served)))
-        (r.outcome (accepted ++ s.streams) (gone ++ s.parted) (earlier ++ served_in s.rounds) (omega (arith, count, s.last, length-append accepted s.streams))
-        (s.kept accepted gone earlier count k));
+        (r.outcome (accepted ++ s.streams) (gone ++ s.parted) (earlier ++ served_in s.rounds) (omega (arith, before, s.last, length-append accepted s.streams))
+        (s.kept accepted gone earlier before k));
   }
 
-  pub service_ended : (known mid later : Known S) (a b c : World S H) (fault : ServeFault) → AreRounds step settled contents remaining known mid a b
+  pub service_ended : (count : ℕ) (known mid later : Known S) (a b c : World S H) (fault : ServeFault) → AreRounds step settled contents remaining count known mid a b
       → IsRound step settled contents remaining mid later b (Err fault) c → IsService step settled contents remaining known later a (Err fault) c
-  service_ended known mid later a b c fault s r = record {
+  service_ended count known mid later a b c fault s r = record {
     rounds = s.rounds;
+    many = tt;
     mid = b.handler;
     settles = s.settles;
     ends = record { served = r.served; performed = r.mid; run = r.run; settles = r.settles };
     streams = s.streams ++ r.streams;
     parted = s.parted ++ r.parted;
     passes = passes_then known mid later s.streams r.streams s.parted r.parted s.passes r.passes;
-    answered = λ accepted gone earlier count k.
+    answered = λ accepted gone earlier before k.
         answered_as contents remaining ((accepted ++ s.streams) ++ r.streams) (accepted ++ (s.streams ++ r.streams)) ((gone ++ s.parted) ++ r.parted)
         (gone ++ (s.parted ++ r.parted)) (earlier ++ served_in s.rounds) c.links (append_assoc accepted s.streams r.streams) (append_assoc gone s.parted r.parted)
-        (r.outcome (accepted ++ s.streams) (gone ++ s.parted) (earlier ++ served_in s.rounds) (omega (arith, count, s.last, length-append accepted s.streams))
-        (s.kept accepted gone earlier count k));
+        (r.outcome (accepted ++ s.streams) (gone ++ s.parted) (earlier ++ served_in s.rounds) (omega (arith, before, s.last, length-append accepted s.streams))
+        (s.kept accepted gone earlier before k));
   }
 
-  pub service_over : (known later : Known S) (a b : World S H) → AreRounds step settled contents remaining known later a b
+  pub service_over : (known later : Known S) (a b : World S H) → AreRounds step settled contents remaining 18_446_744_073_709_551_615 known later a b
       → IsService step settled contents remaining known later a (Ok tt) b
   service_over known later a b s = record {
     rounds = s.rounds;
+    many = s.many;
     mid = b.handler;
     settles = s.settles;
     ends = refl;

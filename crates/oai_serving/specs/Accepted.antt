@@ -1,7 +1,8 @@
--- Streams that are accepted one after the other, and let go once their connections are over, where they are known. This repository's own.
+-- Streams that are accepted one after the other, and let go once their connections are over, if they are
+-- known. This repository's own.
 use Rattle.std.specs.Prelude.{◌≡◌, ℕ, List, [], ◌∷◌, ◌++◌, ⊤, Option, Some, None, Result, Ok, Err}
 
--- known streams grow by these
+-- these are appended to the known streams
 abbrev pub Accepts : {S : Type 0} → Option (List S) → Option (List S) → List S → Type 0
 Accepts None later streams = ⊤
 Accepts (Some known) None streams = ⊥

@@ -8,26 +8,28 @@ use Rattle.oai_serving.specs.Accepted.{Known, Passes}
 use Rattle.oai_serving.specs.Links.{IsLinkFollowed, IsSent, Link}
 use Rattle.oai_serving.specs.Received.{IsReceived}
 
--- the stream is the one of that number among those that were accepted
+-- the stream is the one with that number among those that were accepted
 pub record IsNumbered {S : Type 0} (accepted : List S) (number : ℕ) (stream : S) : Type 0 where
   pub front : List S
   pub later : List S
   pub stands : accepted ≡ front ++ stream ∷ later
   pub at : number ≡ length front + 1
 
--- the link is what came of the stream that was accepted under its number, where these messages were served
+-- the link is the result of the stream that was accepted under its number, if these messages were served
 pub record IsLinkKept {S : Type 0} (contents remaining : S → Option (List ℕ)) (accepted : List S) (served : List Served) (link : Link S) : Type 0 where
   pub first : S
   pub numbered : IsNumbered accepted link.connection.number first
   pub follows : IsLinkFollowed contents remaining first (done_on link.connection.number served) link
 
--- each of the links is what came of its stream, no two are of one, and nothing was served of one that is not yet accepted
+-- each of the links is the result of its stream, no two have the same one, and nothing was served of a stream that is
+-- not yet accepted
 pub record AreLinksKept {S : Type 0} (contents remaining : S → Option (List ℕ)) (accepted : List S) (served : List Served) (links : Slab (Link S)) : Type 0 where
   pub each : (key : ℕ) (link : Link S) → get links key ≡ Some link → IsLinkKept contents remaining accepted served link
   pub one : (key other : ℕ) (a b : Link S) → get links key ≡ Some a → get links other ≡ Some b → a.connection.number ≡ b.connection.number → key ≡ other
   pub later : (number : ℕ) → length accepted < number → done_on number served ≡ []
 
--- the client of that number, whose stream is now the last, received no more than the front of the answers to those of its messages that were served
+-- the client of that number, whose stream is now the last, received at most a prefix of the answers to those of its
+-- messages that were served
 pub record IsAnswered {S : Type 0} (contents remaining : S → Option (List ℕ)) (accepted : List S) (served : List Served) (number : ℕ) (last : S) : Type 0 where
   pub first : S
   pub numbered : IsNumbered accepted number first
@@ -74,7 +76,7 @@ abbrev pub AreAt : ℤ → List Served → Type 0
 AreAt moment [] = ⊤
 AreAt moment (s ∷ served) = (s.moment ≡ moment) × AreAt moment served
 
--- the link of the key was there, and since then it may have been read, and nothing was written to it
+-- the link with the key existed, and since then it may have been read, and nothing was written to it
 pub record IsUnwritten {S : Type 0} (contents remaining : S → Option (List ℕ)) (old : Slab (Link S)) (key : ℕ) (link : Link S) : Type 0 where
   pub before : Link S
   pub stood : get old key ≡ Some before
@@ -94,7 +96,7 @@ pub record AreTurned {S H : Type 0} (step : Steps H) (contents remaining : S →
       → AreAllKept contents remaining accepted gone (earlier ++ served) new
   pub count : slab_len new ≡ slab_len old
 
--- links were written, each of what waits on it
+-- links were written, each its own waiting output
 pub record AreSent {S : Type 0} (contents remaining : S → Option (List ℕ)) (old new : Slab (Link S)) : Type 0 where
   pub each : (key : ℕ) (link : Link S) → get new key ≡ Some link → (before : Link S) × (get old key ≡ Some before) × IsSent contents remaining before link
   pub stay : (number : ℕ) → HasLinkOf number old → HasLinkOf number new

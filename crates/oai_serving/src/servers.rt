@@ -1,4 +1,4 @@
-//! Rounds of all connections.
+//! The event loop: rounds over all connections.
 ghost use Rattle.std.specs.Prelude.{◌≡◌, ◌<◌, ◌+◌, ◌^◌, [], IfOk};
 ghost use Rattle.oai_serving.specs.declared.tables.TheConstants.{MAX_LINKS};
 ghost use Rattle.slab.specs.Slab.{slab_len};
@@ -18,14 +18,15 @@ use std::marker::Model;
 use std::rt::Clock;
 use std::time::Duration;
 
-/// The most seconds of a wait.
+/// The maximum number of seconds of a wait.
 const WAIT_SECONDS: u64 = 1;
 
-/// The seconds after which a failed `accept` is tried again.
+/// The seconds after which a failed `accept` is retried.
 const RETRY_SECONDS: u64 = 1;
 
-/// Connections, and the handler that performs their messages; `keys` is above each key that a link had. It goes in rounds: what became ready is read and
-/// performed, the handler settles, and then what was answered is written.
+/// Connections, and the handler that performs their messages; `keys` is above each key that a link had. It runs in
+/// rounds: input that is ready is read and performed, the handler settles (group commit), and then the answers are
+/// written.
 #[derive(Drop)]
 pub struct Server<S, H> {
     handler: H,
@@ -52,7 +53,7 @@ impl<S, H> Model for Server<S, H> {
 }
 
 impl<S: Stream + Drop, H: Settled> Server<S, H> {
-    /// A server of no connections. The error is out of memory.
+    /// A server without connections. The error is out of memory.
     pub fn new(alloc: Global, handler: H) -> Result<Server<S, H>, AllocError>
     where
         H: Drop,
@@ -75,8 +76,8 @@ impl<S: Stream + Drop, H: Settled> Server<S, H> {
         })
     }
 
-    /// Serves until it cannot wait, the clock cannot be read, or the handler does not settle. What a client
-    /// receives is the front of the answers to its messages, each of which the handler settled before.
+    /// Serves until it cannot wait, the clock cannot be read, or the handler does not settle. A client receives a
+    /// prefix of the answers to its messages, each of which the handler settled before.
     pub fn serve<K: Sockets<S>, C: Clock>(
         &mut self,
         sockets: &mut K,
@@ -85,7 +86,7 @@ impl<S: Stream + Drop, H: Settled> Server<S, H> {
         ensures { IsService H.step H.settled S.contents S.remaining (known_of (K.accepted sockets.old) (K.gone sockets.old))
             (known_of (K.accepted sockets.new) (K.gone sockets.new)) self.old result self.new }
     {
-        for _ in 0..u64::MAX {
+        for _count in 0..u64::MAX {
             match self.round(sockets, clock) {
                 Ok(()) => {}
                 Err(fault) => return Err(fault),
@@ -94,9 +95,9 @@ impl<S: Stream + Drop, H: Settled> Server<S, H> {
         Ok(())
     }
 
-    /// A round: waits until something becomes ready, at most a second, accepts connections, reads each that can
-    /// be read once, and performs what came; then the handler settles; and then what waits is written. Where
-    /// the handler does not settle nothing is written.
+    /// A round: waits until something becomes ready, at most a second, accepts connections, reads each readable one
+    /// once, and performs what came; then the handler settles; and then the output is written. If the handler does not
+    /// settle, nothing is written.
     pub fn round<K: Sockets<S>, C: Clock>(
         &mut self,
         sockets: &mut K,
@@ -120,7 +121,7 @@ impl<S: Stream + Drop, H: Settled> Server<S, H> {
         self.perform(moment, second)
     }
 
-    /// How long to wait at most: not at all where something can be done.
+    /// The maximum time to wait: 0 if something can be done.
     fn patience(&self) -> Duration {
         if self.is_accepting() || is_any_busy(&self.links) {
             return Duration::ZERO;
@@ -128,7 +129,7 @@ impl<S: Stream + Drop, H: Settled> Server<S, H> {
         Duration::from_secs(WAIT_SECONDS)
     }
 
-    /// Whether a connection may wait for which there is a place.
+    /// Whether a connection may wait to be accepted for which there is a place.
     fn is_accepting(&self) -> bool {
         self.waiting && self.retry == 0 && self.links.len() < MAX_LINKS
     }
@@ -156,15 +157,15 @@ impl<S: Stream + Drop, H: Settled> Server<S, H> {
         }
     }
 
-    /// Writes what waits on all links.
+    /// Writes the waiting output of all links.
     fn put(&mut self, second: u64)
         ensures { AreLinksWritten S.contents S.remaining self.old self.new }
     {
         put_all(self.alloc, &mut self.links, self.keys, second);
     }
 
-    /// Takes away the links that are over, and others while all keep more than they may. It comes at the
-    /// beginning of a round, so that at the end of each the links are there that were written in it.
+    /// Removes the links that are over, and others while all together hold more than they may. It is called at the
+    /// beginning of a round, so that at the end of each the links that it wrote to still exist.
     fn end_links<K: Sockets<S>>(&mut self, sockets: &mut K)
         ensures { AreLinksEnded S.contents S.remaining (known_of (K.accepted sockets.old) (K.gone sockets.old))
             (known_of (K.accepted sockets.new) (K.gone sockets.new)) self.old self.new }
@@ -173,7 +174,7 @@ impl<S: Stream + Drop, H: Settled> Server<S, H> {
         shed_all(sockets, &mut self.links);
     }
 
-    /// Takes note of what became ready.
+    /// Notes what became ready.
     fn note_all<K: Sockets<S>>(&mut self, sockets: &K, count: usize)
         ensures { AreLinksWritten S.contents S.remaining self.old self.new }
     {
@@ -182,7 +183,7 @@ impl<S: Stream + Drop, H: Settled> Server<S, H> {
         }
     }
 
-    /// Takes note of one readiness.
+    /// Notes one readiness.
     fn note(&mut self, readiness: Option<Readiness>)
         ensures { AreLinksWritten S.contents S.remaining self.old self.new }
     {
@@ -200,7 +201,7 @@ impl<S: Stream + Drop, H: Settled> Server<S, H> {
         }
     }
 
-    /// Accepts the connections that wait, as far as there are places.
+    /// Accepts the waiting connections, as far as there are places.
     fn accept_all<K: Sockets<S>>(&mut self, sockets: &mut K, second: u64)
         ensures { AreAccepted S.contents S.remaining (known_of (K.accepted sockets.old) (K.gone sockets.old))
             (known_of (K.accepted sockets.new) (K.gone sockets.new)) self.old self.new }
@@ -216,7 +217,7 @@ impl<S: Stream + Drop, H: Settled> Server<S, H> {
         }
     }
 
-    /// Accepts the next connection, where there is a place; whether a further one may wait.
+    /// Accepts the next connection, if there is a place; returns whether a further one may wait.
     fn accept_next<K: Sockets<S>>(&mut self, sockets: &mut K, second: u64) -> bool
         ensures { AreAccepted S.contents S.remaining (known_of (K.accepted sockets.old) (K.gone sockets.old))
             (known_of (K.accepted sockets.new) (K.gone sockets.new)) self.old self.new }
@@ -240,8 +241,7 @@ impl<S: Stream + Drop, H: Settled> Server<S, H> {
         }
     }
 
-    /// Begins a link with the stream, which was accepted. It is let go where it cannot be watched or memory is
-    /// refused.
+    /// Begins a link with the accepted stream, which is dropped if it cannot be watched or memory runs out.
     fn admit<K: Sockets<S>>(&mut self, sockets: &mut K, mut stream: S, second: u64)
         requires place { slab_len self.old.links < MAX_LINKS }
         requires number { self.old.last + 1 < 2 ^ 64 }
@@ -260,7 +260,7 @@ impl<S: Stream + Drop, H: Settled> Server<S, H> {
         self.keep(sockets, link);
     }
 
-    /// Keeps a link; its stream is let go where memory is refused.
+    /// Stores a link; its stream is let go if memory runs out.
     fn keep<K: Sockets<S>>(&mut self, sockets: &mut K, link: Link<S>)
         requires { slab_len self.old.links < MAX_LINKS }
         ensures handler { self.new.handler ≡ self.old.handler }
@@ -283,7 +283,7 @@ fn moment_of<C: Clock>(clock: &C) -> Result<i64, ServeFault> {
     }
 }
 
-/// The second of a clock that does not go back. The error is that it cannot be read.
+/// The second of a monotonic clock. The error is that it cannot be read.
 fn second_of<C: Clock>(clock: &C) -> Result<u64, ServeFault> {
     match clock.monotonic() {
         Ok(time) => Ok(time.as_secs()),

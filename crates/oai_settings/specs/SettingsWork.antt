@@ -1,4 +1,5 @@
--- The calls behind making a configuration: each returns its value, or that the settings are bad, or that memory was refused.
+-- The calls behind making a configuration: each returns its value, or that the settings are bad, or that memory was
+-- refused.
 use Rattle.std.specs.Prelude.{◌≡◌, ℕ, true, false, List, ◌∷◌, [], ◌++◌, Option, Some, None, is_none, Result, Ok, Err}
 use Rattle.std.specs.Int.{is_in_range}
 use Rattle.oai_names.specs.Names.{may_be_prefix}

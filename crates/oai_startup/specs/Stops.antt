@@ -1,4 +1,4 @@
--- What is said where the program stops, and with which status it ends. This repository's own.
+-- The message at a stop of the program, and its exit status. This repository's own.
 use Rattle.std.specs.Prelude.{ℕ, List, ◌++◌, codes, decimal}
 use Rattle.oai_config.specs.Reading.{read_fault_text}
 use Rattle.oai_startup.specs.declared.stop.Stop.{Stop}
@@ -17,7 +17,8 @@ stop_text DeviceFault = codes "device fault"
 stop_text SocketFault = codes "socket fault"
 stop_text NoMemory = codes "out of memory"
 
--- 2 where the arguments or the configuration do not serve; out of memory, a file that cannot be emptied, and a port that cannot be listened on, are 1
+-- 2 if the arguments or the configuration are invalid; out of memory, a file that cannot be truncated, and a port that
+-- it cannot listen on, are 1
 abbrev pub status_of : Stop → ℕ
 status_of Usage = 2
 status_of CannotRead = 2

@@ -17,15 +17,15 @@ use std::fs;
 use std::io::{ErrorKind, Read, Write};
 use std::rt::Files;
 
-/// The configuration in the file. The errors are `CannotRead`, also where the file has not ended
-/// within 1,000,000 reads, `BadConfig` and `NoMemory`.
+/// The configuration in the file. The errors are `CannotRead`, also if the file does not end within 1,000,000 reads,
+/// `BadConfig` and `NoMemory`.
 pub fn read_config(rt: &(impl Files + AllocGlobal), path: &str) -> Result<Config, Stop> {
     let text = read_file(rt, path)?;
     config_in(rt.alloc(), &text)
 }
 
-/// The bytes of the file. The errors are `CannotRead`, also where the file has not ended within 1,000,000
-/// reads, and `NoMemory`.
+/// The bytes of the file. The errors are `CannotRead`, also if the file does not end within 1,000,000 reads, and
+/// `NoMemory`.
 pub fn read_file(rt: &(impl Files + AllocGlobal), path: &str) -> Result<Vec<u8>, Stop> {
     let mut file = match fs::open(rt, path) {
         Ok(file) => file,
@@ -65,9 +65,9 @@ pub fn warnings_in(alloc: Global, text: &[u8]) -> Result<String, Stop>
     }
 }
 
-/// Checks the configuration in the text: writes `ok`, a space and the number of its repositories, as a line.
-/// The errors are `BadConfig`, with the fault that `Config::read` returns, and `NoMemory`, before which
-/// nothing is written, and `OutputFault`.
+/// Checks the configuration in the text: writes `ok`, a space and the number of its repositories, as a line. The errors
+/// are `BadConfig`, with the fault that `Config::read` returns, and `NoMemory`, after which nothing was written, and
+/// `OutputFault`.
 pub fn check_config<W: Write>(alloc: Global, text: &[u8], writer: &mut W) -> Result<(), Stop>
     ensures { spec.IsChecked text.now result
         (Appends (W.Write.contents writer.old) (W.Write.contents writer.new)) }
@@ -93,7 +93,7 @@ fn write_checked<W: Write>(repositories: usize, writer: &mut W) -> Result<(), St
     Ok(())
 }
 
-/// All that the reader gives.
+/// All bytes of the reader.
 fn read_text<R: Read>(alloc: Global, reader: &mut R) -> Result<Vec<u8>, Stop>
     ensures text { IfOk result (λ text. IfSome (R.Read.remaining reader.old) (λ input. text.items
         ≡ input)) }
@@ -117,9 +117,8 @@ fn read_text<R: Read>(alloc: Global, reader: &mut R) -> Result<Vec<u8>, Stop>
     Err(Stop::CannotRead)
 }
 
-/// The host of the configuration over that store, each of its repositories without items and sets. The
-/// device of the store is as honest as it was, and room for one call for each repository is used up. The
-/// error is `NoMemory`.
+/// The host of the configuration over that store, each of its repositories without items and sets. The device of the
+/// store is as honest as it was, and room for one call for each repository is used up. The error is `NoMemory`.
 pub fn host_over<V: Versions + Drop>(
     alloc: Global,
     config: Config,

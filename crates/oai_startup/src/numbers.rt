@@ -2,7 +2,7 @@
 ghost use Rattle.std.specs.Prelude.{◌≡◌};
 ghost use Rattle.oai_startup.specs.Numbers.{moment_of, number_in};
 
-/// What begins no number here, though `parse` takes it.
+/// A sign that no number here begins with, though `parse` takes it.
 const PLUS: &[u8] = b"+";
 
 /// Reads a moment: decimal digits, after a minus where it is negative.

@@ -1,4 +1,4 @@
-//! The device of the pages on which the program's host keeps its items, and the host over it.
+//! The device of the pages on which the program's host stores its items, and the host over it.
 ghost use Rattle.std.specs.Prelude.{◌≡◌, IfErr, IfOk};
 ghost use Rattle.oai_catalogue.specs.Store.{no_lists};
 ghost use Rattle.oai_paged.specs.Store.{pool_of};
@@ -18,8 +18,8 @@ use std::fs::{File, OpenOptions};
 use std::io::ErrorKind;
 use std::rt::Files;
 
-/// The file at that path, without bytes, opened to be read and written. It is created, or emptied where there
-/// is one. The errors are `DeviceFault`, where it cannot be opened so, and `NoMemory`.
+/// The file at that path, empty, opened for reading and writing. It is created, or truncated if it exists. The errors
+/// are `DeviceFault`, if it cannot be opened so, and `NoMemory`.
 pub fn empty_file<R: Files<File = File>>(rt: &R, path: &str) -> Result<File, Stop> {
     let opened = OpenOptions::new()
         .read(true)

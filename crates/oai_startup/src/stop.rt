@@ -1,4 +1,4 @@
-//! Why the program stops, what it says then, and its exit status.
+//! Why the program stops, its message, and its exit status.
 ghost use Rattle.std.specs.Prelude.{◌≡◌};
 ghost use Rattle.oai_startup.specs.Stops as spec;
 
@@ -9,34 +9,34 @@ use std::fmt;
 /// Why the program stopped before the end of its work.
 #[derive(Clone, Copy, Debug, PartialEq, Eq)]
 pub enum Stop {
-    /// It was called with other arguments than it takes.
+    /// The arguments are invalid.
     Usage,
     /// The configuration could not be read, or did not end.
     CannotRead,
-    /// The configuration has this fault, which is none of memory.
+    /// The configuration has this fault, which is not out of memory.
     BadConfig(ReadFault),
-    /// The line of that number, counted from 1 over all lines, is no exchange.
+    /// The line with that number, counted from 1 over all lines, is no exchange.
     BadExchange(u64),
-    /// The line of that number, counted from 1 over all lines, is no piece and no end.
+    /// The line with that number, counted from 1 over all lines, is no piece and no end.
     BadPiece(u64),
-    /// For the label of the line of that number, counted from 1 over all lines, no connection can be opened.
+    /// No connection can be opened for the label of the line with that number, counted from 1 over all lines.
     TooManyConnections(u64),
     /// The input could not be read, or did not end.
     InputFault,
     /// The output could not be written.
     OutputFault,
-    /// The file of the pages could not be created or emptied.
+    /// The file of the pages could not be created or truncated.
     DeviceFault,
     /// The program could not listen, or could not accept a connection.
     SocketFault,
-    /// Memory was refused.
+    /// Out of memory.
     NoMemory,
 }
 
 impl Stop {
-    /// The program's exit status: 2 where the arguments are wrong, or the configuration cannot be read or
-    /// has a fault, and 1 for each other cause, also where memory runs out before the work, for a file of pages
-    /// that cannot be created or emptied, and for a port that cannot be listened on.
+    /// The program's exit status: 2 if the arguments are invalid, or the configuration cannot be read or has a fault,
+    /// and 1 for each other cause, also if memory runs out before the work, for a file of pages that cannot be created
+    /// or truncated, and for a port that it cannot listen on.
     pub fn status(self) -> u8
         ensures { result ≡ spec.status_of self }
     {
@@ -56,7 +56,7 @@ impl Stop {
     }
 }
 
-/// What the program says of it on standard error.
+/// The program's message on standard error.
 impl fmt::Display for Stop {
     ghost use Rattle.std.specs.Prelude.{Some};
     ghost use Rattle.oai_startup.specs.Stops.{stop_text};

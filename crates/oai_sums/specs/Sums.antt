@@ -1,4 +1,5 @@
--- How many of many items are in each set. OAI-PMH 2.0, section 2.6: an item that is in a set is in each set above it too.
+-- How many of many items are in each set. OAI-PMH 2.0, section 2.6: an item that is in a set is in each set above it
+-- too.
 use Rattle.std.specs.Prelude.{◌≡◌, ◌≢◌, ◌==◌, ◌+◌, ℕ, Bool, true, if◌then◌else◌, List, [], ◌∷◌, length, filter, not, Option, None, Some}
 use Rattle.std.specs.List.{list_all}
 use Rattle.std.specs.Str.{bytes_eq}
@@ -65,7 +66,8 @@ count_at (other ∷ others) at = if other.at == at then other.count else count_a
 abbrev pub is_unsaid : List Several → ℕ → Bool
 is_unsaid several at = list_all (λ (other : Several). not (other.at == at)) several
 
--- the set at that place has so many items, each other set has as many as before, and of no other set is anything said that was not said before
+-- the set at that place has so many items, each other set has as many as before, and of no other set is anything said
+-- that was not said before
 pub record IsCounted (at count : ℕ) (old new : List Several) : Type 0 where
   pub own : count_at new at ≡ count
   pub others : (other : ℕ) → other ≢ at → count_at new other ≡ count_at old other

@@ -149,8 +149,8 @@ impl SetCounts {
         push(&mut self.counts, SetCount::of(set.copy()?, more, UNKNOWN))
     }
 
-    /// The same counts, as they are kept: no room is left for more sets, as far as that can be done. None where memory is
-    /// refused.
+    /// The same counts, as they are kept: no room is left for more sets, as far as that can be done. None where memory
+    /// is refused.
     pub fn packed(&self, alloc: Global) -> Option<PackedCounts>
         ensures { IfSome result (λ packed. packed ≡ self.now) }
     {
