@@ -1,7 +1,7 @@
 -- A life, made of a start and the service behind it.
 use Rattle.std.proofs.Common.{◌≡◌, ℕ, Bool, IfOk, List, Option, Result, Ok, Err, length, map, subst, sym}
 use Rattle.oai_host.specs.Hosts.{HostState, begun}
-use Rattle.oai_serving.specs.Accepted.{AcceptsNone}
+use Rattle.oai_serving.specs.Accepted.{Known, PassesNone}
 use Rattle.oai_serving.specs.Rounds.{World}
 use Rattle.oai_serving.specs.declared.faults.ServeFault.{ServeFault}
 use Rattle.oai_journal.specs.declared.file.FileJournal.{FileJournal}
@@ -15,8 +15,8 @@ use Rattle.oai_daemon.specs.Lives.{HasLived}
 use Rattle.oai_daemon.specs.Starts.{HasResumed, HasServed, HasStarted}
 
 pub lived : {S D : Type 0} (j : journal.Ghosts (FileJournal D)) (seen : D → List ℕ) (may_leave : D → List ℕ → Type 0) (is_clean : D → Bool) (contents remaining : S → Option (List ℕ))
-    (text : List ℕ) (host : HostState) (recovery : Recovery D) (known later : Option (List S)) (result : Result (Unit {0}) ServeFault) (new : World S (Parts HostState (FileJournal D)))
-    → AcceptsNone known → HasStarted seen may_leave is_clean text host recovery
+    (text : List ℕ) (host : HostState) (recovery : Recovery D) (known later : Known S) (result : Result (Unit {0}) ServeFault) (new : World S (Parts HostState (FileJournal D)))
+    → PassesNone known → HasStarted seen may_leave is_clean text host recovery
     → HasResumed archived j seen may_leave contents remaining host recovery known later result new → HasLived j seen is_clean contents remaining text later result new
 lived {S} {D} j seen may_leave is_clean contents remaining text host recovery known later result new none started resumed =
     let served = resumed.served in
@@ -25,7 +25,7 @@ lived {S} {D} j seen may_leave is_clean contents remaining text host recovery kn
       read = started.read;
       recovery = recovery;
       known = known;
-      accepted = none;
+      passed = none;
       old = served.old;
       begins = λ clean.
           let all = started.redone clean in
@@ -45,9 +45,9 @@ lived {S} {D} j seen may_leave is_clean contents remaining text host recovery kn
 
 -- where the service came to be, it is a life
 pub lived_over : {S D A E : Type 0} (j : journal.Ghosts (FileJournal D)) (seen : D → List ℕ) (may_leave : D → List ℕ → Type 0) (is_clean : D → Bool)
-    (contents remaining : S → Option (List ℕ)) (text : List ℕ) (host : HostState) (recovery : Recovery D) (known : Option (List S))
-    (later : A → Option (List S)) (ended : A → Result (Unit {0}) ServeFault) (new : A → World S (Parts HostState (FileJournal D))) (result : Result A E)
-    → AcceptsNone known → HasStarted seen may_leave is_clean text host recovery
+    (contents remaining : S → Option (List ℕ)) (text : List ℕ) (host : HostState) (recovery : Recovery D) (known : Known S)
+    (later : A → Known S) (ended : A → Result (Unit {0}) ServeFault) (new : A → World S (Parts HostState (FileJournal D))) (result : Result A E)
+    → PassesNone known → HasStarted seen may_leave is_clean text host recovery
     → IfOk result (λ (a : A). HasResumed archived j seen may_leave contents remaining host recovery known (later a) (ended a) (new a))
     → IfOk result (λ (a : A). HasLived j seen is_clean contents remaining text (later a) (ended a) (new a))
 lived_over j seen may_leave is_clean contents remaining text host recovery known later ended new (Ok a) none started resumed =
@@ -56,7 +56,7 @@ lived_over j seen may_leave is_clean contents remaining text host recovery known
 
 -- the handler with its journal served
 pub resumed : {S H D : Type 0} (h : Replaying H) (j : journal.Ghosts (FileJournal D)) (seen : D → List ℕ) (may_leave : D → List ℕ → Type 0) (contents remaining : S → Option (List ℕ))
-    (handler : H) (recovery : Recovery D) (known later : Option (List S)) (result : Result (Unit {0}) ServeFault) (new : World S (Parts H (FileJournal D)))
+    (handler : H) (recovery : Recovery D) (known later : Known S) (result : Result (Unit {0}) ServeFault) (new : World S (Parts H (FileJournal D)))
     (parts served : Parts H (FileJournal D)) → served ≡ parts
     → ((begun : h.Kept) (first : Entry) (entries : List Entry) → HasRedone h.kept h.is_honest h.leaving seen may_leave begun handler recovery first entries
     → IsHeld h j begun parts entries (length entries))
@@ -70,8 +70,8 @@ resumed {S} {H} {D} h j seen may_leave contents remaining handler recovery known
 
 -- where it served
 pub resumed_over : {S H D A E : Type 0} (h : Replaying H) (j : journal.Ghosts (FileJournal D)) (seen : D → List ℕ) (may_leave : D → List ℕ → Type 0) (contents remaining : S → Option (List ℕ))
-    (handler : H) (recovery : Recovery D) (known : Option (List S))
-    (later : A → Option (List S)) (ended : A → Result (Unit {0}) ServeFault) (new : A → World S (Parts H (FileJournal D)))
+    (handler : H) (recovery : Recovery D) (known : Known S)
+    (later : A → Known S) (ended : A → Result (Unit {0}) ServeFault) (new : A → World S (Parts H (FileJournal D)))
     (parts served : Parts H (FileJournal D)) (result : Result A E) → served ≡ parts
     → ((begun : h.Kept) (first : Entry) (entries : List Entry) → HasRedone h.kept h.is_honest h.leaving seen may_leave begun handler recovery first entries
     → IsHeld h j begun parts entries (length entries))

@@ -10,7 +10,7 @@ use Rattle.oai_journal.specs.Recovered.{disk_of}
 use Rattle.oai_journal.specs.declared.file.FileJournal.{FileJournal}
 use Rattle.oai_journal.specs.declared.journals.Journal as journal
 use Rattle.oai_journal.specs.declared.recovery.Recovery.{Recovery}
-use Rattle.oai_serving.specs.Accepted.{AcceptsNone}
+use Rattle.oai_serving.specs.Accepted.{Known, PassesNone}
 use Rattle.oai_serving.specs.Rounds.{IsService, World}
 use Rattle.oai_serving.specs.declared.faults.ServeFault.{ServeFault}
 use Rattle.oai_durable.specs.Journaled.{IsExchange, IsHeld, IsSettled, Parts}
@@ -29,12 +29,12 @@ pub record BeginsWithAll {D : Type 0} (j : journal.Ghosts (FileJournal D)) (file
 -- what was written to it, as far as the journal was read, it began with all of the journal's records replayed; it had no connection then, and none was
 -- accepted before; and it was a service
 pub record HasLived {S D : Type 0} (j : journal.Ghosts (FileJournal D)) (seen : D → List ℕ) (is_clean : D → Bool) (contents remaining : S → Option (List ℕ)) (text : List ℕ)
-    (later : Option (List S)) (result : Result (Unit {0}) ServeFault) (new : World S (Parts HostState (FileJournal D))) : Type 0 where
+    (later : Known S) (result : Result (Unit {0}) ServeFault) (new : World S (Parts HostState (FileJournal D))) : Type 0 where
   pub config : HostConfig
   pub read : IsRead text (Ok config)
   pub recovery : Recovery D
-  pub known : Option (List S)
-  pub accepted : AcceptsNone known
+  pub known : Known S
+  pub passed : PassesNone known
   pub old : World S (Parts HostState (FileJournal D))
   pub begins : IsTrue (is_clean (disk_of recovery)) → BeginsWithAll j (seen (disk_of recovery)) text config old.handler
   pub unlinked : old.links.slots ≡ []

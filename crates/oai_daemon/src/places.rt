@@ -1,7 +1,7 @@
 //! The outside of a server: its folder, port and streams.
 ghost use Rattle.oai_archive.specs.Readings.{IsReadBack};
 ghost use Rattle.oai_journal.specs.Recovered.{disk_of};
-ghost use Rattle.oai_serving.specs.Accepted.{AcceptsNone};
+ghost use Rattle.oai_serving.specs.Accepted.{PassesNone, known_of};
 ghost use Rattle.std.specs.Prelude.{IfOk, IsTrue};
 
 use crate::notes::Note;
@@ -29,9 +29,9 @@ pub trait Place {
     /// Opens the folder, or creates it, and locks it until the end. The errors are `CannotOpen` and `InUse`.
     fn lock(&mut self) -> Result<(), Stop>;
 
-    /// Listens at the port; connections wait until they are accepted, and none was yet. The errors are `SocketFault` and `NoMemory`.
+    /// Listens at the port; connections wait until they are accepted, and none was yet, or let go. The errors are `SocketFault` and `NoMemory`.
     fn listen(&mut self) -> Result<Self::Port, Stop>
-        ensures { IfOk result (λ port. AcceptsNone (Self.Port.Sockets.accepted port)) };
+        ensures { IfOk result (λ port. PassesNone (known_of (Self.Port.Sockets.accepted port) (Self.Port.Sockets.gone port))) };
 
     /// Removes what an earlier startup left of a journal that it began, and returns whether there is a journal.
     fn find_journal(&mut self) -> Result<bool, Stop>;

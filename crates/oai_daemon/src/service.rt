@@ -2,7 +2,7 @@
 ghost use Rattle.oai_daemon.specs.Ends.{outcome_of, stop_of};
 ghost use Rattle.oai_daemon.specs.Lives.{HasLived};
 ghost use Rattle.oai_daemon.specs.Starts.{HasResumed, HasServed};
-ghost use Rattle.oai_serving.specs.Accepted.{AcceptsNone};
+ghost use Rattle.oai_serving.specs.Accepted.{PassesNone, known_of};
 ghost use Rattle.std.specs.Prelude.{◌≡◌, IfOk};
 
 use crate::clocks::{GuardedClock, to_moment};
@@ -68,7 +68,8 @@ pub fn serve<'a, P: Place, C: Clock>(
     text: &[u8],
 ) -> Result<Ended<P::Link, P::Port, Hosting<'a, P>>, Stop>
     ensures { IfOk result (λ ended. HasLived ⟦<FileJournal<P::Disk> as Journal>⟧ P.Disk.Disk.seen P.Disk.Disk.is_clean
-        P.Link.Stream.contents P.Link.Stream.remaining text.now (P.Port.Sockets.accepted ended.port) ended.result ended.server) }
+        P.Link.Stream.contents P.Link.Stream.remaining text.now
+        (known_of (P.Port.Sockets.accepted ended.port) (P.Port.Sockets.gone ended.port)) ended.result ended.server) }
 {
     let port = open(alloc, place, text)?;
     let started = start(alloc, place, clock, text)?;
@@ -78,7 +79,7 @@ pub fn serve<'a, P: Place, C: Clock>(
 
 /// Reads the configuration, opens the folder, and listens.
 fn open<P: Place>(alloc: Global, place: &mut P, text: &[u8]) -> Result<P::Port, Stop>
-    ensures { IfOk result (λ port. AcceptsNone (P.Port.Sockets.accepted port)) }
+    ensures { IfOk result (λ port. PassesNone (known_of (P.Port.Sockets.accepted port) (P.Port.Sockets.gone port))) }
 {
     drop(config_in(alloc, text)?);
     place.lock()?;
@@ -103,7 +104,8 @@ fn serve_over<'a, P: Place, H: Replayed + Drop, C: Clock>(
       reply = H.reply;
     }) ⟦<FileJournal<P::Disk> as Journal>⟧ P.Disk.Disk.seen P.Disk.Disk.may_leave
         P.Link.Stream.contents P.Link.Stream.remaining handler recovery
-        (P.Port.Sockets.accepted port) (P.Port.Sockets.accepted ended.port) ended.result ended.server) }
+        (known_of (P.Port.Sockets.accepted port) (P.Port.Sockets.gone port))
+        (known_of (P.Port.Sockets.accepted ended.port) (P.Port.Sockets.gone ended.port)) ended.result ended.server) }
 {
     let Some(journaled) = resume(alloc, handler, recovery) else {
         return Err(Stop::Common(Other::InputFault));
@@ -121,7 +123,7 @@ fn serve_at<S: Stream + Drop, K: Sockets<S> + Drop, H: Settled + Drop, C: Clock>
     mut port: K,
 ) -> Result<Ended<S, K, H>, Stop>
     ensures { IfOk result (λ ended. HasServed H.step H.settled S.contents S.remaining handler
-        (K.accepted port) (K.accepted ended.port) ended.result ended.server) }
+        (known_of (K.accepted port) (K.gone port)) (known_of (K.accepted ended.port) (K.gone ended.port)) ended.result ended.server) }
 {
     let Ok(mut server) = Server::new(alloc, handler) else {
         return Err(Stop::Common(Other::NoMemory));

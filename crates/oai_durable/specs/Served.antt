@@ -8,9 +8,9 @@ use Rattle.oai_http.specs.declared.handlers.SettleFault.{SettleFault}
 use Rattle.oai_front.specs.Runs.{Served, Serves}
 use Rattle.oai_journal.specs.Records.{Entry}
 use Rattle.oai_journal.specs.declared.journals.Journal as journal
-use Rattle.oai_serving.specs.Accepted.{Accepts}
+use Rattle.oai_serving.specs.Accepted.{Known, Passes}
 use Rattle.oai_serving.specs.Rounds.{AreSettled, World}
-use Rattle.oai_serving.specs.Tables.{AreLinksAnswered, AreLinksKept}
+use Rattle.oai_serving.specs.Tables.{AreAllAnswered, AreAllKept}
 use Rattle.oai_durable.specs.Journaled.{IsExchange, IsHeld, IsSettled, Parts, Replaying}
 use Rattle.oai_durable.specs.Lives.{Exchanged, IsLife, Life}
 use Rattle.oai_durable.specs.Records.{Leaving}
@@ -57,14 +57,15 @@ pub record LivesAs {K : Type 0} (leaving : Leaving K) (reply : K → Call → An
   pub is : IsLife leaving reply begun found life left
 
 -- what a service leaves: of the messages that were served those whose answers were sent, each of which has its place
--- among the records that a crash then leaves, and the others; and each client received a prefix of the answers to its
--- own among the first
+-- among the records that a crash then leaves, and the others; and each client that was accepted, whether it has a link
+-- or was let go, received a prefix of the answers to its own among the first
 pub record IsRemembered {S H J K : Type 0} (contents remaining : S → Option (List ℕ)) (leaving : Leaving K) (reply : K → Call → Answer) (begun : K) (found : List Entry)
-    (known later : Option (List S)) (old new : World S (Parts H J)) (left : List Entry) : Type 0 where
+    (known later : Known S) (old new : World S (Parts H J)) (left : List Entry) : Type 0 where
   pub answered : List Served
   pub held : List Served
   pub lives : LivesAs leaving reply begun found answered held left
   pub streams : List S
-  pub accepts : Accepts known later streams
-  pub clients : (accepted : List S) (earlier : List Served) → old.last ≡ length accepted → AreLinksKept contents remaining accepted earlier old.links
-      → AreLinksAnswered contents remaining (accepted ++ streams) (earlier ++ answered) new.links
+  pub parted : List (ℕ × S)
+  pub passes : Passes known later streams parted
+  pub clients : (accepted : List S) (gone : List (ℕ × S)) (earlier : List Served) → old.last ≡ length accepted → AreAllKept contents remaining accepted gone earlier old.links
+      → AreAllAnswered contents remaining (accepted ++ streams) (gone ++ parted) (earlier ++ answered) new.links

@@ -5,9 +5,10 @@ ghost use Rattle.oai_durable.specs.Journaled.{IsExchange, IsHeld, IsSettled, Par
 ghost use Rattle.oai_durable.specs.Served.{IsLived, IsRemembered, LivesAs};
 ghost use Rattle.oai_front.specs.Runs.{Served};
 ghost use Rattle.oai_journal.specs.Records.{Entry};
+ghost use Rattle.oai_serving.specs.Accepted.{Known};
 ghost use Rattle.oai_serving.specs.Rounds.{IsService, World, served_in};
 ghost use Rattle.oai_serving.specs.declared.faults.ServeFault.{ServeFault as Fault};
-ghost use Rattle.std.specs.Prelude.{◌≡◌, [], IsTrue, List, Option, Result, length};
+ghost use Rattle.std.specs.Prelude.{◌≡◌, [], IsTrue, List, Result, length};
 
 use oai_http::Replayed;
 use oai_journal::Journal;
@@ -39,11 +40,11 @@ pub fn life_law<H: Replayed, J: Journal>()
         → LivesAs (record { redone = H.redone; restored = H.restored }) H.reply begun found (served_in rounds) held left }
 {}
 
-/// A service, as `Server::serve` promises it, is such a life, for its clients too: each received a prefix of the
-/// answers to its own messages among those that were sent, and each of these has its place among the records that a
-/// crash then leaves.
+/// A service, as `Server::serve` promises it, is such a life, for its clients too: each that was accepted, connected or
+/// not, received a prefix of the answers to its own messages among those that were sent, and each of these has its place
+/// among the records that a crash then leaves.
 pub fn service_law<S: Stream, H: Replayed, J: Journal>()
-    ensures { (begun : H.Kept) (found : List Entry) (known later : Option (List S)) (old new : World S (Parts H J))
+    ensures { (begun : H.Kept) (found : List Entry) (known later : Known S) (old new : World S (Parts H J))
         (result : Result Unit Fault) (left : List Entry)
         → IsService (IsExchange (record {
           step = H.step;

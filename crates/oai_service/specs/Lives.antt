@@ -5,19 +5,20 @@ use Rattle.oai_front.specs.Performing.{Steps}
 use Rattle.oai_front.specs.Runs.{Served}
 use Rattle.oai_journal.specs.Records.{Entry}
 use Rattle.oai_journal.specs.declared.journals.Journal as journal
+use Rattle.oai_serving.specs.Accepted.{Known}
 use Rattle.oai_serving.specs.Rounds.{EndsService, IsService, Settles, World}
 use Rattle.oai_serving.specs.declared.faults.ServeFault.{ServeFault}
 use Rattle.oai_durable.specs.Checkpoints.{IsCheckpoint, Saving}
 use Rattle.oai_durable.specs.Journaled.{IsExchange, IsHeld, IsSettled, Parts, Replaying}
 use Rattle.oai_durable.specs.Records.{redone_all}
 
--- a life: the records that it found; the streams that were accepted up to a count and after it, if they are known; the
+-- a life: the records that it found; the streams that were accepted, and let go, before it and by its end, if they are known; the
 -- world in which it began; the messages that were served in each round that settled, and after the last of these; how
 -- its service ended, in which world; and the records that the journal had when the next life began
 pub record ServerLife (S H J : Type 0) : Type 0 where
   pub found : List Entry
-  pub known : Option (List S)
-  pub later : Option (List S)
+  pub known : Known S
+  pub later : Known S
   pub old : World S (Parts H J)
   pub rounds : List (List Served)
   pub behind : List Served

@@ -3,9 +3,9 @@
 use Rattle.std.specs.Prelude.{◌≡◌, ℕ, List, [], ◌∷◌, ◌++◌, map, Option}
 use Rattle.std.specs.List.{AllByRecursion, AllZip, flat_map}
 use Rattle.oai_journal.specs.Records.{Entry}
-use Rattle.oai_serving.specs.Accepted.{Accepts}
+use Rattle.oai_serving.specs.Accepted.{Passes}
 use Rattle.oai_serving.specs.Rounds.{served_in}
-use Rattle.oai_serving.specs.Tables.{AreLinksAnswered}
+use Rattle.oai_serving.specs.Tables.{AreAllAnswered}
 use Rattle.oai_config.specs.Configs.{HostConfig, NamedConfig}
 use Rattle.oai_host.specs.Alone.{own_answers, own_calls}
 use Rattle.oai_host.specs.Hosts.{Repository, begun}
@@ -31,15 +31,16 @@ abbrev pub all_turns : List Told → List Turn
 all_turns told = flat_map turns_of told
 
 -- of the life: its answered turns are the messages that were served in its rounds that settled, in order; its held ones
--- are a prefix of those that were served after them; and each client whose connection is open at its end received a
--- prefix of the answers to those of the former that it sent, in order
+-- are a prefix of those that were served after them; and each client that was accepted, whether its connection is open at
+-- its end or was let go, received a prefix of the answers to those of the former that it sent, in order
 pub record IsReceivedIn {S H J : Type 0} (contents remaining : S → Option (List ℕ)) (life : ServerLife S H J) (told : Told) : Type 0 where
   pub those : AreThose (map its told.answered) (served_in life.rounds)
   pub lost : List Turn
   pub held : AreThose (map its (told.held ++ lost)) life.behind
   pub streams : List S
-  pub accepts : Accepts life.known life.later streams
-  pub clients : AreLinksAnswered contents remaining streams (served_in life.rounds) life.new.links
+  pub gone : List (ℕ × S)
+  pub passes : Passes life.known life.later streams gone
+  pub clients : AreAllAnswered contents remaining streams gone (served_in life.rounds) life.new.links
 
 -- each life finds exactly the records of the turns of all lives before it, and the last one leaves its own after them
 abbrev pub AreKept : {S H J : Type 0} → List Entry → List (ServerLife S H J) → List Told → List Entry → Type 0
@@ -76,8 +77,8 @@ eras_left begun before (era ∷ eras) = eras_left begun (redone_all leaving begu
 
 -- ---- the theorem
 
--- the eras are one history, written as turns. `received`: each client read a prefix of the answers to the messages that
--- it sent. `recorded`: a turn did what the replay of its own record does, after the records before it. `answered`: at
+-- the eras are one history, written as turns. `received`: each client that was accepted was sent a prefix of the answers to
+-- the messages that it sent. `recorded`: a turn did what the replay of its own record does, after the records before it. `answered`: at
 -- each repository each answer without a fault is the machine's after what was performed before it, in whichever life,
 -- and one with a fault did what its number of lines says, or nothing. `kept`: in an era each life begins with the
 -- records of all turns before it, those of the answers that were sent among them. `ended`: each era begins with all

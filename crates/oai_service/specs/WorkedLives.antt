@@ -14,6 +14,7 @@ use Rattle.oai_http.specs.Exchanges.{Asked}
 use Rattle.oai_http.specs.declared.exchanges.Call.{Call}
 use Rattle.oai_front.specs.Performing.{Done, answers_of}
 use Rattle.oai_front.specs.Runs.{done_on}
+use Rattle.oai_serving.specs.Accepted.{known_of}
 use Rattle.oai_serving.specs.Links.{Link}
 use Rattle.oai_serving.specs.Rounds.{served_in}
 use Rattle.oai_serving.specs.Tables.{IsNumbered}
@@ -171,8 +172,8 @@ pub record IsConnected (life : ServerLife Wire HostState Memory) (waits : Bool) 
   pub link : Link Wire
   pub stands : get life.new.links key ≡ Some link
   pub streams : List Wire
-  pub known : life.known ≡ Some []
-  pub later : life.later ≡ Some streams
+  pub known : life.known ≡ known_of (Some []) (Some [])
+  pub later : life.later ≡ known_of (Some streams) (Some [])
   pub client : Wire
   pub numbered : IsNumbered streams link.connection.number client
   pub came : client.unread ≡ flat_map sent_for (done_on link.connection.number (served_in life.rounds))

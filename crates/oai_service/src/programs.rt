@@ -1,5 +1,5 @@
 //! What the program serves is a life of the theorem: a theorem, by an empty function.
-ghost use Rattle.std.specs.Prelude.{IsTrue, List, Option, Result, Unit, map, ℕ};
+ghost use Rattle.std.specs.Prelude.{IsTrue, List, Result, map, ℕ};
 ghost use Rattle.oai_daemon.specs.Lives.{HasLived};
 ghost use Rattle.oai_durable.specs.Journaled.{IsExchange, IsSettled, Parts};
 ghost use Rattle.oai_host.specs.Hosts.{HostState, begun};
@@ -8,6 +8,7 @@ ghost use Rattle.oai_journal.specs.Recovered.{disk_of};
 ghost use Rattle.oai_journal.specs.declared.file.FileJournal.{FileJournal as Filed};
 ghost use Rattle.oai_service.specs.Hosting.{hosting};
 ghost use Rattle.oai_service.specs.Lives.{IsServerLife, served_behind};
+ghost use Rattle.oai_serving.specs.Accepted.{Known};
 ghost use Rattle.oai_serving.specs.Rounds.{World};
 ghost use Rattle.oai_serving.specs.declared.faults.ServeFault.{ServeFault};
 
@@ -19,7 +20,7 @@ use sqlite_disk::Disk;
 /// provided that the disk returned what was written to it as the journal was read, and that the device of the pages does
 /// so, it began with all records of the journal, and leaves whatever a crash may leave of it. The function is empty.
 pub fn program_life_law<S: Stream, D: Disk + Drop>()
-    ensures { (text : List ℕ) (later : Option (List S)) (result : Result Unit ServeFault) (new : World S (Parts HostState (Filed D)))
+    ensures { (text : List ℕ) (later : Known S) (result : Result Unit ServeFault) (new : World S (Parts HostState (Filed D)))
         (lived : HasLived ⟦<FileJournal<D> as Journal>⟧ D.Disk.seen D.Disk.is_clean S.contents S.remaining text later result new)
         (left : List Entry)
         → IsTrue (D.Disk.is_clean (disk_of lived.recovery)) → IsTrue lived.old.handler.handler.honest

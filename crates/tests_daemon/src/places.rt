@@ -246,6 +246,10 @@ impl Sockets<Nothing> for Quiet {
     fn watch(&mut self, _stream: &mut Nothing, _key: usize) -> io::Result<()> {
         Ok(())
     }
+
+    fn let_go(&mut self, _number: u64, stream: Nothing) {
+        drop(stream);
+    }
 }
 
 /// A stream that cannot be read or written.
