@@ -445,11 +445,11 @@ module _ {S H : Type 0} (step : Steps H) (settled : Settles H) (contents remaini
         (s.kept accepted gone earlier before k));
   }
 
-  pub service_over : (known later : Known S) (a b : World S H) → AreRounds step settled contents remaining 18_446_744_073_709_551_615 known later a b
+  pub service_over : (count : ℕ) (known later : Known S) (a b : World S H) → 18_446_744_073_709_551_615 ≤ count → AreRounds step settled contents remaining count known later a b
       → IsService step settled contents remaining known later a (Ok tt) b
-  service_over known later a b s = record {
+  service_over count known later a b enough s = record {
     rounds = s.rounds;
-    many = s.many;
+    many = subst (λ (n : ℕ). 18_446_744_073_709_551_615 ≤ n) (sym s.many) enough;
     mid = b.handler;
     settles = s.settles;
     ends = refl;

@@ -1,5 +1,5 @@
 -- A server: what a round does, and many of them. This repository's own.
-use Rattle.std.specs.Prelude.{◌≡◌, ◌⊎◌, ℕ, ◌+◌, List, [], ◌∷◌, ◌++◌, length, Option, None, Some, Result, Ok, Err, IfOk}
+use Rattle.std.specs.Prelude.{◌≡◌, ◌≤◌, ◌⊎◌, ℕ, ◌+◌, List, [], ◌∷◌, ◌++◌, length, Option, None, Some, Result, Ok, Err, IfOk}
 use Rattle.std.specs.List.{flat_map}
 use Rattle.slab.specs.Slab.{SameValues, Slab, Updates, get}
 use Rattle.oai_http.specs.declared.handlers.SettleFault.{SettleFault}
@@ -142,7 +142,7 @@ EndsService step settled mid (Err fault) new = IsEnd step settled mid fault new
 -- the answers to those of its messages that were served in the rounds that settled
 pub record IsService {S H : Type 0} (step : Steps H) (settled : Settles H) (contents remaining : S → Option (List ℕ)) (known later : Known S) (old : World S H) (result : Result Unit ServeFault) (new : World S H) : Type 0 where
   pub rounds : List (List Served)
-  pub many : IfOk result (λ done. length rounds ≡ 18_446_744_073_709_551_615)
+  pub many : IfOk result (λ done. 18_446_744_073_709_551_615 ≤ length rounds)
   pub mid : H
   pub settles : AreSettled step settled rounds old.handler mid
   pub ends : EndsService step settled mid result new.handler

@@ -7,14 +7,14 @@ loop-count-init g c = rounds_none g.H.Handler.step g.H.Settled.settled g.S.Strea
 
 pub loop-count-preserved : goal.loop-count-preserved
 loop-count-preserved g c =
-    rounds_more g.H.Handler.step g.H.Settled.settled g.S.Stream.contents g.S.Stream.remaining c.loop-count.count _ _ _ c.args.self.now c.loop-count.self c.round.new.self c.loop-count.invariant
+    rounds_more g.H.Handler.step g.H.Settled.settled g.S.Stream.contents g.S.Stream.remaining c.loop-count._count _ _ _ c.args.self.now c.loop-count.self c.round.new.self c.loop-count.invariant
     (rw c.in-Ok.is at c.round.ensures)
 
 pub returns-in-Err : goal.returns-in-Err
 returns-in-Err g c =
-    service_ended g.H.Handler.step g.H.Settled.settled g.S.Stream.contents g.S.Stream.remaining c.loop-count.count _ _ _ c.args.self.now c.loop-count.self c.round.new.self c.in-Err.fault c.loop-count.invariant
+    service_ended g.H.Handler.step g.H.Settled.settled g.S.Stream.contents g.S.Stream.remaining c.loop-count._count _ _ _ c.args.self.now c.loop-count.self c.round.new.self c.in-Err.fault c.loop-count.invariant
     (rw c.in-Err.is at c.round.ensures)
 
 pub returns : goal.returns
 returns g c =
-    service_over g.H.Handler.step g.H.Settled.settled g.S.Stream.contents g.S.Stream.remaining _ _ c.args.self.now c.loop-count.self c.loop-count.invariant
+    service_over g.H.Handler.step g.H.Settled.settled g.S.Stream.contents g.S.Stream.remaining c.loop-count._count _ _ c.args.self.now c.loop-count.self c.loop-count-test.false c.loop-count.invariant
