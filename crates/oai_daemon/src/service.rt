@@ -27,7 +27,7 @@ pub struct Ended<S, K, H> {
     pub server: Server<S, H>,
     /// What its connections came from.
     pub port: K,
-    /// Why it ended; Ok after 2^64 - 1 rounds.
+    /// Why it ended; Ok after at least 2^64 - 1 rounds.
     pub result: Result<(), ServeFault>,
     /// The second from 1970 on to which the system's clock jumped, where it did.
     pub jumped: Option<u64>,

@@ -10,6 +10,7 @@ use Rattle.serde_json.specs.Find.{as_object}
 use Rattle.serde_json.specs.View.{view}
 use Rattle.serde_json.specs.declared.value.Value.{Value, Object}
 use Rattle.serde_json.proofs.Views.{view-Object}
+use Rattle.oai_item.specs.declared.fields.Field.{Field}
 use Rattle.oai_item.specs.Item.{Metadata, is_before, are_rising}
 use Rattle.oai_names.specs.Optional.{◌>>=◌, each_of}
 use Rattle.oai_deposit.specs.Lines.{field_list_of, record_of, records_of}
@@ -22,6 +23,10 @@ records_of-Object m = ap records_of (view-Object m) ∙ ap (each_of record_of) (
 
 pub is_object : (m : BTreeMap (String Global) Value) → is_some (as_object (view (Object m))) ≡ true
 is_object m = ap (λ d. is_some (as_object d)) (view-Object m)
+
+pub record_of-Some : (m : List ℕ × Data) (fields : List Field) → field_list_of m.1 ≡ Some fields → record_of m ≡ Some (m.0, fields)
+unfolding record_of
+record_of-Some m fields is = ap (λ r. r >>= λ fields. Some (m.0, fields)) is
 
 -- a record keeps the name of its member
 record_of-name : (m : List ℕ × Data) (r : Metadata) → record_of m ≡ Some r → m.0 ≡ r.0

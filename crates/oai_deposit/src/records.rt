@@ -43,29 +43,17 @@ fn records_of(alloc: Global, value: &Value) -> Result<Records, LineFault>
 }
 
 /// The record that each member is, in the order of the prefixes.
-#[tactic(auto, using(crate::proofs::ReadingLemmas::starts))]
+#[tactic(auto, using(crate::proofs::ReadingLemmas::starts), unfolding(crate::specs::Lines::record_of))]
 fn records_in(alloc: Global, members: &BTreeMap<String, Value>) -> Result<Records, LineFault>
     ensures { Finds Anywhere result
         (each_of lines.record_of (map (λ m. (string_bytes m.0, view m.1)) members.now.entries)) }
 {
     let mut records = Vec::new(alloc);
     for (prefix, fields) in members.iter() {
-        records.push(record_of(alloc, prefix.as_str(), fields)?)?;
+        let prefix = Text::new(alloc, prefix.as_str())?;
+        records.push((prefix, field_list_of(alloc, fields)?))?;
     }
     Ok(Records::new(Sequence::new(records)))
-}
-
-/// The record of that prefix with the fields that the value is an array of.
-#[tactic(auto, unfolding(crate::specs::Lines::record_of))]
-fn record_of(
-    alloc: Global,
-    prefix: &str,
-    fields: &Value,
-) -> Result<(Text, Sequence<Field>), LineFault>
-    ensures { Finds Anywhere result (lines.record_of (prefix.now, view fields.now)) }
-{
-    let fields = field_list_of(alloc, fields)?;
-    Ok((Text::new(alloc, prefix)?, fields))
 }
 
 /// The fields of an array of them; `BadCommand` at any other value.

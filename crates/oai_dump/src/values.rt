@@ -25,7 +25,8 @@ pub(crate) fn texts_value(alloc: Global, specs: &[SetSpec]) -> Result<Value, All
 {
     let mut texts = Vec::with_capacity(alloc, specs.len())?;
     for spec in specs {
-        texts.push(text_value(alloc, spec.as_str())?)?;
+        let text = text_value(alloc, spec.as_str())?;
+        texts.push(text).unwrap();
     }
     Ok(Value::Array(texts))
 }
