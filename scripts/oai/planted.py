@@ -318,10 +318,17 @@ def try_all(crate, edits, texts, judged):
     return found
 
 
-def planted_in(crate, texts):
+def planted_in(crate, texts, wanted):
+    """The planted bugs of a crate: those of the wanted names, or all where none is named."""
     folder = f"{crate}/planted"
-    names = sorted(os.listdir(folder)) if os.path.isdir(folder) else []
-    return [Edit(f"{folder}/{it}", texts) for it in names if it.endswith(".edit")]
+    names = sorted(it.removesuffix(".edit") for it in os.listdir(folder) if it.endswith(".edit"))
+    return [Edit(f"{folder}/{it}.edit", texts) for it in names if not wanted or it in wanted]
+
+
+def planted_file(named):
+    """The file of an edit that is named as CRATE/EDIT."""
+    crate, _, edit = named.partition("/")
+    return f"crates/{crate}/planted/{edit}.edit"
 
 
 def unneeded_for(name):
@@ -335,9 +342,9 @@ def unneeded_for(name):
     return unneeded
 
 
-def tried(name):
-    """The edits of a crate, and what becomes of each: what was kept, and the others tried on a copy of the repository."""
-    judged, edits = Judged(name), planted_in(f"crates/{name}", sources_of(f"crates/{name}"))
+def tried(name, wanted):
+    """The wanted edits of a crate, and what becomes of each: what was kept, and the others tried on a copy of the repository."""
+    judged, edits = Judged(name), planted_in(f"crates/{name}", sources_of(f"crates/{name}"), wanted)
     if all(judged.of(it) for it in edits):
         return edits, {it: judged.of(it) for it in edits}
     with tempfile.TemporaryDirectory(prefix="planted-") as room:
@@ -372,18 +379,19 @@ def planted(*names):
     docs/PROVING.md counts these. A bug with a line `refused: by TESTS` is proved, and named; these tests refuse it, and
     are not run here. Its last line is `N refused, M not`; the status is 0 where M is 0.
 
-    Usage: scripts/run planted [CRATE..]
+    Usage: scripts/run planted [CRATE|CRATE/EDIT..]
     """
     needs("rt")
-    unknown = [it for it in names if not os.path.isdir(f"crates/{it}/planted")]
+    unknown = [it for it in names if not os.path.isdir(f"crates/{it}/planted") and not os.path.isfile(planted_file(it))]
     if unknown:
         sys.exit(f"planted: there are no planted bugs in {' '.join(unknown)}")
-    listed = [it for it in sorted(os.listdir("crates")) if os.path.isdir(f"crates/{it}/planted") and (not names or it in names)]
+    wanted = {it.split("/")[0]: {edit.partition("/")[2] for edit in names if edit.startswith(f"{it.split('/')[0]}/")} for it in names}
+    listed = [it for it in sorted(os.listdir("crates")) if os.path.isdir(f"crates/{it}/planted") and (not names or it in wanted)]
     refused = others = 0
     # (the crate with the most bugs is the last to end, so it begins first)
     listed.sort(key=lambda it: -len(os.listdir(f"crates/{it}/planted")))
     with ThreadPoolExecutor(len(os.sched_getaffinity(0))) as pool:
-        tries = {pool.submit(tried, it): it for it in listed}
+        tries = {pool.submit(tried, it, wanted.get(it)): it for it in listed}
         for done in as_completed(tries):
             edits, found = done.result()
             good = told(tries[done], edits, found)
