@@ -50,9 +50,7 @@ impl<D: PageDevice> PagePool for Pool<D> {
         let no = self.names.next()?;
         store(&mut self.device, no, page)?;
         self.names.name();
-        if let Ok(copy) = copied(self.alloc, self.spare.take(), page) {
-            self.spare = self.cache.keep(no, copy, kind);
-        }
+        self.keep_copy(no, page, kind);
         Ok(no)
     }
 
@@ -76,9 +74,7 @@ impl<D: PageDevice> PagePool for Pool<D> {
         if !is_of(self.alloc, kind, &page[..])? {
             return Err(PoolFault::Damaged);
         }
-        if let Ok(kept) = page.clone() {
-            self.spare = self.cache.keep(no, kept, kind);
-        }
+        self.keep(no, &page, kind);
         Ok(page)
     }
 
@@ -112,7 +108,9 @@ impl<D: PageDevice> PagePool for Pool<D> {
 }
 
 impl<D: PageDevice> Pool<D> {
-    ghost use Rattle.std.specs.Prelude.{◌≡◌, IfOk};
+    ghost use Rattle.std.specs.Prelude.{◌≡◌, ◌<◌, Some, true, IfOk, IsTrue};
+    ghost use Rattle.oai_pool.specs.Counts.{count_of};
+    ghost use Rattle.oai_pool.specs.Kinds.{is_of};
     ghost use Rattle.oai_pool.specs.Pool.{device_of};
 
     /// An empty pool on that device, with a cache of at most `cache_pages` pages. The error is NoMemory.
@@ -133,6 +131,34 @@ impl<D: PageDevice> Pool<D> {
             cache,
             spare: None,
         })
+    }
+
+    /// Stores a copy of the page, which is of that kind, in the cache, if there is memory for one.
+    fn keep_copy(&mut self, no: PageNo, page: &Page, kind: PageKind)
+        requires kind { is_of kind page.now ≡ true }
+        requires named { 0 < count_of self.old.names.counts.items no }
+        requires own { IsTrue (D.honest (device_of self.old)) → D.pages (device_of self.old) no ≡ Some page.now }
+        ensures names { self.new.names ≡ self.old.names }
+        ensures device { device_of self.new ≡ device_of self.old }
+        ensures size { self.new.cache.pages.cap ≡ self.old.cache.pages.cap }
+    {
+        if let Ok(copy) = copied(self.alloc, self.spare.take(), page) {
+            self.spare = self.cache.keep(no, copy, kind);
+        }
+    }
+
+    /// Stores the page, which is of that kind, in the cache, if its reference count can be raised.
+    fn keep(&mut self, no: PageNo, page: &Rc<Page>, kind: PageKind)
+        requires kind { is_of kind page.now.value ≡ true }
+        requires named { 0 < count_of self.old.names.counts.items no }
+        requires own { IsTrue (D.honest (device_of self.old)) → D.pages (device_of self.old) no ≡ Some page.now.value }
+        ensures names { self.new.names ≡ self.old.names }
+        ensures device { device_of self.new ≡ device_of self.old }
+        ensures size { self.new.cache.pages.cap ≡ self.old.cache.pages.cap }
+    {
+        if let Ok(kept) = page.clone() {
+            self.spare = self.cache.keep(no, kept, kind);
+        }
     }
 
     /// The device that stores the pages.

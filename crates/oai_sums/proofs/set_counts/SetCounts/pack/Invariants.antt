@@ -1,6 +1,6 @@
 use Rattle.std.proofs.Common.{◌≡◌, ◌≤◌, ℕ, length, take, true}
 use Rattle.oai_sums.specs.Sums.{is_unsaid, totals_from}
-use Rattle.oai_sums.proofs.set_counts.SetCounts.packed.Given as goal
+use Rattle.oai_sums.proofs.set_counts.SetCounts.pack.Given as goal
 
 -- the sets so far are packed, and nothing is said of the next ones
 abbrev pub invariant-loop-at : goal.invariant-loop-at

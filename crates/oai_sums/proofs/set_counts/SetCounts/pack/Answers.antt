@@ -4,7 +4,7 @@ use Rattle.oai_sums.specs.Sums.{SetTotal, count_at, totals_from}
 use Rattle.oai_sums.specs.declared.packed_counts.Several.{Several}
 use Rattle.oai_sums.specs.declared.spans.Span.{Span}
 use Rattle.oai_sums.proofs.PackedLemmas.{totals_more}
-use Rattle.oai_sums.proofs.set_counts.SetCounts.packed.Goals as goal
+use Rattle.oai_sums.proofs.set_counts.SetCounts.pack.Goals as goal
 
 pub loop-at-preserved : goal.loop-at-preserved
 loop-at-preserved c =
