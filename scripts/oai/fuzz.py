@@ -243,12 +243,12 @@ def next_line(author, is_late):
 
 
 def lives(seed="4"):
-    """Writes a file of crates/tests_durable: twenty lives of three repositories, as the model answers what is asked in them.
+    """Writes a file of crates/tests_serving: twenty lives of three repositories, as the model answers what is asked in them.
 
     They stand one behind the other. Of each answer stand its status, how many bytes its body has, and their 64-bit
     FNV-1a hash. What is asked is as `fuzz` asks it.
 
-    Usage: scripts/run lives [SEED] >crates/tests_durable/src/written_lives.rt
+    Usage: scripts/run lives [SEED] >crates/tests_serving/src/written_lives.rt
     """
     author = Author(int(seed))
     lines = []

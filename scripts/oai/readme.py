@@ -199,11 +199,12 @@ def check_testing():
         crate = folder.parent.name
         if f"`{crate}`" not in page:
             problem(f"docs/TESTING.md: nothing of {crate}")
-        if not any("#[test]" in file.read_text() for file in folder.glob("*.rt")):
+        if not any("#[test]" in file.read_text() for file in folder.rglob("*.rt")):
             continue
         entry = next((entry for entry in entries if entry.startswith(f"- `{crate}`")), "")
-        for file in sorted(folder.glob("*.rt")):
-            if file.name not in ("lib.rt", "assertions.rt") and f"`{file.name}`" not in entry:
+        for file in sorted(folder.rglob("*.rt")):
+            named = f"`{file.name}`" in entry or f"`{file.relative_to(folder)}`" in entry or f"`{file.stem}/`" in entry
+            if file.name not in ("lib.rt", "assertions.rt") and not named:
                 problem(f"docs/TESTING.md: the entry of {crate} does not name {file.name}")
 
 
