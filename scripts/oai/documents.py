@@ -227,7 +227,7 @@ def valid(scripts: int = 100, lines: int = 200, seed: int = 57):
 
 # ---- well-formed documents
 
-WRITTEN = ["crates/tests_documents/src/documents/expected.rt", EXAMPLE]
+WRITTEN = ["crates/tests_repositories/src/documents/expected.rt", EXAMPLE]
 
 
 def split_documents(path):
@@ -251,7 +251,7 @@ def is_well_formed(folder, document):
 def well_formed(*files):
     """Shows, by a parser that is not this repository's own, that documents are well-formed XML.
 
-    They are those that the tests want (crates/tests_documents/src/documents/expected.rt), and those of an example
+    They are those that the tests want (crates/tests_repositories/src/documents/expected.rt), and those of an example
     (examples/first-steps.expected). A document begins with its XML declaration and ends with the end tag of its root.
     The parser is xmllint, of the Debian package libxml2-utils (apt-get install libxml2-utils). It also tells of a
     namespace that is no URI, as a test has one; that is no fault of form.

@@ -240,11 +240,11 @@ def next_line(author, is_late):
 
 
 def lives(seed: int = 4):
-    """Writes a file of crates/tests_durable: twenty lives of three repositories, as the model answers what is asked in them.
+    """Writes a file of crates/tests_serving: twenty lives of three repositories, as the model answers what is asked in them.
 
     They stand one behind the other. Of each answer stand its status, how many bytes its body has, and their 64-bit
     FNV-1a hash. What is asked is as `fuzz` asks it. It is written to standard output, for
-    crates/tests_durable/src/written_lives.rt.
+    crates/tests_serving/src/written_lives.rt.
     """
     author = Author(seed)
     lines = []
