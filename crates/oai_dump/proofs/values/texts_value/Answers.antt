@@ -1,5 +1,5 @@
 -- There is room for one text more, so it is pushed.
-use Rattle.std.proofs.Common.{◌≡◌, true, ◌∷◌, [], ◌++◌, ◌+◌, ◌<◌, ◌∙◌, length, length-append, vec_len, vec_capacity, map, take, ap, sym, refl, arith}
+use Rattle.std.proofs.Common.{◌≡◌, true, ◌∷◌, [], ◌++◌, ◌<◌, ◌∙◌, length, length-append, vec_len, vec_capacity, map, take, ap, sym, refl, arith}
 use Rattle.std.specs.Result.{is_ok}
 use Rattle.std.proofs.lemmas.List.{map_push, map_more}
 use Rattle.serde_json.specs.Data.{Data, string}
