@@ -1,4 +1,4 @@
-use Rattle.std.proofs.Common.{◌≡◌, ◌∙◌, ◌<◌, ◌+◌, ◌++◌, ◌∷◌, [], List, ℕ, if◌then◌else◌, ap, arith, get_or, length, subst, sym, true, slice_set}
+use Rattle.std.proofs.Common.{◌≡◌, ◌∙◌, ◌+◌, ◌++◌, ◌∷◌, [], List, ℕ, if◌then◌else◌, ap, subst, sym, slice_set}
 use Rattle.std.specs.Str.{bytes_eq}
 use Rattle.oai_sums.specs.Sums.{IsFirstAt, SetTotal, counted_in, lacks}
 use Rattle.oai_sums.proofs.CountLemmas.{counts_at, counts_new, on_some_map}

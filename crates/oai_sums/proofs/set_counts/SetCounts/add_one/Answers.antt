@@ -1,6 +1,6 @@
-use Rattle.std.proofs.Common.{◌≡◌, ◌∙◌, ◌<◌, ◌+◌, ◌++◌, ◌∷◌, [], List, ℕ, Some, ap, arith, get_or, length, subst, sym, true, slice_set}
+use Rattle.std.proofs.Common.{◌≡◌, ◌∙◌, ◌+◌, ◌++◌, ◌∷◌, [], List, ℕ, Some, ap, subst, sym, true, slice_set}
 use Rattle.std.specs.Str.{bytes_eq}
-use Rattle.oai_sums.specs.Sums.{CountsMore, IsFirstAt, SetTotal, SpansMore, counted_in, lacks, one_if, span_in, widened}
+use Rattle.oai_sums.specs.Sums.{CountsMore, IsFirstAt, SetTotal, SpansMore, counted_in, one_if, span_in, widened}
 use Rattle.oai_sums.specs.declared.spans.Span.{Span}
 use Rattle.oai_sums.proofs.CountLemmas.{counts_at, counts_new, on_some_map}
 use Rattle.oai_sums.proofs.SpanLemmas.{spanned, spans_at, spans_new}
