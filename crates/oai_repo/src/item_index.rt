@@ -144,7 +144,7 @@ impl ItemIndex {
         ensures reads { OnlyReads V.Versions result store.old store.new }
     {
         let found = store.find(self.version, stamp, identifier)?;
-        if is_named(found.as_ref(), identifier.as_str()) {
+        if is_one_named(found.as_ref(), identifier.as_str()) {
             Ok(found)
         } else {
             Err(Fault::Damaged)
@@ -344,7 +344,7 @@ impl ItemIndex {
 }
 
 /// Whether there is an item, and it has that identifier.
-fn is_named(item: Option<&Item>, identifier: &str) -> bool
+fn is_one_named(item: Option<&Item>, identifier: &str) -> bool
     ensures { result ≡ is_one_named identifier.now (option_copied item.entry) }
 {
     match item {
