@@ -1,7 +1,7 @@
 //! Deposits that are read from the tokens of their line, with no JSON value made of it: those whose
 //! members stand in the order `deposit`, `sets`, `records`, under prefixes that rise.
 
-ghost use Rattle.std.specs.Prelude.{◌≡◌, [], ◌∷◌, ◌++◌, codes, map, true, IfSome};
+ghost use Rattle.std.specs.Prelude.{◌≡◌, [], ◌∷◌, ◌++◌, map, true, IfSome};
 ghost use Rattle.std.specs.List.{flat_map};
 ghost use Rattle.json.specs.Token as token;
 ghost use Rattle.oai_item.specs.Item.{are_rising};
@@ -42,38 +42,19 @@ fn take_deposit<'a>(alloc: Global, reader: &mut Reader<'a>) -> Option<DepositTex
         ≡ tokens.deposit_tokens texts.identifier.now (map (λ set. set.now) texts.sets.items) texts.records
         ++ reader.new) }
 {
-    let identifier = take_identifier(reader)?;
+    take_begin_object(reader)?;
+    take_key(reader, "deposit")?;
+    let identifier = take_text(reader)?;
     take_key(reader, "sets")?;
     let sets = take_texts(alloc, reader)?;
-    let records = take_last_records(alloc, reader)?;
+    take_key(reader, "records")?;
+    let records = take_records(alloc, reader)?;
+    take_end_object(reader)?;
     Some(DepositTexts {
         identifier,
         sets,
         records,
     })
-}
-
-/// Takes the brace that stands next and opens a deposit, and the member of its identifier.
-fn take_identifier<'a>(reader: &mut Reader<'a>) -> Option<&'a str>
-    ensures { IfSome result (λ identifier. reader.old
-        ≡ token.Token.begin_object ∷ token.Token.key (codes "deposit") ∷ token.Token.string identifier.now
-        ∷ reader.new) }
-{
-    take_begin_object(reader)?;
-    take_key(reader, "deposit")?;
-    take_text(reader)
-}
-
-/// Takes the member of the records that stands next, and the brace that closes the deposit behind it.
-fn take_last_records(alloc: Global, reader: &mut Reader<'_>) -> Option<Records>
-    ensures { IfSome result (λ records. reader.old
-        ≡ token.Token.key (codes "records") ∷ (tokens.records_tokens records
-        ++ token.Token.end_object ∷ reader.new)) }
-{
-    take_key(reader, "records")?;
-    let records = take_records(alloc, reader)?;
-    take_end_object(reader)?;
-    Some(records)
 }
 
 /// Takes the array of strings that stands next.

@@ -52,8 +52,8 @@ pub(super) struct Made {
     pub(super) formats: Formats,
 }
 
-/// Makes it of the settings, and takes their base and their formats out of them. The errors are those
-/// of a configuration.
+/// What a configuration of the settings has beside what they say as it stands; their base and their
+/// formats are taken out for it. The errors are those of `RepoConfig::new`.
 #[tactic(auto, unfolding(crate::specs::Settings::config_fault))]
 pub(super) fn made_of(alloc: Global, settings: &mut Settings) -> Result<Made, ConfigFault>
     ensures made { IsMade settings.old result }
