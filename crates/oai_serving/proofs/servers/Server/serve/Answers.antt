@@ -1,5 +1,4 @@
 -- Round after round.
-use Rattle.std.proofs.Common.{◌≡◌, arith, rules}
 use Rattle.oai_serving.proofs.RoundLemmas.{rounds_none, rounds_more, service_ended, service_over}
 use Rattle.oai_serving.proofs.servers.Server.serve.Goals as goal
 
