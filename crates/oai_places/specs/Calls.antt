@@ -1,6 +1,8 @@
 -- What a call does to the pool of pages.
 use Rattle.std.specs.Prelude.{◌≡◌, ◌⊎◌, ◌+◌, ◌<◌, ℕ, List, Result, Ok}
 use Rattle.oai_catalogue.specs.Store.{Spares, Spends}
+use Rattle.oai_item.specs.declared.decodings.DecodeFault.{DecodeFault}
+use Rattle.oai_item.specs.declared.decodings.DecodeFault.TheVariants as decoding
 use Rattle.oai_item.specs.declared.faults.Fault.{Fault}
 use Rattle.oai_item.specs.declared.faults.Fault.TheVariants as told
 use Rattle.oai_pool.specs.declared.pools.PoolFault.{PoolFault}
@@ -41,3 +43,8 @@ fault_of pool.Device = told.Device
 fault_of pool.Damaged = told.Damaged
 fault_of pool.NoMemory = told.NoMemory
 fault_of pool.TooManyPages = told.TooManyPages
+
+-- the fault of a store that reports why bytes could not be read as items
+abbrev pub decoding_fault_of : DecodeFault → Fault
+decoding_fault_of decoding.Damaged = told.Damaged
+decoding_fault_of decoding.NoMemory = told.NoMemory

@@ -1,5 +1,5 @@
 -- Where in a directory an item is, or would be.
-use Rattle.std.specs.Prelude.{◌≡◌, ◌⊎◌, ◌+◌, ◌<◌, ◌≤◌, ℕ, ℤ, true, false, List, [], length, drop, HoldsAt}
+use Rattle.std.specs.Prelude.{◌≡◌, ◌==◌, ◌&&◌, ◌⊎◌, ◌+◌, ◌<◌, ◌≤◌, ℕ, ℤ, Bool, true, false, List, [], length, drop, HoldsAt}
 use Rattle.std.specs.Ordering.{is_gt}
 use Rattle.oai_item.specs.Item.{ItemState}
 use Rattle.oai_item.specs.Selection.{Filter}
@@ -20,6 +20,12 @@ pub record IsPlaceFor (test : PlaceState → Type 0) (places : List PlaceState) 
   pub within : at < count
   pub passes : HoldsAt test places at
   pub belongs : BelongsAt places stamp identifier at
+
+-- the items are as many, and of as many bytes, as those of the place, the first is the one that the place names, and
+-- each stands before the first one of the next places
+abbrev pub are_of : PlaceState → List PlaceState → List ItemState → Bool
+are_of place next items =
+    length items == place.len && size_of items == place.size && begins_at place.stamp place.identifier items && are_below items next
 
 -- items that may have been read at this place: those of a page, as many and of as many bytes as the place has, of which
 -- the first is the one that the place names, and the last stands before the first of the next place; those of a place

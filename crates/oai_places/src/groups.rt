@@ -5,8 +5,8 @@ ghost use Rattle.oai_places.specs.Places.{PlaceState};
 ghost use Rattle.oai_places.specs.Sums.{AreExchanged, AreGroups, IsStretch, IsSoundGroup, IsSumInside};
 
 use crate::places::SharedPlace;
-use crate::reading::{Wanted, ends_by};
 use crate::sums::SharedSum;
+use crate::wanted::{Wanted, ends_by};
 use std::alloc::{AllocError, Global};
 use std::marker::Model;
 

@@ -1,7 +1,7 @@
 //! Items that are picked from a page of which most are in other sets: the bytes are read within which those of the set
 //! stand, and what is in other sets among them is passed over by its length, and not tested.
 
-ghost use Rattle.std.specs.Prelude.{◌≡◌, ◌++◌, ◌+◌, ◌-◌, ◌<◌, ◌≤◌, ◌∷◌, ◌^◌, ℕ, List, [], Some, false, length, IfOk, IfSome, IsTrue};
+ghost use Rattle.std.specs.Prelude.{◌≡◌, ◌++◌, ◌+◌, ◌-◌, ◌<◌, ◌≤◌, ◌∷◌, ◌^◌, ℕ, Bool, List, [], Some, false, true, length, IfOk, IfSome, IsTrue};
 ghost use Rattle.oai_device.specs.Device.{range_of};
 ghost use Rattle.oai_device.specs.declared.devices.TheConstants.{PAGE_BYTES};
 ghost use Rattle.oai_item.specs.Encoding.{Spells, encoded_list, encoded_text};
@@ -18,11 +18,12 @@ ghost use Rattle.oai_pool.specs.Counts.{count_of};
 ghost use Rattle.oai_pool.specs.Names.{times};
 
 use crate::entry_bytes::first_number;
-use crate::faults::fault_of;
+use crate::faults::{decoding_fault_of, fault_of};
 use crate::finding::{first_entry, first_text};
 use crate::places::SharedPlace;
-use crate::reading::{Wanted, forget_damaged, is_item_wanted};
+use crate::reading::forget_damaged;
 use crate::sizes::NUMBER_BYTES;
+use crate::wanted::{Wanted, is_item_wanted};
 use oai_catalogue::Filter;
 use oai_device::PAGE_BYTES;
 use oai_item::{DecodeFault, Fault, Item, Spelling};
@@ -77,18 +78,23 @@ fn pick_next(
         part.old.items part.new.items skip (item ∷ []) result }
 {
     match pick(alloc, spelling, wanted) {
-        Ok(Some(item)) => {
-            if skip > 0 {
-                return Ok(skip - 1);
-            }
-            match part.push(item) {
-                Ok(()) => Ok(skip),
-                Err(_) => Err(DecodeFault::NoMemory),
-            }
-        }
+        Ok(Some(item)) => Ok(add(item, skip, part)?),
         Ok(None) => Ok(skip),
         Err(fault) => Err(fault),
     }
+}
+
+/// Adds the item to the part, where none is to be skipped; returns how many are still to be skipped. The error is out of
+/// memory.
+fn add(item: Item, skip: usize, part: &mut Vec<Item>) -> Result<usize, AllocError>
+    ensures { IfOk result (λ left. (passes : ItemState → Bool) (most : ℕ) → passes item ≡ true → length part.old.items < most
+        → IsPartTaken passes most part.old.items part.new.items skip left (item ∷ [])) }
+{
+    if skip > 0 {
+        return Ok(skip - 1);
+    }
+    part.push(item)?;
+    Ok(skip)
 }
 
 /// The item that the bytes spell, where it is wanted. `Damaged` only where they spell none; `NoMemory`.
@@ -242,8 +248,7 @@ fn pick_in<P: PagePool>(
     let bytes = read_span(alloc, pages, place.pages()[0], span)?;
     match pick_entries(alloc, &bytes, wanted, skip, most, part) {
         Ok(left) => Ok(left),
-        Err(DecodeFault::Damaged) => Err(Fault::Damaged),
-        Err(DecodeFault::NoMemory) => Err(Fault::NoMemory),
+        Err(fault) => Err(decoding_fault_of(fault)),
     }
 }
 

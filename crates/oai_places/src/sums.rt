@@ -1,9 +1,10 @@
 //! What is known of the items of places that follow one another, without a look at each of the places.
-ghost use Rattle.std.specs.Prelude.{◌≡◌, int_le, is_some, sum_by, true, IfOk, IfSome};
+ghost use Rattle.std.specs.Prelude.{◌≡◌, ◌+◌, ℕ, List, int_le, is_some, sum_by, true, IfOk, IfSome, OnSome};
 ghost use Rattle.std.specs.List.{list_all};
 ghost use Rattle.oai_names.specs.Names.{is_among};
 ghost use Rattle.oai_places.specs.Places.{PlaceState};
-ghost use Rattle.oai_places.specs.Sums.{AreTotals, IsSum, have_prefixes, known_in_sum};
+ghost use Rattle.oai_places.specs.Sums.{AreTotals, IsSum, counted_at, have_prefixes, known_in_sum};
+ghost use Rattle.oai_sums.specs.Sums.{counted_in};
 
 use crate::places::{SharedPlace, is_among};
 use oai_names::{Prefix, Sequence, SetSpec};
@@ -188,10 +189,18 @@ fn sets_of(alloc: Global, places: &[SharedPlace]) -> Option<PackedCounts>
 {
     let mut totals = SetCounts::new(alloc);
     'places: for at in 0..places.len() {
-        let Some(counts) = places[at].sets() else {
-            return None;
-        };
-        totals.add_all(counts)?;
+        add_sets(&mut totals, &places[at])?;
     }
     totals.packed(alloc)
+}
+
+/// Counts the items of the place too. None where it is not known how many are in each set, where there would be too many sets, or memory is refused.
+fn add_sets(totals: &mut SetCounts, place: &SharedPlace) -> Option<()>
+    ensures known { OnSome result (is_some place.now.sets ≡ true) }
+    ensures counts { OnSome result ((set : List ℕ) → counted_in set totals.new ≡ counted_in set totals.old + counted_at set place.now.sets) }
+{
+    match place.sets() {
+        Some(counts) => totals.add_all(counts),
+        None => None,
+    }
 }
